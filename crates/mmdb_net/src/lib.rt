@@ -1,0 +1,2 @@
+//! Networks: an address and the number of its first bits that the addresses of the network share.
+#![tactic(auto)]
