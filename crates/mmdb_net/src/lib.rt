@@ -1,2 +1,10 @@
 //! Networks: an address and the number of its first bits that the addresses of the network share.
 #![tactic(auto)]
+
+mod error;
+mod mask;
+mod network;
+
+pub use error::IpNetworkError;
+pub use mask::mask_ip;
+pub use network::{IpNetwork, Ipv4Network, Ipv6Network};
