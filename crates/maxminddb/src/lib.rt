@@ -1,0 +1,8 @@
+//! A reader of MaxMind DB files: the metadata, the search tree, and lookups of addresses in it.
+#![tactic(auto)]
+
+pub mod metadata;
+pub mod tree;
+
+pub use metadata::Metadata;
+pub use tree::read_node;
