@@ -1,0 +1,5 @@
+pub mod Header
+pub mod Pointer
+pub mod Kinds
+pub mod Message
+pub mod Error

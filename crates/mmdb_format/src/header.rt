@@ -1,0 +1,193 @@
+//! Headers and pointers.
+ghost use Rattle.std.specs.Prelude.{◌≡◌, ℕ, ◌<◌, ◌≤◌, ◌^◌, ◌+◌, length, IfSome, IfOk, option_map};
+ghost use Rattle.std.specs.Result.{result_ok};
+ghost use Rattle.mmdb_format.specs.Header.{bytes_at as spec_bytes_at, spelled as spec_spelled, number_at as spec_number_at, size_at as spec_size_at, sized_header as spec_sized_header, header_at as spec_header_at};
+ghost use Rattle.mmdb_format.specs.Pointer.{pointer_at as spec_pointer_at, direct_at as spec_direct_at, behind as spec_behind};
+
+use crate::fault::Fault;
+use crate::kind::POINTER;
+
+/// At most so many containers and pointers lie on the way to a value.
+pub const MAX_LEVELS: u16 = 512;
+
+
+/// The type number of a value, its size, and where its content begins.
+#[derive(Clone, Copy, Debug)]
+pub struct Header {
+    pub kind: u16,
+    pub size: usize,
+    pub body: usize,
+}
+
+/// Where a pointer leads, and the place after it.
+#[derive(Clone, Copy, Debug)]
+pub struct Pointer {
+    pub target: usize,
+    pub next: usize,
+}
+
+/// A header that is no pointer, directly or behind one pointer.
+#[derive(Clone, Copy, Debug)]
+pub struct Direct {
+    pub header: Header,
+    pub after: Option<usize>,
+    pub levels: u16,
+}
+
+/// The number that the bytes spell, the most significant first.
+pub fn spelled(bytes: &[u8]) -> u128
+    requires { length bytes.now ≤ 16 }
+    ensures value { result ≡ spec_spelled bytes.now }
+    ensures bound { result < 256 ^ length bytes.now }
+{
+    let mut n: u128 = 0;
+    for b in bytes {
+        n = n * 256 + u128::from(*b);
+    }
+    n
+}
+
+/// So many bytes from a place on.
+#[tactic(auto, unfolding(crate::specs::Header::bytes_at))]
+pub fn bytes_at(section: &[u8], place: usize, len: usize) -> Option<&[u8]>
+    ensures len { IfSome result (λ x. length x.now ≡ len) }
+    ensures value { option_map (λ x. x.now) result ≡ spec_bytes_at section.now place len }
+    ensures inside { IfSome result (λ x. place + len ≤ length section.now) }
+{
+    if place <= section.len() && len <= section.len() - place {
+        Some(&section[place..place + len])
+    } else {
+        None
+    }
+}
+
+#[tactic(auto, unfolding(crate::specs::Header::number_at, crate::specs::Header::bytes_at))]
+pub fn wide_number_at(section: &[u8], place: usize, len: usize) -> Option<u128>
+    requires { len ≤ 16 }
+    ensures value { result ≡ spec_number_at section.now place len }
+    ensures bound { IfSome result (λ n. (n < 256 ^ len) × (place + len ≤ length section.now)) }
+{
+    if place <= section.len() && len <= section.len() - place {
+        Some(spelled(&section[place..place + len]))
+    } else {
+        None
+    }
+}
+
+/// The number in a few bytes at a place.
+fn number_at(section: &[u8], place: usize, len: usize) -> Result<usize, Fault>
+    requires { len ≤ 4 }
+    ensures value { result_ok result ≡ spec_number_at section.now place len }
+    ensures bound { IfOk result (λ n. (n < 256 ^ len) × (place + len ≤ length section.now)) }
+{
+    match wide_number_at(section, place, len) {
+        Some(n) => Ok(n as usize),
+        None => Err(Fault::EndOfBuffer),
+    }
+}
+
+#[tactic(auto, unfolding(crate::specs::Header::size_at))]
+fn size_at(section: &[u8], place: usize, low: u8) -> Result<(usize, usize), Fault>
+    ensures value { result_ok result ≡ spec_size_at section.now place low }
+    ensures bound { IfOk result (λ z. (z.0 < 2 ^ 25) × (z.1 ≤ place + 3)) }
+{
+    Ok(match low {
+        0..=28 => (usize::from(low), place),
+        29 => (29 + number_at(section, place, 1)?, place + 1),
+        30 => (285 + number_at(section, place, 2)?, place + 2),
+        _ => (65_821 + number_at(section, place, 3)?, place + 3),
+    })
+}
+
+#[tactic(auto, unfolding(crate::specs::Header::sized_header))]
+fn sized_header(section: &[u8], place: usize, kind: u16, low: u8) -> Result<Header, Fault>
+    requires { 1 < kind }
+    ensures value { result_ok result ≡ spec_sized_header section.now place kind low }
+    ensures bound { IfOk result (λ h. (h.size < 2 ^ 25) × (h.kind ≡ 1 → h.size < 32)) }
+{
+    let (size, body) = size_at(section, place, low)?;
+    Ok(Header { kind, size, body })
+}
+
+/// The header at a place.
+#[tactic(auto, unfolding(crate::specs::Header::header_at))]
+pub fn header_at(section: &[u8], place: usize) -> Result<Header, Fault>
+    ensures value { result_ok result ≡ spec_header_at section.now place }
+    ensures bound { IfOk result (λ h. (h.size < 2 ^ 25) × (h.kind ≡ 1 → h.size < 32)) }
+{
+    let Some(control) = section.get(place) else {
+        return Err(Fault::EndOfBuffer);
+    };
+    match *control / 32 {
+        0 => {
+            let Some(kind) = section.get(place + 1) else {
+                return Err(Fault::EndOfBuffer);
+            };
+            sized_header(section, place + 2, u16::from(*kind) + 7, *control % 32)
+        }
+        1 => Ok(Header {
+            kind: POINTER,
+            size: usize::from(*control % 32),
+            body: place + 1,
+        }),
+        kind => sized_header(section, place + 1, u16::from(kind), *control % 32),
+    }
+}
+
+/// The pointer whose control byte has these low five bits, and whose bytes begin at a place.
+#[tactic(auto, unfolding(crate::specs::Pointer::pointer_at))]
+pub fn pointer_at(section: &[u8], place: usize, low: u8) -> Result<Pointer, Fault>
+    requires { low < 32 }
+    ensures { result_ok result ≡ spec_pointer_at section.now place low }
+{
+    let shape = low / 8;
+    let len = usize::from(shape) + 1;
+    let n = number_at(section, place, len)?;
+    let high = usize::from(low % 8);
+    let target = match shape {
+        0 => high * 256 + n,
+        1 => high * 65_536 + n + 2_048,
+        2 => high * 16_777_216 + n + 526_336,
+        _ => n,
+    };
+    Ok(Pointer {
+        target,
+        next: place + len,
+    })
+}
+
+#[tactic(auto, unfolding(crate::specs::Pointer::behind))]
+fn behind(section: &[u8], levels: u16, pointer: Pointer) -> Result<Direct, Fault>
+    ensures value { result_ok result ≡ spec_behind section.now levels pointer }
+    ensures bound { IfOk result (λ at. at.header.size < 2 ^ 25) }
+{
+    if levels >= MAX_LEVELS {
+        return Err(Fault::TooDeep);
+    }
+    let header = header_at(section, pointer.target)?;
+    if header.kind == POINTER {
+        return Err(Fault::PointerToPointer);
+    }
+    Ok(Direct {
+        header,
+        after: Some(pointer.next),
+        levels: levels + 1,
+    })
+}
+
+/// The header that is no pointer at a place, directly or behind one pointer.
+#[tactic(auto, unfolding(crate::specs::Pointer::direct_at))]
+pub fn direct_at(section: &[u8], place: usize, levels: u16) -> Result<Direct, Fault>
+    ensures value { result_ok result ≡ spec_direct_at section.now place levels }
+    ensures bound { IfOk result (λ at. at.header.size < 2 ^ 25) }
+{
+    let header = header_at(section, place)?;
+    if header.kind != POINTER {
+        return Ok(Direct {
+            header,
+            after: None,
+            levels,
+        });
+    }
+    behind(section, levels, pointer_at(section, header.body, header.size as u8)?)
+}

@@ -1,0 +1,8 @@
+//! The values of a MaxMind DB file: headers, pointers and contents, and the errors of every layer.
+#![tactic(auto)]
+
+pub mod error;
+pub mod fault;
+pub mod header;
+pub mod kind;
+pub mod message;
