@@ -1,6 +1,7 @@
 -- The parts of a file ("Overview", "Binary Search Tree Section", "Data Section Separator" and "Database
 -- Metadata" of the MaxMind DB File Format Specification 2.0).
 use Rattle.std.specs.Prelude.{◌≡◌, ℕ, ◌+◌, ◌-◌, ◌*◌, ◌^◌, ◌<◌, ◌≤◌, ◌⊎◌, Bool, List, [], ◌∷◌, length, drop, take, slice_index, slice_range, if◌then◌else◌, ◌==◌}
+use Rattle.mmdb_net.specs.Bits.{zero_bits}
 use Rattle.maxminddb.specs.Metadata.{MetadataDatum}
 use Rattle.maxminddb.specs.Tree.{SearchTree, search_tree, node_bytes}
 
@@ -56,12 +57,17 @@ abbrev pub data_section : Database → List ℕ
 data_section db = slice_range db.bytes (data_start db) db.marker
 
 -- the database has addresses of IPv6
-abbrev pub is_ipv6 : Database → Bool
-is_ipv6 db = db.metadata.ip_version == 6
+abbrev pub has_ipv6 : Database → Bool
+has_ipv6 db = db.metadata.ip_version == 6
 
--- how many bits a full address has
+-- how many bits a full address has: 128 in an IPv6 database, 32 in an IPv4 one
 abbrev pub width : Database → ℕ
-width db = if is_ipv6 db then 128 else 32
+width db = if has_ipv6 db then 128 else 32
+
+-- The zero bits before an IPv4 address: 96 in an IPv6 database, none in an IPv4 one ("IPv4 addresses in
+-- an IPv6 tree").
+abbrev pub before_ipv4 : Database → List Bool
+before_ipv4 db = zero_bits (if has_ipv6 db then 96 else 0)
 
 -- the tree and the separator end before the marker
 abbrev pub HasRoom : Database → Type 0

@@ -4,3 +4,6 @@ pub mod File
 pub mod Leaves
 pub mod Lookup
 pub mod Descents
+pub mod Shown
+pub mod Kept
+pub mod Found

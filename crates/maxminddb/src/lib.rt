@@ -2,7 +2,9 @@
 #![tactic(auto)]
 
 pub mod metadata;
+pub mod reader;
 pub mod tree;
 
 pub use metadata::Metadata;
+pub use reader::{LookupResult, Reader};
 pub use tree::read_node;

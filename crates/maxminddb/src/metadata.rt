@@ -1,5 +1,10 @@
 //! What a database says of itself.
+ghost use Rattle.std.specs.Prelude.{◌≡◌, IfErr, OnOk};
+ghost use Rattle.mmdb_format.specs.Error.{OfDatabase, kind_of, MemoryApart};
 
+use mmdb_format::error::MaxMindDbError;
+use mmdb_format::message::{Message, Text};
+use std::alloc::Global;
 use std::collections::BTreeMap;
 
 /// The metadata of a database ("Database Metadata" of the MaxMind DB File Format Specification 2.0).
@@ -23,4 +28,53 @@ pub struct Metadata {
     pub node_count: u32,
     /// How many bits a record of a node has: 24, 28 or 32.
     pub record_size: u16,
+}
+
+// An `InvalidDatabase` with this text.
+fn refusal(text: String) -> MaxMindDbError
+    ensures { kind_of result ≡ OfDatabase }
+{
+    MaxMindDbError::InvalidDatabase {
+        message: Message::Made(text),
+        offset: None,
+    }
+}
+
+impl Metadata {
+    ghost use Rattle.maxminddb.specs.Metadata.{metadata_datum};
+    ghost use Rattle.maxminddb.specs.File.{IsSupported};
+
+    /// Refuses what a reader does not read, each field in turn.
+    pub(crate) fn check_supported(&self, alloc: Global) -> Result<(), MaxMindDbError>
+        ensures supported { OnOk result (IsSupported (metadata_datum self.now)) }
+        ensures refused { IfErr result (λ e. MemoryApart e ((kind_of e ≡ OfDatabase) × ¬ IsSupported (metadata_datum self.now))) }
+    {
+        let format = self.binary_format_major_version;
+        if format != 2 {
+            let text = format!(in alloc; "binary_format_major_version - Expected: 2 Actual: {format}")?;
+            return Err(refusal(text));
+        }
+        let ip = self.ip_version;
+        if ip != 4 && ip != 6 {
+            let text = format!(in alloc; "ip_version - Expected: 4 or 6 Actual: {ip}")?;
+            return Err(refusal(text));
+        }
+        if self.node_count == 0 {
+            return Err(MaxMindDbError::InvalidDatabase {
+                message: Message::Fixed(Text::NoNode),
+                offset: None,
+            });
+        }
+        let epoch = self.build_epoch;
+        if epoch >= 1 << 63 {
+            let text = format!(in alloc; "build_epoch - Unix timestamp is too large to represent as SystemTime: {epoch}")?;
+            return Err(refusal(text));
+        }
+        let size = self.record_size;
+        if size != 24 && size != 28 && size != 32 {
+            let text = format!(in alloc; "record_size - Expected: 24, 28, or 32 Actual: {size}")?;
+            return Err(refusal(text));
+        }
+        Ok(())
+    }
 }

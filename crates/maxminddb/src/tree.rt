@@ -1,5 +1,5 @@
 //! The nodes of the search tree, and the walk over them.
-ghost use Rattle.std.specs.Prelude.{◌≡◌, ◌+◌, ◌*◌, ◌^◌, ◌<◌, ◌≤◌, ◌==◌, length, IsTrue};
+ghost use Rattle.std.specs.Prelude.{◌≡◌, ◌+◌, ◌*◌, ◌^◌, ◌<◌, ◌≤◌, ◌==◌, if◌then◌else◌, length, IsTrue};
 ghost use Rattle.maxminddb.specs.Tree.{is_record_size, node_bytes, three_bytes, child};
 
 /// The number that a node has for a bit of an address, where `bytes` begin with the nodes of a tree
@@ -61,7 +61,7 @@ pub(crate) struct Descent {
 impl Nodes<'_> {
     ghost use Rattle.maxminddb.specs.Tree.{search_tree};
     ghost use Rattle.maxminddb.specs.Descents.{Descends};
-    ghost use Rattle.mmdb_net.specs.Bits.{bits_of};
+    ghost use Rattle.mmdb_net.specs.Bits.{bits_of, zero_bits};
 
     /// Walks from a number along the lowest `width` bits of an address, the highest of them first,
     /// until it leaves the nodes or has taken all bits.
@@ -81,6 +81,19 @@ impl Nodes<'_> {
         Descent {
             number,
             taken: width,
+        }
+    }
+
+    /// Where IPv4 begins: after the 96 zero bits of an IPv6 database, as far as the walk takes them, and
+    /// at node 0 of an IPv4 one.
+    pub(crate) fn ipv4_start(&self, ip_version: u16) -> Descent
+        ensures reached { let tree = search_tree self.now.bytes.now self.now.node_count self.now.record_size in Descends tree 0 (zero_bits (if ip_version == 6 then 96 else 0)) result.taken result.number }
+        ensures within { result.taken ≤ 96 }
+    {
+        if ip_version == 6 {
+            self.descend(0, 0, 96)
+        } else {
+            self.descend(0, 0, 0)
         }
     }
 }
