@@ -2,5 +2,9 @@
 #![tactic(auto)]
 
 mod error;
+mod mask;
+mod network;
 
 pub use error::IpNetworkError;
+pub use mask::mask_ip;
+pub use network::{IpNetwork, Ipv4Network, Ipv6Network};

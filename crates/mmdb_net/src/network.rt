@@ -1,0 +1,192 @@
+ghost use Rattle.std.specs.Prelude.{◌≡◌, ◌≤◌, ◌↔◌, IsTrue, IsOk, IfOk, IfErr};
+ghost use Rattle.mmdb_net.specs.Address.{address_width, bits_of_address, IsSameKind, IsMaskedIp};
+ghost use Rattle.mmdb_net.specs.Bits.{IsPrefix};
+
+use super::error::IpNetworkError;
+use super::mask;
+use std::net::{IpAddr, Ipv4Addr, Ipv6Addr};
+
+/// An IPv4 address and a prefix: how many of its first bits the addresses of the network share.
+#[derive(Clone, Copy, Debug, PartialEq, Eq)]
+pub struct Ipv4Network {
+    address: Ipv4Addr,
+    prefix: u8,
+    ghost is_prefix: { prefix ≤ 32 },
+}
+
+impl Ipv4Network {
+    ghost use Rattle.mmdb_net.specs.Network.{ipv4_ip_of, ipv4_prefix_of, ipv4_block_of};
+
+    /// The network of an address and a prefix of at most 32.
+    pub fn new(addr: Ipv4Addr, prefix: u8) -> Result<Ipv4Network, IpNetworkError>
+        ensures ok { IsOk result ↔ (prefix ≤ 32) }
+        ensures ip { IfOk result (λ n. ipv4_ip_of n ≡ addr) }
+        ensures prefix { IfOk result (λ n. ipv4_prefix_of n ≡ prefix) }
+        ensures err { IfErr result (λ e. e ≡ IpNetworkError.InvalidPrefix) }
+    {
+        if prefix > 32 {
+            return Err(IpNetworkError::InvalidPrefix);
+        }
+        Ok(Ipv4Network {
+            address: addr,
+            prefix,
+        })
+    }
+
+    /// The first address of the network: the address as given, with the bits after the prefix cleared.
+    #[tactic(auto, using(crate::proofs::AddressLaws::masked_ipv4))]
+    pub fn network(&self) -> Ipv4Addr
+        ensures { IsMaskedIp (IpAddr.V4 (ipv4_ip_of self.now)) (ipv4_prefix_of self.now) (IpAddr.V4 result) }
+    {
+        mask::mask_ipv4(self.address, self.prefix)
+    }
+
+    /// The address as it was given.
+    pub fn ip(&self) -> Ipv4Addr
+        ensures { result ≡ ipv4_ip_of self.now }
+    {
+        self.address
+    }
+
+    /// How many first bits the addresses of the network share.
+    pub fn prefix(&self) -> u8
+        ensures value { result ≡ ipv4_prefix_of self.now }
+        ensures within { result ≤ 32 }
+    {
+        self.prefix
+    }
+
+    /// Whether the address begins with the bits of the network.
+    pub fn contains(&self, addr: Ipv4Addr) -> bool
+        ensures { IsTrue result ↔ IsPrefix (ipv4_block_of self.now) (bits_of_address (IpAddr.V4 addr)) }
+    {
+        mask::ipv4_first_bits(self.address, self.prefix) == mask::ipv4_first_bits(addr, self.prefix)
+    }
+}
+
+/// An IPv6 address and a prefix: how many of its first bits the addresses of the network share.
+#[derive(Clone, Copy, Debug, PartialEq, Eq)]
+pub struct Ipv6Network {
+    address: Ipv6Addr,
+    prefix: u8,
+    ghost is_prefix: { prefix ≤ 128 },
+}
+
+impl Ipv6Network {
+    ghost use Rattle.mmdb_net.specs.Network.{ipv6_ip_of, ipv6_prefix_of, ipv6_block_of};
+
+    /// The network of an address and a prefix of at most 128.
+    pub fn new(addr: Ipv6Addr, prefix: u8) -> Result<Ipv6Network, IpNetworkError>
+        ensures ok { IsOk result ↔ (prefix ≤ 128) }
+        ensures ip { IfOk result (λ n. ipv6_ip_of n ≡ addr) }
+        ensures prefix { IfOk result (λ n. ipv6_prefix_of n ≡ prefix) }
+        ensures err { IfErr result (λ e. e ≡ IpNetworkError.InvalidPrefix) }
+    {
+        if prefix > 128 {
+            return Err(IpNetworkError::InvalidPrefix);
+        }
+        Ok(Ipv6Network {
+            address: addr,
+            prefix,
+        })
+    }
+
+    /// The first address of the network: the address as given, with the bits after the prefix cleared.
+    #[tactic(auto, using(crate::proofs::AddressLaws::masked_ipv6))]
+    pub fn network(&self) -> Ipv6Addr
+        ensures { IsMaskedIp (IpAddr.V6 (ipv6_ip_of self.now)) (ipv6_prefix_of self.now) (IpAddr.V6 result) }
+    {
+        mask::mask_ipv6(self.address, self.prefix)
+    }
+
+    /// The address as it was given.
+    pub fn ip(&self) -> Ipv6Addr
+        ensures { result ≡ ipv6_ip_of self.now }
+    {
+        self.address
+    }
+
+    /// How many first bits the addresses of the network share.
+    pub fn prefix(&self) -> u8
+        ensures value { result ≡ ipv6_prefix_of self.now }
+        ensures within { result ≤ 128 }
+    {
+        self.prefix
+    }
+
+    /// Whether the address begins with the bits of the network.
+    pub fn contains(&self, addr: Ipv6Addr) -> bool
+        ensures { IsTrue result ↔ IsPrefix (ipv6_block_of self.now) (bits_of_address (IpAddr.V6 addr)) }
+    {
+        mask::ipv6_first_bits(self.address, self.prefix) == mask::ipv6_first_bits(addr, self.prefix)
+    }
+}
+
+/// A network of either kind.
+#[derive(Clone, Copy, Debug, PartialEq, Eq)]
+pub enum IpNetwork {
+    /// An IPv4 network.
+    V4(Ipv4Network),
+    /// An IPv6 network.
+    V6(Ipv6Network),
+}
+
+impl IpNetwork {
+    ghost use Rattle.mmdb_net.specs.Network.{ip_of, prefix_of, block_of};
+
+    /// The network of an address and a prefix of at most the number of its bits, 32 or 128.
+    pub fn new(addr: IpAddr, prefix: u8) -> Result<IpNetwork, IpNetworkError>
+        ensures ok { IsOk result ↔ (prefix ≤ address_width addr) }
+        ensures ip { IfOk result (λ n. ip_of n ≡ addr) }
+        ensures prefix { IfOk result (λ n. prefix_of n ≡ prefix) }
+        ensures err { IfErr result (λ e. e ≡ IpNetworkError.InvalidPrefix) }
+    {
+        match addr {
+            IpAddr::V4(addr) => Ok(IpNetwork::V4(Ipv4Network::new(addr, prefix)?)),
+            IpAddr::V6(addr) => Ok(IpNetwork::V6(Ipv6Network::new(addr, prefix)?)),
+        }
+    }
+
+    /// The first address of the network: the address as given, with the bits after the prefix cleared.
+    pub fn network(&self) -> IpAddr
+        ensures { IsMaskedIp (ip_of self.now) (prefix_of self.now) result }
+    {
+        match self {
+            IpNetwork::V4(network) => IpAddr::V4(network.network()),
+            IpNetwork::V6(network) => IpAddr::V6(network.network()),
+        }
+    }
+
+    /// The address as it was given.
+    pub fn ip(&self) -> IpAddr
+        ensures { result ≡ ip_of self.now }
+    {
+        match self {
+            IpNetwork::V4(network) => IpAddr::V4(network.ip()),
+            IpNetwork::V6(network) => IpAddr::V6(network.ip()),
+        }
+    }
+
+    /// How many first bits the addresses of the network share.
+    pub fn prefix(&self) -> u8
+        ensures value { result ≡ prefix_of self.now }
+        ensures within { result ≤ address_width (ip_of self.now) }
+    {
+        match self {
+            IpNetwork::V4(network) => network.prefix(),
+            IpNetwork::V6(network) => network.prefix(),
+        }
+    }
+
+    /// Whether the address is of the network's kind and begins with the bits of the network.
+    pub fn contains(&self, addr: IpAddr) -> bool
+        ensures { IsTrue result
+            ↔ (IsSameKind addr (ip_of self.now) × IsPrefix (block_of self.now) (bits_of_address addr)) }
+    {
+        match (self, addr) {
+            (IpNetwork::V4(network), IpAddr::V4(addr)) => network.contains(addr),
+            (IpNetwork::V6(network), IpAddr::V6(addr)) => network.contains(addr),
+            _ => false,
+        }
+    }
+}
