@@ -1,6 +1,6 @@
 -- Numbers of few bytes.
 use Rattle.std.specs.Option.{IfSome}
-use Rattle.std.proofs.Common.{Option, Some, None, ◌≡◌, ℕ, suc, zero, ◌+◌, ◌*◌, ◌^◌, ◌<◌, ◌≤◌, List, [], ◌∷◌, length, drop, get_or, refl, ap, sym, ◌∙◌, arith, add-one, drop-cons}
+use Rattle.std.proofs.Common.{Option, Some, None, ◌≡◌, ℕ, zero, ◌+◌, ◌*◌, ◌^◌, ◌<◌, ◌≤◌, List, length, drop, get_or, refl, arith, add-one, drop-cons}
 use Rattle.std.proofs.Math.Nat.{pow-suc, pow-le-pow_right}
 use Rattle.mmdb_format.specs.Header.{spelled_after}
 

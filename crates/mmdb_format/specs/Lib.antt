@@ -3,3 +3,7 @@ pub mod Pointer
 pub mod Kinds
 pub mod Message
 pub mod Error
+pub mod Faults
+pub mod Contents
+pub mod Views
+pub mod Unfolding

@@ -1,6 +1,5 @@
 -- Pointers ("Data Field Format", pointer - 1).
 use Rattle.std.specs.Prelude.{◌≡◌, ℕ, ◌+◌, ◌*◌, ◌/◌, ◌%◌, List, Option, Some, None, nat_eq, nat_lt, if◌then◌else◌}
-use Rattle.mmdb_format.specs.declared.header.Header.{Header}
 use Rattle.mmdb_format.specs.declared.header.Pointer.{Pointer}
 use Rattle.mmdb_format.specs.declared.header.Direct.{Direct}
 use Rattle.mmdb_format.specs.Header.{◌>>=◌, number_at, header_at}

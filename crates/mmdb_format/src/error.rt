@@ -42,7 +42,9 @@ pub enum MaxMindDbError {
     InvalidNetwork(IpNetworkError),
     /// An argument does not fit the database.
     #[error("invalid input: {message}")]
-    InvalidInput { message: Message },
+    InvalidInput {
+        message: Message,
+    },
     /// A growth was refused; the making of an error's text is one too.
     #[error("out of memory")]
     Memory,

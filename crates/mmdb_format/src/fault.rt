@@ -1,14 +1,124 @@
-//! Why a value can't be read.
+//! What can be wrong with the bytes of a value.
+ghost use Rattle.std.specs.Prelude.{◌≡◌, IfOk};
+ghost use Rattle.mmdb_format.specs.Error.{kind_of, IsOfOrMemory};
+ghost use Rattle.mmdb_format.specs.Faults.{kind_of_fault};
 
-/// What is wrong with the bytes at a place.
+use crate::error::MaxMindDbError;
+use crate::kind::Kind;
+use crate::message::{Message, Text};
+use std::alloc::{AllocError, Global};
+
+/// What is wrong with the bytes of a value, or with what they ask of a reader.
 #[derive(Clone, Copy, Debug, PartialEq, Eq)]
 pub enum Fault {
-    /// A byte of a header or a pointer is missing.
+    /// A byte of a header or of a pointer is missing.
     EndOfBuffer,
-    /// A pointer leads to a pointer where only one is allowed.
-    PointerToPointer,
-    /// More levels than are allowed.
-    TooDeep,
-    /// A text is no UTF-8.
+    /// The size is not one of the type's, or runs past the section.
+    SizeOf(Kind, usize),
+    /// The bytes of a pointer that is passed run past the section.
+    PointerSize(usize),
+    /// A key runs past the section.
+    KeyTooLong,
+    /// The type number belongs to no type.
+    UnknownType(u16),
+    /// A text is not UTF-8.
     InvalidUtf8,
+    /// A pointer leads to a pointer where one alone is allowed.
+    PointerToPointer,
+    /// A key is no text, but of this type number.
+    KeyOfType(u16),
+    /// More levels than a reader allows.
+    TooDeep,
+    /// A pointer leads back to this place, which is not passed yet.
+    Cycle(usize),
+    /// The value is not of the type that was asked for, but of this type number.
+    Unexpected(Kind, u16),
+    /// A whole number is out of the range that was asked for.
+    OutOfRange,
+    /// The value is no whole number.
+    NotWhole,
+    /// More values than a reader allows.
+    TooManyValues,
+    /// More bytes of texts and byte strings than a reader allows.
+    TooManyBytes,
+    /// More work than the check of a section allows.
+    TooMuchWork,
+}
+
+impl Fault {
+    /// The fault of a value that is not of the type that was asked for: the formats that can come
+    /// after this one have no type number above 255.
+    pub fn unexpected(wanted: Kind, found: u16) -> Fault {
+        if found > 255 {
+            Fault::UnknownType(found)
+        } else {
+            Fault::Unexpected(wanted, found)
+        }
+    }
+
+    fn message(self, alloc: Global) -> Result<Message, AllocError> {
+        let text = match self {
+            Fault::SizeOf(kind, size) => {
+                let name = kind.name();
+                return Ok(Message::Made(format!(in alloc; "{name} of size {size}")?));
+            }
+            Fault::PointerSize(size) => {
+                return Ok(Message::Made(format!(in alloc; "pointer of size {size}")?));
+            }
+            Fault::UnknownType(number) => {
+                return Ok(Message::Made(format!(in alloc; "unknown data type: {number}")?));
+            }
+            Fault::KeyOfType(number) => {
+                return Ok(Message::Made(format!(in alloc; "expected string, got type {number}")?));
+            }
+            Fault::Cycle(place) => {
+                return Ok(Message::Made(format!(in alloc;
+                    "cyclic data pointer references offset {place}"
+                )?));
+            }
+            Fault::Unexpected(wanted, found) => {
+                let name = wanted.name();
+                return Ok(Message::Made(format!(in alloc; "expected {name}, got type {found}")?));
+            }
+            Fault::EndOfBuffer => Text::EndOfBuffer,
+            Fault::KeyTooLong => Text::KeyTooLong,
+            Fault::InvalidUtf8 => Text::InvalidUtf8,
+            Fault::PointerToPointer => Text::PointerToPointer,
+            Fault::TooDeep => Text::TooDeep,
+            Fault::OutOfRange => Text::OutOfRange,
+            Fault::NotWhole => Text::NotWhole,
+            Fault::TooManyValues => Text::TooManyValues,
+            Fault::TooManyBytes => Text::TooManyBytes,
+            Fault::TooMuchWork => Text::TooMuchWork,
+        };
+        Ok(Message::Fixed(text))
+    }
+
+    /// The error that tells of this fault at an offset, or `Memory` where its text holds a number
+    /// and there is no memory for it.
+    pub fn refusal(self, alloc: Global, offset: usize) -> MaxMindDbError
+        ensures { IsOfOrMemory (kind_of_fault self) result }
+    {
+        let Ok(message) = self.message(alloc) else {
+            return MaxMindDbError::Memory;
+        };
+        let offset = Some(offset);
+        match self {
+            Fault::Unexpected(_, _) | Fault::OutOfRange | Fault::NotWhole => {
+                MaxMindDbError::Decoding {
+                    message,
+                    offset,
+                    path: None,
+                }
+            }
+            Fault::TooManyValues | Fault::TooManyBytes | Fault::TooMuchWork => {
+                MaxMindDbError::ResourceLimit {
+                    message,
+                    offset,
+                    path: None,
+                }
+            }
+            _ => MaxMindDbError::InvalidDatabase { message, offset },
+        }
+    }
 }

@@ -10,7 +10,6 @@ use crate::kind::POINTER;
 /// At most so many containers and pointers lie on the way to a value.
 pub const MAX_LEVELS: u16 = 512;
 
-
 /// The type number of a value, its size, and where its content begins.
 #[derive(Clone, Copy, Debug)]
 pub struct Header {
@@ -189,5 +188,9 @@ pub fn direct_at(section: &[u8], place: usize, levels: u16) -> Result<Direct, Fa
             levels,
         });
     }
-    behind(section, levels, pointer_at(section, header.body, header.size as u8)?)
+    behind(
+        section,
+        levels,
+        pointer_at(section, header.body, header.size as u8)?,
+    )
 }

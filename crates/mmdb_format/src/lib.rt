@@ -1,6 +1,7 @@
 //! The values of a MaxMind DB file: headers, pointers and contents, and the errors of every layer.
 #![tactic(auto)]
 
+pub mod content;
 pub mod error;
 pub mod fault;
 pub mod header;

@@ -49,9 +49,7 @@ impl Text {
             Text::KeyTooLong => "string length exceeds buffer",
             Text::InvalidUtf8 => "invalid UTF-8 in string",
             Text::PointerToPointer => "pointer points to another pointer",
-            Text::TooDeep => {
-                "exceeded maximum data structure depth; database is likely corrupt"
-            }
+            Text::TooDeep => { "exceeded maximum data structure depth; database is likely corrupt" }
             Text::TooManyValues => "exceeded maximum number of data structure values",
             Text::TooManyBytes => {
                 "exceeded maximum size of data structure string and bytes values"

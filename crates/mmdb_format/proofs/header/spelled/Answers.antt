@@ -1,5 +1,4 @@
-use Rattle.std.proofs.Common.{◌≡◌, ◌<◌, ◌+◌, ◌*◌, ◌^◌, ◌∙◌, arith, get_or, drop, length}
-use Rattle.mmdb_format.specs.Header.{spelled_after}
+use Rattle.std.proofs.Common.{◌<◌, ◌+◌, ◌*◌, ◌^◌, ◌∙◌, arith}
 use Rattle.mmdb_format.proofs.Numbers.{step_fits, step_below, spelled_step}
 use Rattle.mmdb_format.proofs.header.spelled.Goals as goal
 use Rattle.mmdb_format.proofs.header.spelled.Goals.{After-from}
@@ -15,6 +14,6 @@ overflow_add-n c = let h = step_fits c.loop-b.n c.from.result c.loop-b.b-index c
 
 pub loop-b-preserved : goal.loop-b-preserved
 loop-b-preserved c = record {
-    value = rw c.from.ensures (spelled_step c.args.bytes.now c.loop-b.n c.loop-b.b-index c.loop-b-test.true ∙ c.loop-b.invariant.value);
-    bound = step_below c.loop-b.n c.from.result c.loop-b.b-index c.loop-b.invariant.bound (next_byte c)
-  }
+  value = rw c.from.ensures (spelled_step c.args.bytes.now c.loop-b.n c.loop-b.b-index c.loop-b-test.true ∙ c.loop-b.invariant.value);
+  bound = step_below c.loop-b.n c.from.result c.loop-b.b-index c.loop-b.invariant.bound (next_byte c);
+}

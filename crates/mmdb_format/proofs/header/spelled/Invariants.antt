@@ -4,6 +4,6 @@ use Rattle.mmdb_format.proofs.header.spelled.Given as goal
 
 abbrev pub invariant-loop-b : goal.invariant-loop-b
 invariant-loop-b l = record {
-    value : spelled_after l.n (drop l.b-index l.bytes) ≡ spelled l.bytes;
-    bound : l.n < 256 ^ l.b-index
-  }
+  value : spelled_after l.n (drop l.b-index l.bytes) ≡ spelled l.bytes;
+  bound : l.n < 256 ^ l.b-index;
+}

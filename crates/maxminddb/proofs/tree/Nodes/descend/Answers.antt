@@ -1,6 +1,6 @@
 use Rattle.std.proofs.Common.{◌<◌, ◌≡◌, ap, sym, ◌∙◌, arith}
 use Rattle.maxminddb.specs.Tree.{child}
-use Rattle.maxminddb.proofs.BitLemmas.{length-bits_of, get_or-bits_of}
+use Rattle.mmdb_net.proofs.BitLaws.{length-bits_of, get_or-bits_of}
 use Rattle.maxminddb.proofs.WalkLemmas.{Walks-start, Walks-more, Descends-all}
 use Rattle.maxminddb.proofs.tree.Nodes.descend.Goals as goal
 

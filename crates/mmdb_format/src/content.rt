@@ -1,0 +1,173 @@
+//! The contents of values that hold no others.
+ghost use Rattle.std.specs.Prelude.{◌≡◌, ℕ, ◌<◌, ◌≤◌, ◌^◌, ◌+◌, length, IfOk, option_map};
+ghost use Rattle.std.specs.Result.{result_ok};
+ghost use Rattle.mmdb_format.specs.Contents.{content_at as spec_content_at, short_number as spec_short_number, full_number as spec_full_number, content_end as spec_content_end, bytes_of_content, scalar_payload, key_bytes_at as spec_key_bytes_at, passed_end as spec_passed_end};
+ghost use Rattle.mmdb_format.specs.Views.{content_view};
+
+use crate::fault::Fault;
+use crate::header::{Header, bytes_at, direct_at, pointer_at, wide_number_at};
+use crate::kind::{BOOL, BYTES, DOUBLE, FLOAT, I32, Kind, POINTER, TEXT, U16, U32, U64, U128};
+
+/// The 64 bits of a number of double precision (IEEE 754 binary64).
+#[derive(Clone, Copy, Debug, PartialEq, Eq)]
+pub struct Double {
+    pub bits: u64,
+}
+
+/// The 32 bits of a number of single precision (IEEE 754 binary32).
+#[derive(Clone, Copy, Debug, PartialEq, Eq)]
+pub struct Float {
+    pub bits: u32,
+}
+
+/// What a value that holds no others says, its text not tested yet.
+#[derive(Clone, Copy, Debug)]
+pub enum Content<'de> {
+    Text(&'de [u8]),
+    Bytes(&'de [u8]),
+    Bool(bool),
+    I32(i32),
+    U16(u16),
+    U32(u32),
+    U64(u64),
+    U128(u128),
+    Double(Double),
+    Float(Float),
+}
+
+impl Header {
+    /// The fault of a size that the type does not have, or that runs past the section.
+    pub fn wrong_size(self) -> Fault {
+        Fault::SizeOf(Kind::of_number(self.kind), self.size)
+    }
+}
+
+// The bytes of a text or a byte string.
+fn content_bytes(section: &[u8], header: Header) -> Result<&[u8], Fault>
+    ensures value { option_map (λ x. x.now) (result_ok result) ≡ bytes_of_content section.now header }
+    ensures inside { IfOk result (λ x. header.body + header.size ≤ length section.now) }
+    ensures len { IfOk result (λ x. length x.now ≡ header.size) }
+{
+    match bytes_at(section, header.body, header.size) {
+        Some(bytes) => Ok(bytes),
+        None => Err(header.wrong_size()),
+    }
+}
+
+// A number of at most so many bytes.
+fn short_number(section: &[u8], header: Header, most: usize) -> Result<u128, Fault>
+    requires { most ≤ 16 }
+    ensures value { result_ok result ≡ spec_short_number section.now header most }
+    ensures bound { IfOk result (λ n. n < 256 ^ most) }
+    ensures inside { IfOk result (λ n. header.body + header.size ≤ length section.now) }
+{
+    if header.size > most {
+        return Err(header.wrong_size());
+    }
+    match wide_number_at(section, header.body, header.size) {
+        Some(n) => Ok(n),
+        None => Err(header.wrong_size()),
+    }
+}
+
+// A number of exactly so many bytes.
+fn full_number(section: &[u8], header: Header, size: usize) -> Result<u128, Fault>
+    requires { size ≤ 16 }
+    ensures value { result_ok result ≡ spec_full_number section.now header size }
+    ensures bound { IfOk result (λ n. n < 256 ^ size) }
+    ensures inside { IfOk result (λ n. header.body + header.size ≤ length section.now) }
+{
+    if header.size != size {
+        return Err(header.wrong_size());
+    }
+    match wide_number_at(section, header.body, header.size) {
+        Some(n) => Ok(n),
+        None => Err(header.wrong_size()),
+    }
+}
+
+/// What stands behind the header of a value that holds no others.
+#[tactic(auto, unfolding(crate::specs::Contents::content_at))]
+pub fn content_at(section: &[u8], header: Header) -> Result<Content<'_>, Fault>
+    ensures value { option_map content_view (result_ok result) ≡ spec_content_at section.now header }
+    ensures inside { IfOk result (λ c. spec_content_end header < 2 ^ 64) }
+    ensures short { IfOk result (λ c. scalar_payload (content_view c) ≤ header.size) }
+{
+    Ok(match header.kind {
+        TEXT => Content::Text(content_bytes(section, header)?),
+        DOUBLE => Content::Double(Double {
+            bits: full_number(section, header, 8)? as u64,
+        }),
+        BYTES => Content::Bytes(content_bytes(section, header)?),
+        U16 => Content::U16(short_number(section, header, 2)? as u16),
+        U32 => Content::U32(short_number(section, header, 4)? as u32),
+        I32 => {
+            let bits = short_number(section, header, 4)? as u32;
+            Content::I32(bits.cast_signed())
+        }
+        U64 => Content::U64(short_number(section, header, 8)? as u64),
+        U128 => Content::U128(short_number(section, header, 16)?),
+        BOOL if header.size <= 1 => Content::Bool(header.size == 1),
+        BOOL => return Err(header.wrong_size()),
+        FLOAT => Content::Float(Float {
+            bits: full_number(section, header, 4)? as u32,
+        }),
+        kind => return Err(Fault::UnknownType(kind)),
+    })
+}
+
+/// The place after the content.
+pub fn content_end(header: Header) -> usize
+    requires { spec_content_end header < 2 ^ 64 }
+    ensures { result ≡ spec_content_end header }
+{
+    if header.kind == BOOL {
+        header.body
+    } else {
+        header.body + header.size
+    }
+}
+
+impl Content<'_> {
+    /// How many bytes of text or of a byte string it has.
+    pub fn payload(&self) -> usize
+        ensures { result ≡ scalar_payload (content_view self.now) }
+    {
+        match *self {
+            Content::Text(x) | Content::Bytes(x) => x.len(),
+            _ => 0,
+        }
+    }
+}
+
+/// The bytes of a map's key and the place after it: a text, directly or behind one pointer.
+#[tactic(auto, unfolding(crate::specs::Contents::key_bytes_at))]
+pub fn key_bytes_at(section: &[u8], place: usize) -> Result<(&[u8], usize), Fault>
+    ensures value { option_map (λ x. (x.0.now, x.1)) (result_ok result) ≡ spec_key_bytes_at section.now place }
+    ensures bound { IfOk result (λ x. length x.0.now < 2 ^ 25) }
+{
+    let at = direct_at(section, place, 0)?;
+    if at.header.kind != TEXT {
+        return Err(Fault::KeyOfType(at.header.kind));
+    }
+    match bytes_at(section, at.header.body, at.header.size) {
+        Some(bytes) => Ok((bytes, at.after.unwrap_or(at.header.body + at.header.size))),
+        None => Err(Fault::KeyTooLong),
+    }
+}
+
+/// The place after a scalar or a pointer that is passed without being followed.
+#[tactic(auto, unfolding(crate::specs::Contents::passed_end))]
+pub fn passed_end(section: &[u8], header: Header) -> Result<usize, Fault>
+    requires { header.kind ≡ 1 → header.size < 32 }
+    ensures { result_ok result ≡ spec_passed_end section.now header }
+{
+    if header.kind == POINTER {
+        return match pointer_at(section, header.body, header.size as u8) {
+            Ok(pointer) => Ok(pointer.next),
+            Err(_) => Err(Fault::PointerSize(header.size)),
+        };
+    }
+    content_at(section, header)?;
+    Ok(content_end(header))
+}
