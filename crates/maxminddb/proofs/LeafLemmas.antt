@@ -16,6 +16,7 @@ use Rattle.maxminddb.specs.Leaves.{IsLeaf}
 use Rattle.maxminddb.specs.Lookup.{address_bits, CanAsk, IsLeafAt, block_at}
 use Rattle.maxminddb.specs.Shown.{ipv4_start, is_shown_as_ipv4}
 use Rattle.maxminddb.specs.Descents.{Walks, Descends}
+use Rattle.maxminddb.specs.Kept.{IsReader}
 use Rattle.maxminddb.proofs.WalkLemmas.{walk-append, walk-nil, walk-inner, walk-past}
 
 -- Bits that lead to `start` on nodes alone, and the bits that a walk from there took to the end of the
@@ -159,13 +160,22 @@ zero_bits-zero : zero_bits 0 ≡ []
 unfolding zero_bits
 zero_bits-zero = refl
 
+unless_both : (a b : Bool) → a ≡ true → b ≡ false → (not a || a && b) ≡ false
+unless_both true false p q = refl
+unless_both true true p q = q
+unless_both false b p q = sym p
+
+where_first : (a b : Bool) → b ≡ true → (not a || a && b) ≡ true
+where_first true b q = q
+where_first false b q = refl
+
 pub shown-none : (db : Database) (a : IpAddr) (start depth : ℕ) → Descends (tree_of db) 0 (before_ipv4 db) depth start → 0 < db.metadata.node_count → db.metadata.node_count ≤ start → is_shown_as_ipv4 db a ≡ false
 shown-none db (V6 a) start depth d some off = refl
 shown-none db (V4 a) start depth d some off =
     let same = start-is db start depth d in
     let out : nat_lt (ipv4_start db) db.metadata.node_count ≡ false = le-ltb _ _ (omega (arith, same, off)) in
     elim (cases_Bool (has_ipv6 db)) [
-      | inl six ↦ rw (six, out) refl
+      | inl six ↦ unless_both (has_ipv6 db) _ six out
       | inr four ↦
           let none : before_ipv4 db ≡ [] = rw four zero_bits-zero in
           absurd (omega (arith, ap (walk (tree_of db)) none, walk-nil (tree_of db) 0, same, off, some))
@@ -175,4 +185,20 @@ pub shown-node : (db : Database) (a : Ipv4Addr) (start depth : ℕ) → Descends
 shown-node db a start depth d on =
     let same = start-is db start depth d in
     let inside : nat_lt (ipv4_start db) db.metadata.node_count ≡ true = lt-ltb _ _ (omega (arith, same, on)) in
-    elim (cases_Bool (has_ipv6 db)) [ inl six ↦ rw (six, inside) refl | inr four ↦ rw four refl ]
+    where_first (has_ipv6 db) _ inside
+
+-- ---- readers
+
+-- what a reader keeps, of its value
+pub reader_of : (db seen : Database) (section start depth : ℕ) → seen ≡ db → IsReader seen section start depth → IsReader db section start depth
+reader_of db seen section start depth same h = let P : Database → Type 0 = λ x. IsReader x section start depth in subst P same h
+
+pub Descends-same : (tree seen : SearchTree) (start : ℕ) (bits seen_bits : List Bool) (taken number : ℕ) → seen ≡ tree → seen_bits ≡ bits → Descends seen start seen_bits taken number → Descends tree start bits taken number
+Descends-same tree seen start bits seen_bits taken number same same_bits d =
+    let P : SearchTree → Type 0 = λ t. Descends t start bits taken number in
+    let Q : List Bool → Type 0 = λ b. Descends seen start b taken number in
+    subst P same (subst Q same_bits d)
+
+pub ipv6_bits-unspecified : ipv6_bits (record { segments = 0 ∷ 0 ∷ 0 ∷ 0 ∷ 0 ∷ 0 ∷ 0 ∷ 0 ∷ [] }) ≡ 0
+unfolding ipv6_bits
+ipv6_bits-unspecified = refl

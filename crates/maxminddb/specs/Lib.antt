@@ -7,3 +7,4 @@ pub mod Descents
 pub mod Shown
 pub mod Kept
 pub mod Found
+pub mod Laws

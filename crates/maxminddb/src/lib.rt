@@ -1,6 +1,7 @@
 //! A reader of MaxMind DB files: the metadata, the search tree, and lookups of addresses in it.
 #![tactic(auto)]
 
+pub mod laws;
 pub mod metadata;
 pub mod reader;
 pub mod tree;
