@@ -1,0 +1,204 @@
+//! Readers, and lookups of addresses.
+ghost use Rattle.std.specs.Prelude.{◌≡◌, ◌≤◌, ◌<◌, ◌⊎◌, IfOk, IfErr, IfSome, OnOk, MatchOption, MatchResult, is_some, ◌↔◌, length};
+ghost use Rattle.std.specs.Net.Addr.{is_ipv4};
+ghost use Rattle.mmdb_format.specs.Error.{OfDatabase, OfInput, OfMemory, kind_of, MemoryApart, IsRefusedAs};
+ghost use Rattle.mmdb_net.specs.Address.{address_width};
+ghost use Rattle.maxminddb.specs.Metadata.{MetadataDatum, metadata_datum};
+ghost use Rattle.maxminddb.specs.File.{Database, database, IsSupported, HasRoom, data_start};
+
+use crate::metadata::Metadata;
+use crate::tree::{Descent, Nodes};
+use mmdb_format::error::MaxMindDbError;
+use mmdb_format::message::{Message, Text};
+use std::alloc::{AllocError, Global};
+use std::convert::AsSlice;
+use std::marker::Model;
+use std::net::{IpAddr, Ipv6Addr};
+
+// The zero bytes between the tree and the data.
+const SEPARATOR: usize = 16;
+
+/// What a lookup found: a network, and the place of its value in the data section.
+pub struct LookupResult<'a, S: AsSlice<u8> + Drop> {
+    reader: &'a Reader<S>,
+    offset: Option<usize>,
+    address: IpAddr,
+    prefix: u8,
+    ghost is_prefix: { prefix ≤ address_width address },
+}
+
+// A leaf as the network that shows it, with the number to which its walk leads.
+#[derive(Clone, Copy)]
+struct Leaf {
+    number: usize,
+    address: IpAddr,
+    prefix: u8,
+    ghost is_prefix: { prefix ≤ address_width address },
+}
+
+/// A database over the bytes that a source holds or lends.
+#[derive(Drop)]
+pub struct Reader<S: AsSlice<u8> + Drop> {
+    source: S,
+    marker: usize,
+    metadata: Metadata,
+    data_start: usize,
+    ipv4_start: usize,
+    ipv4_depth: u8,
+}
+
+impl<S: AsSlice<u8> + Drop> Model for Reader<S> {
+    ghost use Rattle.maxminddb.specs.Metadata.{metadata_datum};
+    ghost use Rattle.maxminddb.specs.File.{Database, database};
+    ghost use Rattle.maxminddb.specs.Kept.{IsReader};
+
+    ghost Value = { Database };
+
+    ghost view = { λ r. database (S.items r.source) r.marker (metadata_datum r.metadata) };
+
+    ghost invariant = { λ r. IsReader (database (S.items r.source) r.marker (metadata_datum r.metadata)) r.data_start r.ipv4_start r.ipv4_depth };
+}
+
+impl<S: AsSlice<u8> + Drop> Reader<S> {
+    ghost use Rattle.maxminddb.specs.Found.{database_asked, leaf_of, offset_found, shown_as_ipv4};
+    ghost use Rattle.maxminddb.specs.Lookup.{CanAsk, Answers, IsRefusedAt, IsLeafAt, Refused, outcome_of, outcome_at, block_at};
+    ghost use Rattle.maxminddb.specs.Shown.{is_shown_as_ipv4};
+    ghost use Rattle.maxminddb.specs.Tree.{search_tree};
+    ghost use Rattle.maxminddb.specs.File.{tree_of};
+
+    /// A reader of a source whose marker stands at this place, and whose metadata are these.
+    pub(crate) fn from_parts(
+        alloc: Global,
+        source: S,
+        marker: usize,
+        metadata: Metadata,
+    ) -> Result<Reader<S>, MaxMindDbError>
+        requires within { marker ≤ length (S.items source) }
+        ensures reader { IfOk result (λ r. r ≡ database (S.items source) marker (metadata_datum metadata)) }
+        ensures supported { OnOk result (IsSupported (metadata_datum metadata)) }
+        ensures room { OnOk result (HasRoom (database (S.items source) marker (metadata_datum metadata))) }
+        ensures refused { let db = database (S.items source) marker (metadata_datum metadata) in IfErr result (λ e. MemoryApart e ((kind_of e ≡ OfDatabase) × ¬ (IsSupported db.metadata × HasRoom db))) }
+    {
+        metadata.check_supported(alloc)?;
+        let node_count = metadata.node_count as usize;
+        let data_start = node_count * (metadata.record_size as usize / 4) + SEPARATOR;
+        if data_start > marker {
+            return Err(MaxMindDbError::InvalidDatabase {
+                message: Message::Fixed(Text::TreeTooLarge),
+                offset: None,
+            });
+        }
+        let nodes = Nodes {
+            bytes: source.as_slice(),
+            node_count,
+            record_size: metadata.record_size,
+        };
+        let start = nodes.ipv4_start(metadata.ip_version);
+        Ok(Reader {
+            source,
+            marker,
+            metadata,
+            data_start,
+            ipv4_start: start.number,
+            ipv4_depth: start.taken as u8,
+        })
+    }
+
+    /// What the database says of itself.
+    pub fn metadata(&self) -> &Metadata
+        ensures { metadata_datum result.now ≡ self.now.metadata }
+    {
+        &self.metadata
+    }
+
+    // The nodes of the search tree.
+    fn nodes(&self) -> Nodes<'_>
+        ensures { search_tree result.bytes.now result.node_count result.record_size ≡ tree_of self.now }
+    {
+        Nodes {
+            bytes: self.source.as_slice(),
+            node_count: self.metadata.node_count as usize,
+            record_size: self.metadata.record_size,
+        }
+    }
+
+    // The leaf on an address's bits, or none where IPv6 is asked of an IPv4 database.
+    fn find_leaf(&self, address: IpAddr) -> Option<Leaf>
+        ensures found { MatchOption result
+            (¬ (CanAsk self.now address))
+            (λ leaf. IsLeafAt self.now address (block_at self.now leaf.address leaf.prefix) leaf.number) }
+        ensures shown { IfSome result (λ leaf. is_ipv4 leaf.address ≡ is_shown_as_ipv4 self.now address) }
+    {
+        let nodes = self.nodes();
+        match address {
+            IpAddr::V4(_) if self.ipv4_start >= nodes.node_count => Some(Leaf {
+                number: self.ipv4_start,
+                address: IpAddr::V6(Ipv6Addr::UNSPECIFIED),
+                prefix: self.ipv4_depth,
+            }),
+            IpAddr::V4(v4) => {
+                let descent = nodes.descend(self.ipv4_start, u128::from(v4.to_bits()), 32);
+                Some(Leaf {
+                    number: descent.number,
+                    address,
+                    prefix: descent.taken as u8,
+                })
+            }
+            IpAddr::V6(_) if self.metadata.ip_version != 6 => None,
+            IpAddr::V6(v6) => {
+                let descent = nodes.descend(0, v6.to_bits(), 128);
+                Some(Leaf {
+                    number: descent.number,
+                    address,
+                    prefix: descent.taken as u8,
+                })
+            }
+        }
+    }
+
+    // The offset in the data section that a number of the tree stands for, if it has data.
+    #[tactic(auto, unfolding(crate::specs::Lookup::outcome_of))]
+    fn offset_at(&self, number: usize) -> Result<Option<usize>, MaxMindDbError>
+        ensures { MatchResult result
+            (λ offset. outcome_of self.now number ≡ outcome_at offset)
+            (λ e. (kind_of e ≡ OfDatabase) × (outcome_of self.now number ≡ Refused)) }
+    {
+        let nodes = self.metadata.node_count as usize;
+        if number <= nodes {
+            return Ok(None);
+        }
+        match number.checked_sub(nodes + SEPARATOR) {
+            Some(offset) if offset < self.marker - self.data_start => Ok(Some(offset)),
+            _ => Err(MaxMindDbError::InvalidDatabase {
+                message: Message::Fixed(Text::InvalidLocation),
+                offset: None,
+            }),
+        }
+    }
+
+    /// What the database has for an address.
+    ///
+    /// An IPv6 address asked of an IPv4 database is `InvalidInput`; a leaf whose number leads outside
+    /// the data section is `InvalidDatabase`. Nothing else is refused.
+    pub fn lookup(&self, address: IpAddr) -> Result<LookupResult<'_, S>, MaxMindDbError>
+        ensures answered { IfOk result (λ r. Answers self.now address (leaf_of r) (outcome_at (offset_found r))) }
+        ensures shown { IfOk result (λ r. shown_as_ipv4 r ≡ is_shown_as_ipv4 self.now address) }
+        ensures database { IfOk result (λ r. database_asked r ≡ self.now) }
+        ensures of_input { IsRefusedAs OfInput result ↔ ¬ (CanAsk self.now address) }
+        ensures of_database { IsRefusedAs OfDatabase result ↔ IsRefusedAt self.now address }
+        ensures no_other { IfErr result (λ e. (kind_of e ≡ OfInput) ⊎ (kind_of e ≡ OfDatabase)) }
+    {
+        let Some(leaf) = self.find_leaf(address) else {
+            return Err(MaxMindDbError::InvalidInput {
+                message: Message::Fixed(Text::Ipv6InIpv4Lookup),
+            });
+        };
+        let offset = self.offset_at(leaf.number)?;
+        Ok(LookupResult {
+            reader: self,
+            offset,
+            address: leaf.address,
+            prefix: leaf.prefix,
+        })
+    }
+}
