@@ -4,6 +4,7 @@
 mod error;
 mod mask;
 mod network;
+mod text;
 
 pub use error::IpNetworkError;
 pub use mask::mask_ip;
