@@ -1,3 +1,5 @@
 pub mod WalkLemmas
 pub mod LeafLemmas
 pub mod LawLemmas
+pub mod Markers
+pub mod Sources

@@ -2,8 +2,10 @@
 #![tactic(auto)]
 
 pub mod laws;
+mod marker;
 pub mod metadata;
 pub mod reader;
+mod source;
 pub mod tree;
 
 pub use metadata::Metadata;

@@ -1,0 +1,54 @@
+-- What a file is, by its last marker.
+use Rattle.std.proofs.Common.{◌≡◌, ℕ, ◌+◌, ◌<◌, ◌≤◌, List, length, Option, Some, None, arith, sym, ◌∙◌, ap, subst, refl}
+use Rattle.mmdb_format.specs.Error.{Kind, OfDatabase, kind_of, MemoryApart}
+use Rattle.mmdb_format.specs.declared.error.MaxMindDbError.{MaxMindDbError}
+use Rattle.mmdb_format.specs.declared.error.MaxMindDbError.TheVariants.{InvalidDatabase, Io, Decoding, ResourceLimit, InvalidNetwork, InvalidInput, Memory}
+use Rattle.maxminddb.specs.Metadata.{MetadataDatum}
+use Rattle.maxminddb.specs.File.{Database, database, IsLastMarker, IsSupported, HasRoom, metadata_section}
+use Rattle.maxminddb.specs.Source.{metadata_read, IsDatabaseOf, IsNoDatabase, HasNoMarker}
+
+-- what follows from what is claimed memory apart, is claimed so too
+pub apart : (e : MaxMindDbError) (P Q : Type 0) → (P → Q) → MemoryApart e P → MemoryApart e Q
+apart (InvalidDatabase message offset) P Q f p = f p
+apart (Io error) P Q f p = f p
+apart (Decoding message offset path) P Q f p = f p
+apart (ResourceLimit message offset path) P Q f p = f p
+apart (InvalidNetwork error) P Q f p = f p
+apart (InvalidInput message) P Q f p = f p
+apart Memory P Q f p = p
+
+-- a file has one last marker
+pub one_marker : (file : List ℕ) (a b : ℕ) → IsLastMarker file a → IsLastMarker file b → a ≡ b
+one_marker file a b p q = let low = q.last a p.stands in let high = p.last b q.stands in omega arith
+
+-- without a marker a file is no database
+pub no_marker : (file bytes : List ℕ) → bytes ≡ file → HasNoMarker bytes → IsNoDatabase file
+no_marker file bytes same none db is =
+    let P : List ℕ → Type 0 = λ b. HasNoMarker b in subst P same none db.marker is.marker.stands
+
+-- with what is read after its last marker a file can be one database alone
+only_metadata : (file : List ℕ) (marker : ℕ) (read : Option MetadataDatum) (db : Database) → IsLastMarker file marker → metadata_read (metadata_section file marker) ≡ read → IsDatabaseOf file db → read ≡ Some db.metadata
+only_metadata file marker read db last reads is =
+    let e = one_marker file marker db.marker last is.marker in
+    sym reads ∙ ap (λ m. metadata_read (metadata_section file m)) e ∙ is.metadata.reads
+
+-- without metadata after its last marker a file is no database
+pub no_metadata : (file bytes : List ℕ) (marker : ℕ) (section : List ℕ) → bytes ≡ file → IsLastMarker bytes marker → section ≡ metadata_section bytes marker → metadata_read section ≡ None → IsNoDatabase file
+no_metadata file bytes marker section same last cut reads db is =
+    let P : List ℕ → Type 0 = λ b. IsDatabaseOf b db in
+    let none = only_metadata bytes marker None db last (ap metadata_read (sym cut) ∙ reads) (subst P (sym same) is) in
+    cc
+
+-- with metadata that are not supported, or no room, a file is no database
+pub not_accepted : (file bytes : List ℕ) (marker : ℕ) (section : List ℕ) (metadata : MetadataDatum) → bytes ≡ file → IsLastMarker bytes marker → section ≡ metadata_section bytes marker → metadata_read section ≡ Some metadata
+    → ¬ (IsSupported metadata × HasRoom (database file marker metadata)) → IsNoDatabase file
+not_accepted file bytes marker section metadata same last cut reads refused db is =
+    let P : List ℕ → Type 0 = λ b. IsDatabaseOf b db in
+    let here = subst P (sym same) is in
+    let read = only_metadata bytes marker (Some metadata) db last (ap metadata_read (sym cut) ∙ reads) here in
+    let equal : metadata ≡ db.metadata = cc in
+    let at = one_marker bytes marker db.marker last here.marker in
+    let S : MetadataDatum → Type 0 = λ m. IsSupported m in
+    let R : ℕ → Type 0 = λ m. HasRoom (database file m db.metadata) in
+    let T : MetadataDatum → Type 0 = λ m. HasRoom (database file marker m) in
+    refused (subst S (sym equal) is.metadata.supported, subst T (sym equal) (subst R (sym at) is.room))

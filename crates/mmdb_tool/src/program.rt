@@ -1,0 +1,106 @@
+//! What the program does.
+use crate::command::{Command, USAGE, command_of};
+use crate::line::lookup_line;
+use crate::list::ListError;
+use crate::sink::{Sink, put_all};
+use maxminddb::{MaxMindDbError, Reader};
+use std::alloc::{AllocError, Global};
+use std::convert::AsSlice;
+use std::net::IpAddr;
+use std::rt::Files;
+
+/// The status of a refusal.
+const REFUSED: u8 = 1;
+
+/// The status of words that are no command.
+const BAD_WORDS: u8 = 2;
+
+/// The text of a refusal that there is no memory to print.
+const NO_MEMORY: &str = "out of memory\n";
+
+// The status of what was done. The text of a refusal goes to `err`, whose own faults change nothing.
+fn status_of<E: Sink>(alloc: Global, done: Result<(), ListError>, err: &mut E) -> u8 {
+    let Err(error) = done else {
+        return 0;
+    };
+    let text: Result<String, AllocError> = format!(in alloc; "{error}\n");
+    let _ = match text {
+        Ok(text) => put_all(err, text.as_bytes()),
+        Err(_) => put_all(err, NO_MEMORY.as_bytes()),
+    };
+    REFUSED
+}
+
+// The command that the words give, or the status where they give none: without words the usage line
+// goes to `out`, and after bad words to `err`.
+fn command_or_status<'a, O: Sink, E: Sink>(
+    alloc: Global,
+    words: &'a [String],
+    out: &mut O,
+    err: &mut E,
+) -> Result<Command<'a>, u8> {
+    if words.is_empty() {
+        let done = put_all(out, USAGE.as_bytes()).map_err(ListError::from);
+        return Err(status_of(alloc, done, err));
+    }
+    match command_of(words) {
+        Some(command) => Ok(command),
+        None => {
+            let _ = put_all(err, USAGE.as_bytes());
+            Err(BAD_WORDS)
+        }
+    }
+}
+
+// Puts the line of an address of a database that was opened.
+fn put_lookup<S: AsSlice<u8> + Drop, O: Sink>(
+    alloc: Global,
+    opened: Result<Reader<S>, MaxMindDbError>,
+    address: IpAddr,
+    out: &mut O,
+) -> Result<(), ListError> {
+    let reader = opened?;
+    let line = lookup_line(alloc, &reader, address)?;
+    put_all(out, line.as_bytes())?;
+    Ok(())
+}
+
+/// What the program does with its words, after its name, and the status that it ends with.
+///
+/// 0: done. 1: a refusal, whose text and a newline go to `err`; one by `out` is such a refusal too. 2:
+/// bad words, or an address that is not read; the usage line goes to `err`, and no file is opened.
+/// Without words the usage line goes to `out`, with status 0. A fault of `err` changes no status.
+pub fn run<R: Files, O: Sink, E: Sink>(
+    rt: &R,
+    alloc: Global,
+    words: &[String],
+    out: &mut O,
+    err: &mut E,
+) -> u8 {
+    match command_or_status(alloc, words, out, err) {
+        Ok(Command::Lookup { file, address }) => {
+            let opened = Reader::open_readfile(rt, alloc, file);
+            let done = put_lookup(alloc, opened, address, out);
+            status_of(alloc, done, err)
+        }
+        Err(status) => status,
+    }
+}
+
+/// `run` with these bytes in the place of the file's content.
+pub fn run_bytes<O: Sink, E: Sink>(
+    alloc: Global,
+    source: &[u8],
+    words: &[String],
+    out: &mut O,
+    err: &mut E,
+) -> u8 {
+    match command_or_status(alloc, words, out, err) {
+        Ok(Command::Lookup { file: _, address }) => {
+            let opened = Reader::from_source(alloc, source);
+            let done = put_lookup(alloc, opened, address, out);
+            status_of(alloc, done, err)
+        }
+        Err(status) => status,
+    }
+}
