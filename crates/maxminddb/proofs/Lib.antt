@@ -1,3 +1,4 @@
 pub mod WalkLemmas
 pub mod LeafLemmas
 pub mod LawLemmas
+pub mod NetworkLemmas

@@ -8,3 +8,4 @@ pub mod Shown
 pub mod Kept
 pub mod Found
 pub mod Laws
+pub mod Alias

@@ -2,10 +2,12 @@
 #![tactic(auto)]
 
 pub mod laws;
+pub mod lookup_result;
 pub mod metadata;
 pub mod reader;
 pub mod tree;
 
+pub use lookup_result::LookupResult;
 pub use metadata::Metadata;
-pub use reader::{LookupResult, Reader};
+pub use reader::Reader;
 pub use tree::read_node;
