@@ -2,6 +2,7 @@
 ghost use Rattle.std.specs.Prelude.{◌≡◌, ℕ, ◌<◌, ◌≤◌, ◌^◌, ◌+◌, length, IfOk, option_map};
 ghost use Rattle.std.specs.Result.{result_ok};
 ghost use Rattle.mmdb_format.specs.Contents.{content_at as spec_content_at, short_number as spec_short_number, full_number as spec_full_number, content_end as spec_content_end, bytes_of_content, scalar_payload, key_bytes_at as spec_key_bytes_at, passed_end as spec_passed_end};
+ghost use Rattle.mmdb_format.specs.Kinds.{kind_of_number};
 ghost use Rattle.mmdb_format.specs.Views.{content_view};
 
 use crate::fault::Fault;
@@ -37,7 +38,9 @@ pub enum Content<'de> {
 
 impl Header {
     /// The fault of a size that the type does not have, or that runs past the section.
-    pub fn wrong_size(self) -> Fault {
+    pub fn wrong_size(self) -> Fault
+        ensures { result ≡ Fault.SizeOf (kind_of_number self.kind) self.size }
+    {
         Fault::SizeOf(Kind::of_number(self.kind), self.size)
     }
 }

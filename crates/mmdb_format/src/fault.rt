@@ -1,5 +1,5 @@
 //! What can be wrong with the bytes of a value.
-ghost use Rattle.std.specs.Prelude.{◌≡◌, IfOk};
+ghost use Rattle.std.specs.Prelude.{◌≡◌, ◌≤◌, ◌<◌};
 ghost use Rattle.mmdb_format.specs.Error.{kind_of, IsOfOrMemory};
 ghost use Rattle.mmdb_format.specs.Faults.{kind_of_fault};
 
@@ -46,9 +46,12 @@ pub enum Fault {
 }
 
 impl Fault {
-    /// The fault of a value that is not of the type that was asked for: the formats that can come
-    /// after this one have no type number above 255.
-    pub fn unexpected(wanted: Kind, found: u16) -> Fault {
+    /// The fault of a value that is not of the type that was asked for. A type number above 255 is
+    /// none that a type can have.
+    pub fn unexpected(wanted: Kind, found: u16) -> Fault
+        ensures other { found ≤ 255 → result ≡ Fault.Unexpected wanted found }
+        ensures unknown { 255 < found → result ≡ Fault.UnknownType found }
+    {
         if found > 255 {
             Fault::UnknownType(found)
         } else {

@@ -1,11 +1,13 @@
 -- What contracts see of a network: its address as given, its prefix, and its block, which is the bits
 -- that all addresses of the network begin with.
 pub use Rattle.mmdb_net.specs.Address.{address_width, bits_of_address, IsSameKind, IsMaskedIp}
-use Rattle.std.specs.Prelude.{ℕ, Bool, List, take}
+use Rattle.std.specs.Prelude.{ℕ, Bool, List, ◌++◌, take}
 use Rattle.std.specs.declared.net.ip_addr.IpAddr.{IpAddr}
 use Rattle.std.specs.declared.net.ip_addr.IpAddr.TheVariants as Ip
 use Rattle.std.specs.declared.net.ipv4_addr.Ipv4Addr.{Ipv4Addr}
 use Rattle.std.specs.declared.net.ipv6_addr.Ipv6Addr.{Ipv6Addr}
+use Rattle.std.specs.Net.Text.{ip_text}
+use Rattle.mmdb_net.specs.FullText.{prefix_text, ipv4_full_text, ipv6_full_text}
 use Rattle.mmdb_net.specs.declared.network.Ipv4Network.{Ipv4Network}
 use Rattle.mmdb_net.specs.declared.network.Ipv6Network.{Ipv6Network}
 use Rattle.mmdb_net.specs.declared.network.IpNetwork.{IpNetwork}
@@ -44,3 +46,18 @@ ipv6_block_of n = take (ipv6_prefix_of n) (bits_of_address (Ip.V6 (ipv6_ip_of n)
 
 abbrev pub block_of : IpNetwork → List Bool
 block_of n = take (prefix_of n) (bits_of_address (ip_of n))
+
+-- the full text of a network
+abbrev pub full_text_of : IpNetwork → List ℕ
+full_text_of (V4 n) = ipv4_full_text (ipv4_block_of n)
+full_text_of (V6 n) = ipv6_full_text (ipv6_block_of n)
+
+-- what `Display` writes of a network: its address as std writes it, `/`, and the prefix
+abbrev pub ipv4_short_text_of : Ipv4Network → List ℕ
+ipv4_short_text_of n = ip_text (Ip.V4 (ipv4_ip_of n)) ++ prefix_text (ipv4_prefix_of n)
+
+abbrev pub ipv6_short_text_of : Ipv6Network → List ℕ
+ipv6_short_text_of n = ip_text (Ip.V6 (ipv6_ip_of n)) ++ prefix_text (ipv6_prefix_of n)
+
+abbrev pub short_text_of : IpNetwork → List ℕ
+short_text_of n = ip_text (ip_of n) ++ prefix_text (prefix_of n)

@@ -4,7 +4,11 @@
 mod error;
 mod mask;
 mod network;
+mod text;
 
 pub use error::IpNetworkError;
 pub use mask::mask_ip;
 pub use network::{IpNetwork, Ipv4Network, Ipv6Network};
+
+#[cfg(test)]
+mod tests;

@@ -1,10 +1,17 @@
-ghost use Rattle.std.specs.Prelude.{◌≡◌, ◌≤◌, ◌↔◌, IsTrue, IsOk, IfOk, IfErr};
+ghost use Rattle.std.specs.Prelude.{◌≡◌, ◌≤◌, ◌↔◌, IsTrue, IsOk, IfOk, IfErr, Some};
+ghost use Rattle.std.specs.String.{string_bytes};
+ghost use Rattle.mmdb_net.specs.FullText.{ipv4_full_text, ipv6_full_text};
 ghost use Rattle.mmdb_net.specs.Address.{address_width, bits_of_address, IsSameKind, IsMaskedIp};
 ghost use Rattle.mmdb_net.specs.Bits.{IsPrefix};
 
 use super::error::IpNetworkError;
-use super::mask;
+use super::text::HexGroup;
+use super::{mask, text};
+use std::alloc::{AllocError, Global};
+use std::fmt;
+use std::fmt::Display;
 use std::net::{IpAddr, Ipv4Addr, Ipv6Addr};
+use std::str::FromStr;
 
 /// An IPv4 address and a prefix: how many of its first bits the addresses of the network share.
 #[derive(Clone, Copy, Debug, PartialEq, Eq)]
@@ -61,6 +68,35 @@ impl Ipv4Network {
         ensures { IsTrue result ↔ IsPrefix (ipv4_block_of self.now) (bits_of_address (IpAddr.V4 addr)) }
     {
         mask::ipv4_first_bits(self.address, self.prefix) == mask::ipv4_first_bits(addr, self.prefix)
+    }
+
+    /// The first address of the network in dotted decimal, `/` and the prefix. Refused only where memory is.
+    pub fn full_text(&self, alloc: Global) -> Result<String, AllocError>
+        ensures { IfOk result (λ text. string_bytes text ≡ ipv4_full_text (ipv4_block_of self.now)) }
+    {
+        let address = mask::mask_ipv4(self.address, self.prefix);
+        let prefix = self.prefix;
+        format!(in alloc; "{address}/{prefix}")
+    }
+}
+
+impl Display for Ipv4Network {
+    ghost use Rattle.mmdb_net.specs.Network.{ipv4_short_text_of};
+
+    ghost output = { λ n. Some (ipv4_short_text_of n) };
+
+    fn fmt<W: fmt::Write>(&self, f: &mut fmt::Formatter<W>) -> fmt::Result {
+        write!(f, "{}/{}", self.address, self.prefix)
+    }
+}
+
+impl FromStr for Ipv4Network {
+    type Err = IpNetworkError;
+
+    fn from_str(text: &str) -> Result<Ipv4Network, IpNetworkError> {
+        let (address, prefix) = text::split_prefix(text)?;
+        let address = Ipv4Addr::from_str(address).map_err(|_| IpNetworkError::InvalidAddr)?;
+        Ipv4Network::new(address, text::read_prefix(prefix, 32)?)
     }
 }
 
@@ -120,6 +156,45 @@ impl Ipv6Network {
     {
         mask::ipv6_first_bits(self.address, self.prefix) == mask::ipv6_first_bits(addr, self.prefix)
     }
+
+    /// The first address of the network in eight groups of four hexadecimal digits, `/` and the prefix. Refused only where memory is.
+    pub fn full_text(&self, alloc: Global) -> Result<String, AllocError>
+        ensures { IfOk result (λ text. string_bytes text ≡ ipv6_full_text (ipv6_block_of self.now)) }
+    {
+        let [a, b, c, d, e, f, g, h] = mask::mask_ipv6(self.address, self.prefix).segments();
+        let prefix = self.prefix;
+        format!(in alloc;
+            "{}:{}:{}:{}:{}:{}:{}:{}/{prefix}",
+            HexGroup(a),
+            HexGroup(b),
+            HexGroup(c),
+            HexGroup(d),
+            HexGroup(e),
+            HexGroup(f),
+            HexGroup(g),
+            HexGroup(h)
+        )
+    }
+}
+
+impl Display for Ipv6Network {
+    ghost use Rattle.mmdb_net.specs.Network.{ipv6_short_text_of};
+
+    ghost output = { λ n. Some (ipv6_short_text_of n) };
+
+    fn fmt<W: fmt::Write>(&self, f: &mut fmt::Formatter<W>) -> fmt::Result {
+        write!(f, "{}/{}", self.address, self.prefix)
+    }
+}
+
+impl FromStr for Ipv6Network {
+    type Err = IpNetworkError;
+
+    fn from_str(text: &str) -> Result<Ipv6Network, IpNetworkError> {
+        let (address, prefix) = text::split_prefix(text)?;
+        let address = Ipv6Addr::from_str(address).map_err(|_| IpNetworkError::InvalidAddr)?;
+        Ipv6Network::new(address, text::read_prefix(prefix, 128)?)
+    }
 }
 
 /// A network of either kind.
@@ -132,7 +207,7 @@ pub enum IpNetwork {
 }
 
 impl IpNetwork {
-    ghost use Rattle.mmdb_net.specs.Network.{ip_of, prefix_of, block_of};
+    ghost use Rattle.mmdb_net.specs.Network.{ip_of, prefix_of, block_of, full_text_of};
 
     /// The network of an address and a prefix of at most the number of its bits, 32 or 128.
     pub fn new(addr: IpAddr, prefix: u8) -> Result<IpNetwork, IpNetworkError>
@@ -188,5 +263,42 @@ impl IpNetwork {
             (IpNetwork::V6(network), IpAddr::V6(addr)) => network.contains(addr),
             _ => false,
         }
+    }
+    /// The first address of the network in full, `/` and the prefix: an IPv4 address in dotted decimal,
+    /// an IPv6 address as eight groups of four hexadecimal digits. Refused only where memory is.
+    pub fn full_text(&self, alloc: Global) -> Result<String, AllocError>
+        ensures { IfOk result (λ text. string_bytes text ≡ full_text_of self.now) }
+    {
+        match self {
+            IpNetwork::V4(network) => network.full_text(alloc),
+            IpNetwork::V6(network) => network.full_text(alloc),
+        }
+    }
+}
+
+impl Display for IpNetwork {
+    ghost use Rattle.mmdb_net.specs.Network.{short_text_of};
+
+    ghost output = { λ n. Some (short_text_of n) };
+
+    fn fmt<W: fmt::Write>(&self, f: &mut fmt::Formatter<W>) -> fmt::Result {
+        match self {
+            IpNetwork::V4(network) => Display::fmt(network, f),
+            IpNetwork::V6(network) => Display::fmt(network, f),
+        }
+    }
+}
+
+impl FromStr for IpNetwork {
+    type Err = IpNetworkError;
+
+    fn from_str(text: &str) -> Result<IpNetwork, IpNetworkError> {
+        let (address, prefix) = text::split_prefix(text)?;
+        let address = IpAddr::from_str(address).map_err(|_| IpNetworkError::InvalidAddr)?;
+        let address_bits = match address {
+            IpAddr::V4(_) => 32,
+            IpAddr::V6(_) => 128,
+        };
+        IpNetwork::new(address, text::read_prefix(prefix, address_bits)?)
     }
 }

@@ -1,0 +1,74 @@
+-- The texts of networks.
+use Rattle.std.proofs.Common.{◌≡◌, ℕ, ◌+◌, ◌-◌, ◌*◌, ◌/◌, ◌%◌, ◌^◌, ◌<◌, ◌≤◌, Bool, false, List, [], ◌∷◌, ◌++◌, length, get_or, take, refl, ap, arith, sym, ◌∙◌}
+use Rattle.std.specs.Prelude.{codes, decimal}
+use Rattle.std.specs.Int.{w32, w128, to_be_bytes}
+use Rattle.std.specs.Fmt.{digits, digit_glyph, padded_integral, format_spec}
+use Rattle.std.specs.Net.Addr.{ipv4_bits, ipv6_bits, ipv4_octets, ipv6_segments, IsIpv4OfBits, IsIpv6OfBits, segments_of}
+use Rattle.std.specs.Net.Text.{ipv4_text}
+use Rattle.std.specs.declared.net.ipv4_addr.Ipv4Addr.{Ipv4Addr}
+use Rattle.std.specs.declared.net.ipv6_addr.Ipv6Addr.{Ipv6Addr}
+use Rattle.std.proofs.lemmas.Fmt.{hex_byte}
+use Rattle.std.proofs.lemmas.List.{length-take-le}
+use Rattle.std.proofs.Math.Nat.{mod-eq_of_lt}
+use Rattle.mmdb_net.specs.Bits.{bits_of, zero_bits}
+use Rattle.mmdb_net.specs.FullText.{number_of, filled_to, hex_group, groups_text, prefix_text, ipv4_full_text, ipv6_full_text}
+use Rattle.mmdb_net.proofs.BitLaws.{length-bits_of, bits_of-masked, number_of-bits_of}
+use Rattle.mmdb_net.proofs.AddressLaws.{masked-le}
+
+-- ---- hexadecimal digits
+
+-- what `{:02x}{:02x}` writes of the two octets of a segment
+pub hex_octets : (n high low : ℕ) → n < 2 ^ 16 → high ≡ n / 256 % 256 → low ≡ n % 256
+    → padded_integral (format_spec 32 0 4 2 (2 ^ 64 - 1)) false [] (digits 16 false high) ++ padded_integral (format_spec 32 0 4 2 (2 ^ 64 - 1)) false [] (digits 16 false low) ≡ hex_group n
+hex_octets n high low small high_is low_is =
+    let first : high / 16 ≡ n / 4096 = omega arith in
+    let second : high % 16 ≡ n / 256 % 16 = omega arith in
+    let third : low / 16 ≡ n / 16 % 16 = omega arith in
+    let fourth : low % 16 ≡ n % 16 = omega arith in
+    rw (hex_byte false high (omega arith), hex_byte false low (omega arith), first, second, third, fourth) refl
+
+-- ---- the full text
+
+-- the bits of a block filled with zeros spell the masked number
+pub number_of-filled : (prefix width n : ℕ) → prefix ≤ width → n < 2 ^ width → number_of (filled_to width (take prefix (bits_of width n))) ≡ n / 2 ^ (width - prefix) * 2 ^ (width - prefix)
+number_of-filled prefix width n within fits =
+    let masked : ℕ = n / 2 ^ (width - prefix) * 2 ^ (width - prefix) in
+    let below : masked < 2 ^ width = omega (arith, fits, masked-le n (width - prefix)) in
+    let long : length (take prefix (bits_of width n)) ≡ prefix = length-take-le prefix (bits_of width n) (omega (arith, length-bits_of width n)) in
+    let spelled : filled_to width (take prefix (bits_of width n)) ≡ bits_of width masked =
+    ap (λ (k : ℕ). take prefix (bits_of width n) ++ zero_bits (width - k)) long ∙ sym (bits_of-masked prefix (width - prefix) width n (omega arith)) in
+    ap number_of spelled ∙ number_of-bits_of width masked ∙ mod-eq_of_lt below
+
+pub ipv4_full_text-masked : (a masked : Ipv4Addr) (prefix : ℕ) → prefix ≤ 32 → ipv4_bits a < 2 ^ 32 → IsIpv4OfBits masked (ipv4_bits a / 2 ^ (32 - prefix) * 2 ^ (32 - prefix))
+    → ipv4_full_text (take prefix (bits_of 32 (ipv4_bits a))) ≡ ipv4_text (ipv4_octets masked) ++ prefix_text prefix
+unfolding ipv4_full_text IsIpv4OfBits
+ipv4_full_text-masked a masked prefix within fits made =
+    let long : length (take prefix (bits_of 32 (ipv4_bits a))) ≡ prefix = length-take-le prefix (bits_of 32 (ipv4_bits a)) (omega (arith, length-bits_of 32 (ipv4_bits a))) in
+    let number = number_of-filled prefix 32 (ipv4_bits a) within fits in
+    ap (λ (m : ℕ). ipv4_text (to_be_bytes w32 m) ++ prefix_text (length (take prefix (bits_of 32 (ipv4_bits a))))) number
+    ∙ ap (λ (k : ℕ). ipv4_text (to_be_bytes w32 (ipv4_bits a / 2 ^ (32 - prefix) * 2 ^ (32 - prefix))) ++ prefix_text k) long
+    ∙ ap (λ (octets : List ℕ). ipv4_text octets ++ prefix_text prefix) (sym made)
+
+pub ipv6_full_text-masked : (a masked : Ipv6Addr) (prefix : ℕ) → prefix ≤ 128 → ipv6_bits a < 2 ^ 128 → IsIpv6OfBits masked (ipv6_bits a / 2 ^ (128 - prefix) * 2 ^ (128 - prefix))
+    → ipv6_full_text (take prefix (bits_of 128 (ipv6_bits a))) ≡ groups_text (ipv6_segments masked) ++ prefix_text prefix
+unfolding ipv6_full_text IsIpv6OfBits
+ipv6_full_text-masked a masked prefix within fits made =
+    let long : length (take prefix (bits_of 128 (ipv6_bits a))) ≡ prefix = length-take-le prefix (bits_of 128 (ipv6_bits a)) (omega (arith, length-bits_of 128 (ipv6_bits a))) in
+    let number = number_of-filled prefix 128 (ipv6_bits a) within fits in
+    ap (λ (m : ℕ). groups_text (segments_of (to_be_bytes w128 m)) ++ prefix_text (length (take prefix (bits_of 128 (ipv6_bits a))))) number
+    ∙ ap (λ (k : ℕ). groups_text (segments_of (to_be_bytes w128 (ipv6_bits a / 2 ^ (128 - prefix) * 2 ^ (128 - prefix)))) ++ prefix_text k) long
+    ∙ ap (λ (segments : List ℕ). groups_text segments ++ prefix_text prefix) (sym made)
+
+-- eight groups, as a format writes them before a tail
+pub eight_groups : (xs tail : List ℕ) → length xs ≡ 8 → hex_group (get_or xs 0 0) ++ (codes ":" ++ (hex_group (get_or xs 1 0) ++ (codes ":" ++ (hex_group (get_or xs 2 0) ++ (codes ":" ++ (hex_group (get_or xs 3 0) ++ (codes ":" ++ (hex_group (get_or xs 4 0) ++ (codes ":" ++ (hex_group (get_or xs 5 0) ++ (codes ":" ++ (hex_group (get_or xs 6 0) ++ (codes ":" ++ (hex_group (get_or xs 7 0) ++ tail)))))))))))))) ≡ groups_text xs ++ tail
+unfolding groups_text
+eight_groups [] tail eight = absurd (omega arith)
+eight_groups (a ∷ []) tail eight = absurd (omega arith)
+eight_groups (a ∷ b ∷ []) tail eight = absurd (omega arith)
+eight_groups (a ∷ b ∷ c ∷ []) tail eight = absurd (omega arith)
+eight_groups (a ∷ b ∷ c ∷ d ∷ []) tail eight = absurd (omega arith)
+eight_groups (a ∷ b ∷ c ∷ d ∷ e ∷ []) tail eight = absurd (omega arith)
+eight_groups (a ∷ b ∷ c ∷ d ∷ e ∷ f ∷ []) tail eight = absurd (omega arith)
+eight_groups (a ∷ b ∷ c ∷ d ∷ e ∷ f ∷ g ∷ []) tail eight = absurd (omega arith)
+eight_groups (a ∷ b ∷ c ∷ d ∷ e ∷ f ∷ g ∷ h ∷ []) tail eight = refl
+eight_groups (a ∷ b ∷ c ∷ d ∷ e ∷ f ∷ g ∷ h ∷ i ∷ xs) tail eight = absurd (omega arith)
