@@ -1,15 +1,15 @@
 -- Leaves are disjoint and cover all addresses; answers are the same all over a leaf.
-use Rattle.std.proofs.Common.{◌≡◌, ℕ, zero, suc, ◌+◌, ◌<◌, ◌≤◌, ◌⊎◌, Option, Some, None, Bool, List, [], ◌∷◌, ◌++◌, length, take, drop, get_or, refl, ap, arith, sym, ◌∙◌, inl, inr, below_more, length-append}
-use Rattle.std.proofs.lemmas.List.{length-take, length-take-le, take-take, take_all, take-append-drop, append-nil}
+use Rattle.std.proofs.Common.{◌≡◌, ℕ, zero, suc, ◌+◌, ◌<◌, ◌≤◌, ◌⊎◌, Option, Some, None, Bool, List, [], ◌∷◌, ◌++◌, length, take, refl, ap, arith, sym, ◌∙◌, inl, inr, below_more, length-append}
+use Rattle.std.proofs.lemmas.List.{append-nil}
 use Rattle.std.proofs.lemmas.Bool.{cases_lt}
 use Rattle.std.specs.declared.net.ip_addr.IpAddr.{IpAddr}
 use Rattle.mmdb_net.specs.Bits.{IsPrefix}
-use Rattle.maxminddb.specs.File.{Database, tree_of, width}
+use Rattle.maxminddb.specs.File.{Database, tree_of}
 use Rattle.maxminddb.specs.Tree.{walk}
 use Rattle.maxminddb.specs.Leaves.{IsLeaf}
-use Rattle.maxminddb.specs.Lookup.{Outcome, Offset, NoData, Refused, Answers, IsRefusedAt, IsLeafAt, CanAsk, address_bits, outcome_of, outcome_at}
-use Rattle.maxminddb.specs.Descents.{Walks, Descends}
-use Rattle.maxminddb.specs.Laws.{IsOnlyLeafOn, LeavesAreDisjoint, EachAddressHasOneLeaf, AnswersAreUnique, SameLeafSameAnswer}
+use Rattle.maxminddb.specs.Lookup.{Refused, Answers, IsRefusedAt, IsLeafAt, address_bits, outcome_of, outcome_at}
+use Rattle.maxminddb.specs.Descents.{Descends}
+use Rattle.maxminddb.specs.Laws.{LeavesAreDisjoint, EachAddressHasOneLeaf, AnswersAreUnique, SameLeafSameAnswer}
 use Rattle.maxminddb.proofs.WalkLemmas.{walk-nil}
 use Rattle.maxminddb.proofs.LeafLemmas.{EndsOn, EndsOn-descends, IsLeaf-ends, IsPrefix-ends}
 

@@ -1,6 +1,6 @@
 -- Leaves that walks end on, and the leaf on an address.
-use Rattle.std.proofs.Common.{◌≡◌, ℕ, zero, suc, ◌+◌, ◌-◌, ◌<◌, ◌≤◌, ◌⊎◌, Bool, true, false, eqb, ltb, nat_lt, ◌&&◌, ◌||◌, not, List, [], ◌∷◌, ◌++◌, take, drop, length, if◌then◌else◌, arith, sym, ap, ◌∙◌, refl, subst, inl, inr, length-append, append_assoc}
-use Rattle.std.proofs.lemmas.Bool.{cases_lt, cases_Bool, eqb-true, eq-eqb, ne_eqb, lt-ltb, le-ltb}
+use Rattle.std.proofs.Common.{◌≡◌, ℕ, ◌+◌, ◌-◌, ◌<◌, ◌≤◌, ◌⊎◌, Bool, true, false, nat_lt, ◌&&◌, ◌||◌, not, List, [], ◌∷◌, ◌++◌, take, drop, length, if◌then◌else◌, arith, sym, ap, ◌∙◌, refl, subst, inl, inr, length-append, append_assoc}
+use Rattle.std.proofs.lemmas.Bool.{cases_lt, cases_Bool, eq-eqb, lt-ltb, le-ltb}
 use Rattle.std.proofs.lemmas.List.{take_all, take-append-drop, take-append-le, length-take-le, take-take}
 use Rattle.std.proofs.Math.Seq.{take-append_seam, take-append-add}
 use Rattle.std.specs.declared.net.ip_addr.IpAddr.{IpAddr}
@@ -9,11 +9,11 @@ use Rattle.std.specs.declared.net.ipv4_addr.Ipv4Addr.{Ipv4Addr}
 use Rattle.std.specs.declared.net.ipv6_addr.Ipv6Addr.{Ipv6Addr}
 use Rattle.std.specs.Net.Addr.{ipv4_bits, ipv6_bits}
 use Rattle.mmdb_net.specs.Bits.{bits_of, zero_bits, IsPrefix}
-use Rattle.mmdb_net.proofs.BitLaws.{length-bits_of, length-zero_bits, take-zero_bits, bits_of-zero, IsPrefix-take}
+use Rattle.mmdb_net.proofs.BitLaws.{length-bits_of, length-zero_bits, take-zero_bits, bits_of-zero}
 use Rattle.maxminddb.specs.Tree.{SearchTree, walk_from, walk}
 use Rattle.maxminddb.specs.File.{Database, tree_of, has_ipv6, width, before_ipv4}
 use Rattle.maxminddb.specs.Leaves.{IsLeaf}
-use Rattle.maxminddb.specs.Lookup.{address_bits, CanAsk, IsLeafAt, block_at}
+use Rattle.maxminddb.specs.Lookup.{IsLeafAt, block_at}
 use Rattle.maxminddb.specs.Shown.{ipv4_start, is_shown_as_ipv4}
 use Rattle.maxminddb.specs.Descents.{Walks, Descends}
 use Rattle.maxminddb.specs.Kept.{IsReader}

@@ -1,9 +1,8 @@
 -- Walks along bit strings.
-use Rattle.std.proofs.Common.{◌≡◌, ℕ, zero, suc, ◌+◌, ◌-◌, ◌<◌, ◌≤◌, ltb, Bool, true, false, List, [], ◌∷◌, ◌++◌, get_or, take, drop, length, arith, sym, ap, ◌∙◌, refl, subst, inl, inr, below_more, length-append}
+use Rattle.std.proofs.Common.{◌≡◌, ℕ, suc, ◌+◌, ◌<◌, ◌≤◌, ltb, Bool, true, false, List, [], ◌∷◌, ◌++◌, get_or, take, length, arith, sym, ap, ◌∙◌, refl, subst, inl, inr, below_more}
 use Rattle.std.proofs.lemmas.Bool.{cases_lt, lt-ltb, le-ltb}
-use Rattle.std.proofs.lemmas.List.{take_all, take-append-drop}
 use Rattle.std.proofs.Math.Seq.{take-suc}
-use Rattle.maxminddb.specs.Tree.{SearchTree, child, step, walk_from, walk}
+use Rattle.maxminddb.specs.Tree.{SearchTree, child, step, walk_from}
 use Rattle.maxminddb.specs.Descents.{Walks, Descends}
 
 pub walk-append : (tree : SearchTree) (number : ℕ) (s t : List Bool) → walk_from tree number (s ++ t) ≡ walk_from tree (walk_from tree number s) t

@@ -1,6 +1,6 @@
 -- The parts of a file ("Overview", "Binary Search Tree Section", "Data Section Separator" and "Database
 -- Metadata" of the MaxMind DB File Format Specification 2.0).
-use Rattle.std.specs.Prelude.{◌≡◌, ℕ, ◌+◌, ◌-◌, ◌*◌, ◌^◌, ◌<◌, ◌≤◌, ◌⊎◌, Bool, List, [], ◌∷◌, length, drop, take, slice_index, slice_range, if◌then◌else◌, ◌==◌}
+use Rattle.std.specs.Prelude.{◌≡◌, ℕ, ◌+◌, ◌-◌, ◌*◌, ◌^◌, ◌<◌, ◌≤◌, ◌⊎◌, Bool, List, [], ◌∷◌, length, drop, slice_index, slice_range, if◌then◌else◌, ◌==◌}
 use Rattle.mmdb_net.specs.Bits.{zero_bits}
 use Rattle.maxminddb.specs.Metadata.{MetadataDatum}
 use Rattle.maxminddb.specs.Tree.{SearchTree, search_tree, node_bytes}

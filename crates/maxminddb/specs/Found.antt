@@ -2,7 +2,7 @@
 use Rattle.std.specs.Prelude.{ℕ, Bool, List, Option}
 use Rattle.std.specs.Net.Addr.{is_ipv4}
 use Rattle.std.specs.declared.convert.AsSlice.{Ghosts}
-use Rattle.maxminddb.specs.declared.reader.LookupResult.{LookupResult}
+use Rattle.maxminddb.specs.declared.lookup_result.LookupResult.{LookupResult}
 use Rattle.maxminddb.specs.File.{Database}
 use Rattle.maxminddb.specs.Lookup.{block_at}
 

@@ -3,6 +3,11 @@
 use Rattle.std.specs.Prelude.{◌≡◌, ℕ, Bool, false, not, ◌&&◌, ◌||◌, List, nat_lt}
 use Rattle.std.specs.declared.net.ip_addr.IpAddr.{IpAddr}
 use Rattle.std.specs.declared.net.ip_addr.IpAddr.TheVariants.{V4, V6}
+use Rattle.std.specs.Net.Addr.{is_ipv4}
+use Rattle.mmdb_net.specs.Address.{IsMaskedIp}
+use Rattle.mmdb_net.specs.Network.{ip_of, prefix_of}
+use Rattle.mmdb_net.specs.declared.network.IpNetwork.{IpNetwork}
+use Rattle.maxminddb.specs.Lookup.{block_at}
 use Rattle.maxminddb.specs.File.{Database, tree_of, has_ipv6, before_ipv4}
 use Rattle.maxminddb.specs.Tree.{walk}
 use Rattle.maxminddb.specs.Descents.{Descends}
@@ -24,3 +29,19 @@ IsIpv4Depth db depth = Descends (tree_of db) 0 (before_ipv4 db) depth (ipv4_star
 abbrev pub is_shown_as_ipv4 : Database → IpAddr → Bool
 is_shown_as_ipv4 db (V4 a) = not (has_ipv6 db) || has_ipv4_subtree db
 is_shown_as_ipv4 db (V6 a) = false
+
+-- The bits with which a network's addresses begin in a database: its block, with the zero bits before IPv4
+-- before that of an IPv4 network.
+abbrev pub block_in : Database → IpNetwork → List Bool
+block_in db network = block_at db (ip_of network) (prefix_of network)
+
+-- The network is of that kind, its addresses are those that begin with the leaf, and its own address has
+-- zeros after the prefix.
+pub record IsShownBy (db : Database) (leaf : List Bool) (as_ipv4 : Bool) (network : IpNetwork) : Type 0 where
+  pub kind : is_ipv4 (ip_of network) ≡ as_ipv4
+  pub block : block_in db network ≡ leaf
+  pub masked : IsMaskedIp (ip_of network) (prefix_of network) (ip_of network)
+
+-- The network shown for an answer to a lookup of the address.
+abbrev pub ShowsAnswer : Database → IpAddr → List Bool → IpNetwork → Type 0
+ShowsAnswer db address leaf network = IsShownBy db leaf (is_shown_as_ipv4 db address) network

@@ -1,5 +1,5 @@
 //! Laws of leaves and answers, each the contract of a function that does nothing.
-ghost use Rattle.maxminddb.specs.Laws.{LeavesAreDisjoint, EachAddressHasOneLeaf, AnswersAreUnique, SameLeafSameAnswer};
+ghost use Rattle.maxminddb.specs.Laws.{LeavesAreDisjoint, EachAddressHasOneLeaf, AnswersAreUnique, SameLeafSameAnswer, NetworkHoldsAddress, Ipv4WithoutSubtree};
 
 /// Leaves are disjoint blocks, and each full address begins with exactly one.
 pub fn leaves_partition()
@@ -11,4 +11,11 @@ pub fn leaves_partition()
 pub fn same_leaf_same_answer()
     ensures same { SameLeafSameAnswer }
     ensures unique { AnswersAreUnique }
+{}
+
+/// The network of an answer holds the address that was asked. For an IPv4 address of an IPv6 database
+/// without an IPv4 subtree it is `::/k`.
+pub fn network_holds_address()
+    ensures holds { NetworkHoldsAddress }
+    ensures without_subtree { Ipv4WithoutSubtree }
 {}

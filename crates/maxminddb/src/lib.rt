@@ -2,12 +2,21 @@
 #![tactic(auto)]
 
 pub mod laws;
+mod lookup_result;
 mod marker;
 pub mod metadata;
 pub mod reader;
 mod source;
 pub mod tree;
 
+pub use lookup_result::LookupResult;
 pub use metadata::Metadata;
-pub use reader::{LookupResult, Reader};
+pub use mmdb_format as format;
+pub use mmdb_format::error::{
+    DecodeResult, MaxMindDbError, decoding, decoding_at, decoding_at_path, invalid_database,
+    invalid_database_at, invalid_input, resource_limit_at,
+};
+pub use mmdb_net as geonet;
+pub use mmdb_net::{IpNetwork, IpNetworkError, Ipv4Network, Ipv6Network, mask_ip};
+pub use reader::Reader;
 pub use tree::read_node;

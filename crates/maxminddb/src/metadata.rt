@@ -51,7 +51,9 @@ impl Metadata {
     {
         let format = self.binary_format_major_version;
         if format != 2 {
-            let text = format!(in alloc; "binary_format_major_version - Expected: 2 Actual: {format}")?;
+            let text = format!(in alloc;
+                "binary_format_major_version - Expected: 2 Actual: {format}"
+            )?;
             return Err(refusal(text));
         }
         let ip = self.ip_version;
@@ -67,7 +69,9 @@ impl Metadata {
         }
         let epoch = self.build_epoch;
         if epoch >= 1 << 63 {
-            let text = format!(in alloc; "build_epoch - Unix timestamp is too large to represent as SystemTime: {epoch}")?;
+            let text = format!(in alloc;
+                "build_epoch - Unix timestamp is too large to represent as SystemTime: {epoch}"
+            )?;
             return Err(refusal(text));
         }
         let size = self.record_size;

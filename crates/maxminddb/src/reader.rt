@@ -1,31 +1,23 @@
 //! Readers, and lookups of addresses.
-ghost use Rattle.std.specs.Prelude.{◌≡◌, ◌≤◌, ◌<◌, ◌⊎◌, IfOk, IfErr, IfSome, OnOk, MatchOption, MatchResult, is_some, ◌↔◌, length};
+ghost use Rattle.std.specs.Prelude.{◌≡◌, ◌≤◌, ◌⊎◌, ◌↔◌, IfOk, IfErr, IfSome, OnOk, MatchOption, MatchResult, length};
 ghost use Rattle.std.specs.Net.Addr.{is_ipv4};
-ghost use Rattle.mmdb_format.specs.Error.{OfDatabase, OfInput, OfMemory, kind_of, MemoryApart, IsRefusedAs};
+ghost use Rattle.mmdb_format.specs.Error.{OfDatabase, OfInput, kind_of, MemoryApart, IsRefusedAs};
 ghost use Rattle.mmdb_net.specs.Address.{address_width};
-ghost use Rattle.maxminddb.specs.Metadata.{MetadataDatum, metadata_datum};
-ghost use Rattle.maxminddb.specs.File.{Database, database, IsSupported, HasRoom, data_start};
+ghost use Rattle.maxminddb.specs.Metadata.{metadata_datum};
+ghost use Rattle.maxminddb.specs.File.{database, IsSupported, HasRoom};
 
+use crate::lookup_result::LookupResult;
 use crate::metadata::Metadata;
-use crate::tree::{Descent, Nodes};
+use crate::tree::Nodes;
 use mmdb_format::error::MaxMindDbError;
 use mmdb_format::message::{Message, Text};
-use std::alloc::{AllocError, Global};
+use std::alloc::Global;
 use std::convert::AsSlice;
 use std::marker::Model;
 use std::net::{IpAddr, Ipv6Addr};
 
 // The zero bytes between the tree and the data.
 const SEPARATOR: usize = 16;
-
-/// What a lookup found: a network, and the place of its value in the data section.
-pub struct LookupResult<'a, S: AsSlice<u8> + Drop> {
-    reader: &'a Reader<S>,
-    offset: Option<usize>,
-    address: IpAddr,
-    prefix: u8,
-    ghost is_prefix: { prefix ≤ address_width address },
-}
 
 // A leaf as the network that shows it, with the number to which its walk leads.
 #[derive(Clone, Copy)]

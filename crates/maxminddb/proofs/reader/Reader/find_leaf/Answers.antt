@@ -1,4 +1,4 @@
-use Rattle.std.proofs.Common.{◌≡◌, ◌<◌, ◌≤◌, ap, sym, ◌∙◌, arith, refl}
+use Rattle.std.proofs.Common.{◌≡◌, ◌<◌, ◌≤◌, ap, sym, ◌∙◌, arith}
 use Rattle.mmdb_net.specs.Bits.{bits_of}
 use Rattle.maxminddb.proofs.LeafLemmas.{reader_of, depth-le, Descends-same, IsLeafAt-v4, IsLeafAt-v6, IsLeafAt-none, shown-none, shown-node, ipv6_bits-unspecified}
 use Rattle.maxminddb.proofs.reader.Reader.find_leaf.Goals as goal

@@ -1,5 +1,3 @@
-use Rattle.std.proofs.Common.{◌≡◌, sym, ◌∙◌, ap}
-use Rattle.maxminddb.specs.Lookup.{outcome_of, outcome_at, Refused}
 use Rattle.maxminddb.proofs.LawLemmas.{not_refused}
 use Rattle.maxminddb.proofs.reader.Reader.lookup.Goals as goal
 

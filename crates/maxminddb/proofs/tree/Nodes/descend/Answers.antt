@@ -1,4 +1,4 @@
-use Rattle.std.proofs.Common.{◌<◌, ◌≡◌, ap, sym, ◌∙◌, arith}
+use Rattle.std.proofs.Common.{◌<◌, ap, sym, ◌∙◌, arith}
 use Rattle.maxminddb.specs.Tree.{child}
 use Rattle.mmdb_net.proofs.BitLaws.{length-bits_of, get_or-bits_of}
 use Rattle.maxminddb.proofs.WalkLemmas.{Walks-start, Walks-more, Descends-all}

@@ -1,0 +1,22 @@
+-- Aliases: other ways to the node where IPv4 begins ("IPv4 addresses in an IPv6 tree" of the MaxMind DB
+-- File Format Specification 2.0).
+use Rattle.std.specs.Prelude.{◌≡◌, ℕ, ◌+◌, ◌≤◌, ◌<◌, ◌^◌, zero, suc, Bool, true, List, [], ◌∷◌, length, if◌then◌else◌}
+use Rattle.maxminddb.specs.File.{Database, tree_of, has_ipv6}
+use Rattle.maxminddb.specs.Tree.{walk}
+use Rattle.maxminddb.specs.Shown.{ipv4_start}
+
+-- the number that the bits spell, the highest first, filled with zeros to so many
+abbrev pub number_of : ℕ → List Bool → ℕ
+number_of rest [] = 0
+number_of zero (x ∷ s) = 0
+number_of (suc rest) (x ∷ s) = (if x then 2 ^ rest else 0) + number_of rest s
+
+-- In an IPv6 database where IPv4 begins on a node other than node 0: bits that lead to that node, and are
+-- a number of at least 2^32 where zeros fill them to 128.
+pub record IsAlias (db : Database) (s : List Bool) : Type 0 where
+  pub ipv6 : has_ipv6 db ≡ true
+  pub on_node : ipv4_start db < db.metadata.node_count
+  pub not_first : 0 < ipv4_start db
+  pub short : length s ≤ 128
+  pub high : 2 ^ 32 ≤ number_of 128 s
+  pub same : walk (tree_of db) s ≡ ipv4_start db
