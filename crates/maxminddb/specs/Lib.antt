@@ -8,8 +8,5 @@ pub mod Shown
 pub mod Kept
 pub mod Found
 pub mod Laws
-<<<<<<< HEAD
 pub mod Source
-=======
 pub mod Alias
->>>>>>> tree

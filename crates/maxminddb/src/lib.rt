@@ -11,7 +11,6 @@ pub mod tree;
 
 pub use lookup_result::LookupResult;
 pub use metadata::Metadata;
-pub use mmdb_format as format;
 pub use mmdb_format::error::{
     DecodeResult, MaxMindDbError, decoding, decoding_at, decoding_at_path, invalid_database,
     invalid_database_at, invalid_input, resource_limit_at,

@@ -1,3 +1,5 @@
 pub mod Sink
 pub mod Out
 pub mod Putting
+pub mod PutErrors
+pub mod Lines

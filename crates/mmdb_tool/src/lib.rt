@@ -1,6 +1,13 @@
 //! The program: what it does with its words, over any files and any sinks.
 #![tactic(auto)]
 
+mod command;
+mod line;
+mod list;
+mod program;
 mod sink;
 
+pub use line::lookup_line;
+pub use list::ListError;
+pub use program::{run, run_bytes};
 pub use sink::{Fault, Out, Sink};

@@ -1,0 +1,23 @@
+use Rattle.std.proofs.Common.{◌≡◌, Bool, List, ◌∙◌, ap, subst}
+use Rattle.mmdb_net.specs.declared.network.IpNetwork.{IpNetwork}
+use Rattle.maxminddb.specs.File.{Database}
+use Rattle.maxminddb.specs.Found.{leaf_of, offset_found}
+use Rattle.maxminddb.specs.Shown.{IsShownBy}
+use Rattle.mmdb_tool.specs.Lines.{line_of}
+use Rattle.mmdb_tool.proofs.line.lookup_line.Goals as goal
+
+shown_by : (asked db : Database) (leaf : List Bool) (as_ipv4 kind : Bool) (network : IpNetwork) → asked ≡ db → as_ipv4 ≡ kind → IsShownBy asked leaf as_ipv4 network → IsShownBy db leaf kind network
+shown_by asked db leaf as_ipv4 kind network same same_kind shown =
+    let P : Database → Type 0 = λ d. IsShownBy d leaf as_ipv4 network in
+    let Q : Bool → Type 0 = λ k. IsShownBy db leaf k network in
+    subst Q same_kind (subst P same shown)
+
+pub returns-clause-line : goal.returns-clause-line
+returns-clause-line g c = record {
+  leaf = leaf_of c.in_ok-found.found;
+  offset = offset_found c.in_ok-found.found;
+  network = c.in_ok-network.network;
+  answers = c.in_ok-found.ensures.answered;
+  shows = shown_by _ _ _ _ _ _ c.in_ok-found.ensures.database c.in_ok-found.ensures.shown c.in_ok-network.ensures;
+  text_is = c.in_ok-line.ensures ∙ ap (line_of c.in_ok-network.network) c.offset.ensures;
+}

@@ -1,0 +1,40 @@
+//! The lines of networks.
+ghost use Rattle.std.specs.Prelude.{◌≡◌, ◌⊎◌, ◌↔◌, IfOk, IfErr, string_bytes};
+ghost use Rattle.mmdb_format.specs.Error.{OfInput, OfDatabase, OfMemory, kind_of, IsRefusedAs};
+ghost use Rattle.maxminddb.specs.Lookup.{CanAsk, IsRefusedAt};
+ghost use Rattle.mmdb_tool.specs.Lines.{line_of, IsLookupLine};
+
+use maxminddb::{IpNetwork, MaxMindDbError, Reader};
+use std::alloc::{AllocError, Global};
+use std::convert::AsSlice;
+use std::net::IpAddr;
+
+// The line of a network.
+fn line(alloc: Global, network: IpNetwork, offset: Option<usize>) -> Result<String, AllocError>
+    ensures { IfOk result (λ text. string_bytes text ≡ line_of network offset) }
+{
+    let text = network.full_text(alloc)?;
+    match offset {
+        Some(offset) => format!(in alloc; "{text} {offset}\n"),
+        None => format!(in alloc; "{text} -\n"),
+    }
+}
+
+/// The line of an address: the full text of the network that shares its answer, a space, the offset of
+/// its value in the data section or `-`, and a newline.
+///
+/// Refused as `lookup` refuses, or as `Memory`.
+pub fn lookup_line<S: AsSlice<u8> + Drop>(
+    alloc: Global,
+    reader: &Reader<S>,
+    address: IpAddr,
+) -> Result<String, MaxMindDbError>
+    ensures line { IfOk result (λ text. IsLookupLine reader.now address (string_bytes text)) }
+    ensures of_input { IsRefusedAs OfInput result ↔ ¬ (CanAsk reader.now address) }
+    ensures of_database { IsRefusedAs OfDatabase result ↔ IsRefusedAt reader.now address }
+    ensures no_other { IfErr result (λ e. (kind_of e ≡ OfInput) ⊎ ((kind_of e ≡ OfDatabase) ⊎ (kind_of e ≡ OfMemory))) }
+{
+    let found = reader.lookup(address)?;
+    let network = found.network()?;
+    Ok(line(alloc, network, found.offset())?)
+}
