@@ -45,8 +45,8 @@ impl Header {
     }
 }
 
-// The bytes of a text or a byte string.
-fn content_bytes(section: &[u8], header: Header) -> Result<&[u8], Fault>
+/// The bytes of a text or a byte string.
+pub fn content_bytes(section: &[u8], header: Header) -> Result<&[u8], Fault>
     ensures value { option_map (λ x. x.now) (result_ok result) ≡ bytes_of_content section.now header }
     ensures inside { IfOk result (λ x. header.body + header.size ≤ length section.now) }
     ensures len { IfOk result (λ x. length x.now ≡ header.size) }
@@ -57,8 +57,8 @@ fn content_bytes(section: &[u8], header: Header) -> Result<&[u8], Fault>
     }
 }
 
-// A number of at most so many bytes.
-fn short_number(section: &[u8], header: Header, most: usize) -> Result<u128, Fault>
+/// A number of at most so many bytes.
+pub fn short_number(section: &[u8], header: Header, most: usize) -> Result<u128, Fault>
     requires { most ≤ 16 }
     ensures value { result_ok result ≡ spec_short_number section.now header most }
     ensures bound { IfOk result (λ n. n < 256 ^ most) }
@@ -73,8 +73,8 @@ fn short_number(section: &[u8], header: Header, most: usize) -> Result<u128, Fau
     }
 }
 
-// A number of exactly so many bytes.
-fn full_number(section: &[u8], header: Header, size: usize) -> Result<u128, Fault>
+/// A number of exactly so many bytes.
+pub fn full_number(section: &[u8], header: Header, size: usize) -> Result<u128, Fault>
     requires { size ≤ 16 }
     ensures value { result_ok result ≡ spec_full_number section.now header size }
     ensures bound { IfOk result (λ n. n < 256 ^ size) }
