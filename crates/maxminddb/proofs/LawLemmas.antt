@@ -1,17 +1,20 @@
 -- Leaves are disjoint and cover all addresses; answers are the same all over a leaf.
-use Rattle.std.proofs.Common.{◌≡◌, ℕ, zero, suc, ◌+◌, ◌<◌, ◌≤◌, ◌⊎◌, Option, Some, None, Bool, List, [], ◌∷◌, ◌++◌, length, take, refl, ap, arith, sym, ◌∙◌, inl, inr, below_more, length-append}
+use Rattle.std.proofs.Common.{◌≡◌, ℕ, zero, suc, ◌+◌, ◌<◌, ◌≤◌, ◌⊎◌, Option, Some, None, Bool, true, List, [], ◌∷◌, ◌++◌, length, take, refl, ap, arith, sym, ◌∙◌, inl, inr, below_more, length-append}
 use Rattle.std.proofs.lemmas.List.{append-nil}
-use Rattle.std.proofs.lemmas.Bool.{cases_lt}
+use Rattle.std.proofs.lemmas.Bool.{cases_lt, eq-eqb}
 use Rattle.std.specs.declared.net.ip_addr.IpAddr.{IpAddr}
+use Rattle.std.specs.declared.net.ip_addr.IpAddr.TheVariants.{V4, V6}
 use Rattle.mmdb_net.specs.Bits.{IsPrefix}
-use Rattle.maxminddb.specs.File.{Database, tree_of}
+use Rattle.mmdb_net.specs.Address.{bits_of_address}
+use Rattle.mmdb_net.proofs.AddressLaws.{length-bits_of_address}
+use Rattle.maxminddb.specs.File.{Database, tree_of, width, has_ipv6, before_ipv4}
 use Rattle.maxminddb.specs.Tree.{walk}
 use Rattle.maxminddb.specs.Leaves.{IsLeaf}
-use Rattle.maxminddb.specs.Lookup.{Refused, Answers, IsRefusedAt, IsLeafAt, address_bits, outcome_of, outcome_at}
+use Rattle.maxminddb.specs.Lookup.{Outcome, Refused, CanAsk, Answers, IsRefusedAt, IsLeafAt, address_bits, outcome_of, outcome_at}
 use Rattle.maxminddb.specs.Descents.{Descends}
-use Rattle.maxminddb.specs.Laws.{LeavesAreDisjoint, EachAddressHasOneLeaf, AnswersAreUnique, SameLeafSameAnswer}
-use Rattle.maxminddb.proofs.WalkLemmas.{walk-nil}
-use Rattle.maxminddb.proofs.LeafLemmas.{EndsOn, EndsOn-descends, IsLeaf-ends, IsPrefix-ends}
+use Rattle.maxminddb.specs.Laws.{LeavesAreDisjoint, EachAddressHasOneLeaf, EachAddressIsAnswered, AnswersAreUnique, SameLeafSameAnswer}
+use Rattle.maxminddb.proofs.WalkLemmas.{walk-nil, walk-past}
+use Rattle.maxminddb.proofs.LeafLemmas.{EndsOn, EndsOn-descends, IsLeaf-ends, IsPrefix-ends, length-before_ipv4}
 
 -- a leaf that begins another is that leaf
 pub leaves_are_disjoint : LeavesAreDisjoint
@@ -94,3 +97,30 @@ pub not_refused : (db : Database) (address : IpAddr) (leaf : List Bool) (number 
 not_refused db address leaf number x at is refused =
     let answer : Answers db address leaf (outcome_at x) = record { can_ask = at.can_ask; is_leaf = at.is_leaf; on_address = at.on_address; outcome_is = ap (outcome_of db) at.reached ∙ is } in
     refused_at-none x ((answers_are_unique db address leaf refused.0 (outcome_at x) Refused answer refused.1).1)
+
+-- ---- the walk of all bits of an address
+
+pub length-address_bits : (db : Database) (address : IpAddr) → CanAsk db address → length (address_bits db address) ≡ width db
+length-address_bits db (V4 a) can = length-append (before_ipv4 db) (bits_of_address (V4 a)) ∙ omega (arith, length-before_ipv4 db, length-bits_of_address (V4 a))
+length-address_bits db (V6 a) can = let same : has_ipv6 db ≡ true = eq-eqb _ _ can in rw same (length-bits_of_address (V6 a))
+
+no_rest : (leaf rest : List Bool) → length rest ≡ 0 → leaf ++ rest ≡ leaf
+no_rest leaf [] none = append-nil leaf
+no_rest leaf (x ∷ rest) none = absurd (omega arith)
+
+-- it leads where the leaf's does
+pub walk-on_leaf : (db : Database) (address : IpAddr) (leaf : List Bool) → CanAsk db address → IsLeaf db leaf → IsPrefix leaf (address_bits db address) → walk (tree_of db) (address_bits db address) ≡ walk (tree_of db) leaf
+walk-on_leaf db address leaf can is_leaf on = ap (walk (tree_of db)) on.1 ∙ elim is_leaf.ended [
+  | inl out ↦ walk-past (tree_of db) 0 leaf on.0 out
+  | inr all ↦ ap (walk (tree_of db)) (no_rest leaf on.0 (omega (arith, length-address_bits db address can, ap length on.1, length-append leaf on.0, all)))
+]
+
+-- so the answer for an address is what the walk of all its bits says
+pub answer-walk : (db : Database) (address : IpAddr) (leaf : List Bool) (outcome : Outcome) → Answers db address leaf outcome → outcome_of db (walk (tree_of db) (address_bits db address)) ≡ outcome
+answer-walk db address leaf outcome at = ap (outcome_of db) (walk-on_leaf db address leaf at.can_ask at.is_leaf at.on_address) ∙ at.outcome_is
+
+-- and each address that can be asked has an answer
+pub each_address_is_answered : EachAddressIsAnswered
+each_address_is_answered db address can =
+    let found = each_address_has_one_leaf db (address_bits db address) (length-address_bits db address can) in
+    (found.0, record { can_ask = can; is_leaf = found.1.is_leaf; on_address = found.1.on_bits; outcome_is = ap (outcome_of db) (sym (walk-on_leaf db address found.0 can found.1.is_leaf found.1.on_bits)) })

@@ -9,9 +9,10 @@ use Rattle.mmdb_net.specs.Address.{address_width}
 use Rattle.mmdb_net.specs.Network.{ip_of, prefix_of}
 use Rattle.mmdb_net.specs.declared.network.IpNetwork.{IpNetwork}
 use Rattle.maxminddb.specs.Shown.{has_ipv4_subtree, IsIpv4Depth, block_in, ShowsAnswer}
-use Rattle.maxminddb.specs.File.{Database, has_ipv6, width}
+use Rattle.maxminddb.specs.File.{Database, has_ipv6, width, tree_of}
+use Rattle.maxminddb.specs.Tree.{walk}
 use Rattle.maxminddb.specs.Leaves.{IsLeaf}
-use Rattle.maxminddb.specs.Lookup.{Outcome, Answers, CanAsk, address_bits}
+use Rattle.maxminddb.specs.Lookup.{Outcome, Answers, CanAsk, address_bits, outcome_of}
 
 -- No leaf begins another leaf: the blocks of addresses that begin with them are disjoint.
 abbrev pub LeavesAreDisjoint : Type 0
@@ -26,6 +27,12 @@ pub record IsOnlyLeafOn (db : Database) (bits leaf : List Bool) : Type 0 where
 -- Each full address begins with exactly one leaf.
 abbrev pub EachAddressHasOneLeaf : Type 0
 EachAddressHasOneLeaf = (db : Database) (bits : List Bool) → length bits ≡ width db → (leaf : List Bool) × IsOnlyLeafOn db bits leaf
+
+-- An address that the database may be asked for has an answer: what the number stands for to which the
+-- walk of all its bits leads.
+abbrev pub EachAddressIsAnswered : Type 0
+EachAddressIsAnswered =
+    (db : Database) (address : IpAddr) → CanAsk db address → (leaf : List Bool) × Answers db address leaf (outcome_of db (walk (tree_of db) (address_bits db address)))
 
 -- An address has one answer.
 abbrev pub AnswersAreUnique : Type 0

@@ -1,5 +1,5 @@
 //! Laws of leaves and answers, each the contract of a function that does nothing.
-ghost use Rattle.maxminddb.specs.Laws.{LeavesAreDisjoint, EachAddressHasOneLeaf, AnswersAreUnique, SameLeafSameAnswer, NetworkHoldsAddress, Ipv4WithoutSubtree};
+ghost use Rattle.maxminddb.specs.Laws.{LeavesAreDisjoint, EachAddressHasOneLeaf, EachAddressIsAnswered, AnswersAreUnique, SameLeafSameAnswer, NetworkHoldsAddress, Ipv4WithoutSubtree};
 
 /// Leaves are disjoint blocks, and each full address begins with exactly one.
 pub fn leaves_partition()
@@ -7,9 +7,10 @@ pub fn leaves_partition()
     ensures covering { EachAddressHasOneLeaf }
 {}
 
-/// Two addresses of one leaf have the same answer, and an address has only one.
+/// Two addresses of one leaf have the same answer, and each address has one and only one.
 pub fn same_leaf_same_answer()
     ensures same { SameLeafSameAnswer }
+    ensures answered { EachAddressIsAnswered }
     ensures unique { AnswersAreUnique }
 {}
 
