@@ -1,8 +1,9 @@
 -- What a file is, by its last marker.
-use Rattle.std.proofs.Common.{◌≡◌, ℕ, ◌+◌, ◌<◌, ◌≤◌, List, length, Option, Some, None, arith, sym, ◌∙◌, ap, subst, refl}
+use Rattle.std.proofs.Common.{◌≡◌, ℕ, ◌+◌, ◌<◌, ◌≤◌, List, length, false, Option, Some, None, arith, sym, ◌∙◌, ap, subst, refl}
 use Rattle.mmdb_format.specs.Error.{Kind, OfDatabase, kind_of, MemoryApart}
 use Rattle.mmdb_format.specs.declared.error.MaxMindDbError.{MaxMindDbError}
 use Rattle.mmdb_format.specs.declared.error.MaxMindDbError.TheVariants.{InvalidDatabase, Io, Decoding, ResourceLimit, InvalidNetwork, InvalidInput, Memory}
+use Rattle.mmdb_value.specs.Refusal.{Refuses}
 use Rattle.maxminddb.specs.Metadata.{MetadataDatum}
 use Rattle.maxminddb.specs.File.{Database, database, IsLastMarker, IsSupported, HasRoom, metadata_section}
 use Rattle.maxminddb.specs.Source.{metadata_read, IsDatabaseOf, IsNoDatabase, HasNoMarker}
@@ -16,6 +17,16 @@ apart (ResourceLimit message offset path) P Q f p = f p
 apart (InvalidNetwork error) P Q f p = f p
 apart (InvalidInput message) P Q f p = f p
 apart Memory P Q f p = p
+
+-- what a refusal of a reading says, memory apart
+pub apart_from_reading : {A : Type 0} (e : MaxMindDbError) (read : Option A) (P : Type 0) → (read ≡ None → P) → Refuses false e read → MemoryApart e P
+apart_from_reading (InvalidDatabase message offset) read P f p = f p
+apart_from_reading (Io error) read P f p = f p
+apart_from_reading (Decoding message offset path) read P f p = f p
+apart_from_reading (ResourceLimit message offset path) read P f p = f p
+apart_from_reading (InvalidNetwork error) read P f p = f p
+apart_from_reading (InvalidInput message) read P f p = f p
+apart_from_reading Memory read P f p = tt
 
 -- a file has one last marker
 pub one_marker : (file : List ℕ) (a b : ℕ) → IsLastMarker file a → IsLastMarker file b → a ≡ b

@@ -8,5 +8,6 @@ pub mod Shown
 pub mod Kept
 pub mod Found
 pub mod Laws
+pub mod MetadataShape
 pub mod Source
 pub mod Alias

@@ -1,12 +1,14 @@
 -- Which files a reader opens, and what it then reads ("Overview" and "Database Metadata" of the MaxMind DB
 -- File Format Specification 2.0).
-use Rattle.std.specs.Prelude.{◌≡◌, ℕ, List, Option, Some, None}
+use Rattle.std.specs.Prelude.{◌≡◌, ℕ, true, List, Option, Some}
+use Rattle.mmdb_value.specs.Refusal.{answer}
 use Rattle.maxminddb.specs.Metadata.{MetadataDatum}
+use Rattle.maxminddb.specs.MetadataShape.{metadata_at}
 use Rattle.maxminddb.specs.File.{Database, IsMarkerAt, IsLastMarker, IsSupported, HasRoom, metadata_section}
 
--- STUB
-unfoldable pub metadata_read : List ℕ → Option MetadataDatum
-metadata_read section = None
+-- what is read at the beginning of a metadata section, within the limits of reading
+abbrev pub metadata_read : List ℕ → Option MetadataDatum
+metadata_read section = answer true metadata_at section 0
 
 -- The metadata that stand in the section after a marker, within the limits of reading, are these, and a
 -- reader supports them.

@@ -5,6 +5,7 @@ pub mod laws;
 mod lookup_result;
 mod marker;
 pub mod metadata;
+mod metadata_fields;
 pub mod reader;
 mod source;
 pub mod tree;

@@ -1,6 +1,7 @@
 //! Readers from the bytes of a file.
-ghost use Rattle.std.specs.Prelude.{◌≡◌, Some, None, IfOk, IfErr};
+ghost use Rattle.std.specs.Prelude.{◌≡◌, false, Some, IfOk, IfErr};
 ghost use Rattle.mmdb_format.specs.Error.{OfIo, IsOfOrMemory, MemoryApart};
+ghost use Rattle.mmdb_value.specs.Refusal.{Refuses};
 ghost use Rattle.maxminddb.specs.Metadata.{metadata_datum};
 ghost use Rattle.maxminddb.specs.Source.{metadata_read, IsDatabaseOf, IsNoDatabase};
 
@@ -9,6 +10,7 @@ use crate::metadata::Metadata;
 use crate::reader::Reader;
 use mmdb_format::error::{DecodeResult, MaxMindDbError};
 use mmdb_format::message::{Message, Text};
+use mmdb_value::fuzzing;
 use std::alloc::Global;
 use std::convert::AsSlice;
 use std::fs::File;
@@ -22,12 +24,12 @@ const MOST_READS: u32 = 4_294_967_295;
 /// How many bytes are asked for in one read.
 const CHUNK: usize = 65_536;
 
-#[tactic(auto, unfolding(crate::specs::Source::metadata_read))]
+// What stands at the beginning of a metadata section.
 fn read_metadata(alloc: Global, section: &[u8]) -> DecodeResult<Metadata>
     ensures ok { IfOk result (λ m. metadata_read section.now ≡ Some (metadata_datum m)) }
-    ensures err { IfErr result (λ e. MemoryApart e (metadata_read section.now ≡ None)) }
+    ensures err { IfErr result (λ e. Refuses false e (metadata_read section.now)) }
 {
-    Err(MaxMindDbError::Memory)
+    fuzzing::decode::<Metadata>(alloc, section)
 }
 
 // All bytes that are left in a file, unless it takes more reads than are allowed.

@@ -4,7 +4,7 @@ use Rattle.std.proofs.lemmas.Result.{err_from_is_err_and, IfErr-weaker}
 use Rattle.mmdb_format.specs.Error.{OfDatabase, kind_of, MemoryApart}
 use Rattle.maxminddb.specs.File.{database, IsSupported, HasRoom}
 use Rattle.maxminddb.specs.Source.{metadata_read, IsNoDatabase}
-use Rattle.maxminddb.proofs.Sources.{apart, no_marker, no_metadata, not_accepted}
+use Rattle.maxminddb.proofs.Sources.{apart, apart_from_reading, no_marker, no_metadata, not_accepted}
 use Rattle.maxminddb.specs.Metadata.{metadata_datum}
 use Rattle.maxminddb.proofs.reader.Reader.from_source.Goals as goal
 
@@ -14,7 +14,7 @@ returns-in_default-clause-refused g c = no_marker _ _ c.as_slice-bytes.ensures c
 pub returns-in_err-metadata-clause-refused : goal.returns-in_err-metadata-clause-refused
 returns-in_err-metadata-clause-refused g c =
     let p = err_from_is_err_and c.from_residual.result c.from_residual.ensures.1 in
-    rw (p.1, p.2) (apart c.in_err-metadata.field-0.0 _ _ (no_metadata _ _ c.in-Some.marker _ c.as_slice-bytes.ensures c.in-Some.ensures (take_rest c.as_slice-bytes.result.now (c.in-Some.marker + 14))) c.in_err-metadata.ensures.err)
+    rw (p.1, p.2) (apart_from_reading c.in_err-metadata.field-0.0 _ _ (no_metadata _ _ c.in-Some.marker _ c.as_slice-bytes.ensures c.in-Some.ensures (take_rest c.as_slice-bytes.result.now (c.in-Some.marker + 14))) c.in_err-metadata.ensures.err)
 
 pub returns-clause-refused : goal.returns-clause-refused
 returns-clause-refused g c =
