@@ -1,3 +1,4 @@
 pub mod BitLaws
 pub mod AddressLaws
 pub mod TextLaws
+pub mod NetworkLaws

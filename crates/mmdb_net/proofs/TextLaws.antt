@@ -1,8 +1,8 @@
 -- The texts of networks.
-use Rattle.std.proofs.Common.{◌≡◌, ℕ, ◌+◌, ◌-◌, ◌*◌, ◌/◌, ◌%◌, ◌^◌, ◌<◌, ◌≤◌, Bool, false, List, [], ◌∷◌, ◌++◌, length, get_or, take, refl, ap, arith, sym, ◌∙◌}
-use Rattle.std.specs.Prelude.{codes, decimal}
+use Rattle.std.proofs.Common.{◌≡◌, ℕ, ◌-◌, ◌*◌, ◌/◌, ◌%◌, ◌^◌, ◌<◌, ◌≤◌, false, List, [], ◌∷◌, ◌++◌, length, get_or, take, refl, ap, arith, sym, ◌∙◌}
+use Rattle.std.specs.Prelude.{codes}
 use Rattle.std.specs.Int.{w32, w128, to_be_bytes}
-use Rattle.std.specs.Fmt.{digits, digit_glyph, padded_integral, format_spec}
+use Rattle.std.specs.Fmt.{digits, padded_integral, format_spec}
 use Rattle.std.specs.Net.Addr.{ipv4_bits, ipv6_bits, ipv4_octets, ipv6_segments, IsIpv4OfBits, IsIpv6OfBits, segments_of}
 use Rattle.std.specs.Net.Text.{ipv4_text}
 use Rattle.std.specs.declared.net.ipv4_addr.Ipv4Addr.{Ipv4Addr}
@@ -10,6 +10,14 @@ use Rattle.std.specs.declared.net.ipv6_addr.Ipv6Addr.{Ipv6Addr}
 use Rattle.std.proofs.lemmas.Fmt.{hex_byte}
 use Rattle.std.proofs.lemmas.List.{length-take-le}
 use Rattle.std.proofs.Math.Nat.{mod-eq_of_lt}
+use Rattle.std.specs.Prelude.{Option, None, Some, MatchOption, Result, Ok, Err, IfOk, MatchResult, IsErrAnd}
+use Rattle.std.specs.declared.net.ip_addr.IpAddr.{IpAddr}
+use Rattle.std.specs.Net.Grammar.{IsIpText, Parses}
+use Rattle.std.proofs.Common.{Bor, inl, inr, subst}
+use Rattle.mmdb_net.specs.declared.network.IpNetwork.{IpNetwork}
+use Rattle.mmdb_net.specs.Address.{address_width}
+use Rattle.mmdb_net.specs.Network.{ip_of, prefix_of}
+use Rattle.mmdb_net.specs.NetworkText.{IsPrefixText, IsNetworkText}
 use Rattle.mmdb_net.specs.Bits.{bits_of, zero_bits}
 use Rattle.mmdb_net.specs.FullText.{number_of, filled_to, hex_group, groups_text, prefix_text, ipv4_full_text, ipv6_full_text}
 use Rattle.mmdb_net.proofs.BitLaws.{length-bits_of, bits_of-masked, number_of-bits_of}
@@ -72,3 +80,26 @@ eight_groups (a ∷ b ∷ c ∷ d ∷ e ∷ f ∷ []) tail eight = absurd (omega
 eight_groups (a ∷ b ∷ c ∷ d ∷ e ∷ f ∷ g ∷ []) tail eight = absurd (omega arith)
 eight_groups (a ∷ b ∷ c ∷ d ∷ e ∷ f ∷ g ∷ h ∷ []) tail eight = refl
 eight_groups (a ∷ b ∷ c ∷ d ∷ e ∷ f ∷ g ∷ h ∷ i ∷ xs) tail eight = absurd (omega arith)
+
+-- ---- reading
+
+-- an address and a prefix that were read from the parts of a text are what the text spells
+pub network_text-parts : (text address : List ℕ) (suffix : Option (Bor (List ℕ))) (ip : IpAddr) (prefix : ℕ) → MatchOption suffix (text ≡ address) (λ digits. text ≡ address ++ codes "/" ++ digits.now) → IsIpText address ip
+    → MatchOption suffix (prefix ≡ address_width ip) (λ digits. IsPrefixText digits.now prefix) → IsNetworkText text ip prefix
+network_text-parts text address None ip prefix parts spelled whole = (address, spelled, inl (parts, whole))
+network_text-parts text address (Some digits) ip prefix parts spelled written = (address, spelled, inr (digits.now, parts, written))
+
+-- and so is a network that was made of them
+pub network_text-made : {E : Type 0} (made : Result IpNetwork E) (text : List ℕ) (ip : IpAddr) (prefix : ℕ) → IfOk made (λ n. ip_of n ≡ ip) → IfOk made (λ n. prefix_of n ≡ prefix) → IsNetworkText text ip prefix
+    → IfOk made (λ n. IsNetworkText text (ip_of n) (prefix_of n))
+network_text-made (Ok n) text ip prefix same_ip same_prefix spelled =
+    let P : IpAddr → Type 0 = λ a. IsNetworkText text a (prefix_of n) in
+    let Q : ℕ → Type 0 = λ k. IsNetworkText text ip k in
+    subst P (sym same_ip) (subst Q (sym same_prefix) spelled)
+network_text-made (Err e) text ip prefix same_ip same_prefix spelled = tt
+
+-- what is read from a text, with its error turned into another, is what the text spells
+pub parsed-mapped : {A E F : Type 0} (Spells : List ℕ → A → Type 0) (text : List ℕ) (read : Result A E) (mapped : Result A F) (x : A) (Q : E → F → Type 0) → Parses Spells text read → MatchResult read (λ y. mapped ≡ Ok y) (λ e. IsErrAnd mapped (Q e)) → mapped ≡ Ok x
+    → Spells text x
+parsed-mapped Spells text (Ok y) mapped x Q spelled same was = let e : y ≡ x = cc in subst (Spells text) e spelled
+parsed-mapped {A = A} {F = F} Spells text (Err e) mapped x Q spelled same was = let P : Result A F → Type 0 = λ r. IsErrAnd r (Q e) in absurd (subst P was same)

@@ -22,4 +22,5 @@ IsSameKind a b = is_ipv4 a ≡ is_ipv4 b
 -- the masked address has the first `prefix` bits of the address, and zeros after them
 pub record IsMaskedIp (address : IpAddr) (prefix : ℕ) (masked : IpAddr) : Type 0 where
   pub same_kind : IsSameKind masked address
-  pub bits : bits_of_address masked ≡ take prefix (bits_of_address address) ++ zero_bits (address_width address - prefix)
+  pub bits : bits_of_address masked
+      ≡ take prefix (bits_of_address address) ++ zero_bits (address_width address - prefix)

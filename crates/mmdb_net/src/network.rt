@@ -1,5 +1,6 @@
 ghost use Rattle.std.specs.Prelude.{◌≡◌, ◌≤◌, ◌↔◌, IsTrue, IsOk, IfOk, IfErr, Some};
 ghost use Rattle.std.specs.String.{string_bytes};
+ghost use Rattle.mmdb_net.specs.NetworkText.{IsNetworkText};
 ghost use Rattle.mmdb_net.specs.FullText.{ipv4_full_text, ipv6_full_text};
 ghost use Rattle.mmdb_net.specs.Address.{address_width, bits_of_address, IsSameKind, IsMaskedIp};
 ghost use Rattle.mmdb_net.specs.Bits.{IsPrefix};
@@ -40,10 +41,12 @@ impl Ipv4Network {
         })
     }
 
-    /// The first address of the network: the address as given, with the bits after the prefix cleared.
+    /// The first address of the network: the address as given, with the bits after the prefix
+    /// cleared.
     #[tactic(auto, using(crate::proofs::AddressLaws::masked_ipv4))]
     pub fn network(&self) -> Ipv4Addr
-        ensures { IsMaskedIp (IpAddr.V4 (ipv4_ip_of self.now)) (ipv4_prefix_of self.now) (IpAddr.V4 result) }
+        ensures { IsMaskedIp (IpAddr.V4 (ipv4_ip_of self.now)) (ipv4_prefix_of self.now)
+            (IpAddr.V4 result) }
     {
         mask::mask_ipv4(self.address, self.prefix)
     }
@@ -65,12 +68,14 @@ impl Ipv4Network {
 
     /// Whether the address begins with the bits of the network.
     pub fn contains(&self, addr: Ipv4Addr) -> bool
-        ensures { IsTrue result ↔ IsPrefix (ipv4_block_of self.now) (bits_of_address (IpAddr.V4 addr)) }
+        ensures { IsTrue result
+            ↔ IsPrefix (ipv4_block_of self.now) (bits_of_address (IpAddr.V4 addr)) }
     {
         mask::ipv4_first_bits(self.address, self.prefix) == mask::ipv4_first_bits(addr, self.prefix)
     }
 
-    /// The first address of the network in dotted decimal, `/` and the prefix. Refused only where memory is.
+    /// The first address of the network in dotted decimal, `/` and the prefix. Refused only where
+    /// memory is.
     pub fn full_text(&self, alloc: Global) -> Result<String, AllocError>
         ensures { IfOk result (λ text. string_bytes text ≡ ipv4_full_text (ipv4_block_of self.now)) }
     {
@@ -91,7 +96,13 @@ impl Display for Ipv4Network {
 }
 
 impl FromStr for Ipv4Network {
+    ghost use Rattle.std.specs.declared.net.ip_addr.IpAddr.TheVariants.{V4};
+    ghost use Rattle.mmdb_net.specs.Network.{ipv4_ip_of, ipv4_prefix_of};
+
     type Err = IpNetworkError;
+
+    ghost from_str_gives = { λ text result.
+        IfOk result (λ n. IsNetworkText text (V4 (ipv4_ip_of n)) (ipv4_prefix_of n)) };
 
     fn from_str(text: &str) -> Result<Ipv4Network, IpNetworkError> {
         let (address, prefix) = text::split_prefix(text)?;
@@ -127,10 +138,12 @@ impl Ipv6Network {
         })
     }
 
-    /// The first address of the network: the address as given, with the bits after the prefix cleared.
+    /// The first address of the network: the address as given, with the bits after the prefix
+    /// cleared.
     #[tactic(auto, using(crate::proofs::AddressLaws::masked_ipv6))]
     pub fn network(&self) -> Ipv6Addr
-        ensures { IsMaskedIp (IpAddr.V6 (ipv6_ip_of self.now)) (ipv6_prefix_of self.now) (IpAddr.V6 result) }
+        ensures { IsMaskedIp (IpAddr.V6 (ipv6_ip_of self.now)) (ipv6_prefix_of self.now)
+            (IpAddr.V6 result) }
     {
         mask::mask_ipv6(self.address, self.prefix)
     }
@@ -152,12 +165,14 @@ impl Ipv6Network {
 
     /// Whether the address begins with the bits of the network.
     pub fn contains(&self, addr: Ipv6Addr) -> bool
-        ensures { IsTrue result ↔ IsPrefix (ipv6_block_of self.now) (bits_of_address (IpAddr.V6 addr)) }
+        ensures { IsTrue result
+            ↔ IsPrefix (ipv6_block_of self.now) (bits_of_address (IpAddr.V6 addr)) }
     {
         mask::ipv6_first_bits(self.address, self.prefix) == mask::ipv6_first_bits(addr, self.prefix)
     }
 
-    /// The first address of the network in eight groups of four hexadecimal digits, `/` and the prefix. Refused only where memory is.
+    /// The first address of the network in eight groups of four hexadecimal digits, `/` and the
+    /// prefix. Refused only where memory is.
     pub fn full_text(&self, alloc: Global) -> Result<String, AllocError>
         ensures { IfOk result (λ text. string_bytes text ≡ ipv6_full_text (ipv6_block_of self.now)) }
     {
@@ -188,7 +203,13 @@ impl Display for Ipv6Network {
 }
 
 impl FromStr for Ipv6Network {
+    ghost use Rattle.std.specs.declared.net.ip_addr.IpAddr.TheVariants.{V6};
+    ghost use Rattle.mmdb_net.specs.Network.{ipv6_ip_of, ipv6_prefix_of};
+
     type Err = IpNetworkError;
+
+    ghost from_str_gives = { λ text result.
+        IfOk result (λ n. IsNetworkText text (V6 (ipv6_ip_of n)) (ipv6_prefix_of n)) };
 
     fn from_str(text: &str) -> Result<Ipv6Network, IpNetworkError> {
         let (address, prefix) = text::split_prefix(text)?;
@@ -222,7 +243,8 @@ impl IpNetwork {
         }
     }
 
-    /// The first address of the network: the address as given, with the bits after the prefix cleared.
+    /// The first address of the network: the address as given, with the bits after the prefix
+    /// cleared.
     pub fn network(&self) -> IpAddr
         ensures { IsMaskedIp (ip_of self.now) (prefix_of self.now) result }
     {
@@ -256,7 +278,8 @@ impl IpNetwork {
     /// Whether the address is of the network's kind and begins with the bits of the network.
     pub fn contains(&self, addr: IpAddr) -> bool
         ensures { IsTrue result
-            ↔ (IsSameKind addr (ip_of self.now) × IsPrefix (block_of self.now) (bits_of_address addr)) }
+            ↔ (IsSameKind addr (ip_of self.now)
+            × IsPrefix (block_of self.now) (bits_of_address addr)) }
     {
         match (self, addr) {
             (IpNetwork::V4(network), IpAddr::V4(addr)) => network.contains(addr),
@@ -264,8 +287,9 @@ impl IpNetwork {
             _ => false,
         }
     }
-    /// The first address of the network in full, `/` and the prefix: an IPv4 address in dotted decimal,
-    /// an IPv6 address as eight groups of four hexadecimal digits. Refused only where memory is.
+    /// The first address of the network in full, `/` and the prefix: an IPv4 address in dotted
+    /// decimal, an IPv6 address as eight groups of four hexadecimal digits. Refused only where
+    /// memory is.
     pub fn full_text(&self, alloc: Global) -> Result<String, AllocError>
         ensures { IfOk result (λ text. string_bytes text ≡ full_text_of self.now) }
     {
@@ -290,15 +314,16 @@ impl Display for IpNetwork {
 }
 
 impl FromStr for IpNetwork {
+    ghost use Rattle.mmdb_net.specs.Network.{ip_of, prefix_of};
+
     type Err = IpNetworkError;
+
+    ghost from_str_gives = { λ text result. IfOk result (λ n. IsNetworkText text (ip_of n) (prefix_of n)) };
 
     fn from_str(text: &str) -> Result<IpNetwork, IpNetworkError> {
         let (address, prefix) = text::split_prefix(text)?;
         let address = IpAddr::from_str(address).map_err(|_| IpNetworkError::InvalidAddr)?;
-        let address_bits = match address {
-            IpAddr::V4(_) => 32,
-            IpAddr::V6(_) => 128,
-        };
-        IpNetwork::new(address, text::read_prefix(prefix, address_bits)?)
+        let whole = text::address_bits(address);
+        IpNetwork::new(address, text::read_prefix(prefix, whole)?)
     }
 }
