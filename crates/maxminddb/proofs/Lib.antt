@@ -4,3 +4,4 @@ pub mod LawLemmas
 pub mod Markers
 pub mod Sources
 pub mod NetworkLemmas
+pub mod Clones

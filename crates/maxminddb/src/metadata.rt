@@ -1,10 +1,10 @@
 //! What a database says of itself.
-ghost use Rattle.std.specs.Prelude.{◌≡◌, IfErr, OnOk};
-ghost use Rattle.mmdb_format.specs.Error.{OfDatabase, kind_of, MemoryApart};
+ghost use Rattle.std.specs.Prelude.{◌≡◌, ◌<◌, ◌^◌, ◌↔◌, pos, IfOk, IfErr, IsOk, OnOk};
+ghost use Rattle.mmdb_format.specs.Error.{OfDatabase, kind_of, MemoryApart, IsOfOrMemory};
 
 use mmdb_format::error::MaxMindDbError;
 use mmdb_format::message::{Message, Text};
-use std::alloc::Global;
+use std::alloc::{AllocError, Global};
 use std::collections::BTreeMap;
 
 /// The metadata of a database ("Database Metadata" of the MaxMind DB File Format Specification 2.0).
@@ -40,9 +40,55 @@ fn refusal(text: String) -> MaxMindDbError
     }
 }
 
+// The refusal of a time that a signed number of seconds can't hold.
+fn too_late(alloc: Global, epoch: u64) -> MaxMindDbError
+    ensures { IsOfOrMemory OfDatabase result }
+{
+    let text: Result<String, AllocError> = format!(in alloc; "build_epoch - Unix timestamp is too large to represent as SystemTime: {epoch}");
+    match text {
+        Ok(text) => refusal(text),
+        Err(_) => MaxMindDbError::Memory,
+    }
+}
+
+impl Clone for Metadata {
+    ghost use Rattle.maxminddb.specs.Metadata.{metadata_datum};
+
+    ghost is_clone = { λ s r. metadata_datum r ≡ metadata_datum s };
+
+    fn clone(&self) -> Result<Metadata, AllocError> {
+        Ok(Metadata {
+            binary_format_major_version: self.binary_format_major_version,
+            binary_format_minor_version: self.binary_format_minor_version,
+            build_epoch: self.build_epoch,
+            database_type: self.database_type.clone()?,
+            description: self.description.clone()?,
+            ip_version: self.ip_version,
+            languages: self.languages.clone()?,
+            node_count: self.node_count,
+            record_size: self.record_size,
+        })
+    }
+}
+
 impl Metadata {
     ghost use Rattle.maxminddb.specs.Metadata.{metadata_datum};
     ghost use Rattle.maxminddb.specs.File.{IsSupported};
+
+    /// When the database was built, in seconds since 1970 ("build_epoch").
+    ///
+    /// It succeeds for the metadata of every reader. A `build_epoch` above 2^63 - 1, which metadata made
+    /// by hand may have, is refused as `InvalidDatabase`, or as `Memory` where the text can't be made.
+    pub fn build_time(&self, alloc: Global) -> Result<i64, MaxMindDbError>
+        ensures time { IfOk result (λ seconds. seconds ≡ pos self.now.build_epoch) }
+        ensures fits { IsOk result ↔ (self.now.build_epoch < 2 ^ 63) }
+        ensures kind { IfErr result (IsOfOrMemory OfDatabase) }
+    {
+        match i64::try_from(self.build_epoch) {
+            Ok(seconds) => Ok(seconds),
+            Err(_) => Err(too_late(alloc, self.build_epoch)),
+        }
+    }
 
     /// Refuses what a reader does not read, each field in turn.
     pub(crate) fn check_supported(&self, alloc: Global) -> Result<(), MaxMindDbError>
