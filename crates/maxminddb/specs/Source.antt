@@ -31,3 +31,7 @@ HasNoMarker file = (place : ℕ) → ¬ IsMarkerAt file place
 -- the file is no database
 abbrev pub IsNoDatabase : List ℕ → Type 0
 IsNoDatabase file = (db : Database) → ¬ IsDatabaseOf file db
+
+-- The bytes of a file decide whether it is a database, and which.
+abbrev pub SourceDecides : Type 0
+SourceDecides = (file : List ℕ) (a b : Database) → IsDatabaseOf file a → IsDatabaseOf file b → a ≡ b
