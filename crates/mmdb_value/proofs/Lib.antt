@@ -1,6 +1,7 @@
 pub mod Texts
 pub mod ReadingLaws
 pub mod Steps
+pub mod SmallLaws
 pub mod Lists
 pub mod MapLaws
 pub mod RecordLaws

@@ -1,9 +1,9 @@
 -- A list that is read element by element.
-use Rattle.std.proofs.Common.{◌≡◌, ℕ, ◌+◌, ◌≤◌, ◌<◌, List, [], ◌∷◌, ◌++◌, map, Option, Some, None, Bool, true, false, nat_le, option_map, refl, sym, ap, ◌∙◌, arith, add-one, append_assoc, append-nil, subst, IsSome}
+use Rattle.std.proofs.Common.{◌≡◌, ℕ, ◌+◌, ◌≤◌, ◌<◌, List, [], ◌∷◌, ◌++◌, map, Option, Some, None, Bool, true, false, nat_le, nat_eq, option_map, refl, sym, ap, ◌∙◌, arith, add-one, append_assoc, append-nil, subst, IsSome}
 use Rattle.std.proofs.lemmas.List.{map-append}
 use Rattle.std.proofs.lemmas.Bool.Decides.{nat_tests}
 use Rattle.mmdb_format.specs.Header.{◌>>=◌}
-use Rattle.mmdb_value.specs.Arrays.{elements, list_at, entered_array, left_array, array_at, few_at}
+use Rattle.mmdb_value.specs.Arrays.{elements, list_at, entered_array, left_array, array_at, few_at, if_sized, entered_array_of}
 use Rattle.mmdb_value.specs.Reading.{Meaning, given}
 use Rattle.mmdb_value.specs.Refusal.{Kept}
 use Rattle.mmdb_value.specs.State.{State, charged, spent_of, begun, decoded, Within, NoneBack, GivenUp}
@@ -132,3 +132,11 @@ few_read most read σ τ items h k = let x = entered_from σ τ items h in let f
 
 pub few_refused : {A : Type 0} (most : ℕ) (read : Meaning A) (σ τ : State) (items : Items) → entered_array σ ≡ Some (items, τ) → most < items.remaining → decoded true (few_at most read) σ ≡ None
 few_refused most read σ τ items h k = let x = entered_from σ τ items h in let many : nat_le x.0.count most ≡ false = grind (arith, nat_tests, x.2) in few_past most read σ x.0 x.1 many
+
+-- an array of another length
+other_by : (len : ℕ) (x : Items × State) (b : Bool) → nat_eq x.0.remaining len ≡ b → (x.0.remaining ≡ len → ⊥) → if_sized len x ≡ None
+other_by len x true e h = absurd (h (grind (arith, nat_tests)))
+other_by len x false e h = rw e refl
+
+pub other_length : (len : ℕ) (σ τ : State) (items : Items) → entered_array σ ≡ Some (items, τ) → (items.remaining ≡ len → ⊥) → entered_array_of len σ ≡ None
+other_length len σ τ items h k = rw h (other_by len (items, τ) (nat_eq items.remaining len) refl k)

@@ -10,7 +10,7 @@ use Rattle.mmdb_value.proofs.Steps.{refuses_more, refuses_weaker}
 use Rattle.std.proofs.Common.{◌≡◌, ℕ, ◌-◌, List, Option, Some, None, Bool, true, false, option_map, refl, sym, ap, ◌∙◌, IsSome, Result, Ok, Err, is_some, cond}
 use Rattle.mmdb_value.specs.declared.items.Entries.{Entries}
 use Rattle.mmdb_value.proofs.Steps.{kept_decoded, kept_trans, given_up_trans, decoded_begun, still_begun, refuses, kept_same}
-use Rattle.mmdb_value.proofs.ReadingLaws.{decoded-mapped, seen, checked_ok, checked_missing, checked_none}
+use Rattle.mmdb_value.proofs.ReadingLaws.{mapped_none, decoded-mapped, seen, checked_ok, checked_missing, checked_none}
 use Rattle.mmdb_value.proofs.MapLaws.{some_left_to_read, pairs_done, pairs_go_on, pairs_stop, pairs_nameless}
 
 -- a field that stands at most once
@@ -67,12 +67,6 @@ pub read_into : {P A : Type 0} (free : Bool) (set : Option A → P) (read : Mean
 read_into free set read slot v w σ τ r h e = rw e (field_read free set read slot v σ τ r h)
 
 -- what a partial record is made
-pub mapped_ok : {P R : Type 0} (starts : Bool) (f : P → R) (read : Meaning P) (σ τ : State) (v : P) → decoded starts read σ ≡ Some (v, τ) → decoded starts (mapped f read) σ ≡ Some (f v, τ)
-mapped_ok starts f read σ τ v h = decoded-mapped starts f read σ ∙ ap (seen f) h
-
-pub mapped_none : {P R : Type 0} (starts : Bool) (f : P → R) (read : Meaning P) (σ : State) → decoded starts read σ ≡ None → decoded starts (mapped f read) σ ≡ None
-mapped_none starts f read σ h = decoded-mapped starts f read σ ∙ ap (seen f) h
-
 pub mapped_refuses : {P R : Type 0} (free starts : Bool) (e : MaxMindDbError) (f : P → R) (read : Meaning P) (σ : State) → Refuses free e (decoded starts read σ) → Refuses free e (decoded starts (mapped f read) σ)
 mapped_refuses free starts e f read σ h = refuses_more free e (decoded starts read σ) (decoded starts (mapped f read) σ) (mapped_none starts f read σ) h
 

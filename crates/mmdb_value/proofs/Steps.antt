@@ -164,3 +164,7 @@ if_err_weaker (Err e) P Q k h = k e h
 -- a step that found nothing
 pub nothing_taken : {A : Type 0} (read : Option (A × State)) (σ : State) → read ≡ None → GivenUp σ σ × (read ≡ None)
 nothing_taken read σ h = (record { section = refl; charges = none_back σ.budget }, h)
+
+-- a reading with no cost that begins a budget
+pub read_started : {A : Type 0} (read : Meaning A) (σ : State) (v : A) (next : ℕ) (left : Option Charges) → left ≡ begun true σ.budget → Within left → read σ.section σ.place σ.levels ≡ Some (record { value = v; next = next; values = 0; bytes = 0 }) → decoded true read σ ≡ Some (v, state σ.section next σ.levels left)
+read_started read σ v next left e w h = read_at true read σ (record { value = v; next = next; values = 0; bytes = 0 }) left h (rw (← e) (nothing_spent left w))

@@ -1,5 +1,5 @@
 -- Arrays ("Data Field Format", array - 11), and containers that are entered.
-use Rattle.std.specs.Prelude.{ℕ, zero, suc, ◌+◌, List, [], ◌∷◌, Option, Some, None, true, nat_le, nat_lt, if◌then◌else◌, unwrap_or}
+use Rattle.std.specs.Prelude.{ℕ, zero, suc, ◌+◌, List, [], ◌∷◌, Option, Some, None, true, nat_eq, nat_le, nat_lt, if◌then◌else◌, unwrap_or}
 use Rattle.mmdb_format.specs.Header.{◌>>=◌}
 use Rattle.mmdb_format.specs.Pointer.{most_levels}
 use Rattle.mmdb_value.specs.declared.direct.Entered.{Entered}
@@ -44,6 +44,13 @@ entered_array σ =
     array_at σ.section σ.place σ.levels >>= λ at.
     spent_of (begun true σ.budget) at.count 0 >>= λ left.
     Some (record { remaining = at.count; after = at.after; levels = σ.levels }, record { section = σ.section; place = at.body; levels = at.levels; budget = left })
+
+-- an array of a given number of elements
+abbrev pub if_sized : ℕ → Items × State → Option (Items × State)
+if_sized len x = if nat_eq x.0.remaining len then Some x else None
+
+abbrev pub entered_array_of : ℕ → State → Option (Items × State)
+entered_array_of len σ = entered_array σ >>= if_sized len
 
 -- the decoder behind an array
 abbrev pub left_array : Items → State → State

@@ -3,20 +3,24 @@ ghost use Rattle.std.specs.Prelude.{◌≡◌, ◌<◌, ◌≤◌, ◌^◌, ◌+
 ghost use Rattle.std.specs.Result.{result_ok};
 ghost use Rattle.mmdb_format.specs.Header.{header_at as spec_header_at};
 ghost use Rattle.mmdb_value.specs.State.{State, decoded, begun as spec_begun, Within};
-ghost use Rattle.mmdb_value.specs.Scalars.{number_of, bytes_of, u16_at, u32_at, u64_at, text_at};
-ghost use Rattle.mmdb_value.specs.Arrays.{entered_array, left_array};
+ghost use Rattle.mmdb_value.specs.Scalars.{number_of, bits_of, bytes_of, u16_at, u32_at, u64_at, u128_at, i32_at, bool_at as spec_bool_at, double_at, float_at, text_at, byte_string_at};
+ghost use Rattle.mmdb_value.specs.SmallNumbers.{whole_at as spec_whole_at};
+ghost use Rattle.mmdb_value.specs.Peeking.{kind_at};
+ghost use Rattle.mmdb_value.specs.Arrays.{entered_array, entered_array_of, left_array};
 ghost use Rattle.mmdb_value.specs.Maps.{key_past, name_at, raw_key_at, key_at, NextKey, entered_map, left_map};
 ghost use Rattle.mmdb_value.specs.Skipping.{skip_within, skip_at, parts_of as spec_parts_of, scalar_passed, entered_inline};
 ghost use Rattle.mmdb_value.specs.Refusal.{Reads, Takes};
 
 use crate::budget::{Charges, begun, spent};
-use crate::direct::{container_at, content_bytes_at, number_at, text_of};
+use crate::direct::{bits_at, bool_at, container_at, content_bytes_at, number_at, text_of};
 use crate::items::{Entries, Items};
-use mmdb_format::content::{key_bytes_at, passed_end};
+use crate::peek::kind_of_value;
+use crate::whole::whole_at;
+use mmdb_format::content::{Double, Float, key_bytes_at, passed_end};
 use mmdb_format::error::DecodeResult;
 use mmdb_format::fault::Fault;
 use mmdb_format::header::{Header, header_at};
-use mmdb_format::kind::{ARRAY, MAP, TEXT, U16, U32, U64};
+use mmdb_format::kind::{ARRAY, BYTES, DOUBLE, FLOAT, I32, Kind, MAP, TEXT, U16, U32, U64, U128};
 use std::alloc::Global;
 use std::marker::Model;
 
@@ -78,6 +82,44 @@ impl<'de> Decoder<'de> {
         Ok(n)
     }
 
+    // A signed number of 32 bits.
+    fn take_signed(&mut self) -> Result<i32, Fault>
+        ensures { Takes (λ z. z) (decoded false i32_at self.old) self.old self.new result }
+    {
+        let n = self.take_number(I32, 4)?;
+        Ok((n as u32).cast_signed())
+    }
+
+    // The bits of a number of exactly so many bytes.
+    fn take_bits(&mut self, wanted: u16, size: usize) -> Result<u128, Fault>
+        requires { size ≤ 16 }
+        ensures read { Takes (λ n. n) (decoded false (bits_of wanted size) self.old) self.old self.new result }
+        ensures bound { IfOk result (λ n. n < 256 ^ size) }
+    {
+        let (n, next) = bits_at(self.section, self.place, self.levels, wanted, size)?;
+        self.place = next;
+        Ok(n)
+    }
+
+    // A truth value.
+    fn take_bool(&mut self) -> Result<bool, Fault>
+        ensures { Takes (λ b. b) (decoded false spec_bool_at self.old) self.old self.new result }
+    {
+        let (b, next) = bool_at(self.section, self.place, self.levels)?;
+        self.place = next;
+        Ok(b)
+    }
+
+    // A whole number of whatever type, behind any number of pointers.
+    fn take_whole(&mut self) -> Result<i128, Fault>
+        ensures { Takes (λ z. z) (decoded true spec_whole_at self.old) self.old self.new result }
+    {
+        let (number, next) = whole_at(self.section, self.place, self.levels)?;
+        self.budget = begun(self.budget);
+        self.place = next;
+        Ok(number)
+    }
+
     // The bytes of a text or a byte string.
     fn take_bytes(&mut self, wanted: u16) -> Result<&'de [u8], Fault>
         ensures { Takes (λ x. x.now) (decoded false (bytes_of wanted) self.old) self.old self.new result }
@@ -126,6 +168,88 @@ impl<'de> Decoder<'de> {
         }
     }
 
+    /// Reads an unsigned number of 128 bits.
+    pub fn read_u128(&mut self, alloc: Global) -> DecodeResult<u128>
+        ensures { Reads (λ n. n) true (decoded false u128_at self.old) self.old self.new result }
+    {
+        match self.take_number(U128, 16) {
+            Ok(n) => Ok(n),
+            Err(fault) => Err(fault.refusal(alloc, self.place)),
+        }
+    }
+
+    /// Reads a signed number of 32 bits.
+    pub fn read_i32(&mut self, alloc: Global) -> DecodeResult<i32>
+        ensures { Reads (λ z. z) true (decoded false i32_at self.old) self.old self.new result }
+    {
+        match self.take_signed() {
+            Ok(n) => Ok(n),
+            Err(fault) => Err(fault.refusal(alloc, self.place)),
+        }
+    }
+
+    /// Reads a whole number of whatever type: an i32, u16, u32 or u64, behind any number of pointers
+    /// within the levels. At the start it begins a budget.
+    pub fn read_small(&mut self, alloc: Global) -> DecodeResult<i128>
+        ensures { Reads (λ z. z) true (decoded true spec_whole_at self.old) self.old self.new result }
+    {
+        match self.take_whole() {
+            Ok(number) => Ok(number),
+            Err(fault) => Err(fault.refusal(alloc, self.place)),
+        }
+    }
+
+    /// Reads a truth value.
+    pub fn read_bool(&mut self, alloc: Global) -> DecodeResult<bool>
+        ensures { Reads (λ b. b) true (decoded false spec_bool_at self.old) self.old self.new result }
+    {
+        match self.take_bool() {
+            Ok(b) => Ok(b),
+            Err(fault) => Err(fault.refusal(alloc, self.place)),
+        }
+    }
+
+    /// Reads the bits of a number of double precision.
+    pub fn read_double(&mut self, alloc: Global) -> DecodeResult<Double>
+        ensures { Reads (λ x. x.bits) true (decoded false double_at self.old) self.old self.new result }
+    {
+        match self.take_bits(DOUBLE, 8) {
+            Ok(bits) => Ok(Double { bits: bits as u64 }),
+            Err(fault) => Err(fault.refusal(alloc, self.place)),
+        }
+    }
+
+    /// Reads the bits of a number of single precision.
+    pub fn read_float(&mut self, alloc: Global) -> DecodeResult<Float>
+        ensures { Reads (λ x. x.bits) true (decoded false float_at self.old) self.old self.new result }
+    {
+        match self.take_bits(FLOAT, 4) {
+            Ok(bits) => Ok(Float { bits: bits as u32 }),
+            Err(fault) => Err(fault.refusal(alloc, self.place)),
+        }
+    }
+
+    /// Reads a byte string.
+    pub fn read_bytes(&mut self, alloc: Global) -> DecodeResult<&'de [u8]>
+        ensures { Reads (λ x. x.now) true (decoded false byte_string_at self.old) self.old self.new result }
+    {
+        match self.take_bytes(BYTES) {
+            Ok(bytes) => Ok(bytes),
+            Err(fault) => Err(fault.refusal(alloc, self.place)),
+        }
+    }
+
+    /// The type of the value at the place, or behind one pointer there. The place stays.
+    pub fn peek_kind(&mut self, alloc: Global) -> DecodeResult<Kind>
+        ensures kind { result_ok result ≡ kind_at self.old.section self.old.place }
+        ensures same { self.new ≡ self.old }
+    {
+        match kind_of_value(self.section, self.place) {
+            Ok(kind) => Ok(kind),
+            Err(fault) => Err(fault.refusal(alloc, self.place)),
+        }
+    }
+
     /// Reads a text, which is UTF-8.
     pub fn read_str(&mut self, alloc: Global) -> DecodeResult<&'de str>
         ensures { Reads (λ s. s.now) true (decoded false text_at self.old) self.old self.new result }
@@ -160,6 +284,19 @@ impl<'de> Decoder<'de> {
             Ok(items) => Ok(items),
             Err(fault) => Err(fault.refusal(alloc, self.place)),
         }
+    }
+
+    /// Enters an array of so many elements, and charges them.
+    pub fn begin_array_of(&mut self, alloc: Global, len: usize) -> DecodeResult<Items>
+        ensures { Reads (λ items. items) true (entered_array_of len self.old) self.old self.new result }
+    {
+        let items = self.begin_array(alloc)?;
+        if items.remaining != len {
+            let fault = Fault::WrongLength(len, items.remaining);
+            items.give_up(self);
+            return Err(fault.refusal(alloc, self.place));
+        }
+        Ok(items)
     }
 
     /// Whether an element is to be read next, which the caller then reads or skips.

@@ -1,14 +1,14 @@
 //! Values of one type, which stand directly or behind one pointer.
 ghost use Rattle.std.specs.Prelude.{◌≡◌, ◌<◌, ◌≤◌, ◌^◌, IfOk, option_map};
 ghost use Rattle.std.specs.Result.{result_ok};
-ghost use Rattle.mmdb_value.specs.Scalars.{direct_of as spec_direct_of, number_of, bytes_of, if_text, free_of_charge, costs_its_length};
+ghost use Rattle.mmdb_value.specs.Scalars.{direct_of as spec_direct_of, number_of, bits_of, bool_at as spec_bool_at, bytes_of, if_text, free_of_charge, costs_its_length};
 ghost use Rattle.mmdb_value.specs.Arrays.{container_at as spec_container_at};
 ghost use Rattle.std.specs.Prelude.{length};
 
-use mmdb_format::content::{content_bytes, short_number};
+use mmdb_format::content::{content_bytes, full_number, short_number};
 use mmdb_format::fault::Fault;
 use mmdb_format::header::{Direct, MAX_LEVELS, direct_at};
-use mmdb_format::kind::Kind;
+use mmdb_format::kind::{BOOL, Kind};
 
 /// A container that was entered.
 #[derive(Clone, Copy, Debug)]
@@ -48,6 +48,36 @@ pub(crate) fn number_at(
     let at = direct_of(section, place, levels, wanted)?;
     let n = short_number(section, at.header, most)?;
     Ok((n, at.after.unwrap_or(at.header.body + at.header.size)))
+}
+
+/// The bits of a number of exactly so many bytes, and the place after it.
+#[tactic(auto, unfolding(crate::specs::Scalars::bits_of))]
+pub(crate) fn bits_at(
+    section: &[u8],
+    place: usize,
+    levels: u16,
+    wanted: u16,
+    size: usize,
+) -> Result<(u128, usize), Fault>
+    requires { size ≤ 16 }
+    ensures value { option_map free_of_charge (result_ok result) ≡ bits_of wanted size section.now place levels }
+    ensures bound { IfOk result (λ x. x.0 < 256 ^ size) }
+{
+    let at = direct_of(section, place, levels, wanted)?;
+    let n = full_number(section, at.header, size)?;
+    Ok((n, at.after.unwrap_or(at.header.body + at.header.size)))
+}
+
+/// A truth value, and the place after it.
+#[tactic(auto, unfolding(crate::specs::Scalars::bool_at))]
+pub(crate) fn bool_at(section: &[u8], place: usize, levels: u16) -> Result<(bool, usize), Fault>
+    ensures { option_map free_of_charge (result_ok result) ≡ spec_bool_at section.now place levels }
+{
+    let at = direct_of(section, place, levels, BOOL)?;
+    if at.header.size > 1 {
+        return Err(at.header.wrong_size());
+    }
+    Ok((at.header.size == 1, at.after.unwrap_or(at.header.body)))
 }
 
 /// All the bytes of a text or a byte string, and the place after it.

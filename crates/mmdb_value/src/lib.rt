@@ -6,8 +6,10 @@ pub mod decode;
 pub mod decoder;
 pub mod direct;
 pub mod items;
+pub mod peek;
 pub mod record;
 pub mod text_map;
+pub mod whole;
 
 /// Decoding from the beginning of a section.
 pub mod fuzzing;
@@ -22,4 +24,5 @@ pub use mmdb_format::error::{
 };
 pub use mmdb_format::kind::Kind;
 pub use mmdb_format::message::{Message, Text};
+pub use peek::empty_container;
 pub use record::Record;
