@@ -6,4 +6,5 @@ pub mod Lists
 pub mod MapLaws
 pub mod RecordLaws
 pub mod SkipLaws
+pub mod PassingLaws
 pub mod PairLaws

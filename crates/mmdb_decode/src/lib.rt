@@ -6,6 +6,7 @@ pub mod decode;
 pub mod decoder;
 pub mod direct;
 pub mod items;
+pub mod laws;
 pub mod peek;
 pub mod record;
 pub mod text_map;
