@@ -3,7 +3,7 @@ use Rattle.std.proofs.Common.{◌≡◌, ℕ, ◌+◌, ◌<◌, ◌≤◌, List,
 use Rattle.mmdb_format.specs.Error.{Kind, OfDatabase, kind_of, MemoryApart}
 use Rattle.mmdb_format.specs.declared.error.MaxMindDbError.{MaxMindDbError}
 use Rattle.mmdb_format.specs.declared.error.MaxMindDbError.TheVariants.{InvalidDatabase, Io, Decoding, ResourceLimit, InvalidNetwork, InvalidInput, Memory}
-use Rattle.mmdb_value.specs.Refusal.{Refuses}
+use Rattle.mmdb_decode.specs.Refusal.{Refuses}
 use Rattle.maxminddb.specs.Metadata.{MetadataDatum}
 use Rattle.maxminddb.specs.File.{Database, database, IsLastMarker, IsSupported, HasRoom, metadata_section}
 use Rattle.maxminddb.specs.Source.{metadata_read, IsDatabaseOf, IsNoDatabase, HasNoMarker}

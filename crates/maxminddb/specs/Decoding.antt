@@ -1,7 +1,7 @@
 -- What decoding the value of a lookup's result gives.
 use Rattle.std.specs.Prelude.{◌≡◌, ℕ, Bool, List, Option, Some, None}
 use Rattle.mmdb_format.specs.declared.error.MaxMindDbError.{MaxMindDbError}
-use Rattle.mmdb_value.specs.Refusal.{Refuses}
+use Rattle.mmdb_decode.specs.Refusal.{Refuses}
 
 -- nothing without data, and else what is read at the offset
 abbrev pub DecodesTo : {T A : Type 0} → (T → A) → (ℕ → Option A) → Option ℕ → Option T → Type 0

@@ -1,15 +1,15 @@
 //! The values of lookups' results.
 ghost use Rattle.std.specs.Prelude.{◌≡◌, true, Some, IfOk, IfErr};
 ghost use Rattle.mmdb_format.specs.Error.{OfMemory, kind_of};
-ghost use Rattle.mmdb_value.specs.Refusal.{Refuses, answer};
+ghost use Rattle.mmdb_decode.specs.Refusal.{Refuses, answer};
 ghost use Rattle.maxminddb.specs.File.{data_section};
 ghost use Rattle.maxminddb.specs.Found.{database_asked, offset_found};
 ghost use Rattle.maxminddb.specs.Decoding.{DecodesTo, RefusesToDecode};
 
 use crate::lookup_result::LookupResult;
 use mmdb_format::error::{DecodeResult, MaxMindDbError};
-use mmdb_value::decode::Decode;
-use mmdb_value::decoder::Decoder;
+use mmdb_decode::decode::Decode;
+use mmdb_decode::decoder::Decoder;
 use std::alloc::Global;
 use std::convert::AsSlice;
 
