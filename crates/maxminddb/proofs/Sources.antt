@@ -3,7 +3,7 @@ use Rattle.std.proofs.Common.{◌≡◌, ℕ, ◌+◌, ◌<◌, ◌≤◌, List,
 use Rattle.mmdb_format.specs.Error.{Kind, OfDatabase, kind_of, MemoryApart}
 use Rattle.mmdb_format.specs.declared.error.MaxMindDbError.{MaxMindDbError}
 use Rattle.mmdb_format.specs.declared.error.MaxMindDbError.TheVariants.{InvalidDatabase, Io, Decoding, ResourceLimit, InvalidNetwork, InvalidInput, Memory}
-use Rattle.mmdb_value.specs.Refusal.{Refuses}
+use Rattle.mmdb_decode.specs.Refusal.{Refuses}
 use Rattle.maxminddb.specs.Metadata.{MetadataDatum}
 use Rattle.maxminddb.specs.File.{Database, database, IsLastMarker, IsSupported, HasRoom, metadata_section}
 use Rattle.maxminddb.specs.Source.{metadata_read, IsDatabaseOf, IsNoDatabase, HasNoMarker}
@@ -63,3 +63,12 @@ not_accepted file bytes marker section metadata same last cut reads refused db i
     let R : ℕ → Type 0 = λ m. HasRoom (database file m db.metadata) in
     let T : MetadataDatum → Type 0 = λ m. HasRoom (database file marker m) in
     refused (subst S (sym equal) is.metadata.supported, subst T (sym equal) (subst R (sym at) is.room))
+
+-- two databases of one file are equal
+pub one_database : (file : List ℕ) (a b : Database) → IsDatabaseOf file a → IsDatabaseOf file b → a ≡ b
+one_database file a b p q =
+    let marker = one_marker file a.marker b.marker p.marker q.marker in
+    let read = only_metadata file a.marker (Some a.metadata) b p.marker p.metadata.reads q in
+    let metadata : a.metadata ≡ b.metadata = cc in
+    let bytes : a.bytes ≡ b.bytes = p.bytes ∙ sym q.bytes in
+    ap (λ x. database x a.marker a.metadata) bytes ∙ ap (λ x. database b.bytes x a.metadata) marker ∙ ap (λ x. database b.bytes b.marker x) metadata

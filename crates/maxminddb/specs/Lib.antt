@@ -10,4 +10,5 @@ pub mod Found
 pub mod Laws
 pub mod MetadataShape
 pub mod Source
+pub mod Decoding
 pub mod Alias

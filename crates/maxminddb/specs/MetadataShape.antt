@@ -2,11 +2,11 @@
 -- keys name the nine fields, each of exactly its type, all of which must stand.
 use Rattle.std.specs.Prelude.{ℕ, List, Option, Some, None, if◌then◌else◌, codes}
 use Rattle.mmdb_format.specs.Header.{◌>>=◌}
-use Rattle.mmdb_value.specs.Reading.{Meaning}
-use Rattle.mmdb_value.specs.Scalars.{u16_at, u32_at, u64_at, text_at}
-use Rattle.mmdb_value.specs.Arrays.{list_at}
-use Rattle.mmdb_value.specs.Maps.{Fields, text_map_at}
-use Rattle.mmdb_value.specs.Records.{field, named, skipped, record_at, finished}
+use Rattle.mmdb_decode.specs.Reading.{Meaning}
+use Rattle.mmdb_decode.specs.Scalars.{u16_at, u32_at, u64_at, text_at}
+use Rattle.mmdb_decode.specs.Arrays.{list_at}
+use Rattle.mmdb_decode.specs.Maps.{Fields, text_map_at}
+use Rattle.mmdb_decode.specs.Records.{field, named, skipped, record_at, finished}
 use Rattle.maxminddb.specs.Metadata.{MetadataDatum}
 
 -- the fields that were met so far

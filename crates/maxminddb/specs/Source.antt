@@ -1,7 +1,7 @@
 -- Which files a reader opens, and what it then reads ("Overview" and "Database Metadata" of the MaxMind DB
 -- File Format Specification 2.0).
 use Rattle.std.specs.Prelude.{◌≡◌, ℕ, true, List, Option, Some}
-use Rattle.mmdb_value.specs.Refusal.{answer}
+use Rattle.mmdb_decode.specs.Refusal.{answer}
 use Rattle.maxminddb.specs.Metadata.{MetadataDatum}
 use Rattle.maxminddb.specs.MetadataShape.{metadata_at}
 use Rattle.maxminddb.specs.File.{Database, IsMarkerAt, IsLastMarker, IsSupported, HasRoom, metadata_section}
@@ -31,3 +31,7 @@ HasNoMarker file = (place : ℕ) → ¬ IsMarkerAt file place
 -- the file is no database
 abbrev pub IsNoDatabase : List ℕ → Type 0
 IsNoDatabase file = (db : Database) → ¬ IsDatabaseOf file db
+
+-- The bytes of a file decide whether it is a database, and which.
+abbrev pub SourceDecides : Type 0
+SourceDecides = (file : List ℕ) (a b : Database) → IsDatabaseOf file a → IsDatabaseOf file b → a ≡ b

@@ -1,4 +1,5 @@
 //! Laws of leaves and answers, each the contract of a function that does nothing.
+ghost use Rattle.maxminddb.specs.Source.{SourceDecides};
 ghost use Rattle.maxminddb.specs.Laws.{LeavesAreDisjoint, EachAddressHasOneLeaf, EachAddressIsAnswered, AnswersAreUnique, SameLeafSameAnswer, NetworkHoldsAddress, Ipv4WithoutSubtree};
 
 /// Leaves are disjoint blocks, and each full address begins with exactly one.
@@ -19,4 +20,9 @@ pub fn same_leaf_same_answer()
 pub fn network_holds_address()
     ensures holds { NetworkHoldsAddress }
     ensures without_subtree { Ipv4WithoutSubtree }
+{}
+
+/// The bytes of a file decide whether a reader accepts it, and what its metadata are.
+pub fn source_decides()
+    ensures { SourceDecides }
 {}

@@ -1,6 +1,7 @@
 //! A reader of MaxMind DB files: the metadata, the search tree, and lookups of addresses in it.
 #![tactic(auto)]
 
+mod data;
 pub mod laws;
 mod lookup_result;
 mod marker;

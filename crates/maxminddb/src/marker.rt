@@ -9,6 +9,7 @@ use memchr::memmem;
 pub(crate) const MARKER: &[u8; 14] = b"\xAB\xCD\xEFMaxMind.com";
 
 /// The last place at which the marker stands.
+#[tactic(auto, using(crate::proofs::Markers::marker_found))]
 pub(crate) fn find_marker(bytes: &[u8]) -> Option<usize>
     ensures { MatchOption result (HasNoMarker bytes.now) (IsLastMarker bytes.now) }
 {

@@ -5,9 +5,9 @@ ghost use Rattle.maxminddb.specs.MetadataShape.{MetadataFields as SpecFields, no
 
 use crate::metadata::Metadata;
 use mmdb_format::error::DecodeResult;
-use mmdb_value::decode::Decode;
-use mmdb_value::decoder::Decoder;
-use mmdb_value::record::{Record, missing_field, named, read_once, read_record};
+use mmdb_decode::decode::Decode;
+use mmdb_decode::decoder::Decoder;
+use mmdb_decode::record::{Record, missing_field, named, read_once, read_record};
 use std::alloc::Global;
 use std::collections::BTreeMap;
 
@@ -67,7 +67,7 @@ impl<'de> Record<'de> for MetadataFields {
         }
     }
 
-    #[tactic(auto, unfolding(crate::specs::MetadataShape::metadata_fields, mmdb_value::specs::State::decoded, mmdb_value::specs::Records::named, mmdb_value::specs::Records::field, mmdb_value::specs::Records::skipped))]
+    #[tactic(auto, unfolding(crate::specs::MetadataShape::metadata_fields, mmdb_decode::specs::State::decoded, mmdb_decode::specs::Records::named, mmdb_decode::specs::Records::field, mmdb_decode::specs::Records::skipped))]
     fn read_field(
         &mut self,
         alloc: Global,

@@ -4,7 +4,7 @@ ghost use Rattle.std.specs.Net.Addr.{is_ipv4};
 ghost use Rattle.mmdb_format.specs.Error.{OfDatabase, OfInput, kind_of, MemoryApart, IsRefusedAs};
 ghost use Rattle.mmdb_net.specs.Address.{address_width};
 ghost use Rattle.maxminddb.specs.Metadata.{metadata_datum};
-ghost use Rattle.maxminddb.specs.File.{database, IsSupported, HasRoom};
+ghost use Rattle.maxminddb.specs.File.{database, IsSupported, HasRoom, data_start, data_section};
 
 use crate::lookup_result::LookupResult;
 use crate::metadata::Metadata;
@@ -101,6 +101,20 @@ impl<S: AsSlice<u8> + Drop> Reader<S> {
         ensures { metadata_datum result.now ≡ self.now.metadata }
     {
         &self.metadata
+    }
+
+    // Where the data section begins.
+    pub(crate) fn data_start(&self) -> usize
+        ensures { result ≡ data_start self.now }
+    {
+        self.data_start
+    }
+
+    // The data section.
+    pub(crate) fn data_section(&self) -> &[u8]
+        ensures { result.now ≡ data_section self.now }
+    {
+        &self.source.as_slice()[self.data_start..self.marker]
     }
 
     // The nodes of the search tree.

@@ -1,7 +1,7 @@
 //! Readers from the bytes of a file.
 ghost use Rattle.std.specs.Prelude.{◌≡◌, false, Some, IfOk, IfErr};
 ghost use Rattle.mmdb_format.specs.Error.{OfIo, IsOfOrMemory, MemoryApart};
-ghost use Rattle.mmdb_value.specs.Refusal.{Refuses};
+ghost use Rattle.mmdb_decode.specs.Refusal.{Refuses};
 ghost use Rattle.maxminddb.specs.Metadata.{metadata_datum};
 ghost use Rattle.maxminddb.specs.Source.{metadata_read, IsDatabaseOf, IsNoDatabase};
 
@@ -10,7 +10,7 @@ use crate::metadata::Metadata;
 use crate::reader::Reader;
 use mmdb_format::error::{DecodeResult, MaxMindDbError};
 use mmdb_format::message::{Message, Text};
-use mmdb_value::fuzzing;
+use mmdb_decode::fuzzing;
 use std::alloc::Global;
 use std::convert::AsSlice;
 use std::fs::File;

@@ -33,6 +33,8 @@ pub enum Fault {
     Cycle(usize),
     /// The value is not of the type that was asked for, but of this type number.
     Unexpected(Kind, u16),
+    /// An array of the first length was asked for, and it has the second.
+    WrongLength(usize, usize),
     /// A whole number is out of the range that was asked for.
     OutOfRange,
     /// The value is no whole number.
@@ -83,6 +85,11 @@ impl Fault {
                 let name = wanted.name();
                 return Ok(Message::Made(format!(in alloc; "expected {name}, got type {found}")?));
             }
+            Fault::WrongLength(wanted, found) => {
+                return Ok(Message::Made(format!(in alloc;
+                    "expected tuple of length {wanted}, got array of length {found}"
+                )?));
+            }
             Fault::EndOfBuffer => Text::EndOfBuffer,
             Fault::KeyTooLong => Text::KeyTooLong,
             Fault::InvalidUtf8 => Text::InvalidUtf8,
@@ -107,7 +114,10 @@ impl Fault {
         };
         let offset = Some(offset);
         match self {
-            Fault::Unexpected(_, _) | Fault::OutOfRange | Fault::NotWhole => {
+            Fault::Unexpected(_, _)
+            | Fault::WrongLength(_, _)
+            | Fault::OutOfRange
+            | Fault::NotWhole => {
                 MaxMindDbError::Decoding {
                     message,
                     offset,

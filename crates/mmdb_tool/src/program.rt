@@ -1,4 +1,6 @@
 //! What the program does.
+ghost use Rattle.std.specs.Prelude.{◌≤◌, IfErr};
+
 use crate::command::{Command, USAGE, command_of};
 use crate::line::lookup_line;
 use crate::list::ListError;
@@ -19,7 +21,9 @@ const BAD_WORDS: u8 = 2;
 const NO_MEMORY: &str = "out of memory\n";
 
 // The status of what was done. The text of a refusal goes to `err`, whose own faults change nothing.
-fn status_of<E: Sink>(alloc: Global, done: Result<(), ListError>, err: &mut E) -> u8 {
+fn status_of<E: Sink>(alloc: Global, done: Result<(), ListError>, err: &mut E) -> u8
+    ensures { result ≤ 1 }
+{
     let Err(error) = done else {
         return 0;
     };
@@ -38,7 +42,9 @@ fn command_or_status<'a, O: Sink, E: Sink>(
     words: &'a [String],
     out: &mut O,
     err: &mut E,
-) -> Result<Command<'a>, u8> {
+) -> Result<Command<'a>, u8>
+    ensures { IfErr result (λ status. status ≤ 2) }
+{
     if words.is_empty() {
         let done = put_all(out, USAGE.as_bytes()).map_err(ListError::from);
         return Err(status_of(alloc, done, err));
@@ -76,7 +82,9 @@ pub fn run<R: Files, O: Sink, E: Sink>(
     words: &[String],
     out: &mut O,
     err: &mut E,
-) -> u8 {
+) -> u8
+    ensures { result ≤ 2 }
+{
     match command_or_status(alloc, words, out, err) {
         Ok(Command::Lookup { file, address }) => {
             let opened = Reader::open_readfile(rt, alloc, file);
@@ -94,7 +102,9 @@ pub fn run_bytes<O: Sink, E: Sink>(
     words: &[String],
     out: &mut O,
     err: &mut E,
-) -> u8 {
+) -> u8
+    ensures { result ≤ 2 }
+{
     match command_or_status(alloc, words, out, err) {
         Ok(Command::Lookup { file: _, address }) => {
             let opened = Reader::from_source(alloc, source);

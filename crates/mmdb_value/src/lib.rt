@@ -1,20 +1,14 @@
-//! The values of a MaxMind DB file: reading them at a place of a section, within limits.
+//! The values of a MaxMind DB file: any value read whole, and what `mmdb_format` and `mmdb_decode` have
+//! for users.
 #![tactic(auto)]
 
-pub mod budget;
-pub mod decode;
-pub mod decoder;
-pub mod direct;
-pub mod items;
-pub mod record;
-pub mod text_map;
-
-/// Decoding from the beginning of a section.
-pub mod fuzzing;
-
-pub use decode::Decode;
-pub use decoder::Decoder;
-pub use items::{Entries, Items};
+pub use mmdb_decode::decode::{Decode, OwnedBytes};
+pub use mmdb_decode::decoder::Decoder;
+pub use mmdb_decode::items::{Entries, Items};
+pub use mmdb_decode::peek::empty_container;
+pub use mmdb_decode::{
+    decode as decode, decoder as decoder, fuzzing as fuzzing, items as items, record as record,
+};
 pub use mmdb_format::content::{Double, Float};
 pub use mmdb_format::error::{
     DecodeResult, MaxMindDbError, decoding, decoding_at, decoding_at_path, invalid_database,
@@ -22,4 +16,3 @@ pub use mmdb_format::error::{
 };
 pub use mmdb_format::kind::Kind;
 pub use mmdb_format::message::{Message, Text};
-pub use record::Record;

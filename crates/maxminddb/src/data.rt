@@ -1,0 +1,60 @@
+//! The values of lookups' results.
+ghost use Rattle.std.specs.Prelude.{◌≡◌, true, Some, IfOk, IfErr};
+ghost use Rattle.mmdb_format.specs.Error.{OfMemory, kind_of};
+ghost use Rattle.mmdb_decode.specs.Refusal.{Refuses, answer};
+ghost use Rattle.maxminddb.specs.File.{data_section};
+ghost use Rattle.maxminddb.specs.Found.{database_asked, offset_found};
+ghost use Rattle.maxminddb.specs.Decoding.{DecodesTo, RefusesToDecode};
+
+use crate::lookup_result::LookupResult;
+use mmdb_format::error::{DecodeResult, MaxMindDbError};
+use mmdb_decode::decode::Decode;
+use mmdb_decode::decoder::Decoder;
+use std::alloc::Global;
+use std::convert::AsSlice;
+
+// The value at a place of a section.
+fn decode_at<'de, T: Decode<'de>>(
+    alloc: Global,
+    section: &'de [u8],
+    place: usize,
+) -> DecodeResult<T>
+    ensures ok { IfOk result (λ v. T.exact ≡ true → answer T.starts T.meaning section.now place ≡ Some (T.datum v)) }
+    ensures err { IfErr result (λ e. T.exact ≡ true → Refuses T.free e (answer T.starts T.meaning section.now place)) }
+{
+    let mut d = Decoder::new(section, place);
+    T::decode(alloc, &mut d)
+}
+
+// The error with the offset of an `InvalidDatabase` counted from the file's start.
+fn counted_from_start(error: MaxMindDbError, section_start: usize) -> MaxMindDbError
+    ensures { kind_of result ≡ kind_of error }
+{
+    match error {
+        MaxMindDbError::InvalidDatabase { message, offset } => MaxMindDbError::InvalidDatabase {
+            message,
+            offset: offset.and_then(|offset| offset.checked_add(section_start)),
+        },
+        other => other,
+    }
+}
+
+impl<'a, S: AsSlice<u8> + Drop> LookupResult<'a, S> {
+    /// The value of the network, or none where it has no data.
+    ///
+    /// Refused, memory apart, exactly where no value of the type's shape stands at the offset within the
+    /// limits: `InvalidDatabase` where the bytes are no value, `Decoding` where the value is of another
+    /// shape, `ResourceLimit` over a limit.
+    pub fn decode<T: Decode<'a>>(&self, alloc: Global) -> Result<Option<T>, MaxMindDbError>
+        ensures ok { IfOk result (λ value. T.exact ≡ true → DecodesTo T.datum (answer T.starts T.meaning (data_section (database_asked self.now))) (offset_found self.now) value) }
+        ensures err { IfErr result (λ e. T.exact ≡ true → RefusesToDecode T.free e (answer T.starts T.meaning (data_section (database_asked self.now))) (offset_found self.now)) }
+    {
+        let Some(offset) = self.offset else {
+            return Ok(None);
+        };
+        match decode_at(alloc, self.reader.data_section(), offset) {
+            Ok(value) => Ok(Some(value)),
+            Err(error) => Err(counted_from_start(error, self.reader.data_start())),
+        }
+    }
+}

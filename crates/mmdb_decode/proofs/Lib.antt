@@ -1,0 +1,10 @@
+pub mod Texts
+pub mod ReadingLaws
+pub mod Steps
+pub mod SmallLaws
+pub mod Lists
+pub mod MapLaws
+pub mod RecordLaws
+pub mod SkipLaws
+pub mod PassingLaws
+pub mod PairLaws

@@ -1,0 +1,11 @@
+use Rattle.std.proofs.Common.{sym, false}
+use Rattle.std.proofs.lemmas.Result.{err_from_is_err_and}
+use Rattle.mmdb_decode.specs.Scalars.{bits_of}
+use Rattle.mmdb_decode.proofs.Steps.{nothing_taken, unread, read_free}
+use Rattle.mmdb_decode.proofs.decoder.Decoder.take_bits.Goals as goal
+
+pub returns-in_err-n-clause-read : goal.returns-in_err-n-clause-read
+returns-in_err-n-clause-read c = let p = err_from_is_err_and c.from_residual.result c.from_residual.ensures.1 in rw (p.1, ← c.self.view_is) (nothing_taken _ _ (unread false (bits_of c.args.wanted c.args.size) _ (sym c.in_err-n.ensures.value)))
+
+pub returns-clause-read : goal.returns-clause-read
+returns-clause-read c = rw (← c.self.view_is) (read_free (bits_of c.args.wanted c.args.size) _ c.in_ok-n.n c.in_ok-n.next c.self.invariant (sym c.in_ok-n.ensures.value))

@@ -1,0 +1,10 @@
+pub mod Reading
+pub mod State
+pub mod Refusal
+pub mod Scalars
+pub mod SmallNumbers
+pub mod Peeking
+pub mod Arrays
+pub mod Maps
+pub mod Records
+pub mod Skipping

@@ -1,0 +1,34 @@
+-- What a read says: exactly what a meaning gives, or that nothing readable stands there.
+use Rattle.std.specs.Prelude.{◌≡◌, ℕ, List, option_map, Option, Some, None, Bool, true, false, Result, Ok, Err}
+use Rattle.mmdb_decode.specs.State.{State, GivenUp, NoneBack, decoded}
+use Rattle.mmdb_decode.specs.Reading.{Meaning}
+use Rattle.mmdb_format.specs.declared.error.MaxMindDbError.{MaxMindDbError}
+use Rattle.mmdb_format.specs.declared.error.MaxMindDbError.TheVariants.{Memory}
+
+-- what every success keeps: the section, the levels and the charges, of which none is given back
+pub record Kept (old new : State) : Type 0 where
+  pub section : new.section ≡ old.section
+  pub levels : new.levels ≡ old.levels
+  pub charges : NoneBack old.budget new.budget
+
+-- nothing readable stands there; memory apart, unless a success takes none (the flag)
+abbrev pub Refuses : {A : Type 0} → Bool → MaxMindDbError → Option A → Type 0
+Refuses true e read = read ≡ None
+Refuses false Memory read = Unit {0}
+Refuses false e read = read ≡ None
+
+-- what one step did that takes no memory: it gave what the meaning says, or there is nothing to give
+abbrev pub Takes : {X A E : Type 0} → (X → A) → Option (A × State) → State → State → Result X E → Type 0
+Takes view read old new (Ok x) = read ≡ Some (view x, new)
+Takes view read old new (Err e) = GivenUp old new × (read ≡ None)
+
+-- What a typed read did: exactly what the meaning says, or a refusal. view goes from what is returned
+-- to the datum.
+abbrev pub Reads : {X A : Type 0} → (X → A) → Bool → Option (A × State) → State → State → Result X MaxMindDbError → Type 0
+Reads view free read old new (Ok x) = read ≡ Some (view x, new)
+Reads view free read old new (Err e) = GivenUp old new × Refuses free e read
+
+-- What is read at a place of a section from the start: the value that stands there below no level, if
+-- it is within the limits.
+unfoldable pub answer : {A : Type 0} → Bool → Meaning A → List ℕ → ℕ → Option A
+answer starts read s p = option_map (λ x. x.0) (decoded starts read (record { section = s; place = p; levels = 0; budget = None }))

@@ -1,0 +1,62 @@
+//! What a reading has cost.
+ghost use Rattle.std.specs.Prelude.{◌≡◌, ◌<◌, ◌^◌, true};
+ghost use Rattle.std.specs.Result.{result_ok};
+ghost use Rattle.mmdb_decode.specs.State.{spent_of, begun as spec_begun, Within};
+
+use mmdb_format::fault::Fault;
+
+/// The most values of a budget.
+pub const MAX_VALUES: usize = 65_536;
+
+/// The most bytes of texts and byte strings of a budget.
+pub const MAX_BYTES: usize = 2_097_152;
+
+/// Values and bytes charged so far.
+#[derive(Clone, Copy, Debug)]
+pub struct Charges {
+    pub values: u32,
+    pub bytes: u32,
+}
+
+/// The budget with so much more charged. Without a budget nothing is charged.
+pub(crate) fn spent(
+    budget: Option<Charges>,
+    values: usize,
+    bytes: usize,
+) -> Result<Option<Charges>, Fault>
+    requires within { Within budget }
+    requires few { values < 2 ^ 32 }
+    requires short { bytes < 2 ^ 32 }
+    ensures value { result_ok result ≡ spent_of budget values bytes }
+{
+    let Some(charges) = budget else {
+        return Ok(None);
+    };
+    let values = charges.values as usize + values;
+    let bytes = charges.bytes as usize + bytes;
+    if values > MAX_VALUES {
+        return Err(Fault::TooManyValues);
+    }
+    if bytes > MAX_BYTES {
+        return Err(Fault::TooManyBytes);
+    }
+    Ok(Some(Charges {
+        values: values as u32,
+        bytes: bytes as u32,
+    }))
+}
+
+/// The budget, begun with one value where it has not begun.
+pub(crate) fn begun(budget: Option<Charges>) -> Option<Charges>
+    requires { Within budget }
+    ensures value { result ≡ spec_begun true budget }
+    ensures within { Within result }
+{
+    match budget {
+        Some(charges) => Some(charges),
+        None => Some(Charges {
+            values: 1,
+            bytes: 0,
+        }),
+    }
+}

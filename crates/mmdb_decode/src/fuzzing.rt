@@ -1,0 +1,18 @@
+//! Decoding from the beginning of a section.
+
+ghost use Rattle.std.specs.Prelude.{◌≡◌, ℕ, List, Option, Some, None, Bool, true, false, IfOk, IfErr, option_map};
+ghost use Rattle.mmdb_decode.specs.State.{State, decoded};
+ghost use Rattle.mmdb_decode.specs.Refusal.{Refuses, answer};
+
+use crate::decode::Decode;
+use crate::decoder::Decoder;
+use mmdb_format::error::DecodeResult;
+use std::alloc::Global;
+
+pub fn decode<'de, T: Decode<'de>>(alloc: Global, section: &'de [u8]) -> DecodeResult<T>
+    ensures ok { IfOk result (λ v. T.exact ≡ true → answer T.starts T.meaning section.now 0 ≡ Some (T.datum v)) }
+    ensures err { IfErr result (λ e. T.exact ≡ true → Refuses T.free e (answer T.starts T.meaning section.now 0)) }
+{
+    let mut d = Decoder::new(section, 0);
+    T::decode(alloc, &mut d)
+}
