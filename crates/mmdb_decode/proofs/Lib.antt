@@ -1,10 +1,12 @@
 pub mod Texts
 pub mod ReadingLaws
-pub mod Steps
+pub mod StepLaws
 pub mod SmallLaws
 pub mod Lists
 pub mod MapLaws
 pub mod RecordLaws
+pub mod LevelLaws
 pub mod SkipLaws
 pub mod PassingLaws
+pub mod LimitLaws
 pub mod PairLaws

@@ -11,7 +11,7 @@ use Rattle.mmdb_decode.specs.declared.budget.Charges.{Charges}
 use Rattle.mmdb_decode.specs.declared.items.Items.{Items}
 use Rattle.mmdb_decode.specs.declared.direct.Entered.{Entered}
 use Rattle.mmdb_decode.proofs.ReadingLaws.{seen, decoded-elements, decoded-list, entry}
-use Rattle.mmdb_decode.proofs.Steps.{read_free, decoded_begun, some_back, back_trans}
+use Rattle.mmdb_decode.proofs.StepLaws.{read_free, decoded_begun, some_back, back_trans}
 
 given_here : {A : Type 0} (v : A) (σ : State) → Within σ.budget → decoded false (given v) σ ≡ Some (v, σ)
 given_here v σ w = read_free (given v) σ v σ.place w refl

@@ -9,7 +9,7 @@ use Rattle.std.proofs.Common.{◌≡◌, ℕ, suc, ◌+◌, ◌*◌, ◌-◌, �
 use Rattle.mmdb_decode.specs.declared.budget.Charges.{Charges}
 use Rattle.mmdb_decode.specs.declared.items.Entries.{Entries}
 use Rattle.mmdb_decode.specs.declared.direct.Entered.{Entered}
-use Rattle.mmdb_decode.proofs.Steps.{state, read_free, some_back, back_trans}
+use Rattle.mmdb_decode.proofs.StepLaws.{state, read_free, some_back, back_trans}
 use Rattle.mmdb_decode.proofs.ReadingLaws.{charged-more, decoded-followed}
 
 abbrev pub map_end : {A : Type 0} → Entries → Option (A × State) → Option (A × State)

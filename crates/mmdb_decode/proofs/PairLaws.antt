@@ -3,7 +3,7 @@ use Rattle.mmdb_decode.specs.Maps.{pair_of, put}
 use Rattle.mmdb_decode.specs.Reading.{Meaning}
 use Rattle.mmdb_decode.specs.State.{State, decoded}
 use Rattle.std.proofs.Common.{◌≡◌, ℕ, List, [], ◌∷◌, Some, None, Bool, false, refl, sym, ap, ◌∙◌, IsSome}
-use Rattle.mmdb_decode.proofs.Steps.{decoded_begun}
+use Rattle.mmdb_decode.proofs.StepLaws.{decoded_begun}
 use Rattle.mmdb_decode.proofs.ReadingLaws.{decoded-mapped, seen}
 use Rattle.std.specs.BTreeMap.{insert_entry}
 use Rattle.std.specs.Cmp.Lexicographic.{slice_cmp}

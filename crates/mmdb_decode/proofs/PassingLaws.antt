@@ -1,5 +1,5 @@
 -- The relation of passing a value, and the function that skips it.
-use Rattle.std.proofs.Common.{◌≡◌, ◌↔◌, ℕ, suc, zero, ◌+◌, ◌≤◌, max, List, Option, Some, None, Bool, true, false, nat_eq, refl, sym, ap, ◌∙◌, arith, subst, cond}
+use Rattle.std.proofs.Common.{◌≡◌, ℕ, suc, zero, ◌+◌, ◌≤◌, max, List, Option, Some, None, Bool, true, false, nat_eq, refl, arith, subst, cond}
 use Rattle.std.specs.Option.{IfSome}
 use Rattle.std.proofs.lemmas.Bool.Decides.{nat_tests}
 use Rattle.mmdb_format.specs.declared.header.Header.{Header}
@@ -43,11 +43,11 @@ scalar_passed : (s : List ℕ) (p most : ℕ) (header : Header) → header_at s 
 unfolding passed_end
 scalar_passed s p most header h =
     if_bind (cond (nat_eq header.kind 1) (pointer_at s header.body header.size >>= λ to. Some to.next) (content_at s header >>= λ c. Some (content_end header))) _ (IsPassed s p most) (λ next e.
-      if_is (cond (nat_eq header.kind 1) (pointer_at s header.body header.size >>= λ to. Some to.next) (content_at s header >>= λ c. Some (content_end header))) (λ next. IsPassed s p most (at next 0)) next
-        (if_cond (nat_eq header.kind 1) _ _ (λ next. IsPassed s p most (at next 0))
-          (λ k. let one : header.kind ≡ 1 = grind (arith, nat_tests) in if_bind (pointer_at s header.body header.size) _ (λ next. IsPassed s p most (at next 0)) (λ to a. record { nested = 0; skips = passed_pointer h one a; levels = omega arith; bytes = refl }))
-          (λ k. if_bind (content_at s header) _ (λ next. IsPassed s p most (at next 0)) (λ c a. record { nested = 0; skips = passed_scalar h a; levels = omega arith; bytes = refl })))
-        e)
+    if_is (cond (nat_eq header.kind 1) (pointer_at s header.body header.size >>= λ to. Some to.next) (content_at s header >>= λ c. Some (content_end header))) (λ next. IsPassed s p most (at next 0)) next
+    (if_cond (nat_eq header.kind 1) _ _ (λ next. IsPassed s p most (at next 0))
+    (λ k. let one : header.kind ≡ 1 = grind (arith, nat_tests) in if_bind (pointer_at s header.body header.size) _ (λ next. IsPassed s p most (at next 0)) (λ to a. record { nested = 0; skips = passed_pointer h one a; levels = omega arith; bytes = refl }))
+    (λ k. if_bind (content_at s header) _ (λ next. IsPassed s p most (at next 0)) (λ c a. record { nested = 0; skips = passed_scalar h a; levels = omega arith; bytes = refl })))
+    e)
 
 both_passed : (s : List ℕ) (p n most : ℕ) (x : Reading (Unit {0})) (o : Option (Reading (Unit {0}))) → IsPassed s p most x → IfSome o (ArePassed s x.next n most) → IfSome (o >>= λ y. Some (plus x y)) (ArePassed s p (suc n) most)
 both_passed s p n most x None h k = tt

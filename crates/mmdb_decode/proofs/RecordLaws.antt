@@ -6,10 +6,10 @@ use Rattle.mmdb_decode.specs.Reading.{Meaning, mapped}
 use Rattle.mmdb_decode.specs.Records.{field, FieldRead, once, finished}
 use Rattle.mmdb_decode.specs.Refusal.{Refuses, Kept}
 use Rattle.mmdb_decode.specs.State.{State, after, decoded, GivenUp}
-use Rattle.mmdb_decode.proofs.Steps.{refuses_more, refuses_weaker}
+use Rattle.mmdb_decode.proofs.StepLaws.{refuses_more, refuses_weaker}
 use Rattle.std.proofs.Common.{◌≡◌, ℕ, ◌-◌, List, Option, Some, None, Bool, true, false, option_map, refl, sym, ap, ◌∙◌, IsSome, Result, Ok, Err, is_some, cond}
 use Rattle.mmdb_decode.specs.declared.items.Entries.{Entries}
-use Rattle.mmdb_decode.proofs.Steps.{kept_decoded, kept_trans, given_up_trans, decoded_begun, still_begun, refuses, kept_same}
+use Rattle.mmdb_decode.proofs.StepLaws.{kept_decoded, kept_trans, given_up_trans, decoded_begun, still_begun, refuses, kept_same}
 use Rattle.mmdb_decode.proofs.ReadingLaws.{mapped_none, decoded-mapped, seen, checked_ok, checked_missing, checked_none}
 use Rattle.mmdb_decode.proofs.MapLaws.{some_left_to_read, pairs_done, pairs_go_on, pairs_stop, pairs_nameless}
 

@@ -9,12 +9,12 @@ use Rattle.mmdb_decode.specs.Records.{FieldRead, skipped}
 use Rattle.mmdb_decode.specs.Refusal.{Reads, Takes, Kept}
 use Rattle.mmdb_decode.specs.Skipping.{skip_at, parts_of, passes, counted, skip_within, scalar_passed, entered_inline}
 use Rattle.mmdb_decode.specs.State.{State, charged, spent_of, begun, settled, after, decoded, Within, NoneBack, GivenUp}
-use Rattle.mmdb_decode.proofs.Steps.{refuses, decoded_begun}
+use Rattle.mmdb_decode.proofs.StepLaws.{refuses, decoded_begun}
 use Rattle.mmdb_decode.proofs.ReadingLaws.{decoded-mapped, seen}
 use Rattle.std.proofs.Common.{◌≡◌, ℕ, suc, zero, Option, Some, None, Bool, true, false, option_map, refl, sym, ap, ◌∙◌, subst}
 use Rattle.mmdb_decode.specs.declared.budget.Charges.{Charges}
 use Rattle.mmdb_format.specs.declared.header.Header.{Header}
-use Rattle.mmdb_decode.proofs.Steps.{state, read_free, some_back, none_back, given_up_trans}
+use Rattle.mmdb_decode.proofs.StepLaws.{state, read_free, some_back, none_back, given_up_trans}
 use Rattle.mmdb_decode.proofs.ReadingLaws.{charged-more, decoded-followed}
 
 pub scalar_none : (σ : State) (header : Header) → passed_end σ.section header ≡ None → scalar_passed σ header ≡ None

@@ -5,7 +5,7 @@ use Rattle.std.proofs.lemmas.Bool.Decides.{nat_tests}
 use Rattle.std.proofs.lemmas.Int.{ints}
 use Rattle.mmdb_decode.specs.State.{GivenUp}
 use Rattle.mmdb_decode.specs.SmallNumbers.{if_between, small_at}
-use Rattle.mmdb_decode.proofs.Steps.{kept_decoded, given_up_kept}
+use Rattle.mmdb_decode.proofs.StepLaws.{kept_decoded, given_up_kept}
 use Rattle.mmdb_decode.proofs.ReadingLaws.{checked_ok, checked_missing, checked_none}
 use Rattle.mmdb_format.specs.declared.header.Header.{Header}
 use Rattle.mmdb_format.specs.declared.header.Pointer.{Pointer}
@@ -15,7 +15,7 @@ use Rattle.mmdb_format.specs.Contents.{content_at}
 use Rattle.mmdb_decode.specs.declared.budget.Charges.{Charges}
 use Rattle.mmdb_decode.specs.State.{State, decoded, begun, Within}
 use Rattle.mmdb_decode.specs.SmallNumbers.{whole_here, whole_within, whole_at}
-use Rattle.mmdb_decode.proofs.Steps.{state, read_started}
+use Rattle.mmdb_decode.proofs.StepLaws.{state, read_started}
 
 pub whole_headless : (n : ℕ) (s : List ℕ) (p : ℕ) → header_at s p ≡ None → whole_within n s p ≡ None
 unfolding whole_within

@@ -9,7 +9,7 @@ use Rattle.mmdb_decode.specs.Reading.{Meaning, checked}
 use Rattle.mmdb_decode.specs.State.{State, decoded}
 use Rattle.mmdb_decode.specs.Refusal.{Takes}
 use Rattle.mmdb_decode.specs.State.{GivenUp}
-use Rattle.mmdb_decode.proofs.Steps.{kept_decoded, given_up_kept}
+use Rattle.mmdb_decode.proofs.StepLaws.{kept_decoded, given_up_kept}
 use Rattle.mmdb_decode.proofs.ReadingLaws.{checked_ok, checked_missing, checked_none}
 
 pub text_yes : (bytes : List ℕ) → IsUtf8 bytes → if_text bytes ≡ Some bytes

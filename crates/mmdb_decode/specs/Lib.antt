@@ -8,3 +8,6 @@ pub mod Arrays
 pub mod Maps
 pub mod Records
 pub mod Skipping
+pub mod Levels
+pub mod Limits
+pub mod Shapes

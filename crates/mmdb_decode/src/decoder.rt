@@ -1,5 +1,5 @@
 //! The decoder: a place in a section, with the levels and the budget.
-ghost use Rattle.std.specs.Prelude.{◌≡◌, ◌<◌, ◌≤◌, ◌^◌, ◌+◌, ◌-◌, Option, true, false, IfOk, IfSome, None, MatchBool, min, length, option_map};
+ghost use Rattle.std.specs.Prelude.{◌≡◌, ◌<◌, ◌≤◌, ◌^◌, ◌+◌, ◌-◌, Option, true, false, IfOk, OnOk, OnErr, IfSome, None, MatchBool, min, length, option_map};
 ghost use Rattle.std.specs.Result.{result_ok};
 ghost use Rattle.mmdb_format.specs.Header.{header_at as spec_header_at};
 ghost use Rattle.mmdb_decode.specs.State.{State, decoded, begun as spec_begun, Within};
@@ -9,17 +9,22 @@ ghost use Rattle.mmdb_decode.specs.Peeking.{kind_at};
 ghost use Rattle.mmdb_decode.specs.Arrays.{entered_array, entered_array_of, left_array};
 ghost use Rattle.mmdb_decode.specs.Maps.{key_past, name_at, raw_key_at, key_at, NextKey, entered_map, left_map};
 ghost use Rattle.mmdb_decode.specs.Skipping.{skip_within, skip_at, parts_of as spec_parts_of, scalar_passed, entered_inline};
+ghost use Rattle.mmdb_format.specs.Views.{content_view};
+ghost use Rattle.mmdb_decode.specs.Levels.{content_of, entered_pointer, entered_parts};
 ghost use Rattle.mmdb_decode.specs.Refusal.{Reads, Takes};
 
 use crate::budget::{Charges, begun, spent};
 use crate::direct::{bits_at, bool_at, container_at, content_bytes_at, number_at, text_of};
 use crate::items::{Entries, Items};
 use crate::peek::kind_of_value;
+use crate::steps::Steps;
 use crate::whole::whole_at;
-use mmdb_format::content::{Double, Float, key_bytes_at, passed_end};
+use mmdb_format::content::{
+    Content, Double, Float, content_at, content_end, key_bytes_at, passed_end,
+};
 use mmdb_format::error::DecodeResult;
 use mmdb_format::fault::Fault;
-use mmdb_format::header::{Header, header_at};
+use mmdb_format::header::{Header, MAX_LEVELS, header_at, pointer_at};
 use mmdb_format::kind::{ARRAY, BYTES, DOUBLE, FLOAT, I32, Kind, MAP, TEXT, U16, U32, U64, U128};
 use std::alloc::Global;
 use std::marker::Model;
@@ -69,6 +74,13 @@ impl<'de> Decoder<'de> {
         ensures { result ≡ self.now.place }
     {
         self.place
+    }
+
+    // What is charged is within the limits.
+    pub(crate) fn stays_within(&self)
+        ensures { Within self.now.budget }
+    {
+        let _ = &self.place;
     }
 
     // A whole number of one type, of at most so many bytes.
@@ -485,8 +497,41 @@ impl<'de> Decoder<'de> {
         }
     }
 
+    // What stands behind the header at the place.
+    fn take_content(&mut self, header: Header) -> Result<Content<'de>, Fault>
+        requires { header.size < 2 ^ 25 }
+        ensures { Takes content_view (decoded false (content_of header) self.old) self.old self.new result }
+    {
+        let content = content_at(self.section, header)?;
+        self.budget = spent(self.budget, 0, content.payload())?;
+        self.place = content_end(header);
+        Ok(content)
+    }
+
+    /// Reads what stands behind the header at the place, which is that of a value that holds no others.
+    /// A text is not tested for UTF-8.
+    pub fn read_content(&mut self, alloc: Global, header: Header) -> DecodeResult<Content<'de>>
+        requires { header.size < 2 ^ 25 }
+        ensures { Reads content_view true (decoded false (content_of header) self.old) self.old self.new result }
+    {
+        match self.take_content(header) {
+            Ok(content) => Ok(content),
+            Err(fault) => Err(fault.refusal(alloc, self.place)),
+        }
+    }
+
+    /// Reads a key, charged in full and not tested for UTF-8.
+    pub fn read_key(&mut self, alloc: Global) -> DecodeResult<&'de [u8]>
+        ensures { Reads (λ x. x.now) true (decoded false raw_key_at self.old) self.old self.new result }
+    {
+        match self.take_key(0) {
+            Ok(key) => Ok(key),
+            Err(fault) => Err(fault.refusal(alloc, self.place)),
+        }
+    }
+
     // The header at the place.
-    fn header(&self) -> Result<Header, Fault>
+    fn header_here(&self) -> Result<Header, Fault>
         ensures value { result_ok result ≡ spec_header_at self.now.section self.now.place }
         ensures bound { IfOk result (λ h. (h.size < 2 ^ 25) × (h.kind ≡ 1 → h.size < 32)) }
     {
@@ -537,7 +582,7 @@ impl<'de> Decoder<'de> {
         ensures { Takes (λ x. tt) (decoded false (skip_within nested) self.old) self.old self.new result }
     {
         let _ = &self.place;
-        let header = self.header()?;
+        let header = self.header_here()?;
         let Some(parts) = parts_of(header) else {
             return self.pass_scalar(header);
         };
@@ -550,6 +595,76 @@ impl<'de> Decoder<'de> {
         }
         let _ = &self.place;
         Ok(())
+    }
+}
+
+impl<'de> Decoder<'de> {
+    // Goes to a pointer's target.
+    fn follow(&mut self, header: Header) -> Result<usize, Fault>
+        requires { header.size < 32 }
+        ensures { Takes (λ next. next) (entered_pointer self.old header) self.old self.new result }
+    {
+        if self.levels >= MAX_LEVELS {
+            return Err(Fault::TooDeep);
+        }
+        let pointer = pointer_at(self.section, header.body, header.size as u8)?;
+        self.place = pointer.target;
+        self.levels += 1;
+        Ok(pointer.next)
+    }
+
+    // Goes to a container's first part.
+    fn descend(&mut self, header: Header, count: usize) -> Result<(), Fault>
+        requires { count < 2 ^ 26 }
+        ensures ok { OnOk result (entered_parts self.old header count ≡ Some self.new) }
+        ensures err { OnErr result (entered_parts self.old header count ≡ None) }
+        ensures same { OnErr result (self.new ≡ self.old) }
+    {
+        if self.levels >= MAX_LEVELS {
+            return Err(Fault::TooDeep);
+        }
+        self.budget = spent(self.budget, count, 0)?;
+        self.place = header.body;
+        self.levels += 1;
+        Ok(())
+    }
+}
+
+impl<'de> Steps for Decoder<'de> {
+    ghost state = { λ d. d };
+
+    fn begin_budget(&mut self) {
+        self.start();
+    }
+
+    fn header(&self, alloc: Global) -> DecodeResult<Header> {
+        match self.header_here() {
+            Ok(header) => Ok(header),
+            Err(fault) => Err(fault.refusal(alloc, self.place)),
+        }
+    }
+
+    fn enter_pointer(&mut self, alloc: Global, header: Header) -> DecodeResult<usize> {
+        match self.follow(header) {
+            Ok(next) => Ok(next),
+            Err(fault) => Err(fault.refusal(alloc, self.place)),
+        }
+    }
+
+    fn enter_parts(&mut self, alloc: Global, header: Header, count: usize) -> DecodeResult<()> {
+        if let Err(fault) = self.descend(header, count) {
+            return Err(fault.refusal(alloc, self.place));
+        }
+        Ok(())
+    }
+
+    fn leave_level(&mut self) {
+        self.levels -= 1;
+    }
+
+    fn leave_pointer(&mut self, next: usize) {
+        self.place = next;
+        self.levels -= 1;
     }
 }
 

@@ -120,7 +120,7 @@ pub(crate) fn container_at(
 }
 
 /// The bytes as text, where they are UTF-8.
-pub(crate) fn text_of(bytes: &[u8]) -> Result<&str, Fault>
+pub fn text_of(bytes: &[u8]) -> Result<&str, Fault>
     ensures value { option_map (λ x. x.now) (result_ok result) ≡ if_text bytes.now }
     ensures same { IfOk result (λ x. x.now ≡ bytes.now) }
 {

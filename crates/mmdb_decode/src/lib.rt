@@ -9,6 +9,7 @@ pub mod items;
 pub mod laws;
 pub mod peek;
 pub mod record;
+pub mod steps;
 pub mod text_map;
 pub mod whole;
 

@@ -1,0 +1,10 @@
+pub mod Readings
+pub mod KeyLaws
+pub mod AnyLaws
+pub mod AnySteps
+pub mod Started
+pub mod Grammar
+pub mod GrammarWhole
+pub mod StandingLaws
+pub mod ValueTrees
+pub mod RawTrees

@@ -8,3 +8,8 @@ pub use Rattle.mmdb_decode.specs.Arrays
 pub use Rattle.mmdb_decode.specs.Maps
 pub use Rattle.mmdb_decode.specs.Records
 pub use Rattle.mmdb_decode.specs.Skipping
+pub use Rattle.mmdb_decode.specs.Limits
+pub mod AnyValue
+pub mod Standing
+pub mod Values
+pub mod RawValues

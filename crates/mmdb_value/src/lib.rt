@@ -2,13 +2,20 @@
 //! for users.
 #![tactic(auto)]
 
+pub mod any_value;
+
+/// Decoding from the beginning of a section.
+pub mod fuzzing;
+pub mod laws;
+pub mod raw_value;
+pub mod shared;
+
+pub use any_value::Value;
 pub use mmdb_decode::decode::{Decode, OwnedBytes};
 pub use mmdb_decode::decoder::Decoder;
 pub use mmdb_decode::items::{Entries, Items};
 pub use mmdb_decode::peek::empty_container;
-pub use mmdb_decode::{
-    decode as decode, decoder as decoder, fuzzing as fuzzing, items as items, record as record,
-};
+pub use mmdb_decode::{decode as decode, decoder as decoder, items as items, record as record};
 pub use mmdb_format::content::{Double, Float};
 pub use mmdb_format::error::{
     DecodeResult, MaxMindDbError, decoding, decoding_at, decoding_at_path, invalid_database,
@@ -16,3 +23,4 @@ pub use mmdb_format::error::{
 };
 pub use mmdb_format::kind::Kind;
 pub use mmdb_format::message::{Message, Text};
+pub use raw_value::RawValue;

@@ -9,6 +9,8 @@ const MARKER: &[u8] = b"\xAB\xCD\xEFMaxMind.com";
 pub struct Fields<'a> {
     /// The header of the map.
     pub map: u8,
+    pub major_version: &'a [u8],
+    pub minor_version: &'a [u8],
     pub build_epoch: &'a [u8],
     pub database_type: &'a [u8],
     pub ip_version: &'a [u8],
@@ -21,6 +23,8 @@ pub struct Fields<'a> {
 /// The fields of the base file: IPv4, one node, 24 bits.
 pub const BASE: Fields<'static> = Fields {
     map: 0xE9,
+    major_version: b"\xA1\x02",
+    minor_version: b"\xA0",
     build_epoch: b"\x01\x02\x01",
     database_type: b"\x41T",
     ip_version: b"\xA1\x04",
@@ -44,8 +48,8 @@ fn push_field(file: &mut Vec<u8>, name: &str, value: &[u8]) -> Result<(), AllocE
 
 fn push_metadata(file: &mut Vec<u8>, fields: Fields<'_>) -> Result<(), AllocError> {
     file.push(fields.map)?;
-    push_field(file, "binary_format_major_version", b"\xA1\x02")?;
-    push_field(file, "binary_format_minor_version", b"\xA0")?;
+    push_field(file, "binary_format_major_version", fields.major_version)?;
+    push_field(file, "binary_format_minor_version", fields.minor_version)?;
     push_field(file, "build_epoch", fields.build_epoch)?;
     push_field(file, "database_type", fields.database_type)?;
     push_field(file, "description", b"\xE1\x42en\x41d")?;

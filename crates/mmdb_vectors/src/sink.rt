@@ -3,8 +3,8 @@ ghost use Rattle.std.specs.Prelude.{Some};
 ghost use Rattle.std.specs.Io.{WritesAtMost};
 ghost use Rattle.std.specs.Io.KnownBytes.{WriteAppends};
 
-use std::io;
 use mmdb_tool::{Fault, Sink};
+use std::io;
 
 /// What a sink does at the call that it ends at.
 #[derive(Clone, Copy, Debug, PartialEq, Eq)]

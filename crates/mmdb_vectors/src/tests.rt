@@ -1,1 +1,8 @@
-
+//! What no clause says: worked rows over public calls, printed texts, files, and want of memory.
+mod answers;
+mod errors;
+mod files;
+mod lookups;
+mod memory;
+mod metadata;
+mod programs;

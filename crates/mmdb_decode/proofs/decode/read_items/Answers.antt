@@ -3,7 +3,7 @@ use Rattle.std.proofs.lemmas.Result.{err_from_is_err_and}
 use Rattle.mmdb_decode.specs.Refusal.{Kept}
 use Rattle.mmdb_decode.specs.State.{decoded}
 use Rattle.mmdb_decode.proofs.Lists.{list_done, list_goes_on, list_stops, same_items}
-use Rattle.mmdb_decode.proofs.Steps.{refuses_weaker, kept_trans, still_begun}
+use Rattle.mmdb_decode.proofs.StepLaws.{refuses_weaker, kept_trans, still_begun}
 use Rattle.mmdb_decode.proofs.decode.read_items.Goals as goal
 
 pub returns-in_err-decode-clause-err : goal.returns-in_err-decode-clause-err

@@ -4,7 +4,7 @@ use Rattle.mmdb_decode.specs.Maps.{name_at}
 use Rattle.mmdb_decode.specs.Refusal.{Kept}
 use Rattle.mmdb_decode.specs.State.{decoded}
 use Rattle.mmdb_decode.proofs.MapLaws.{pairs_done, pairs_go_on, pairs_stop, pairs_nameless, some_left_to_read, same_entries}
-use Rattle.mmdb_decode.proofs.Steps.{refuses, refuses_more, kept_decoded, kept_trans, given_up_trans, still_begun}
+use Rattle.mmdb_decode.proofs.StepLaws.{refuses, refuses_more, kept_decoded, kept_trans, given_up_trans, still_begun}
 use Rattle.mmdb_decode.proofs.record.read_fields.Goals as goal
 
 pub returns-in_err-name-clause-err : goal.returns-in_err-name-clause-err

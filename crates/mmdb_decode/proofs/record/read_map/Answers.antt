@@ -3,7 +3,7 @@ use Rattle.std.proofs.lemmas.Result.{err_from_is_err_and}
 use Rattle.mmdb_decode.specs.Maps.{name_at, pairs_from}
 use Rattle.mmdb_decode.specs.State.{decoded}
 use Rattle.mmdb_decode.proofs.MapLaws.{enters_map, map_read, map_not_entered, map_not_read, kept_map, given_up_map}
-use Rattle.mmdb_decode.proofs.Steps.{refuses, refuses_more}
+use Rattle.mmdb_decode.proofs.StepLaws.{refuses, refuses_more}
 use Rattle.mmdb_decode.proofs.record.read_map.Goals as goal
 
 pub returns-in_err-entries-clause-err : goal.returns-in_err-entries-clause-err

@@ -3,7 +3,7 @@ use Rattle.std.proofs.lemmas.Result.{err_from_is_err_and}
 use Rattle.mmdb_decode.specs.Records.{once}
 use Rattle.mmdb_decode.specs.State.{decoded}
 use Rattle.mmdb_decode.proofs.RecordLaws.{once_taken, once_first, once_missing}
-use Rattle.mmdb_decode.proofs.Steps.{refuses, refuses_more, given_up_kept, kept_same}
+use Rattle.mmdb_decode.proofs.StepLaws.{refuses, refuses_more, given_up_kept, kept_same}
 use Rattle.mmdb_decode.proofs.record.read_once.Goals as goal
 
 pub returns-then-is_some : goal.returns-then-is_some

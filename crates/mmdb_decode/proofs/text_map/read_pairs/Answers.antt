@@ -6,7 +6,7 @@ use Rattle.mmdb_decode.specs.Refusal.{Kept}
 use Rattle.mmdb_decode.specs.State.{decoded}
 use Rattle.mmdb_decode.proofs.MapLaws.{same_entries, some_left_to_read, pairs_done, pairs_go_on, pairs_stop, pairs_nameless}
 use Rattle.mmdb_decode.proofs.PairLaws.{pair_ok, pair_none, put_is}
-use Rattle.mmdb_decode.proofs.Steps.{refuses, refuses_weaker, kept_decoded, kept_trans, given_up_trans, given_up_kept, still_begun}
+use Rattle.mmdb_decode.proofs.StepLaws.{refuses, refuses_weaker, kept_decoded, kept_trans, given_up_trans, given_up_kept, still_begun}
 use Rattle.mmdb_decode.proofs.text_map.read_pairs.Goals as goal
 
 pub returns-in_err-key-clause-err : goal.returns-in_err-key-clause-err

@@ -3,7 +3,7 @@ use Rattle.std.proofs.lemmas.Result.{err_from_is_err_and}
 use Rattle.mmdb_decode.specs.Reading.{mapped}
 use Rattle.mmdb_decode.specs.State.{decoded}
 use Rattle.mmdb_decode.proofs.ReadingLaws.{decoded-mapped, none_seen, seen}
-use Rattle.mmdb_decode.proofs.Steps.{refuses_more}
+use Rattle.mmdb_decode.proofs.StepLaws.{refuses_more}
 use Rattle.mmdb_decode.proofs.decode.OptionDecode.decode.Goals as goal
 
 pub returns-in_err-decode-clause-err : goal.returns-in_err-decode-clause-err

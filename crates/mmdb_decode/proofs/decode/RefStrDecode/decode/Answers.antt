@@ -1,6 +1,6 @@
 use Rattle.std.proofs.Common.{true, false}
 use Rattle.mmdb_decode.specs.Scalars.{text_at}
-use Rattle.mmdb_decode.proofs.Steps.{kept_reads}
+use Rattle.mmdb_decode.proofs.StepLaws.{kept_reads}
 use Rattle.mmdb_decode.proofs.decode.RefStrDecode.decode.Goals as goal
 
 pub returns-clause-kept : goal.returns-clause-kept

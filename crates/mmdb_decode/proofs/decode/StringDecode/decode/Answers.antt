@@ -1,7 +1,7 @@
 use Rattle.std.proofs.Common.{false}
 use Rattle.std.proofs.lemmas.Result.{err_from_is_err_and}
 use Rattle.mmdb_decode.specs.Scalars.{text_at}
-use Rattle.mmdb_decode.proofs.Steps.{kept_decoded, given_up_kept}
+use Rattle.mmdb_decode.proofs.StepLaws.{kept_decoded, given_up_kept}
 use Rattle.mmdb_decode.proofs.decode.StringDecode.decode.Goals as goal
 
 pub returns-in_err-from_str-clause-given_up : goal.returns-in_err-from_str-clause-given_up

@@ -1,6 +1,6 @@
 use Rattle.std.proofs.Common.{true, pos}
 use Rattle.mmdb_decode.specs.SmallNumbers.{small_at}
-use Rattle.mmdb_decode.proofs.Steps.{kept_decoded}
+use Rattle.mmdb_decode.proofs.StepLaws.{kept_decoded}
 use Rattle.mmdb_decode.proofs.decode.U8Decode.decode.Goals as goal
 
 pub returns-clause-kept : goal.returns-clause-kept

@@ -3,7 +3,7 @@ use Rattle.std.proofs.lemmas.Result.{err_from_is_err_and}
 use Rattle.mmdb_decode.specs.Arrays.{elements, list_at}
 use Rattle.mmdb_decode.specs.State.{decoded}
 use Rattle.mmdb_decode.proofs.Lists.{enters, list_read, list_not_entered, list_not_read, kept_list, given_up_list}
-use Rattle.mmdb_decode.proofs.Steps.{refuses, refuses_more}
+use Rattle.mmdb_decode.proofs.StepLaws.{refuses, refuses_more}
 use Rattle.mmdb_decode.proofs.decode.VecDecode.decode.Goals as goal
 
 pub returns-in_err-items-clause-err : goal.returns-in_err-items-clause-err

@@ -1,4 +1,4 @@
-use Rattle.mmdb_decode.proofs.Steps.{given_up_kept, kept_same}
+use Rattle.mmdb_decode.proofs.StepLaws.{given_up_kept, kept_same}
 use Rattle.mmdb_decode.proofs.Lists.{enters, given_up_list, other_length}
 use Rattle.mmdb_decode.proofs.decoder.Decoder.begin_array_of.Goals as goal
 

@@ -1,6 +1,6 @@
 use Rattle.std.proofs.Common.{sym}
 use Rattle.std.proofs.lemmas.Result.{err_from_is_err_and}
-use Rattle.mmdb_decode.proofs.Steps.{nothing_taken, entered_none, entered_past, entered_at}
+use Rattle.mmdb_decode.proofs.StepLaws.{nothing_taken, entered_none, entered_past, entered_at}
 use Rattle.mmdb_decode.proofs.decoder.Decoder.enter_array.Goals as goal
 
 pub returns-in_err-at : goal.returns-in_err-at

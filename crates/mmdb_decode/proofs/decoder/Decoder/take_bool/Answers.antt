@@ -1,7 +1,7 @@
 use Rattle.std.proofs.Common.{sym, false}
 use Rattle.std.proofs.lemmas.Result.{err_from_is_err_and}
 use Rattle.mmdb_decode.specs.Scalars.{bool_at}
-use Rattle.mmdb_decode.proofs.Steps.{nothing_taken, unread, read_free}
+use Rattle.mmdb_decode.proofs.StepLaws.{nothing_taken, unread, read_free}
 use Rattle.mmdb_decode.proofs.decoder.Decoder.take_bool.Goals as goal
 
 pub returns-in_err-b : goal.returns-in_err-b

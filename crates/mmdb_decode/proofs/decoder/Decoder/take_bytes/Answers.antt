@@ -1,7 +1,7 @@
 use Rattle.std.proofs.Common.{sym, false}
 use Rattle.std.proofs.lemmas.Result.{err_from_is_err_and}
 use Rattle.mmdb_decode.specs.Scalars.{bytes_of, costs_its_length}
-use Rattle.mmdb_decode.proofs.Steps.{nothing_taken, unread, read_at, read_past}
+use Rattle.mmdb_decode.proofs.StepLaws.{nothing_taken, unread, read_at, read_past}
 use Rattle.mmdb_decode.proofs.decoder.Decoder.take_bytes.Goals as goal
 
 pub returns-in_err-bytes : goal.returns-in_err-bytes

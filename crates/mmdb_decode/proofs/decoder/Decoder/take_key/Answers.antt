@@ -1,6 +1,6 @@
 use Rattle.std.proofs.Common.{sym}
 use Rattle.std.proofs.lemmas.Result.{err_from_is_err_and}
-use Rattle.mmdb_decode.proofs.Steps.{nothing_taken}
+use Rattle.mmdb_decode.proofs.StepLaws.{nothing_taken}
 use Rattle.mmdb_decode.proofs.MapLaws.{key_none, key_step, key_over}
 use Rattle.mmdb_decode.proofs.decoder.Decoder.take_key.Goals as goal
 

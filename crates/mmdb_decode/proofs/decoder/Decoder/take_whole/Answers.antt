@@ -3,7 +3,7 @@ use Rattle.std.proofs.lemmas.Result.{err_from_is_err_and}
 use mir.Val.{SFits}
 use mir.Syntax.{w128}
 use Rattle.std.proofs.lemmas.Int.{to_z-of_z}
-use Rattle.mmdb_decode.proofs.Steps.{nothing_taken}
+use Rattle.mmdb_decode.proofs.StepLaws.{nothing_taken}
 use Rattle.mmdb_decode.proofs.SmallLaws.{whole_none, whole_some}
 use Rattle.mmdb_decode.proofs.decoder.Decoder.take_whole.Goals as goal
 

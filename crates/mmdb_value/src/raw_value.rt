@@ -1,0 +1,124 @@
+//! Any value, read whole, its texts as bytes.
+ghost use Rattle.std.specs.Prelude.{◌≡◌, ◌<◌, ◌^◌, true, false, map};
+ghost use Rattle.mmdb_format.specs.Unfolding.{Tree, scalar as scalar_tree};
+ghost use Rattle.mmdb_format.specs.Views.{content_view};
+ghost use Rattle.mmdb_decode.specs.State.{decoded};
+ghost use Rattle.mmdb_decode.specs.Refusal.{Reads};
+ghost use Rattle.mmdb_value.specs.AnyValue.{value_at, key_at as spec_key_at, scalar_of, array_of, table_of};
+ghost use Rattle.mmdb_value.specs.RawValues.{raw_tree};
+
+use crate::shared::{self, Source};
+use mmdb_decode::decode::Decode;
+use mmdb_decode::decoder::Decoder;
+use mmdb_decode::steps::Steps;
+use mmdb_format::content::{Content, Double, Float};
+use mmdb_format::error::DecodeResult;
+use mmdb_format::header::Header;
+use std::alloc::Global;
+
+/// Any value, its texts not tested. A map keeps its pairs in file order, repeated keys too.
+#[derive(Debug, PartialEq, Eq, Drop)]
+pub enum RawValue<'de> {
+    String(&'de [u8]),
+    Bytes(&'de [u8]),
+    Bool(bool),
+    I32(i32),
+    U16(u16),
+    U32(u32),
+    U64(u64),
+    U128(u128),
+    Double(Double),
+    Float(Float),
+    Array(Vec<RawValue<'de>>),
+    Map(Vec<(&'de [u8], RawValue<'de>)>),
+}
+
+/// Texts are taken as bytes.
+pub(crate) struct Untested;
+
+fn of_content<'de>(content: Content<'de>) -> RawValue<'de>
+    ensures { raw_tree result ≡ scalar_tree (content_view content.entry) }
+{
+    match content {
+        Content::Text(bytes) => RawValue::String(bytes),
+        Content::Bytes(bytes) => RawValue::Bytes(bytes),
+        Content::Bool(b) => RawValue::Bool(b),
+        Content::I32(n) => RawValue::I32(n),
+        Content::U16(n) => RawValue::U16(n),
+        Content::U32(n) => RawValue::U32(n),
+        Content::U64(n) => RawValue::U64(n),
+        Content::U128(n) => RawValue::U128(n),
+        Content::Double(x) => RawValue::Double(x),
+        Content::Float(x) => RawValue::Float(x),
+    }
+}
+
+// A value that holds no others.
+fn scalar_at<'de>(
+    alloc: Global,
+    d: &mut Decoder<'de>,
+    header: Header,
+) -> DecodeResult<RawValue<'de>>
+    requires { header.size < 2 ^ 25 }
+    ensures { Reads raw_tree false (decoded false (scalar_of false header) d.old) d.old d.new result }
+{
+    let content = d.read_content(alloc, header)?;
+    Ok(of_content(content))
+}
+
+// A map's key.
+fn key_at<'de>(alloc: Global, d: &mut Decoder<'de>) -> DecodeResult<&'de [u8]>
+    ensures { Reads (λ x. x.now) false (decoded false (spec_key_at false) d.old) d.old d.new result }
+{
+    let bytes = d.read_key(alloc)?;
+    Ok(bytes)
+}
+
+impl<'de> Source<Untested> for Decoder<'de> {
+    type Text = &'de [u8];
+
+    type Value = RawValue<'de>;
+
+    ghost tested = { false };
+
+    ghost tree = { raw_tree };
+
+    ghost told = { λ x. x.now };
+
+    fn scalar(&mut self, alloc: Global, header: Header) -> DecodeResult<RawValue<'de>> {
+        scalar_at(alloc, self, header)
+    }
+
+    fn key(&mut self, alloc: Global) -> DecodeResult<&'de [u8]> {
+        key_at(alloc, self)
+    }
+
+    fn array(all: Vec<RawValue<'de>>) -> RawValue<'de>
+        ensures { raw_tree result ≡ array_of (map raw_tree all.entry.items) }
+    {
+        RawValue::Array(all)
+    }
+
+    fn table(all: Vec<(&'de [u8], RawValue<'de>)>) -> RawValue<'de>
+        ensures { raw_tree result ≡ table_of (map (λ x. (x.0.now, raw_tree x.1)) all.entry.items) }
+    {
+        RawValue::Map(all)
+    }
+}
+
+impl<'de> Decode<'de> for RawValue<'de> {
+    ghost Datum = { Tree };
+
+    ghost datum = { raw_tree };
+
+    ghost meaning = { value_at false };
+
+    ghost starts = { true };
+
+    ghost free = { false };
+
+    fn decode(alloc: Global, d: &mut Decoder<'de>) -> DecodeResult<RawValue<'de>> {
+        d.begin_budget();
+        shared::value_at::<Untested, Decoder<'de>>(alloc, d)
+    }
+}

@@ -1,0 +1,78 @@
+use maxminddb::{
+    IpNetworkError, MaxMindDbError, decoding, decoding_at, decoding_at_path, invalid_database,
+    invalid_database_at, invalid_input, resource_limit_at,
+};
+use mmdb_tool::ListError;
+use std::io;
+use std::test::Fail;
+
+#[test]
+fn errors_print_their_texts(rt: HostRuntime) -> Result<(), Fail> {
+    let alloc = rt.alloc();
+    for (error, text) in [
+        (
+            invalid_database(alloc, "something went wrong"),
+            "invalid database: something went wrong",
+        ),
+        (
+            decoding(alloc, "unexpected type"),
+            "decoding error: unexpected type",
+        ),
+        (
+            decoding_at(alloc, "unexpected type", 100),
+            "decoding error at offset 100: unexpected type",
+        ),
+        (
+            invalid_input(alloc, "bad address"),
+            "invalid input: bad address",
+        ),
+        (
+            decoding_at_path(alloc, "unexpected type", 100, "/city/names/en"),
+            "decoding error at offset 100 (path: /city/names/en): unexpected type",
+        ),
+        (
+            invalid_database_at(alloc, "something went wrong", 42),
+            "invalid database at offset 42: something went wrong",
+        ),
+        (
+            resource_limit_at(alloc, "too many values", 100),
+            "resource limit exceeded at offset 100: too many values",
+        ),
+        (
+            MaxMindDbError::from(IpNetworkError::InvalidPrefix),
+            "invalid network: invalid prefix",
+        ),
+        (MaxMindDbError::Memory, "out of memory"),
+    ] {
+        let printed = format!(in alloc; "{error}")?;
+        assert_eq!(rt; printed.as_str(), text);
+        let of_list = ListError::from(error);
+        let printed = format!(in alloc; "{of_list}")?;
+        assert_eq!(rt; printed.as_str(), text);
+    }
+    Ok(())
+}
+
+#[test]
+fn errors_from_others(rt: HostRuntime) -> Result<(), Fail> {
+    let alloc = rt.alloc();
+    let kind = io::ErrorKind::NotFound;
+    let cause = format!(in alloc; "{}", io::Error::from(kind))?;
+    let file = MaxMindDbError::from(io::Error::from(kind));
+    assert!(rt; matches!(&file, MaxMindDbError::Io(_)));
+    let network = MaxMindDbError::from(IpNetworkError::InvalidAddr);
+    assert!(rt; matches!(&network, MaxMindDbError::InvalidNetwork(_)));
+    let printed = format!(in alloc; "{file}")?;
+    assert_eq!(rt;
+        printed.as_str(),
+        format!(in alloc; "i/o error: {cause}")?.as_str()
+    );
+    let printed = format!(in alloc; "{}", ListError::Write(io::Error::from(kind)))?;
+    assert_eq!(rt;
+        printed.as_str(),
+        format!(in alloc; "write error: {cause}")?.as_str()
+    );
+    let printed = format!(in alloc; "{}", ListError::Stopped)?;
+    assert_eq!(rt; printed.as_str(), "write stopped");
+    Ok(())
+}

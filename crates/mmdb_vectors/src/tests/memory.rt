@@ -1,0 +1,142 @@
+ghost use Rattle.std.specs.Prelude.{◌<◌};
+
+use super::answers::{high, low, told};
+use crate::builder::base_file;
+use crate::hoard::Hoard;
+use maxminddb::{IpNetwork, MaxMindDbError, Metadata, Reader};
+use mmdb_tool::lookup_line;
+use std::alloc::{AllocError, Global};
+use std::net::{IpAddr, Ipv6Addr};
+use std::test::Fail;
+
+/// A call that takes memory.
+#[derive(Clone, Copy, Debug, PartialEq, Eq)]
+enum Call {
+    FromSource,
+    LookupLine,
+    CloneOfMetadata,
+}
+
+/// What came of a call.
+#[derive(Clone, Copy, Debug, PartialEq, Eq)]
+enum Met {
+    Refusal,
+    Answer,
+    Wrong,
+}
+
+fn answer_met(is_right: bool) -> Met {
+    if is_right { Met::Answer } else { Met::Wrong }
+}
+
+fn refusal_met(error: &MaxMindDbError) -> Met {
+    match error {
+        MaxMindDbError::Memory => Met::Refusal,
+        _ => Met::Wrong,
+    }
+}
+
+fn source_met(alloc: Global, file: &[u8], budget: usize) -> Met
+    requires { budget < 1000000 }
+{
+    let small = Hoard::of_all_but(alloc, budget);
+    let opened = Reader::from_source(alloc, file);
+    drop(small);
+    match opened {
+        Ok(reader) => answer_met(reader.metadata().node_count == 1),
+        Err(error) => refusal_met(&error),
+    }
+}
+
+fn line_met(alloc: Global, reader: &Reader<&[u8]>, budget: usize) -> Met
+    requires { budget < 1000000 }
+{
+    let small = Hoard::of_all_but(alloc, budget);
+    let line = lookup_line(alloc, reader, high());
+    drop(small);
+    match line {
+        Ok(line) => answer_met(line.as_str() == "128.0.0.0/1 0\n"),
+        Err(error) => refusal_met(&error),
+    }
+}
+
+fn clone_met(alloc: Global, reader: &Reader<&[u8]>, budget: usize) -> Met
+    requires { budget < 1000000 }
+{
+    let small = Hoard::of_all_but(alloc, budget);
+    let cloned: Result<Metadata, AllocError> = reader.metadata().clone();
+    drop(small);
+    match cloned {
+        Ok(cloned) => answer_met(cloned == *reader.metadata()),
+        Err(_error) => Met::Refusal,
+    }
+}
+
+// How many runs met a refusal before the first that met none, and what that one met.
+fn refused_in_turn(alloc: Global, call: Call, reader: &Reader<&[u8]>, file: &[u8]) -> (u32, Met) {
+    let mut refused = 0u32;
+    for step in 0..256usize {
+        let budget = step * 16;
+        let met = match call {
+            Call::FromSource => source_met(alloc, file, budget),
+            Call::LookupLine => line_met(alloc, reader, budget),
+            Call::CloneOfMetadata => clone_met(alloc, reader, budget),
+        };
+        if met != Met::Refusal {
+            return (refused, met);
+        }
+        refused = refused.saturating_add(1);
+    }
+    (refused, Met::Refusal)
+}
+
+#[test]
+fn growths_refused_in_turn(rt: HostRuntime) -> Result<(), Fail> {
+    let alloc = rt.alloc();
+    let file = base_file(alloc)?;
+    let reader = Reader::from_source(alloc, file.as_slice())?;
+    for (call, least) in [
+        (Call::FromSource, 4),
+        (Call::LookupLine, 2),
+        (Call::CloneOfMetadata, 4),
+    ] {
+        let large = Hoard::of_large_blocks(alloc);
+        let (refused, met) = refused_in_turn(alloc, call, &reader, file.as_slice());
+        drop(large);
+        println!(rt; "{call:?}: {refused} runs met a refusal")?;
+        assert_eq!(rt; met, Met::Answer, "{call:?}");
+        assert!(rt; refused >= least, "{call:?}: {refused}");
+    }
+    Ok(())
+}
+
+// What an address is told, without a growth.
+fn found(
+    reader: &Reader<&[u8]>,
+    address: IpAddr,
+) -> Result<(bool, Option<usize>, IpNetwork), MaxMindDbError> {
+    told(reader.lookup(address)?)
+}
+
+#[test]
+fn every_growth_refused(rt: HostRuntime) -> Result<(), Fail> {
+    let alloc = rt.alloc();
+    let file = base_file(alloc)?;
+    let reader = Reader::from_source(alloc, file.as_slice())?;
+    let large = Hoard::of_large_blocks(alloc);
+    let small = Hoard::of_all_left(alloc);
+    let opened = Reader::from_source(alloc, file.as_slice());
+    let line = lookup_line(alloc, &reader, high());
+    let without = found(&reader, low());
+    let behind = found(&reader, high());
+    let refused = found(&reader, IpAddr::V6(Ipv6Addr::LOCALHOST));
+    drop(small);
+    drop(large);
+    assert!(rt; matches!(&opened, Err(MaxMindDbError::Memory)));
+    assert!(rt; matches!(&line, Err(MaxMindDbError::Memory)));
+    assert_eq!(rt; without?, (false, None, "0.0.0.0/1".parse()?));
+    assert_eq!(rt; behind?, (true, Some(0), "128.0.0.0/1".parse()?));
+    assert!(rt; matches!(&refused, Err(MaxMindDbError::InvalidInput { .. })));
+    assert!(rt; Reader::from_source(alloc, file.as_slice()).is_ok());
+    Ok(())
+}
