@@ -11,3 +11,13 @@ pub mod Laws
 pub mod MetadataShape
 pub mod Source
 pub mod Alias
+pub mod Options
+pub mod Empty
+pub mod Listing
+pub mod ShownLeaf
+pub mod Items
+pub mod Positions
+pub mod Ranges
+pub mod Enumeration
+pub mod ListingLaws
+pub mod Findings

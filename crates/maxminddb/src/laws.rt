@@ -1,5 +1,6 @@
 //! Laws of leaves and answers, each the contract of a function that does nothing.
 ghost use Rattle.maxminddb.specs.Laws.{LeavesAreDisjoint, EachAddressHasOneLeaf, EachAddressIsAnswered, AnswersAreUnique, SameLeafSameAnswer, NetworkHoldsAddress, Ipv4WithoutSubtree};
+ghost use Rattle.maxminddb.specs.ListingLaws.{RangeWalkLists, WholeWalkListsAll, ListedAgrees};
 
 /// Leaves are disjoint blocks, and each full address begins with exactly one.
 pub fn leaves_partition()
@@ -19,4 +20,20 @@ pub fn same_leaf_same_answer()
 pub fn network_holds_address()
     ensures holds { NetworkHoldsAddress }
     ensures without_subtree { Ipv4WithoutSubtree }
+{}
+
+/// The list of a range is exactly the leaves that are listed for it, ascending, each once.
+pub fn range_walk()
+    ensures { RangeWalkLists }
+{}
+
+/// Over the whole space, aliased networks and those without data included and empty values kept, the
+/// list is all leaves, ascending, each once.
+pub fn whole_walk()
+    ensures { WholeWalkListsAll }
+{}
+
+/// What is listed of a leaf agrees with the answer for each address in it.
+pub fn listed_agrees()
+    ensures { ListedAgrees }
 {}
