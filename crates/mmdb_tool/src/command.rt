@@ -10,6 +10,7 @@ const EMPTY: &str = "--empty";
 const SKIP_EMPTY: &str = "--skip-empty";
 
 /// What the words ask for.
+#[derive(Drop)]
 pub(crate) enum Command<'a> {
     /// The line of an address.
     Lookup { file: &'a str, address: IpAddr },

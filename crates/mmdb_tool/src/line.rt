@@ -45,17 +45,18 @@ pub fn lookup_line<S: AsSlice<u8> + Drop>(
 }
 
 /// The line of an item of a list.
+#[tactic(auto, unfolding(crate::specs::Lines::line_of), using(crate::proofs::LineLemmas::line_of_shown))]
 pub(crate) fn item_line<S: AsSlice<u8> + Drop>(
     alloc: Global,
-    item: &Result<LookupResult<'_, S>, MaxMindDbError>,
+    item: Result<LookupResult<'_, S>, MaxMindDbError>,
 ) -> Result<String, AllocError>
-    ensures { (db : Database) → IsItemOf db (Some item.now) → IfOk result (λ text. string_bytes text ≡ line_of db (item_view item.now)) }
+    ensures { (db : Database) → IsItemOf db (Some item.entry) → IfOk result (λ text. string_bytes text ≡ line_of db (item_view item.entry)) }
 {
-    match item {
-        Ok(found) => match found.network() {
-            Ok(network) => line(alloc, network, found.offset()),
-            Err(_) => unreachable!(),
-        },
-        Err(_) => String::from_str(alloc, FAULT),
+    let Ok(found) = item else {
+        return String::from_str(alloc, FAULT);
+    };
+    match found.network() {
+        Ok(network) => line(alloc, network, found.offset()),
+        Err(_) => unreachable!(),
     }
 }

@@ -69,7 +69,7 @@ pub fn list_to<S: AsSlice<u8> + Drop, W: Sink>(
     ensures fault { TellsListFault (W.fault sink.old) (W.fault sink.new) result }
 {
     for item in reader.within(alloc, range, options)? {
-        let line = match item_line(alloc, &item) {
+        let line = match item_line(alloc, item) {
             Ok(line) => line,
             Err(_) => return Err(ListError::Database(MaxMindDbError::Memory)),
         };
