@@ -2,6 +2,7 @@
 mod answers;
 mod errors;
 mod files;
+mod lists;
 mod lookups;
 mod memory;
 mod metadata;

@@ -44,7 +44,7 @@ fn assert_done<R: Files>(
     Ok(())
 }
 
-fn assert_done_with(
+pub fn assert_done_with(
     rt: &impl Abort,
     alloc: Global,
     bytes: &[u8],
