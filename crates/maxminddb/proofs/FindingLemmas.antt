@@ -101,14 +101,14 @@ pub full-value : (section : List ℕ) (place : ℕ) → empty_at section place �
 full-value section place e = (
   (λ u. let wrong : None ≡ Some false = sym (none-unreadable section place u) ∙ e in cc),
   λ c.
-    let w = told section place in
-    let is : empty_at section place ≡ Some (is_empty_container c.direct.header) = w.1.1 ∙ ap (option_map (λ direct. is_empty_container direct.header)) (w.1.0 ∙ c.stands) in
-    let wrong : Some true ≡ Some false = sym (is ∙ ap Some (holds c.direct.header c.container c.empty)) ∙ e in
-    cc,
+      let w = told section place in
+      let is : empty_at section place ≡ Some (is_empty_container c.direct.header) = w.1.1 ∙ ap (option_map (λ direct. is_empty_container direct.header)) (w.1.0 ∙ c.stands) in
+      let wrong : Some true ≡ Some false = sym (is ∙ ap Some (holds c.direct.header c.container c.empty)) ∙ e in
+      cc,
 )
   where
     holds : (h : Header) → (h.kind ≡ 7) ⊎ (h.kind ≡ 11) → h.size ≡ 0 → is_empty_container h ≡ true
-    holds h kind empty = and_from _ _ (elim kind [ | inl map ↦ or_left _ _ (eq-eqb _ _ map) | inr array ↦ second_of _ _ (eq-eqb _ _ array) ]) (eq-eqb _ _ empty)
+    holds h kind empty = and_from _ _ (elim kind [ inl map ↦ or_left _ _ (eq-eqb _ _ map) | inr array ↦ second_of _ _ (eq-eqb _ _ array) ]) (eq-eqb _ _ empty)
 
 pub value-full : (section : List ℕ) (place : ℕ) → (¬ IsUnreadable section place) → (¬ IsEmptyContainer section place) → empty_at section place ≡ Some false
 value-full section place readable kept = let w = told section place in go w.0 w.1
@@ -119,9 +119,10 @@ value-full section place readable kept = let w = told section place in go w.0 w.
         record {
           direct = direct;
           stands = stands;
-          container = elim (either (direct.header.kind == 7) _ parts.0) [ | inl map ↦ inl (eqb-true _ _ map) | inr array ↦ inr (eqb-true _ _ array) ];
+          container = elim (either (direct.header.kind == 7) _ parts.0) [ inl map ↦ inl (eqb-true _ _ map) | inr array ↦ inr (eqb-true _ _ array) ];
           empty = eqb-true _ _ parts.1;
         }
+
     go : (found : Option Direct) → AsTold section place found → empty_at section place ≡ Some false
     go None h = absurd (readable (sym h.0))
     go (Some direct) h = elim (cases_Bool (is_empty_container direct.header)) [
