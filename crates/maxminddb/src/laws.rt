@@ -1,6 +1,6 @@
 //! Laws of leaves and answers, each the contract of a function that does nothing.
 ghost use Rattle.maxminddb.specs.Laws.{LeavesAreDisjoint, EachAddressHasOneLeaf, EachAddressIsAnswered, AnswersAreUnique, SameLeafSameAnswer, NetworkHoldsAddress, Ipv4WithoutSubtree};
-ghost use Rattle.maxminddb.specs.ListingLaws.{RangeWalkLists, WholeWalkListsAll, ListedAgrees};
+ghost use Rattle.maxminddb.specs.ListingLaws.{RangeWalkLists, ListingsAreUnique, WholeWalkListsAll, ListedAgrees};
 
 /// Leaves are disjoint blocks, and each full address begins with exactly one.
 pub fn leaves_partition()
@@ -22,9 +22,11 @@ pub fn network_holds_address()
     ensures without_subtree { Ipv4WithoutSubtree }
 {}
 
-/// The list of a range is exactly the leaves that are listed for it, ascending, each once.
+/// The list of a range is exactly the leaves that are listed for it, ascending, each once, and no other
+/// list is that.
 pub fn range_walk()
-    ensures { RangeWalkLists }
+    ensures listing { RangeWalkLists }
+    ensures unique { ListingsAreUnique }
 {}
 
 /// Over the whole space, aliased networks and those without data included and empty values kept, the
