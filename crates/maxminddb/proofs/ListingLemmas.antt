@@ -12,7 +12,7 @@ use Rattle.maxminddb.specs.Leaves.{IsLeaf}
 use Rattle.maxminddb.specs.Options.{includes_aliased}
 use Rattle.maxminddb.specs.Listing.{Finding, Listed, listed_with, IsClear, IsListed, ComesBefore, Ascends, leaves_of, IsListing, is_hidden, finding_at, list_if, listed_at, listed_below, listed_along, listed}
 use Rattle.maxminddb.proofs.ListingSteps.{below-hidden, below-node, below-full, below-leaf, along-there, along-full, along-hidden, along-node, along-leaf}
-use Rattle.maxminddb.specs.ListingLaws.{WholeWalkListsAll}
+use Rattle.maxminddb.specs.ListingLaws.{WholeWalkListsAll, ListingsAreUnique}
 use Rattle.maxminddb.proofs.FindingLemmas.{finding-sound, finding-complete, some_finding}
 use Rattle.maxminddb.proofs.AliasLemmas.{shown-clear, clear-shown}
 use Rattle.maxminddb.proofs.PositionLemmas.{width-le}
@@ -337,6 +337,11 @@ module _ (db : Database) (options : WithinOptions) where
 pub range_walk_lists : (db : Database) (options : WithinOptions) (range : List Bool) → IsListing db options range (listed db options range)
 range_walk_lists db options range = record { ascends = ascends-along db options range (width db) []; exact = listed_exact db options range }
 
+leaf_in : (ms : List Listed) (m : Listed) → Contains ms m → Contains (leaves_of ms) m.leaf
+leaf_in [] m (k, below, is) = absurd (omega arith)
+leaf_in (n ∷ ms) m (zero, below, is) = (0, omega arith, ap (λ (w : Listed). w.leaf) is)
+leaf_in (n ∷ ms) m (suc k, below, is) = let w = leaf_in ms m (k, omega arith, is) in (suc w.0, let b = w.1 in omega (arith, b), w.2)
+
 -- ---- laws
 
 pub whole_walk_lists_all : WholeWalkListsAll
@@ -349,11 +354,62 @@ whole_walk_lists_all db options asked without keeps = record {
         subst (IsLeaf db) w.2 is.is_leaf),
     λ is.
         let found = some_finding db options leaf without keeps in
-        leaves_in (listed db options []) leaf found.0 ((listed_exact db options [] (listed_with leaf found.0)).1 (record { is_leaf = is; in_range = inl (leaf, refl); clear = inl asked; found = found.1 })),
+        leaf_in (listed db options []) (listed_with leaf found.0) ((listed_exact db options [] (listed_with leaf found.0)).1 (record { is_leaf = is; in_range = inl (leaf, refl); clear = inl asked; found = found.1 })),
   );
 }
-  where
-    leaves_in : (ms : List Listed) (leaf : List Bool) (f : Finding) → Contains ms (listed_with leaf f) → Contains (leaves_of ms) leaf
-    leaves_in [] leaf f (k, below, is) = absurd (omega arith)
-    leaves_in (m ∷ ms) leaf f (zero, below, is) = (0, omega arith, ap (λ (n : Listed). n.leaf) is)
-    leaves_in (m ∷ ms) leaf f (suc k, below, is) = let w = leaves_in ms leaf f (k, omega arith, is) in (suc w.0, let b = w.1 in omega (arith, b), w.2)
+
+-- ---- one list
+
+asymmetric : (s t p q u v : List Bool) → s ++ false ∷ p ≡ t ++ true ∷ v → s ++ true ∷ q ≡ t ++ false ∷ u → ⊥
+asymmetric [] [] p q u v e f = cc
+asymmetric [] (y ∷ t) p q u v e f = cc
+asymmetric (x ∷ s) [] p q u v e f = cc
+asymmetric (x ∷ s) (y ∷ t) p q u v e f =
+    let e' : s ++ false ∷ p ≡ t ++ true ∷ v = cc in
+    let f' : s ++ true ∷ q ≡ t ++ false ∷ u = cc in
+    asymmetric s t p q u v e' f'
+
+not_both_before : (a b : List Bool) → ComesBefore a b → ComesBefore b a → ⊥
+not_both_before a b c d = asymmetric c.shared d.shared c.rest_of_a c.rest_of_b d.rest_of_a d.rest_of_b (sym c.low ∙ d.high) (sym c.high ∙ d.low)
+
+first_or_later : (n : Listed) (ms : List Listed) (m : Listed) → Contains (n ∷ ms) m → (n ≡ m) ⊎ Contains ms m
+first_or_later n ms m (zero, below, is) = inl is
+first_or_later n ms m (suc k, below, is) = inr (k, omega arith, is)
+
+later : (n : Listed) (ms : List Listed) (m : Listed) → Contains ms m → Contains (n ∷ ms) m
+later n ms m h = (suc h.0, let b = h.1 in omega (arith, b), h.2)
+
+first : (n : Listed) (ms : List Listed) → Contains (n ∷ ms) n
+first n ms = (0, omega arith, refl)
+
+same_first : (x y : Listed) (xs ys : List Listed) → Ascends (leaves_of (x ∷ xs)) → Ascends (leaves_of (y ∷ ys)) → Contains (y ∷ ys) x → Contains (x ∷ xs) y → x ≡ y
+same_first x y xs ys p q has_x has_y = elim (first_or_later y ys x has_x) [
+  | inl e ↦ sym e
+  | inr after_y ↦ elim (first_or_later x xs y has_y) [
+    | inl e ↦ e
+    | inr after_x ↦ absurd (not_both_before x.leaf y.leaf (p.0 y.leaf (leaf_in xs y after_x)) (q.0 x.leaf (leaf_in ys x after_y)))
+  ]
+]
+
+-- what follows the first in one list follows it in the other
+rest_has : (x y : Listed) (xs ys : List Listed) → x ≡ y → Ascends (leaves_of (x ∷ xs)) → ((m : Listed) → Contains (x ∷ xs) m → Contains (y ∷ ys) m) → (m : Listed) → Contains xs m → Contains ys m
+rest_has x y xs ys same p all m h = elim (first_or_later y ys m (all m (later x xs m h))) [
+  | inl e ↦
+      let before : ComesBefore x.leaf m.leaf = p.0 m.leaf (leaf_in xs m h) in
+      let itself : ComesBefore x.leaf x.leaf = subst (λ (n : Listed). ComesBefore x.leaf n.leaf) (sym (same ∙ e)) before in
+      absurd (not_both_before x.leaf x.leaf itself itself)
+  | inr after ↦ after
+]
+
+same_lists : (xs ys : List Listed) → Ascends (leaves_of xs) → Ascends (leaves_of ys) → ((m : Listed) → Contains xs m → Contains ys m) → ((m : Listed) → Contains ys m → Contains xs m) → xs ≡ ys
+same_lists [] [] p q f g = refl
+same_lists [] (y ∷ ys) p q f g = absurd (no_listed y (g y (first y ys)))
+same_lists (x ∷ xs) [] p q f g = absurd (no_listed x (f x (first x xs)))
+same_lists (x ∷ xs) (y ∷ ys) p q f g =
+    let same = same_first x y xs ys p q (f x (first x xs)) (g y (first y ys)) in
+    let rest = same_lists xs ys p.1 q.1 (rest_has x y xs ys same p f) (rest_has y x ys xs (sym same) q g) in
+    ap (λ (n : Listed). n ∷ xs) same ∙ ap (λ (ms : List Listed). y ∷ ms) rest
+
+pub listings_are_unique : ListingsAreUnique
+listings_are_unique db options range a b is_a is_b =
+    same_lists a b is_a.ascends is_b.ascends (λ m h. (is_b.exact m).1 ((is_a.exact m).0 h)) (λ m h. (is_a.exact m).1 ((is_b.exact m).0 h))

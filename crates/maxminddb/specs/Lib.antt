@@ -13,6 +13,7 @@ pub mod Source
 pub mod Decoding
 pub mod Alias
 pub mod Options
+pub mod Empty
 pub mod Listing
 pub mod ShownLeaf
 pub mod Items

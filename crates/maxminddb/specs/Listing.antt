@@ -10,6 +10,7 @@ use Rattle.maxminddb.specs.Leaves.{IsLeaf}
 use Rattle.maxminddb.specs.Lookup.{Outcome, Offset, NoData, Refused, outcome_of}
 use Rattle.maxminddb.specs.Alias.{IsAlias, is_alias}
 use Rattle.mmdb_decode.specs.Peeking.{empty_at}
+use Rattle.maxminddb.specs.Empty.{IsUnreadable, IsEmptyContainer}
 use Rattle.maxminddb.specs.Options.{includes_aliased, includes_without_data, skips_empty}
 
 -- What a leaf is listed with: a fault, no data, or the offset of its value in the data section.
@@ -43,25 +44,28 @@ pub record LeadsNowhere (db : Database) (leaf : List Bool) : Type 0 where
 abbrev pub StandsOnNode : Database → List Bool → Type 0
 StandsOnNode db leaf = walk (tree_of db) leaf < db.metadata.node_count
 
--- No header that is no pointer can be read where the leaf's value stands, directly or behind one pointer.
-pub record IsUnreadable (db : Database) (leaf : List Bool) : Type 0 where
+-- The leaf has a value whose header can't be read.
+pub record HasUnreadableValue (db : Database) (leaf : List Bool) : Type 0 where
   pub offset : ℕ
   pub value : HasValueAt db leaf offset
-  pub unreadable : empty_at (data_section db) offset ≡ None
+  pub unreadable : IsUnreadable (data_section db) offset
 
 -- A leaf is faulty that leads to no place of the data section, or stands on a node; and, where empty
--- values are to be told from others, one whose value's header can't be read.
+-- values are left out, one whose value's header can't be read.
 abbrev pub IsFaulty : Database → WithinOptions → List Bool → Type 0
 IsFaulty db options leaf =
-    LeadsNowhere db leaf ⊎ (StandsOnNode db leaf ⊎ ((skips_empty options ≡ true) × IsUnreadable db leaf))
+    LeadsNowhere db leaf ⊎ (StandsOnNode db leaf ⊎ ((skips_empty options ≡ true) × HasUnreadableValue db leaf))
 
--- A faulty leaf is listed with a fault; one without data where such are asked for; and one with a value,
--- unless it is an empty map or array and such are left out.
+-- Where empty values are left out, the value at the offset is none.
+abbrev pub IsKept : Database → WithinOptions → ℕ → Type 0
+IsKept db options offset = skips_empty options ≡ true → ¬ IsEmptyContainer (data_section db) offset
+
+-- A faulty leaf is listed with a fault, one without data where such are asked for, and any other with the
+-- offset of its value, unless it is empty and such are left out.
 abbrev pub IsListedWith : Database → WithinOptions → List Bool → Finding → Type 0
 IsListedWith db options leaf Fault = IsFaulty db options leaf
 IsListedWith db options leaf Absent = (walk (tree_of db) leaf ≡ db.metadata.node_count) × (includes_without_data options ≡ true)
-IsListedWith db options leaf (Found offset) =
-    HasValueAt db leaf offset × (skips_empty options ≡ true → empty_at (data_section db) offset ≡ Some false)
+IsListedWith db options leaf (Found offset) = HasValueAt db leaf offset × (¬ IsFaulty db options leaf × IsKept db options offset)
 
 -- no beginning of the leaf, and not the leaf itself, is an alias
 abbrev pub IsClear : Database → List Bool → Type 0

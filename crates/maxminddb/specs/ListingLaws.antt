@@ -7,12 +7,17 @@ use Rattle.maxminddb.specs.declared.options.WithinOptions.{WithinOptions}
 use Rattle.maxminddb.specs.File.{Database}
 use Rattle.maxminddb.specs.Leaves.{IsLeaf}
 use Rattle.maxminddb.specs.Lookup.{Offset, NoData, Answers, CanAsk, address_bits}
-use Rattle.maxminddb.specs.Listing.{Finding, Fault, Absent, Found, IsListing, IsListed, Ascends, leaves_of, listed}
+use Rattle.maxminddb.specs.Listing.{Finding, Fault, Absent, Found, Listed, IsListing, IsListed, Ascends, leaves_of, listed}
 use Rattle.maxminddb.specs.Options.{includes_aliased, includes_without_data, skips_empty}
 
 -- The list of a range, as a function, has exactly the leaves that are listed for it, ascending.
 abbrev pub RangeWalkLists : Type 0
 RangeWalkLists = (db : Database) (options : WithinOptions) (range : List Bool) → IsListing db options range (listed db options range)
+
+-- A range has one list.
+abbrev pub ListingsAreUnique : Type 0
+ListingsAreUnique =
+    (db : Database) (options : WithinOptions) (range : List Bool) (a b : List Listed) → IsListing db options range a → IsListing db options range b → a ≡ b
 
 -- every leaf, ascending, each once
 pub record AreAllLeaves (db : Database) (leaves : List (List Bool)) : Type 0 where

@@ -1,7 +1,7 @@
 //! Laws of leaves and answers, each the contract of a function that does nothing.
 ghost use Rattle.maxminddb.specs.Source.{SourceDecides};
 ghost use Rattle.maxminddb.specs.Laws.{LeavesAreDisjoint, EachAddressHasOneLeaf, EachAddressIsAnswered, AnswersAreUnique, SameLeafSameAnswer, NetworkHoldsAddress, Ipv4WithoutSubtree};
-ghost use Rattle.maxminddb.specs.ListingLaws.{RangeWalkLists, WholeWalkListsAll, ListedAgrees};
+ghost use Rattle.maxminddb.specs.ListingLaws.{RangeWalkLists, ListingsAreUnique, WholeWalkListsAll, ListedAgrees};
 
 pub use mmdb_decode::laws::{
     answer_is_within_limits, same_offset_same_result, skipping_is_passing, values_bounded,
@@ -32,9 +32,11 @@ pub fn source_decides()
     ensures { SourceDecides }
 {}
 
-/// The list of a range is exactly the leaves that are listed for it, ascending, each once.
+/// The list of a range is exactly the leaves that are listed for it, ascending, each once, and no other
+/// list is that.
 pub fn range_walk()
-    ensures { RangeWalkLists }
+    ensures listing { RangeWalkLists }
+    ensures unique { ListingsAreUnique }
 {}
 
 /// Over the whole space, aliased networks and those without data included and empty values kept, the

@@ -1,9 +1,5 @@
 //! Positions of a walk over the search tree.
-ghost use Rattle.std.specs.Prelude.{◌≡◌, ◌≤◌, ◌<◌, ◌+◌, ◌-◌, ◌^◌, ◌++◌, ◌∷◌, [], vec_len, MatchBool, MatchOption};
-ghost use Rattle.std.specs.Vec.{vec_capacity};
-ghost use Rattle.std.specs.Net.Addr.{is_ipv4};
-ghost use Rattle.mmdb_net.specs.Address.{address_width};
-ghost use Rattle.maxminddb.specs.File.{width};
+ghost use Rattle.std.specs.Prelude.{◌≡◌, MatchBool};
 
 use crate::reader::Reader;
 use std::convert::AsSlice;

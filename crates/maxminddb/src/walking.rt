@@ -1,9 +1,8 @@
 //! The networks of a database, one after another.
-ghost use Rattle.std.specs.Prelude.{◌≡◌, ◌≤◌, ◌<◌, ◌+◌, ◌-◌, ◌⊎◌, ◌↔◌, [], IfOk, IfErr, IfSome, MatchOption, Some, option_map, take};
+ghost use Rattle.std.specs.Prelude.{◌≡◌, ◌≤◌, ◌<◌, ◌⊎◌, ◌↔◌, [], IfOk, IfErr, MatchOption, Some, option_map, take};
 ghost use Rattle.std.specs.Result.{result_ok};
 ghost use Rattle.std.specs.Vec.{vec_capacity};
 ghost use Rattle.mmdb_format.specs.Error.{OfDatabase, OfInput, OfMemory, kind_of, IsRefusedAs};
-ghost use Rattle.mmdb_net.specs.Address.{address_width};
 ghost use Rattle.mmdb_net.specs.Bits.{bits_of, bit_of};
 ghost use Rattle.mmdb_net.specs.Network.{ip_of, prefix_of};
 ghost use Rattle.maxminddb.specs.File.{width};
