@@ -2,7 +2,10 @@
 mod answers;
 mod errors;
 mod files;
+mod limits;
 mod lookups;
 mod memory;
 mod metadata;
 mod programs;
+mod typed;
+mod values;
