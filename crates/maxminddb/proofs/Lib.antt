@@ -5,3 +5,13 @@ pub mod Markers
 pub mod Sources
 pub mod NetworkLemmas
 pub mod Clones
+pub mod NumberLemmas
+pub mod PositionLemmas
+pub mod ShownLemmas
+pub mod ListingSteps
+pub mod StackLemmas
+pub mod RangeLemmas
+pub mod ItemLemmas
+pub mod FindingLemmas
+pub mod AliasLemmas
+pub mod ListingLemmas

@@ -1,9 +1,9 @@
 -- Aliases: other ways to the node where IPv4 begins ("IPv4 addresses in an IPv6 tree" of the MaxMind DB
 -- File Format Specification 2.0).
-use Rattle.std.specs.Prelude.{◌≡◌, ℕ, ◌+◌, ◌≤◌, ◌<◌, ◌^◌, zero, suc, Bool, true, List, [], ◌∷◌, length, if◌then◌else◌}
+use Rattle.std.specs.Prelude.{◌≡◌, ℕ, ◌+◌, ◌≤◌, ◌<◌, ◌^◌, zero, suc, Bool, true, ◌&&◌, ◌==◌, nat_lt, nat_le, List, [], ◌∷◌, length, if◌then◌else◌}
 use Rattle.maxminddb.specs.File.{Database, tree_of, has_ipv6}
 use Rattle.maxminddb.specs.Tree.{walk}
-use Rattle.maxminddb.specs.Shown.{ipv4_start}
+use Rattle.maxminddb.specs.Shown.{ipv4_start, has_ipv4_subtree}
 
 -- the number that the bits spell, the highest first, filled with zeros to so many
 abbrev pub number_of : ℕ → List Bool → ℕ
@@ -20,3 +20,11 @@ pub record IsAlias (db : Database) (s : List Bool) : Type 0 where
   pub short : length s ≤ 128
   pub high : 2 ^ 32 ≤ number_of 128 s
   pub same : walk (tree_of db) s ≡ ipv4_start db
+
+-- the same as a test of the number to which the bits lead and of the number that they spell
+abbrev pub is_alias_at : Database → ℕ → ℕ → Bool
+is_alias_at db number address =
+    has_ipv4_subtree db && (nat_lt 0 (ipv4_start db) && (number == ipv4_start db && nat_le (2 ^ 32) address))
+
+unfoldable pub is_alias : Database → List Bool → Bool
+is_alias db s = is_alias_at db (walk (tree_of db) s) (number_of 128 s)

@@ -12,3 +12,12 @@ pub mod MetadataShape
 pub mod Source
 pub mod Decoding
 pub mod Alias
+pub mod Options
+pub mod Listing
+pub mod ShownLeaf
+pub mod Items
+pub mod Positions
+pub mod Ranges
+pub mod Enumeration
+pub mod ListingLaws
+pub mod Findings

@@ -1,6 +1,11 @@
 //! Laws of leaves and answers, each the contract of a function that does nothing.
 ghost use Rattle.maxminddb.specs.Source.{SourceDecides};
 ghost use Rattle.maxminddb.specs.Laws.{LeavesAreDisjoint, EachAddressHasOneLeaf, EachAddressIsAnswered, AnswersAreUnique, SameLeafSameAnswer, NetworkHoldsAddress, Ipv4WithoutSubtree};
+ghost use Rattle.maxminddb.specs.ListingLaws.{RangeWalkLists, WholeWalkListsAll, ListedAgrees};
+
+pub use mmdb_decode::laws::{
+    answer_is_within_limits, same_offset_same_result, skipping_is_passing, values_bounded,
+};
 
 /// Leaves are disjoint blocks, and each full address begins with exactly one.
 pub fn leaves_partition()
@@ -25,4 +30,20 @@ pub fn network_holds_address()
 /// The bytes of a file decide whether a reader accepts it, and what its metadata are.
 pub fn source_decides()
     ensures { SourceDecides }
+{}
+
+/// The list of a range is exactly the leaves that are listed for it, ascending, each once.
+pub fn range_walk()
+    ensures { RangeWalkLists }
+{}
+
+/// Over the whole space, aliased networks and those without data included and empty values kept, the
+/// list is all leaves, ascending, each once.
+pub fn whole_walk()
+    ensures { WholeWalkListsAll }
+{}
+
+/// What is listed of a leaf agrees with the answer for each address in it.
+pub fn listed_agrees()
+    ensures { ListedAgrees }
 {}

@@ -7,9 +7,12 @@ mod lookup_result;
 mod marker;
 pub mod metadata;
 mod metadata_fields;
+mod options;
+mod positions;
 pub mod reader;
 mod source;
 pub mod tree;
+mod walking;
 
 pub use lookup_result::LookupResult;
 pub use metadata::Metadata;
@@ -19,5 +22,7 @@ pub use mmdb_format::error::{
 };
 pub use mmdb_net as geonet;
 pub use mmdb_net::{IpNetwork, IpNetworkError, Ipv4Network, Ipv6Network, mask_ip};
+pub use options::WithinOptions;
 pub use reader::Reader;
 pub use tree::read_node;
+pub use walking::Within;

@@ -54,9 +54,10 @@ impl<S: AsSlice<u8> + Drop> Model for Reader<S> {
 impl<S: AsSlice<u8> + Drop> Reader<S> {
     ghost use Rattle.maxminddb.specs.Found.{database_asked, leaf_of, offset_found, shown_as_ipv4};
     ghost use Rattle.maxminddb.specs.Lookup.{CanAsk, Answers, IsRefusedAt, IsLeafAt, Refused, outcome_of, outcome_at, block_at};
-    ghost use Rattle.maxminddb.specs.Shown.{is_shown_as_ipv4};
+    ghost use Rattle.maxminddb.specs.Shown.{is_shown_as_ipv4, has_ipv4_subtree, ipv4_start};
     ghost use Rattle.maxminddb.specs.Tree.{search_tree};
-    ghost use Rattle.maxminddb.specs.File.{tree_of};
+    ghost use Rattle.maxminddb.specs.File.{tree_of, width, data_section};
+    ghost use Rattle.maxminddb.specs.Alias.{is_alias_at};
 
     /// A reader of a source whose marker stands at this place, and whose metadata are these.
     pub(crate) fn from_parts(
@@ -118,7 +119,7 @@ impl<S: AsSlice<u8> + Drop> Reader<S> {
     }
 
     // The nodes of the search tree.
-    fn nodes(&self) -> Nodes<'_>
+    pub(crate) fn nodes(&self) -> Nodes<'_>
         ensures { search_tree result.bytes.now result.node_count result.record_size ≡ tree_of self.now }
     {
         Nodes {
@@ -126,6 +127,40 @@ impl<S: AsSlice<u8> + Drop> Reader<S> {
             node_count: self.metadata.node_count as usize,
             record_size: self.metadata.record_size,
         }
+    }
+
+    // How many bits a full address has.
+    pub(crate) fn width(&self) -> u8
+        ensures value { result ≡ width self.now }
+        ensures within { result ≤ 128 }
+    {
+        if self.metadata.ip_version == 6 {
+            128
+        } else {
+            32
+        }
+    }
+
+    // Whether bits that lead to this number, and spell this address with zeros after them, are an alias.
+    pub(crate) fn is_alias(&self, number: usize, address: u128) -> bool
+        ensures { result ≡ is_alias_at self.now number address }
+    {
+        let start = self.ipv4_start();
+        self.has_ipv4_subtree() && start != 0 && number == start && address >= 1 << 32
+    }
+
+    // Whether IPv4 begins on a node of an IPv6 database.
+    pub(crate) fn has_ipv4_subtree(&self) -> bool
+        ensures { result ≡ has_ipv4_subtree self.now }
+    {
+        self.metadata.ip_version == 6 && self.ipv4_start() < self.metadata.node_count as usize
+    }
+
+    // Where IPv4 begins.
+    fn ipv4_start(&self) -> usize
+        ensures { result ≡ ipv4_start self.now }
+    {
+        self.ipv4_start
     }
 
     // The leaf on an address's bits, or none where IPv6 is asked of an IPv4 database.
@@ -164,7 +199,7 @@ impl<S: AsSlice<u8> + Drop> Reader<S> {
 
     // The offset in the data section that a number of the tree stands for, if it has data.
     #[tactic(auto, unfolding(crate::specs::Lookup::outcome_of))]
-    fn offset_at(&self, number: usize) -> Result<Option<usize>, MaxMindDbError>
+    pub(crate) fn offset_at(&self, number: usize) -> Result<Option<usize>, MaxMindDbError>
         ensures { MatchResult result
             (λ offset. outcome_of self.now number ≡ outcome_at offset)
             (λ e. (kind_of e ≡ OfDatabase) × (outcome_of self.now number ≡ Refused)) }

@@ -59,7 +59,7 @@ pub(crate) struct Descent {
 }
 
 impl Nodes<'_> {
-    ghost use Rattle.maxminddb.specs.Tree.{search_tree};
+    ghost use Rattle.maxminddb.specs.Tree.{search_tree, step};
     ghost use Rattle.maxminddb.specs.Descents.{Descends};
     ghost use Rattle.mmdb_net.specs.Bits.{bits_of, zero_bits};
 
@@ -82,6 +82,15 @@ impl Nodes<'_> {
             number,
             taken: width,
         }
+    }
+
+    /// The number that a node has for a bit.
+    #[tactic(auto, unfolding(crate::specs::Tree::step))]
+    pub(crate) fn child(&self, node: usize, right: bool) -> usize
+        requires { node < self.now.node_count }
+        ensures { result ≡ step (search_tree self.now.bytes.now self.now.node_count self.now.record_size) node right }
+    {
+        read_node(self.bytes, self.record_size, node, usize::from(right))
     }
 
     /// Where IPv4 begins: after the 96 zero bits of an IPv6 database, as far as the walk takes them, and

@@ -3,3 +3,4 @@ pub mod Out
 pub mod Putting
 pub mod PutErrors
 pub mod Lines
+pub mod ListText

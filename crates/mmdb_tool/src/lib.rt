@@ -8,6 +8,6 @@ mod program;
 mod sink;
 
 pub use line::lookup_line;
-pub use list::ListError;
+pub use list::{ListError, list_to};
 pub use program::{run, run_bytes};
 pub use sink::{Fault, Out, Sink};

@@ -1,17 +1,22 @@
 //! The lines of networks.
-ghost use Rattle.std.specs.Prelude.{◌≡◌, ◌⊎◌, ◌↔◌, IfOk, IfErr, string_bytes};
+ghost use Rattle.std.specs.Prelude.{◌≡◌, ◌⊎◌, ◌↔◌, Some, IfOk, IfErr, string_bytes};
 ghost use Rattle.mmdb_format.specs.Error.{OfInput, OfDatabase, OfMemory, kind_of, IsRefusedAs};
 ghost use Rattle.maxminddb.specs.Lookup.{CanAsk, IsRefusedAt};
-ghost use Rattle.mmdb_tool.specs.Lines.{line_of, IsLookupLine};
+ghost use Rattle.maxminddb.specs.File.{Database};
+ghost use Rattle.maxminddb.specs.Items.{item_view, IsItemOf};
+ghost use Rattle.mmdb_tool.specs.Lines.{network_line, line_of, IsLookupLine};
 
-use maxminddb::{IpNetwork, MaxMindDbError, Reader};
+use maxminddb::{IpNetwork, LookupResult, MaxMindDbError, Reader};
 use std::alloc::{AllocError, Global};
 use std::convert::AsSlice;
 use std::net::IpAddr;
 
+/// What stands in the place of a faulty leaf's line.
+const FAULT: &str = "fault\n";
+
 // The line of a network.
 fn line(alloc: Global, network: IpNetwork, offset: Option<usize>) -> Result<String, AllocError>
-    ensures { IfOk result (λ text. string_bytes text ≡ line_of network offset) }
+    ensures { IfOk result (λ text. string_bytes text ≡ network_line network offset) }
 {
     let text = network.full_text(alloc)?;
     match offset {
@@ -37,4 +42,21 @@ pub fn lookup_line<S: AsSlice<u8> + Drop>(
     let found = reader.lookup(address)?;
     let network = found.network()?;
     Ok(line(alloc, network, found.offset())?)
+}
+
+/// The line of an item of a list.
+#[tactic(auto, unfolding(crate::specs::Lines::line_of), using(crate::proofs::LineLemmas::line_of_shown))]
+pub(crate) fn item_line<S: AsSlice<u8> + Drop>(
+    alloc: Global,
+    item: Result<LookupResult<'_, S>, MaxMindDbError>,
+) -> Result<String, AllocError>
+    ensures { (db : Database) → IsItemOf db (Some item.entry) → IfOk result (λ text. string_bytes text ≡ line_of db (item_view item.entry)) }
+{
+    let Ok(found) = item else {
+        return String::from_str(alloc, FAULT);
+    };
+    match found.network() {
+        Ok(network) => line(alloc, network, found.offset()),
+        Err(_) => unreachable!(),
+    }
 }

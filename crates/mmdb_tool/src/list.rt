@@ -1,9 +1,14 @@
-//! Why a text was not written whole.
-ghost use Rattle.std.specs.Prelude.{◌≡◌};
+//! The list of a range, as text.
+ghost use Rattle.std.specs.Prelude.{◌≡◌, ◌↔◌, OnOk, OnErr};
+ghost use Rattle.mmdb_net.specs.Network.{ip_of};
+ghost use Rattle.maxminddb.specs.Lookup.{CanAsk};
+ghost use Rattle.mmdb_tool.specs.ListText.{WritesList, BeginsList, IsOfRange, NamesRangeOrMemory, TellsListFault};
 
-use crate::sink::PutError;
-use maxminddb::MaxMindDbError;
-use std::alloc::AllocError;
+use crate::line::item_line;
+use crate::sink::{PutError, Sink, put_all};
+use maxminddb::{IpNetwork, MaxMindDbError, Reader, WithinOptions};
+use std::alloc::Global;
+use std::convert::AsSlice;
 use std::io;
 use thiserror::Error;
 
@@ -42,4 +47,33 @@ impl From<PutError> for ListError {
             PutError::Stopped => ListError::Stopped,
         }
     }
+}
+
+/// Writes a line for each network of a range that `within` hands out, and `fault` for an error item.
+///
+/// `Database` is `InvalidInput` exactly where `within` refuses the range so, and then nothing is written;
+/// else it is `Memory`. `Write` is a put that the sink refused, an interrupted one too, and `Stopped` one
+/// that took no byte. On any refusal what was written is a beginning of the text.
+pub fn list_to<S: AsSlice<u8> + Drop, W: Sink>(
+    alloc: Global,
+    reader: &Reader<S>,
+    range: IpNetwork,
+    options: WithinOptions,
+    sink: &mut W,
+) -> Result<(), ListError>
+    ensures whole { OnOk result (WritesList reader.now options range (W.held sink.old) (W.held sink.new)) }
+    ensures begun { OnErr result (CanAsk reader.now (ip_of range) → BeginsList reader.now options range (W.held sink.old) (W.held sink.new)) }
+    ensures of_range { IsOfRange result ↔ ¬ (CanAsk reader.now (ip_of range)) }
+    ensures no_other { NamesRangeOrMemory result }
+    ensures untouched { ¬ (CanAsk reader.now (ip_of range)) → sink.new ≡ sink.old }
+    ensures fault { TellsListFault (W.fault sink.old) (W.fault sink.new) result }
+{
+    for item in reader.within(alloc, range, options)? {
+        let line = match item_line(alloc, item) {
+            Ok(line) => line,
+            Err(_) => return Err(ListError::Database(MaxMindDbError::Memory)),
+        };
+        put_all(sink, line.as_bytes())?;
+    }
+    Ok(())
 }

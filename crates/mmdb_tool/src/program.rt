@@ -3,12 +3,11 @@ ghost use Rattle.std.specs.Prelude.{◌≤◌, IfErr};
 
 use crate::command::{Command, USAGE, command_of};
 use crate::line::lookup_line;
-use crate::list::ListError;
+use crate::list::{ListError, list_to};
 use crate::sink::{Sink, put_all};
 use maxminddb::{MaxMindDbError, Reader};
 use std::alloc::{AllocError, Global};
 use std::convert::AsSlice;
-use std::net::IpAddr;
 use std::rt::Files;
 
 /// The status of a refusal.
@@ -58,16 +57,25 @@ fn command_or_status<'a, O: Sink, E: Sink>(
     }
 }
 
-// Puts the line of an address of a database that was opened.
-fn put_lookup<S: AsSlice<u8> + Drop, O: Sink>(
+// What a command writes of a database that was opened.
+fn answer<S: AsSlice<u8> + Drop, O: Sink>(
     alloc: Global,
     opened: Result<Reader<S>, MaxMindDbError>,
-    address: IpAddr,
+    command: Command<'_>,
     out: &mut O,
 ) -> Result<(), ListError> {
     let reader = opened?;
-    let line = lookup_line(alloc, &reader, address)?;
-    put_all(out, line.as_bytes())?;
+    match command {
+        Command::Lookup { file: _, address } => {
+            let line = lookup_line(alloc, &reader, address)?;
+            put_all(out, line.as_bytes())?;
+        }
+        Command::List {
+            file: _,
+            range,
+            options,
+        } => list_to(alloc, &reader, range, options, out)?,
+    }
     Ok(())
 }
 
@@ -86,9 +94,9 @@ pub fn run<R: Files, O: Sink, E: Sink>(
     ensures { result ≤ 2 }
 {
     match command_or_status(alloc, words, out, err) {
-        Ok(Command::Lookup { file, address }) => {
-            let opened = Reader::open_readfile(rt, alloc, file);
-            let done = put_lookup(alloc, opened, address, out);
+        Ok(command) => {
+            let opened = Reader::open_readfile(rt, alloc, command.file());
+            let done = answer(alloc, opened, command, out);
             status_of(alloc, done, err)
         }
         Err(status) => status,
@@ -106,9 +114,9 @@ pub fn run_bytes<O: Sink, E: Sink>(
     ensures { result ≤ 2 }
 {
     match command_or_status(alloc, words, out, err) {
-        Ok(Command::Lookup { file: _, address }) => {
+        Ok(command) => {
             let opened = Reader::from_source(alloc, source);
-            let done = put_lookup(alloc, opened, address, out);
+            let done = answer(alloc, opened, command, out);
             status_of(alloc, done, err)
         }
         Err(status) => status,

@@ -1,7 +1,7 @@
 use Rattle.std.proofs.Common.{◌≡◌, Some, true}
 use Rattle.mmdb_decode.specs.Refusal.{Refuses, answer}
 use Rattle.mmdb_decode.specs.State.{decoded}
-use Rattle.mmdb_decode.proofs.Steps.{answer_ok, answer_none, if_ok_weaker, if_err_weaker, refuses_more}
+use Rattle.mmdb_decode.proofs.StepLaws.{answer_ok, answer_none, if_ok_weaker, if_err_weaker, refuses_more}
 use Rattle.maxminddb.proofs.data.decode_at.Goals as goal
 
 pub returns-clause-ok : goal.returns-clause-ok

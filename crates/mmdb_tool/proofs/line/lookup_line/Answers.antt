@@ -3,7 +3,8 @@ use Rattle.mmdb_net.specs.declared.network.IpNetwork.{IpNetwork}
 use Rattle.maxminddb.specs.File.{Database}
 use Rattle.maxminddb.specs.Found.{leaf_of, offset_found}
 use Rattle.maxminddb.specs.Shown.{IsShownBy}
-use Rattle.mmdb_tool.specs.Lines.{line_of}
+use Rattle.mmdb_tool.specs.Lines.{network_line}
+use Rattle.mmdb_tool.proofs.LineLemmas.{shown_line}
 use Rattle.mmdb_tool.proofs.line.lookup_line.Goals as goal
 
 shown_by : (asked db : Database) (leaf : List Bool) (as_ipv4 kind : Bool) (network : IpNetwork) → asked ≡ db → as_ipv4 ≡ kind → IsShownBy asked leaf as_ipv4 network → IsShownBy db leaf kind network
@@ -13,11 +14,11 @@ shown_by asked db leaf as_ipv4 kind network same same_kind shown =
     subst Q same_kind (subst P same shown)
 
 pub returns-clause-line : goal.returns-clause-line
-returns-clause-line g c = record {
-  leaf = leaf_of c.in_ok-found.found;
-  offset = offset_found c.in_ok-found.found;
-  network = c.in_ok-network.network;
-  answers = c.in_ok-found.ensures.answered;
-  shows = shown_by _ _ _ _ _ _ c.in_ok-found.ensures.database c.in_ok-found.ensures.shown c.in_ok-network.ensures;
-  text_is = c.in_ok-line.ensures ∙ ap (line_of c.in_ok-network.network) c.offset.ensures;
-}
+returns-clause-line g c =
+    let shows = shown_by _ c.args.reader.now _ _ _ _ c.in_ok-found.ensures.database c.in_ok-found.ensures.shown c.in_ok-network.ensures in
+    record {
+      leaf = leaf_of c.in_ok-found.found;
+      offset = offset_found c.in_ok-found.found;
+      answers = c.in_ok-found.ensures.answered;
+      text_is = c.in_ok-line.ensures ∙ ap (network_line c.in_ok-network.network) c.offset.ensures ∙ shown_line _ _ _ _ (offset_found c.in_ok-found.found) shows;
+    }

@@ -1,0 +1,14 @@
+use Rattle.std.proofs.Common.{◌≡◌}
+use Rattle.maxminddb.specs.File.{width}
+use Rattle.maxminddb.specs.Positions.{positions_left}
+use Rattle.maxminddb.specs.Enumeration.{items_to_come}
+use Rattle.maxminddb.proofs.walking.WithinIterator.next.Given as goal
+
+abbrev pub invariant-loop-position : goal.invariant-loop-position
+invariant-loop-position g l = record {
+  items : items_to_come l.self ≡ items_to_come l.fn.self;
+  reader : l.self.reader.now ≡ l.fn.self.reader.now;
+}
+
+abbrev pub decreases-loop-position : goal.decreases-loop-position
+decreases-loop-position g l = positions_left (width l.self.reader.now) l.self.stack.items

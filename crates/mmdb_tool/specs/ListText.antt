@@ -1,0 +1,49 @@
+-- What a list writes to a sink.
+use Rattle.std.specs.Prelude.{◌≡◌, ◌⊎◌, ◌++◌, ℕ, List, Option, Result, Ok, Err}
+use Rattle.std.specs.Io.KnownBytes.{Appends}
+use Rattle.mmdb_format.specs.Error.{OfInput, OfMemory, kind_of}
+use Rattle.mmdb_net.specs.declared.network.IpNetwork.{IpNetwork}
+use Rattle.maxminddb.specs.File.{Database}
+use Rattle.maxminddb.specs.Items.{Item, items_of}
+use Rattle.maxminddb.specs.Listing.{Listed, IsListing}
+use Rattle.maxminddb.specs.Shown.{block_in}
+use Rattle.maxminddb.specs.declared.options.WithinOptions.{WithinOptions}
+use Rattle.mmdb_tool.specs.Lines.{lines_of}
+use Rattle.mmdb_tool.specs.Putting.{AppendsFront}
+use Rattle.mmdb_tool.specs.declared.sink.Fault.{Fault}
+use Rattle.mmdb_tool.specs.declared.sink.Fault.TheVariants.{Free, Refused, Stalled}
+use Rattle.mmdb_tool.specs.declared.list.ListError.{ListError}
+use Rattle.mmdb_tool.specs.declared.list.ListError.TheVariants.{Database as database_error, Write, Stopped}
+
+-- known bytes grow by the lines of the list of a range
+pub record WritesList (db : Database) (options : WithinOptions) (range : IpNetwork) (old new : Option (List ℕ)) : Type 0 where
+  pub list : List Listed
+  pub is_listing : IsListing db options (block_in db range) list
+  pub written : Appends old new (lines_of db (items_of db list))
+
+-- known bytes grow by a beginning of those lines
+pub record BeginsList (db : Database) (options : WithinOptions) (range : IpNetwork) (old new : Option (List ℕ)) : Type 0 where
+  pub list : List Listed
+  pub is_listing : IsListing db options (block_in db range) list
+  pub written : AppendsFront old new (lines_of db (items_of db list))
+
+-- what refuses a list: its range, memory, or the sink
+abbrev pub IsOfRange : {T : Type 0} → Result T ListError → Type 0
+IsOfRange (Ok _) = ⊥
+IsOfRange (Err (database_error error)) = kind_of error ≡ OfInput
+IsOfRange (Err (Write error)) = ⊥
+IsOfRange (Err Stopped) = ⊥
+
+-- the database is named for its range or for memory alone
+abbrev pub NamesRangeOrMemory : {T : Type 0} → Result T ListError → Type 0
+NamesRangeOrMemory (Ok _) = Unit {0}
+NamesRangeOrMemory (Err (database_error error)) = (kind_of error ≡ OfInput) ⊎ (kind_of error ≡ OfMemory)
+NamesRangeOrMemory (Err (Write error)) = Unit {0}
+NamesRangeOrMemory (Err Stopped) = Unit {0}
+
+-- a sink that came without a fault has the one that the answer names
+abbrev pub TellsListFault : {T : Type 0} → Fault → Fault → Result T ListError → Type 0
+TellsListFault old new (Ok _) = old ≡ Free → new ≡ Free
+TellsListFault old new (Err (database_error _)) = old ≡ Free → new ≡ Free
+TellsListFault old new (Err (Write _)) = old ≡ Free → new ≡ Refused
+TellsListFault old new (Err Stopped) = old ≡ Free → new ≡ Stalled
