@@ -5,6 +5,7 @@
 pub mod builder;
 pub mod file;
 pub mod hoard;
+pub mod probe;
 pub mod sink;
 #[cfg(test)]
 mod tests;

@@ -2,8 +2,11 @@
 mod answers;
 mod errors;
 mod files;
+mod limits;
 mod lists;
 mod lookups;
 mod memory;
 mod metadata;
 mod programs;
+mod typed;
+mod values;

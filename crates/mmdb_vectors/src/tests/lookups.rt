@@ -3,7 +3,9 @@ use crate::builder::{
     BASE, BASE_DATA, Fields, base_file as make_base_file, base_with_node, file, file_with_alias,
     file_without_subtree,
 };
-use maxminddb::laws::{leaves_partition, network_holds_address, same_leaf_same_answer};
+use maxminddb::laws::{
+    leaves_partition, network_holds_address, same_leaf_same_answer, source_decides,
+};
 use maxminddb::{Reader, read_node};
 use std::test::Fail;
 
@@ -29,18 +31,20 @@ fn base_file(rt: HostRuntime) -> Result<(), Fail> {
     assert_eq!(rt; built.len(), 199);
     assert_eq!(rt; built.as_slice(), BASE_FILE);
     let reader = Reader::from_source(alloc, BASE_FILE)?;
-    for (address, has_data, offset, network) in [
-        ("1.1.1.1", false, None, "0.0.0.0/1"),
-        ("200.0.0.1", true, Some(0), "128.0.0.0/1"),
+    for (address, has_data, offset, network, value) in [
+        ("1.1.1.1", false, None, "0.0.0.0/1", None),
+        ("200.0.0.1", true, Some(0), "128.0.0.0/1", Some("x")),
     ] {
         let found = reader.lookup(address.parse()?)?;
         let wanted = (has_data, offset, network.parse()?);
         assert_eq!(rt; told(found)?, wanted, "at {address}");
         assert_eq!(rt; told(found.clone()?)?, wanted, "at {address}");
+        assert_eq!(rt; found.decode::<&str>(alloc)?, value, "at {address}");
     }
     leaves_partition();
     same_leaf_same_answer();
     network_holds_address();
+    source_decides();
     assert_answers(
         &rt,
         alloc,

@@ -5,6 +5,7 @@ use crate::builder::base_file;
 use crate::hoard::Hoard;
 use maxminddb::{IpNetwork, MaxMindDbError, Metadata, Reader};
 use mmdb_tool::lookup_line;
+use mmdb_value::Decode;
 use std::alloc::{AllocError, Global};
 use std::net::{IpAddr, Ipv6Addr};
 use std::test::Fail;
@@ -118,6 +119,14 @@ fn found(
     told(reader.lookup(address)?)
 }
 
+fn decoded<'a, T: Decode<'a>>(
+    alloc: Global,
+    reader: &'a Reader<&'a [u8]>,
+    address: IpAddr,
+) -> Result<Option<T>, MaxMindDbError> {
+    reader.lookup(address)?.decode(alloc)
+}
+
 #[test]
 fn every_growth_refused(rt: HostRuntime) -> Result<(), Fail> {
     let alloc = rt.alloc();
@@ -130,6 +139,9 @@ fn every_growth_refused(rt: HostRuntime) -> Result<(), Fail> {
     let without = found(&reader, low());
     let behind = found(&reader, high());
     let refused = found(&reader, IpAddr::V6(Ipv6Addr::LOCALHOST));
+    let text = decoded::<&str>(alloc, &reader, high());
+    let no_text = decoded::<&str>(alloc, &reader, low());
+    let number = decoded::<u16>(alloc, &reader, high());
     drop(small);
     drop(large);
     assert!(rt; matches!(&opened, Err(MaxMindDbError::Memory)));
@@ -137,6 +149,9 @@ fn every_growth_refused(rt: HostRuntime) -> Result<(), Fail> {
     assert_eq!(rt; without?, (false, None, "0.0.0.0/1".parse()?));
     assert_eq!(rt; behind?, (true, Some(0), "128.0.0.0/1".parse()?));
     assert!(rt; matches!(&refused, Err(MaxMindDbError::InvalidInput { .. })));
+    assert_eq!(rt; text?, Some("x"));
+    assert_eq!(rt; no_text?, None);
+    assert!(rt; matches!(&number, Err(MaxMindDbError::Memory)));
     assert!(rt; Reader::from_source(alloc, file.as_slice()).is_ok());
     Ok(())
 }

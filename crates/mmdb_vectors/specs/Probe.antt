@@ -1,0 +1,25 @@
+-- A record of two fields, either of which may be missing: a number and a text.
+use Rattle.std.specs.Prelude.{ℕ, List, Option, Some, None, if◌then◌else◌, codes}
+use Rattle.mmdb_decode.specs.Reading.{Meaning}
+use Rattle.mmdb_decode.specs.Scalars.{u16_at, text_at}
+use Rattle.mmdb_decode.specs.Maps.{Fields}
+use Rattle.mmdb_decode.specs.Records.{field, named, skipped, record_at, finished}
+
+-- what was read of a probe
+pub record Probe : Type 0 where
+  pub a : Option ℕ
+  pub k : Option (List ℕ)
+
+abbrev pub no_probe : Probe
+no_probe = record { a = None; k = None }
+
+-- the field named "a" is a number of 16 bits, the one named "k" a text, and any other is skipped
+unfoldable pub probe_fields : Fields Probe
+probe_fields p name =
+    if named name (codes "a") then field (λ v. record p { a = v }) u16_at p.a
+    else (if named name (codes "k") then field (λ v. record p { k = v }) text_at p.k
+    else skipped p)
+
+-- a map whose keys name the fields, none of which must stand
+abbrev pub probe_at : Meaning Probe
+probe_at = finished Some (record_at probe_fields no_probe)
