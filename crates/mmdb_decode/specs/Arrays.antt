@@ -38,6 +38,17 @@ list_at read s p d =
 unfoldable pub few_at : {A : Type 0} → ℕ → Meaning A → Meaning (List A)
 few_at most read s p d = array_at s p d >>= λ at. if nat_le at.count most then list_at read s p d else None
 
+-- what contracts see of an array that is being read: how many elements are left, the same with so many
+-- left, and the levels before it
+abbrev pub items_left : Items → ℕ
+items_left items = items.remaining
+
+abbrev pub with_items_left : ℕ → Items → Items
+with_items_left n items = record items { remaining = n }
+
+abbrev pub levels_before_array : Items → ℕ
+levels_before_array items = items.levels
+
 -- an array that a decoder enters, with what is left of it
 unfoldable pub entered_array : State → Option (Items × State)
 entered_array σ =

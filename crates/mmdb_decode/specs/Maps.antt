@@ -55,6 +55,17 @@ abbrev pub pairs_from : {P : Type 0} → Meaning (List ℕ) → Fields P → P �
 pairs_from key fields p zero = given p
 pairs_from key fields p (suc n) = followed key (λ name. followed (fields p name) (λ q. pairs_from key fields q n))
 
+-- what contracts see of a map that is being read: how many pairs are left, the same with so many left,
+-- and the levels before it
+abbrev pub pairs_left : Entries → ℕ
+pairs_left entries = entries.remaining
+
+abbrev pub with_pairs_left : ℕ → Entries → Entries
+with_pairs_left n entries = record entries { remaining = n }
+
+abbrev pub levels_before_map : Entries → ℕ
+levels_before_map entries = entries.levels
+
 -- a map that a decoder enters, with what is left of it
 unfoldable pub entered_map : State → Option (Entries × State)
 entered_map σ =
@@ -69,16 +80,16 @@ left_map entries σ = record { section = σ.section; place = unwrap_or entries.a
 -- what the step to the next key did: it read the key, nothing was left, or no key stands there
 pub record KeyRead (read : Meaning (List ℕ)) (old new : State) (before after : Entries) (key : List ℕ) : Type 0 where
   pub step : decoded false read old ≡ Some (key, new)
-  pub one : before.remaining ≡ after.remaining + 1
+  pub one : pairs_left before ≡ pairs_left after + 1
 
 pub record NoneLeft (old new : State) (before after : Entries) : Type 0 where
-  pub none : before.remaining ≡ 0
-  pub spent : after.remaining ≡ 0
+  pub none : pairs_left before ≡ 0
+  pub spent : pairs_left after ≡ 0
   pub same : new ≡ old
   pub within : Within new.budget
 
 pub record NoKey (read : Meaning (List ℕ)) (old new : State) (before : Entries) : Type 0 where
-  pub some : 0 < before.remaining
+  pub some : 0 < pairs_left before
   pub refuses : decoded false read old ≡ None
   pub given_up : GivenUp old new
 

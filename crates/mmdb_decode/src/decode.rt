@@ -5,7 +5,7 @@ ghost use Rattle.mmdb_decode.specs.Reading.{Meaning, mapped};
 ghost use Rattle.mmdb_decode.specs.State.{State, decoded, GivenUp};
 ghost use Rattle.mmdb_decode.specs.Scalars.{u16_at, u32_at, u64_at, u128_at, i32_at, bool_at, double_at, float_at, text_at, byte_string_at};
 ghost use Rattle.mmdb_decode.specs.SmallNumbers.{small_at};
-ghost use Rattle.mmdb_decode.specs.Arrays.{list_at, elements};
+ghost use Rattle.mmdb_decode.specs.Arrays.{list_at, elements, items_left, with_items_left};
 ghost use Rattle.mmdb_decode.specs.Refusal.{Reads, Refuses, Kept};
 
 use crate::decoder::Decoder;
@@ -355,10 +355,10 @@ pub fn read_items<'de, T: Decode<'de>>(
     items: &mut Items,
 ) -> DecodeResult<Vec<T>>
     requires { IsSome d.old.budget }
-    ensures ok { IfOk result (λ v. T.exact ≡ true → decoded false (elements T.meaning items.old.remaining) d.old ≡ Some (map T.datum v.items, d.new)) }
-    ensures spent { OnOk result (items.new ≡ record items.old { remaining = 0 }) }
+    ensures ok { IfOk result (λ v. T.exact ≡ true → decoded false (elements T.meaning (items_left items.old)) d.old ≡ Some (map T.datum v.items, d.new)) }
+    ensures spent { OnOk result (items.new ≡ with_items_left 0 items.old) }
     ensures kept { OnOk result (Kept d.old d.new) }
-    ensures err { IfErr result (λ e. T.exact ≡ true → Refuses false e (decoded false (elements T.meaning items.old.remaining) d.old)) }
+    ensures err { IfErr result (λ e. T.exact ≡ true → Refuses false e (decoded false (elements T.meaning (items_left items.old)) d.old)) }
     ensures given_up { OnErr result (GivenUp d.old d.new) }
 {
     let mut out = Vec::new(alloc);

@@ -1,13 +1,13 @@
 //! The decoder: a place in a section, with the levels and the budget.
-ghost use Rattle.std.specs.Prelude.{◌≡◌, ◌<◌, ◌≤◌, ◌^◌, ◌+◌, ◌-◌, Option, true, false, IfOk, OnOk, OnErr, IfSome, None, MatchBool, min, length, option_map};
+ghost use Rattle.std.specs.Prelude.{◌≡◌, ◌<◌, ◌≤◌, ◌^◌, ◌+◌, ◌-◌, Option, true, false, IfOk, OnOk, OnErr, IfSome, None, MatchBool, min, length, option_map, unwrap_or};
 ghost use Rattle.std.specs.Result.{result_ok};
 ghost use Rattle.mmdb_format.specs.Header.{header_at as spec_header_at};
 ghost use Rattle.mmdb_decode.specs.State.{State, decoded, begun as spec_begun, Within};
 ghost use Rattle.mmdb_decode.specs.Scalars.{number_of, bits_of, bytes_of, u16_at, u32_at, u64_at, u128_at, i32_at, bool_at as spec_bool_at, double_at, float_at, text_at, byte_string_at};
 ghost use Rattle.mmdb_decode.specs.SmallNumbers.{whole_at as spec_whole_at};
 ghost use Rattle.mmdb_decode.specs.Peeking.{kind_at};
-ghost use Rattle.mmdb_decode.specs.Arrays.{entered_array, entered_array_of, left_array};
-ghost use Rattle.mmdb_decode.specs.Maps.{key_past, name_at, raw_key_at, key_at, NextKey, entered_map, left_map};
+ghost use Rattle.mmdb_decode.specs.Arrays.{entered_array, entered_array_of, left_array, items_left, with_items_left, levels_before_array};
+ghost use Rattle.mmdb_decode.specs.Maps.{key_past, name_at, raw_key_at, key_at, NextKey, entered_map, left_map, pairs_left, with_pairs_left, levels_before_map};
 ghost use Rattle.mmdb_decode.specs.Skipping.{skip_within, skip_at, parts_of as spec_parts_of, scalar_passed, entered_inline};
 ghost use Rattle.mmdb_format.specs.Views.{content_view};
 ghost use Rattle.mmdb_decode.specs.Levels.{content_of, entered_pointer, entered_parts};
@@ -315,8 +315,8 @@ impl<'de> Decoder<'de> {
     pub fn next_item(&mut self, items: &mut Items) -> bool
         ensures same { self.new ≡ self.old }
         ensures within { Within self.new.budget }
-        ensures taken { MatchBool result (items.old.remaining ≡ items.new.remaining + 1) (items.old.remaining ≡ 0) }
-        ensures rest { items.new ≡ record items.old { remaining = items.old.remaining - 1 } }
+        ensures taken { MatchBool result (items_left items.old ≡ items_left items.new + 1) (items_left items.old ≡ 0) }
+        ensures rest { items.new ≡ with_items_left (items_left items.old - 1) items.old }
     {
         let _ = &self.place;
         if items.remaining == 0 {
@@ -328,7 +328,7 @@ impl<'de> Decoder<'de> {
 
     /// How many elements are not yet begun.
     pub fn remaining(&self, items: &Items) -> usize
-        ensures { result ≡ items.now.remaining }
+        ensures { result ≡ items_left items.now }
     {
         let _ = &self.place;
         items.remaining
@@ -336,17 +336,27 @@ impl<'de> Decoder<'de> {
 
     /// The smaller of the number of elements not yet begun and the bytes left in the section.
     pub fn hint(&self, items: &Items) -> usize
-        ensures { result ≡ min items.now.remaining (length self.now.section - self.now.place) }
+        ensures { result ≡ min (items_left items.now) (length self.now.section - self.now.place) }
     {
         items
             .remaining
             .min(self.section.len().saturating_sub(self.place))
     }
 
+    // Goes back to the levels before a container, and to the place after a pointer that led to it.
+    fn leave(&mut self, after: Option<usize>, levels: u16)
+        ensures { self.new ≡ record self.old { place = unwrap_or after self.old.place; levels = levels } }
+    {
+        self.levels = levels;
+        if let Some(place) = after {
+            self.place = place;
+        }
+    }
+
     /// Leaves an array, of which nothing remains, for the place after it, or after the pointer that
     /// led to it.
     pub fn end_array(&mut self, items: Items)
-        requires { items.remaining ≡ 0 }
+        requires { items_left items ≡ 0 }
         ensures { self.new ≡ left_array items self.old }
     {
         let Items {
@@ -354,10 +364,7 @@ impl<'de> Decoder<'de> {
             after,
             levels,
         } = items;
-        self.levels = levels;
-        if let Some(place) = after {
-            self.place = place;
-        }
+        self.leave(after, levels);
     }
 
     fn enter_map(&mut self) -> Result<Entries, Fault>
@@ -407,7 +414,7 @@ impl<'de> Decoder<'de> {
     // The next key, where one is left.
     fn step_key(&mut self, entries: &mut Entries, free: usize) -> Result<Option<&'de [u8]>, Fault>
         ensures key { NextKey (key_past free) self.old self.new entries.old entries.new result }
-        ensures rest { entries.new ≡ record entries.old { remaining = entries.new.remaining } }
+        ensures rest { entries.new ≡ with_pairs_left (pairs_left entries.new) entries.old }
     {
         let _ = &self.place;
         if entries.remaining == 0 {
@@ -421,7 +428,7 @@ impl<'de> Decoder<'de> {
     // The next key, where one is left: a text.
     fn step_text_key(&mut self, entries: &mut Entries) -> Result<Option<&'de str>, Fault>
         ensures key { NextKey key_at self.old self.new entries.old entries.new result }
-        ensures rest { entries.new ≡ record entries.old { remaining = entries.new.remaining } }
+        ensures rest { entries.new ≡ with_pairs_left (pairs_left entries.new) entries.old }
     {
         let _ = &self.place;
         if entries.remaining == 0 {
@@ -440,7 +447,7 @@ impl<'de> Decoder<'de> {
         entries: &mut Entries,
     ) -> DecodeResult<Option<&'de [u8]>>
         ensures key { NextKey name_at self.old self.new entries.old entries.new result }
-        ensures rest { entries.new ≡ record entries.old { remaining = entries.new.remaining } }
+        ensures rest { entries.new ≡ with_pairs_left (pairs_left entries.new) entries.old }
     {
         match self.step_key(entries, FREE_NAME) {
             Ok(key) => Ok(key),
@@ -456,7 +463,7 @@ impl<'de> Decoder<'de> {
         entries: &mut Entries,
     ) -> DecodeResult<Option<&'de [u8]>>
         ensures key { NextKey raw_key_at self.old self.new entries.old entries.new result }
-        ensures rest { entries.new ≡ record entries.old { remaining = entries.new.remaining } }
+        ensures rest { entries.new ≡ with_pairs_left (pairs_left entries.new) entries.old }
     {
         match self.step_key(entries, 0) {
             Ok(key) => Ok(key),
@@ -472,7 +479,7 @@ impl<'de> Decoder<'de> {
         entries: &mut Entries,
     ) -> DecodeResult<Option<&'de str>>
         ensures key { NextKey key_at self.old self.new entries.old entries.new result }
-        ensures rest { entries.new ≡ record entries.old { remaining = entries.new.remaining } }
+        ensures rest { entries.new ≡ with_pairs_left (pairs_left entries.new) entries.old }
     {
         match self.step_text_key(entries) {
             Ok(key) => Ok(key),
@@ -483,7 +490,7 @@ impl<'de> Decoder<'de> {
     /// Leaves a map, of which nothing remains, for the place after it, or after the pointer that led
     /// to it.
     pub fn end_map(&mut self, entries: Entries)
-        requires { entries.remaining ≡ 0 }
+        requires { pairs_left entries ≡ 0 }
         ensures { self.new ≡ left_map entries self.old }
     {
         let Entries {
@@ -491,10 +498,7 @@ impl<'de> Decoder<'de> {
             after,
             levels,
         } = entries;
-        self.levels = levels;
-        if let Some(place) = after {
-            self.place = place;
-        }
+        self.leave(after, levels);
     }
 
     // What stands behind the header at the place.
@@ -685,27 +689,27 @@ fn parts_of(header: Header) -> Option<usize>
 impl Items {
     /// Gives an array up: the levels are those before it, place and charges stay.
     pub fn give_up(self, d: &mut Decoder<'_>)
-        ensures { d.new ≡ record d.old { levels = self.levels } }
+        ensures { d.new ≡ record d.old { levels = levels_before_array self } }
     {
         let Items {
             remaining: _,
             after: _,
             levels,
         } = self;
-        d.levels = levels;
+        d.leave(None, levels);
     }
 }
 
 impl Entries {
     /// Gives a map up: the levels are those before it, place and charges stay.
     pub fn give_up(self, d: &mut Decoder<'_>)
-        ensures { d.new ≡ record d.old { levels = self.levels } }
+        ensures { d.new ≡ record d.old { levels = levels_before_map self } }
     {
         let Entries {
             remaining: _,
             after: _,
             levels,
         } = self;
-        d.levels = levels;
+        d.leave(None, levels);
     }
 }
