@@ -1,5 +1,5 @@
 -- The last place of the marker.
-use Rattle.std.proofs.Common.{◌≡◌, ℕ, ◌+◌, ◌<◌, ◌≤◌, List, length, Option, Some, None, inl, inr, arith}
+use Rattle.std.proofs.Common.{ℕ, List, Option, Some, None, inl, inr, arith}
 use Rattle.std.specs.Option.{MatchOption}
 use Rattle.std.proofs.lemmas.Bool.{cases_lt}
 use Rattle.memchr.specs.Find.{FindsLastNeedle, OccursAt}

@@ -1,6 +1,6 @@
 -- What a file is, by its last marker.
-use Rattle.std.proofs.Common.{◌≡◌, ℕ, ◌+◌, ◌<◌, ◌≤◌, List, length, false, Option, Some, None, arith, sym, ◌∙◌, ap, subst, refl}
-use Rattle.mmdb_format.specs.Error.{Kind, OfDatabase, kind_of, MemoryApart}
+use Rattle.std.proofs.Common.{◌≡◌, ℕ, List, false, Option, Some, None, arith, sym, ◌∙◌, ap, subst}
+use Rattle.mmdb_format.specs.Error.{MemoryApart}
 use Rattle.mmdb_format.specs.declared.error.MaxMindDbError.{MaxMindDbError}
 use Rattle.mmdb_format.specs.declared.error.MaxMindDbError.TheVariants.{InvalidDatabase, Io, Decoding, ResourceLimit, InvalidNetwork, InvalidInput, Memory}
 use Rattle.mmdb_decode.specs.Refusal.{Refuses}

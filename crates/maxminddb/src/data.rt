@@ -7,9 +7,9 @@ ghost use Rattle.maxminddb.specs.Found.{database_asked, offset_found};
 ghost use Rattle.maxminddb.specs.Decoding.{DecodesTo, RefusesToDecode};
 
 use crate::lookup_result::LookupResult;
-use mmdb_format::error::{DecodeResult, MaxMindDbError};
 use mmdb_decode::decode::Decode;
 use mmdb_decode::decoder::Decoder;
+use mmdb_format::error::{DecodeResult, MaxMindDbError};
 use std::alloc::Global;
 use std::convert::AsSlice;
 

@@ -3,8 +3,9 @@ ghost use Rattle.maxminddb.specs.Source.{SourceDecides};
 ghost use Rattle.maxminddb.specs.Laws.{LeavesAreDisjoint, EachAddressHasOneLeaf, EachAddressIsAnswered, AnswersAreUnique, SameLeafSameAnswer, NetworkHoldsAddress, Ipv4WithoutSubtree};
 ghost use Rattle.maxminddb.specs.ListingLaws.{RangeWalkLists, ListingsAreUnique, WholeWalkListsAll, ListedAgrees};
 
-pub use mmdb_decode::laws::{
-    answer_is_within_limits, same_offset_same_result, skipping_is_passing, values_bounded,
+pub use mmdb_value::laws::{
+    answer_is_whole_value, answer_is_within_limits, one_value_stands, same_offset_same_result,
+    skipping_is_passing, value_is_what_stands, values_bounded,
 };
 
 /// Leaves are disjoint blocks, and each full address begins with exactly one.

@@ -44,7 +44,9 @@ fn refusal(text: String) -> MaxMindDbError
 fn too_late(alloc: Global, epoch: u64) -> MaxMindDbError
     ensures { IsOfOrMemory OfDatabase result }
 {
-    let text: Result<String, AllocError> = format!(in alloc; "build_epoch - Unix timestamp is too large to represent as SystemTime: {epoch}");
+    let text: Result<String, AllocError> = format!(in alloc;
+        "build_epoch - Unix timestamp is too large to represent as SystemTime: {epoch}"
+    );
     match text {
         Ok(text) => refusal(text),
         Err(_) => MaxMindDbError::Memory,

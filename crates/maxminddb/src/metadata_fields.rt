@@ -4,10 +4,10 @@ ghost use Rattle.maxminddb.specs.Metadata.{MetadataDatum, metadata_datum};
 ghost use Rattle.maxminddb.specs.MetadataShape.{MetadataFields as SpecFields, no_metadata_fields, metadata_fields, whole_metadata, metadata_at};
 
 use crate::metadata::Metadata;
-use mmdb_format::error::DecodeResult;
 use mmdb_decode::decode::Decode;
 use mmdb_decode::decoder::Decoder;
 use mmdb_decode::record::{Record, missing_field, named, read_once, read_record};
+use mmdb_format::error::DecodeResult;
 use std::alloc::Global;
 use std::collections::BTreeMap;
 
@@ -31,15 +31,16 @@ impl<'de> Record<'de> for MetadataFields {
     ghost Datum = { SpecFields };
 
     ghost datum = { λ v. record {
-        binary_format_major_version = v.binary_format_major_version;
-        binary_format_minor_version = v.binary_format_minor_version;
-        build_epoch = v.build_epoch;
-        database_type = option_map string_bytes v.database_type;
-        description = option_map (λ m. map (λ e. (string_bytes e.0, string_bytes e.1)) m.entries) v.description;
-        ip_version = v.ip_version;
-        languages = option_map (λ x. map string_bytes x.items) v.languages;
-        node_count = v.node_count;
-        record_size = v.record_size } };
+      binary_format_major_version = v.binary_format_major_version;
+      binary_format_minor_version = v.binary_format_minor_version;
+      build_epoch = v.build_epoch;
+      database_type = option_map string_bytes v.database_type;
+      description = option_map (λ m. map (λ e. (string_bytes e.0, string_bytes e.1)) m.entries) v.description;
+      ip_version = v.ip_version;
+      languages = option_map (λ x. map string_bytes x.items) v.languages;
+      node_count = v.node_count;
+      record_size = v.record_size;
+    } };
 
     ghost none = { no_metadata_fields };
 
@@ -75,9 +76,19 @@ impl<'de> Record<'de> for MetadataFields {
         d: &mut Decoder<'de>,
     ) -> DecodeResult<()> {
         if named(name, "binary_format_major_version") {
-            read_once(alloc, d, "binary_format_major_version", &mut self.binary_format_major_version)
+            read_once(
+                alloc,
+                d,
+                "binary_format_major_version",
+                &mut self.binary_format_major_version,
+            )
         } else if named(name, "binary_format_minor_version") {
-            read_once(alloc, d, "binary_format_minor_version", &mut self.binary_format_minor_version)
+            read_once(
+                alloc,
+                d,
+                "binary_format_minor_version",
+                &mut self.binary_format_minor_version,
+            )
         } else if named(name, "build_epoch") {
             read_once(alloc, d, "build_epoch", &mut self.build_epoch)
         } else if named(name, "database_type") {

@@ -8,9 +8,9 @@ ghost use Rattle.maxminddb.specs.Source.{metadata_read, IsDatabaseOf, IsNoDataba
 use crate::marker::{MARKER, find_marker};
 use crate::metadata::Metadata;
 use crate::reader::Reader;
+use mmdb_decode::fuzzing;
 use mmdb_format::error::{DecodeResult, MaxMindDbError};
 use mmdb_format::message::{Message, Text};
-use mmdb_decode::fuzzing;
 use std::alloc::Global;
 use std::convert::AsSlice;
 use std::fs::File;
@@ -45,9 +45,7 @@ fn read_whole<R: Read>(alloc: Global, file: &mut R) -> Result<Vec<u8>, MaxMindDb
         }
         bytes.extend_from_slice(&chunk[..count])?;
     }
-    Err(MaxMindDbError::Io(io::Error::from(
-        io::ErrorKind::FileTooLarge,
-    )))
+    Err(MaxMindDbError::Io(io::Error::from(io::ErrorKind::FileTooLarge)))
 }
 
 impl<S: AsSlice<u8> + Drop> Reader<S> {

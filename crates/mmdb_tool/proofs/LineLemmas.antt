@@ -1,5 +1,5 @@
 -- The lines of networks and of leaves.
-use Rattle.std.proofs.Common.{◌≡◌, ℕ, Bool, true, false, List, ◌++◌, length, drop, Option, codes, ap, sym, ◌∙◌, subst, refl}
+use Rattle.std.proofs.Common.{◌≡◌, ℕ, Bool, List, ◌++◌, length, drop, Option, codes, ap, sym, ◌∙◌, subst}
 use Rattle.std.proofs.Math.Seq.{drop-append_seam}
 use Rattle.mmdb_net.specs.declared.network.IpNetwork.{IpNetwork}
 use Rattle.mmdb_net.specs.declared.network.IpNetwork.TheVariants.{V4, V6}

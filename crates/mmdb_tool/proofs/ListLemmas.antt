@@ -11,7 +11,7 @@ use Rattle.maxminddb.specs.Shown.{block_in}
 use Rattle.maxminddb.proofs.ListingLemmas.{range_walk_lists}
 use Rattle.mmdb_tool.specs.Lines.{line_of, lines_of}
 use Rattle.mmdb_tool.specs.Putting.{AppendsFront}
-use Rattle.mmdb_tool.specs.ListText.{WritesList, BeginsList}
+use Rattle.mmdb_tool.specs.ListText.{BeginsList}
 
 lines_of-cons : (db : Database) (i : Item) (rest : List Item) → lines_of db (i ∷ rest) ≡ line_of db i ++ lines_of db rest
 unfolding lines_of

@@ -1,10 +1,10 @@
 -- What a list writes to a sink.
-use Rattle.std.specs.Prelude.{◌≡◌, ◌⊎◌, ◌++◌, ℕ, List, Option, Result, Ok, Err}
+use Rattle.std.specs.Prelude.{◌≡◌, ◌⊎◌, ℕ, List, Option, Result, Ok, Err}
 use Rattle.std.specs.Io.KnownBytes.{Appends}
 use Rattle.mmdb_format.specs.Error.{OfInput, OfMemory, kind_of}
 use Rattle.mmdb_net.specs.declared.network.IpNetwork.{IpNetwork}
 use Rattle.maxminddb.specs.File.{Database}
-use Rattle.maxminddb.specs.Items.{Item, items_of}
+use Rattle.maxminddb.specs.Items.{items_of}
 use Rattle.maxminddb.specs.Listing.{Listed, IsListing}
 use Rattle.maxminddb.specs.Shown.{block_in}
 use Rattle.maxminddb.specs.declared.options.WithinOptions.{WithinOptions}

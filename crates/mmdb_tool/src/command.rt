@@ -3,17 +3,23 @@ use maxminddb::{IpNetwork, WithinOptions};
 use std::net::IpAddr;
 
 /// The usage line.
-pub(crate) const USAGE: &str = "usage: mmdb_tool lookup FILE ADDR | list FILE RANGE [--aliases] [--empty] [--skip-empty] | verify FILE\n";
+pub(crate) const USAGE: &str =
+    "usage: mmdb_tool lookup FILE ADDR | list FILE RANGE [--aliases] [--empty] [--skip-empty] | verify FILE\n";
 
 const ALIASES: &str = "--aliases";
+
 const EMPTY: &str = "--empty";
+
 const SKIP_EMPTY: &str = "--skip-empty";
 
 /// What the words ask for.
 #[derive(Drop)]
 pub(crate) enum Command<'a> {
     /// The line of an address.
-    Lookup { file: &'a str, address: IpAddr },
+    Lookup {
+        file: &'a str,
+        address: IpAddr,
+    },
     /// The lines of a range.
     List {
         file: &'a str,

@@ -16,8 +16,11 @@ use std::process::Abort;
 use std::test::Fail;
 
 const WHOLE: &str = "0.0.0.0/0";
+
 const LEAF: &str = "128.0.0.0/1 0\n";
+
 const BOTH: &str = "0.0.0.0/1 -\n128.0.0.0/1 0\n";
+
 const ALIAS: &str = "c000:0000:0000:0000:0000:0000:0000:0000/2 0\n";
 
 // Asserts what `list` writes of a file for each range and its options.
@@ -55,7 +58,12 @@ fn lists_of_small_files(rt: HostRuntime) -> Result<(), Fail> {
         ],
     )?;
     let fault = base_with_node(alloc, b"\x00\x00\x10\x00\x00\x11")?;
-    assert_lists(&rt, alloc, fault.as_slice(), &[(&[WHOLE], "fault\n128.0.0.0/1 0\n")])?;
+    assert_lists(
+        &rt,
+        alloc,
+        fault.as_slice(),
+        &[(&[WHOLE], "fault\n128.0.0.0/1 0\n")],
+    )?;
     assert_lists(
         &rt,
         alloc,
@@ -98,7 +106,10 @@ fn ranges_in_aliases(rt: HostRuntime) -> Result<(), Fail> {
         bytes.as_slice(),
         &[
             (&["::/0"], LEAF),
-            (&["::/0", "--aliases"], "128.0.0.0/1 0\nc000:0000:0000:0000:0000:0000:0000:0000/2 0\n"),
+            (
+                &["::/0", "--aliases"],
+                "128.0.0.0/1 0\nc000:0000:0000:0000:0000:0000:0000:0000/2 0\n",
+            ),
             (&[WHOLE], LEAF),
             (&["::/96"], LEAF),
             (&["200.0.0.0/8"], LEAF),
@@ -123,7 +134,9 @@ fn push_empty_line(alloc: Global, text: &mut String, place: u32) -> Result<(), A
 {
     let [a, b, c, d, e, f, g, h] = Ipv6Addr::from_bits(1u128 << place).segments();
     let prefix = 128 - place;
-    let line = format!(in alloc; "{a:04x}:{b:04x}:{c:04x}:{d:04x}:{e:04x}:{f:04x}:{g:04x}:{h:04x}/{prefix} -\n")?;
+    let line = format!(in alloc;
+        "{a:04x}:{b:04x}:{c:04x}:{d:04x}:{e:04x}:{f:04x}:{g:04x}:{h:04x}/{prefix} -\n"
+    )?;
     text.push_str(line.as_str())
 }
 
@@ -216,7 +229,13 @@ fn lists_to_sinks_that_end(rt: HostRuntime) -> Result<(), Fail> {
         (6, End::TakesNone, Fault::Stalled, "128.0"),
     ] {
         let mut sink = OneByte::new(Vec::with_capacity(alloc, 16)?, ends_at, end);
-        let done = list_to(alloc, &reader, WHOLE.parse()?, WithinOptions::default(), &mut sink);
+        let done = list_to(
+            alloc,
+            &reader,
+            WHOLE.parse()?,
+            WithinOptions::default(),
+            &mut sink,
+        );
         assert_eq!(rt; sink.bytes(), wrote.as_bytes());
         assert_eq!(rt; sink.fault(), fault);
         let told = match done {
@@ -228,8 +247,19 @@ fn lists_to_sinks_that_end(rt: HostRuntime) -> Result<(), Fail> {
         assert_eq!(rt; told, fault);
     }
     let mut sink = OneByte::new(Vec::with_capacity(alloc, 16)?, 100, End::Refuses);
-    let refused = list_to(alloc, &reader, "::/0".parse()?, WithinOptions::default(), &mut sink);
-    assert!(rt; matches!(&refused, Err(ListError::Database(MaxMindDbError::InvalidInput { .. }))));
+    let refused = list_to(
+        alloc,
+        &reader,
+        "::/0".parse()?,
+        WithinOptions::default(),
+        &mut sink,
+    );
+    assert!(rt;
+        matches!(
+            &refused,
+            Err(ListError::Database(MaxMindDbError::InvalidInput { .. }))
+        )
+    );
     assert_eq!(rt; sink.bytes(), b"".as_slice());
     Ok(())
 }

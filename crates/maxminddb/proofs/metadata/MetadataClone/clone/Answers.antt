@@ -1,5 +1,4 @@
-use Rattle.std.proofs.Common.{◌≡◌, ℕ, List, refl, string_bytes, ap, ◌∙◌}
-use Rattle.maxminddb.specs.declared.metadata.Metadata.{Metadata}
+use Rattle.std.proofs.Common.{◌≡◌, ℕ, List, string_bytes, ap, ◌∙◌}
 use Rattle.maxminddb.specs.Metadata.{MetadataDatum, metadata_datum}
 use Rattle.maxminddb.proofs.Clones.{map-clones, map-pair_clones}
 use Rattle.maxminddb.proofs.metadata.MetadataClone.clone.Goals as goal

@@ -1,9 +1,6 @@
-use Rattle.std.proofs.Common.{◌≡◌, ◌+◌, None}
+use Rattle.std.proofs.Common.{◌+◌}
 use Rattle.std.proofs.lemmas.List.{take_rest}
 use Rattle.std.proofs.lemmas.Result.{err_from_is_err_and, IfErr-weaker}
-use Rattle.mmdb_format.specs.Error.{OfDatabase, kind_of, MemoryApart}
-use Rattle.maxminddb.specs.File.{database, IsSupported, HasRoom}
-use Rattle.maxminddb.specs.Source.{metadata_read, IsNoDatabase}
 use Rattle.maxminddb.proofs.Sources.{apart, apart_from_reading, no_marker, no_metadata, not_accepted}
 use Rattle.maxminddb.specs.Metadata.{metadata_datum}
 use Rattle.maxminddb.proofs.reader.Reader.from_source.Goals as goal
