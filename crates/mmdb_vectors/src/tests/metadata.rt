@@ -1,12 +1,16 @@
 use super::answers::{answer, high, low, refusal};
 use crate::builder::{BASE, BASE_DATA, BASE_NODE, Fields, base_file, file};
-use maxminddb::{MaxMindDbError, Reader};
+use maxminddb::{MaxMindDbError, Metadata, Reader};
+use std::process::Abort;
 use std::test::Fail;
 
 const NO_MARKER: &str = "invalid database: could not find MaxMind DB metadata in file";
 
 const NO_ROOM: &str =
     "invalid database: the MaxMind DB file's search tree extends beyond the metadata section";
+
+const TOO_LATE: &str =
+    "invalid database: build_epoch - Unix timestamp is too large to represent as SystemTime: 9223372036854775808";
 
 const NO_LOCATION: &str =
     "invalid database: the MaxMind DB file's data pointer resolves to an invalid location";
@@ -169,11 +173,7 @@ fn earlier_fault_is_named(rt: HostRuntime) -> Result<(), Fail> {
             count_first,
             "invalid database: node_count - Expected: positive integer Actual: 0",
         ),
-        (
-            epoch,
-            epoch_first,
-            "invalid database: build_epoch - Unix timestamp is too large to represent as SystemTime: 9223372036854775808",
-        ),
+        (epoch, epoch_first, TOO_LATE),
         (
             size,
             size_first,
@@ -234,50 +234,52 @@ fn metadata_fields(rt: HostRuntime) -> Result<(), Fail> {
     Ok(())
 }
 
+// Asserts what the base file says of itself.
+fn assert_base_metadata(rt: &impl Abort, metadata: &Metadata) {
+    let versions = (
+        metadata.binary_format_major_version,
+        metadata.binary_format_minor_version,
+    );
+    assert_eq!(rt; versions, (2, 0));
+    assert_eq!(rt; metadata.ip_version, 4);
+    assert_eq!(rt; metadata.node_count, 1);
+    assert_eq!(rt; metadata.record_size, 24);
+    assert_eq!(rt; metadata.build_epoch, 1);
+    assert_eq!(rt; metadata.database_type.as_str(), "T");
+    assert_eq!(rt; metadata.languages.len(), 0);
+    assert_eq!(rt; metadata.description.len(), 1);
+}
+
 #[test]
 fn build_epoch_at_the_limit(rt: HostRuntime) -> Result<(), Fail> {
     let alloc = rt.alloc();
-    let fields = Fields {
+    let base = Reader::from_source(alloc, base_file(alloc)?)?;
+    assert_base_metadata(&rt, base.metadata());
+    assert_eq!(rt; base.metadata().build_time(alloc)?, 1);
+    let too_large = Fields {
+        build_epoch: b"\x08\x02\x80\0\0\0\0\0\0\0",
+        ..BASE
+    };
+    let refused = file(alloc, BASE_NODE, BASE_DATA, too_large)?;
+    assert_eq!(rt;
+        answer(alloc, refused.as_slice(), low())?.as_str(),
+        TOO_LATE
+    );
+    let largest = Fields {
         build_epoch: b"\x08\x02\x7F\xFF\xFF\xFF\xFF\xFF\xFF\xFF",
         ..BASE
     };
-    let file = file(alloc, BASE_NODE, BASE_DATA, fields)?;
-    let reader = Reader::from_source(alloc, file)?;
-    assert_eq!(rt;
-        reader.metadata().build_time(alloc)?,
-        9_223_372_036_854_775_807
-    );
+    let reader = Reader::from_source(alloc, file(alloc, BASE_NODE, BASE_DATA, largest)?)?;
+    let time = reader.metadata().build_time(alloc)?;
+    assert_eq!(rt; time, 9_223_372_036_854_775_807);
     let mut later = reader.metadata().clone()?;
     assert!(rt; later == *reader.metadata());
     later.build_epoch = 9_223_372_036_854_775_808;
     assert!(rt; later != *reader.metadata());
-    let refused = match later.build_time(alloc) {
+    let told = match later.build_time(alloc) {
         Ok(_) => String::new(alloc),
         Err(error) => refusal(alloc, &error)?,
     };
-    assert_eq!(rt;
-        refused.as_str(),
-        "invalid database: build_epoch - Unix timestamp is too large to represent as SystemTime: 9223372036854775808"
-    );
-    let base = Reader::from_source(alloc, base_file(alloc)?)?;
-    let metadata = base.metadata();
-    assert_eq!(rt; metadata.build_time(alloc)?, 1);
-    assert_eq!(rt;
-        (
-            metadata.binary_format_major_version,
-            metadata.binary_format_minor_version
-        ),
-        (2, 0)
-    );
-    assert_eq!(rt;
-        (
-            metadata.ip_version,
-            metadata.node_count,
-            metadata.record_size
-        ),
-        (4, 1, 24)
-    );
-    assert_eq!(rt; metadata.languages.len(), 0);
-    assert_eq!(rt; metadata.description.len(), 1);
+    assert_eq!(rt; told.as_str(), TOO_LATE);
     Ok(())
 }
