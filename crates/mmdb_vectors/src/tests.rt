@@ -8,5 +8,6 @@ mod lookups;
 mod memory;
 mod metadata;
 mod programs;
+mod steps;
 mod typed;
 mod values;
