@@ -10,6 +10,9 @@ pub mod laws;
 pub mod raw_value;
 pub mod shared;
 
+#[cfg(test)]
+mod tests;
+
 pub use any_value::Value;
 pub use mmdb_decode::decode::{Decode, OwnedBytes};
 pub use mmdb_decode::decoder::Decoder;
