@@ -9,7 +9,6 @@ pub mod fuzzing;
 pub mod laws;
 pub mod raw_value;
 pub mod shared;
-
 #[cfg(test)]
 mod tests;
 
