@@ -1,6 +1,7 @@
 //! The values of lookups' results.
-ghost use Rattle.std.specs.Prelude.{◌≡◌, true, Some, IfOk, IfErr};
+ghost use Rattle.std.specs.Prelude.{◌≡◌, ℕ, true, Some, IfOk, IfErr, IfSome};
 ghost use Rattle.mmdb_format.specs.Error.{OfMemory, kind_of};
+ghost use Rattle.mmdb_decode.specs.State.{State, begin};
 ghost use Rattle.mmdb_decode.specs.Refusal.{Refuses, answer};
 ghost use Rattle.maxminddb.specs.File.{data_section};
 ghost use Rattle.maxminddb.specs.Found.{database_asked, offset_found};
@@ -21,6 +22,7 @@ fn decode_at<'de, T: Decode<'de>>(
 ) -> DecodeResult<T>
     ensures ok { IfOk result (λ v. T.exact ≡ true → answer T.starts T.meaning section.now place ≡ Some (T.datum v)) }
     ensures err { IfErr result (λ e. T.exact ≡ true → Refuses T.free e (answer T.starts T.meaning section.now place)) }
+    ensures told { IfOk result (λ v. (after : State) × T.told (begin section.now place) v after) }
 {
     let mut d = Decoder::new(section, place);
     T::decode(alloc, &mut d)
@@ -44,10 +46,12 @@ impl<'a, S: AsSlice<u8> + Drop> LookupResult<'a, S> {
     ///
     /// Refused, memory apart, exactly where no value of the type's shape stands at the offset within the
     /// limits: `InvalidDatabase` where the bytes are no value, `Decoding` where the value is of another
-    /// shape, `ResourceLimit` over a limit.
+    /// shape, `ResourceLimit` over a limit. Of a type whose meaning is not exact its own relation is known,
+    /// and of Ok alone.
     pub fn decode<T: Decode<'a>>(&self, alloc: Global) -> Result<Option<T>, MaxMindDbError>
         ensures ok { IfOk result (λ value. T.exact ≡ true → DecodesTo T.datum (answer T.starts T.meaning (data_section (database_asked self.now))) (offset_found self.now) value) }
         ensures err { IfErr result (λ e. T.exact ≡ true → RefusesToDecode T.free e (answer T.starts T.meaning (data_section (database_asked self.now))) (offset_found self.now)) }
+        ensures told { IfOk result (λ value. IfSome value (λ v. (place : ℕ) × (after : State) × (offset_found self.now ≡ Some place) × T.told (begin (data_section (database_asked self.now)) place) v after)) }
     {
         let Some(offset) = self.offset else {
             return Ok(None);

@@ -35,6 +35,10 @@ pub record State : Type 0 where
   pub levels : ℕ
   pub budget : Option Charges
 
+-- a decoder at the start: at this place, below no level, under no budget
+abbrev pub begin : List ℕ → ℕ → State
+begin section place = record { section = section; place = place; levels = 0; budget = None }
+
 -- the decoder after a reading that left a budget
 abbrev pub settled : {A : Type 0} → State → Reading A → Option (Option Charges) → Option (A × State)
 settled σ r None = None

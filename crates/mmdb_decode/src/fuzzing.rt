@@ -1,7 +1,7 @@
 //! Decoding from the beginning of a section.
 
 ghost use Rattle.std.specs.Prelude.{◌≡◌, ℕ, List, Option, Some, None, Bool, true, false, IfOk, IfErr, option_map};
-ghost use Rattle.mmdb_decode.specs.State.{State, decoded};
+ghost use Rattle.mmdb_decode.specs.State.{State, begin};
 ghost use Rattle.mmdb_decode.specs.Refusal.{Refuses, answer};
 
 use crate::decode::Decode;
@@ -9,9 +9,14 @@ use crate::decoder::Decoder;
 use mmdb_format::error::DecodeResult;
 use std::alloc::Global;
 
+/// The value of a type at place 0 of a section.
+///
+/// It succeeds, memory apart, exactly where the type's meaning gives a value there, below no level and
+/// within the limits. Of a type whose meaning is not exact its own relation is known, and of Ok alone.
 pub fn decode<'de, T: Decode<'de>>(alloc: Global, section: &'de [u8]) -> DecodeResult<T>
     ensures ok { IfOk result (λ v. T.exact ≡ true → answer T.starts T.meaning section.now 0 ≡ Some (T.datum v)) }
     ensures err { IfErr result (λ e. T.exact ≡ true → Refuses T.free e (answer T.starts T.meaning section.now 0)) }
+    ensures told { IfOk result (λ v. (after : State) × T.told (begin section.now 0) v after) }
 {
     let mut d = Decoder::new(section, 0);
     T::decode(alloc, &mut d)
