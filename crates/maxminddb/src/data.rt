@@ -1,6 +1,5 @@
 //! The values of lookups' results.
-ghost use Rattle.std.specs.Prelude.{◌≡◌, ℕ, true, Some, IfOk, IfErr, IfSome};
-ghost use Rattle.mmdb_format.specs.Error.{OfMemory, kind_of};
+ghost use Rattle.std.specs.Prelude.{◌≡◌, ℕ, true, Some, IfOk, IfErr, IfSome, OnErr, IsSome, is_some};
 ghost use Rattle.mmdb_decode.specs.State.{State, begin};
 ghost use Rattle.mmdb_decode.specs.Refusal.{Refuses, answer};
 ghost use Rattle.maxminddb.specs.File.{data_section};
@@ -8,6 +7,7 @@ ghost use Rattle.maxminddb.specs.Found.{database_asked, offset_found};
 ghost use Rattle.maxminddb.specs.Decoding.{DecodesTo, RefusesToDecode};
 
 use crate::lookup_result::LookupResult;
+use crate::offsets::counted_from_start;
 use mmdb_decode::decode::Decode;
 use mmdb_decode::decoder::Decoder;
 use mmdb_format::error::{DecodeResult, MaxMindDbError};
@@ -28,21 +28,8 @@ fn decode_at<'de, T: Decode<'de>>(
     T::decode(alloc, &mut d)
 }
 
-// The error with the offset of an `InvalidDatabase` counted from the file's start.
-fn counted_from_start(error: MaxMindDbError, section_start: usize) -> MaxMindDbError
-    ensures { kind_of result ≡ kind_of error }
-{
-    match error {
-        MaxMindDbError::InvalidDatabase { message, offset } => MaxMindDbError::InvalidDatabase {
-            message,
-            offset: offset.and_then(|offset| offset.checked_add(section_start)),
-        },
-        other => other,
-    }
-}
-
 impl<'a, S: AsSlice<u8> + Drop> LookupResult<'a, S> {
-    /// The value of the network, or none where it has no data.
+    /// The value of the network, or none exactly where it has no data; only data can be refused.
     ///
     /// Refused, memory apart, exactly where no value of the type's shape stands at the offset within the
     /// limits: `InvalidDatabase` where the bytes are no value, `Decoding` where the value is of another
@@ -51,6 +38,8 @@ impl<'a, S: AsSlice<u8> + Drop> LookupResult<'a, S> {
     pub fn decode<T: Decode<'a>>(&self, alloc: Global) -> Result<Option<T>, MaxMindDbError>
         ensures ok { IfOk result (λ value. T.exact ≡ true → DecodesTo T.datum (answer T.starts T.meaning (data_section (database_asked self.now))) (offset_found self.now) value) }
         ensures err { IfErr result (λ e. T.exact ≡ true → RefusesToDecode T.free e (answer T.starts T.meaning (data_section (database_asked self.now))) (offset_found self.now)) }
+        ensures none { IfOk result (λ value. is_some value ≡ is_some (offset_found self.now)) }
+        ensures of_data { OnErr result (IsSome (offset_found self.now)) }
         ensures told { IfOk result (λ value. IfSome value (λ v. (place : ℕ) × (after : State) × (offset_found self.now ≡ Some place) × T.told (begin (data_section (database_asked self.now)) place) v after)) }
     {
         let Some(offset) = self.offset else {

@@ -7,6 +7,7 @@ mod lookup_result;
 mod marker;
 pub mod metadata;
 mod metadata_fields;
+mod offsets;
 mod options;
 mod positions;
 pub mod reader;

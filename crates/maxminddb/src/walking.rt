@@ -1,5 +1,5 @@
 //! The networks of a database, one after another.
-ghost use Rattle.std.specs.Prelude.{◌≡◌, ◌≤◌, ◌<◌, ◌⊎◌, ◌↔◌, [], IfOk, IfErr, MatchOption, Some, option_map, take};
+ghost use Rattle.std.specs.Prelude.{◌≡◌, ◌+◌, ◌≤◌, ◌<◌, ◌⊎◌, ◌↔◌, [], IfOk, IfErr, MatchOption, Some, option_map, take};
 ghost use Rattle.std.specs.Result.{result_ok};
 ghost use Rattle.std.specs.Vec.{vec_capacity};
 ghost use Rattle.mmdb_format.specs.Error.{OfDatabase, OfInput, OfMemory, kind_of, IsRefusedAs};
@@ -9,6 +9,7 @@ ghost use Rattle.maxminddb.specs.File.{width};
 ghost use Rattle.maxminddb.specs.Positions.{IsStack};
 
 use crate::lookup_result::LookupResult;
+use crate::offsets::counted_from_start;
 use crate::options::WithinOptions;
 use crate::positions::{Position, ROOT};
 use crate::reader::Reader;
@@ -110,7 +111,7 @@ impl<S: AsSlice<u8> + Drop> Reader<S> {
         match empty_container(self.data_section(), place) {
             Ok(true) => None,
             Ok(false) => Some(Ok(offset)),
-            Err(error) => Some(Err(error)),
+            Err(error) => Some(Err(counted_from_start(error, self.data_start()))),
         }
     }
 
@@ -252,6 +253,7 @@ impl<S: AsSlice<u8> + Drop> Reader<S> {
         ensures listing { IfOk result (λ w. ListsRange w options []) }
         ensures listed { IfOk result (λ w. items_to_come w ≡ items_of self.now (listed self.now options [])) }
         ensures database { IfOk result (λ w. database_walked w ≡ self.now) }
+        ensures reserved { IfOk result (λ w. positions_reserved w ≡ width self.now + 1) }
         ensures no_other { IfErr result (λ e. kind_of e ≡ OfMemory) }
     {
         let whole = if self.width() == 32 {

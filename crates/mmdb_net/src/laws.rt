@@ -11,7 +11,7 @@ use crate::network::{IpNetwork, Ipv4Network, Ipv6Network};
 
 /// Networks are equal exactly where their addresses, as they were given, and their prefixes are; errors
 /// are equal where they are the same one.
-pub fn equal_where_same()
+pub fn networks_equal_where_same()
     ensures ipv4 { (a b : SpecIpv4Network) → IsTrue (⟦<Ipv4Network as PartialEq>⟧.eq a b) ↔ ((ipv4_ip_of a ≡ ipv4_ip_of b) × (ipv4_prefix_of a ≡ ipv4_prefix_of b)) }
     ensures ipv6 { (a b : SpecIpv6Network) → IsTrue (⟦<Ipv6Network as PartialEq>⟧.eq a b) ↔ ((ipv6_ip_of a ≡ ipv6_ip_of b) × (ipv6_prefix_of a ≡ ipv6_prefix_of b)) }
     ensures either { (a b : SpecIpNetwork) → IsTrue (⟦<IpNetwork as PartialEq>⟧.eq a b) ↔ ((ip_of a ≡ ip_of b) × (prefix_of a ≡ prefix_of b)) }

@@ -32,6 +32,7 @@ loop-position-preserved-then-hides g c =
     record {
       items = ap (items_of db) (sym (popped ∙ same)) ∙ c.loop-position.invariant.items;
       reader = c.loop-position.invariant.reader;
+      reserved = c.in-Some.ensures.capacity ∙ c.loop-position.invariant.reserved;
     }
 
 pub invariant_of-self-then-has_halves : goal.invariant_of-self-then-has_halves
@@ -64,6 +65,7 @@ loop-position-preserved-then-has_halves g c =
     record {
       items = ap (items_of db) (pushed ∙ sym same ∙ sym popped) ∙ c.loop-position.invariant.items;
       reader = c.loop-position.invariant.reader;
+      reserved = c.push_reserved-then-has_halves.ensures.capacity ∙ c.push_reserved.ensures.capacity ∙ c.in-Some.ensures.capacity ∙ c.loop-position.invariant.reserved;
     }
 
 -- what the stack held gives the leaf's own item, and what is left
@@ -82,7 +84,7 @@ first_item g c =
 pub returns-in-Some-finding-clause-steps : goal.returns-in-Some-finding-clause-steps
 unfolding items_to_come
 returns-in-Some-finding-clause-steps g c =
-    (first_item g c, (c.loop-position.invariant.reader, rw (← c.loop-position.invariant.reader) c.item.ensures.database))
+    (first_item g c, (c.loop-position.invariant.reader, rw (← c.loop-position.invariant.reader) c.item.ensures.database, c.in-Some.ensures.capacity ∙ c.loop-position.invariant.reserved))
 
 pub returns-in-Some-finding-clause-goes : goal.returns-in-Some-finding-clause-goes
 unfolding items_to_come
@@ -106,6 +108,7 @@ loop-position-preserved g c =
     record {
       items = ap (items_of db) (sym (popped ∙ same)) ∙ c.loop-position.invariant.items;
       reader = c.loop-position.invariant.reader;
+      reserved = c.in-Some.ensures.capacity ∙ c.loop-position.invariant.reserved;
     }
 
 pub returns-clause-steps : goal.returns-clause-steps
@@ -115,4 +118,4 @@ returns-clause-steps g c =
     let options = c.loop-position.self.options in
     let old : c.loop-position.self.stack.items ≡ [] = nil_from_length c.loop-position.self.stack.items (omega (arith, c.in_default.ensures.cases.0, c.loop-position.self.stack.ok.0)) in
     let new : c.pop.new.self.items ≡ [] = nil_from_length c.pop.new.self.items (omega (arith, c.in_default.ensures.cases.1, c.pop.new.self.ok.0)) in
-    ((sym c.loop-position.invariant.items ∙ ap (λ (s : List Position). items_of db (listed_of_stack db options s)) old ∙ nothing db options, ap (λ (s : List Position). items_of db (listed_of_stack db options s)) new ∙ nothing db options), (c.loop-position.invariant.reader, tt))
+    ((sym c.loop-position.invariant.items ∙ ap (λ (s : List Position). items_of db (listed_of_stack db options s)) old ∙ nothing db options, ap (λ (s : List Position). items_of db (listed_of_stack db options s)) new ∙ nothing db options), (c.loop-position.invariant.reader, tt, c.pop.ensures.capacity ∙ c.loop-position.invariant.reserved))

@@ -1,4 +1,5 @@
 use Rattle.std.proofs.Common.{◌≡◌}
+use Rattle.std.specs.Vec.{vec_capacity}
 use Rattle.maxminddb.specs.File.{width}
 use Rattle.maxminddb.specs.Positions.{positions_left}
 use Rattle.maxminddb.specs.Enumeration.{items_to_come}
@@ -8,6 +9,7 @@ abbrev pub invariant-loop-position : goal.invariant-loop-position
 invariant-loop-position g l = record {
   items : items_to_come l.self ≡ items_to_come l.fn.self;
   reader : l.self.reader.now ≡ l.fn.self.reader.now;
+  reserved : vec_capacity l.self.stack ≡ vec_capacity l.fn.self.stack;
 }
 
 abbrev pub decreases-loop-position : goal.decreases-loop-position
