@@ -15,3 +15,5 @@ pub mod ItemLemmas
 pub mod FindingLemmas
 pub mod AliasLemmas
 pub mod ListingLemmas
+pub mod AgreementLemmas
+pub mod EqualityLemmas

@@ -22,3 +22,4 @@ pub mod Ranges
 pub mod Enumeration
 pub mod ListingLaws
 pub mod Findings
+pub mod Agreement

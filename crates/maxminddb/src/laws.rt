@@ -1,8 +1,15 @@
 //! Laws of leaves and answers, each the contract of a function that does nothing.
+ghost use Rattle.std.specs.Prelude.{◌≡◌, ◌↔◌, IsTrue};
 ghost use Rattle.maxminddb.specs.Source.{SourceDecides};
+ghost use Rattle.maxminddb.specs.Metadata.{metadata_datum};
+ghost use Rattle.maxminddb.specs.declared.metadata.Metadata.{Metadata as SpecMetadata};
+ghost use Rattle.maxminddb.specs.declared.options.WithinOptions.{WithinOptions as SpecOptions};
 ghost use Rattle.maxminddb.specs.Laws.{LeavesAreDisjoint, EachAddressHasOneLeaf, EachAddressIsAnswered, AnswersAreUnique, SameLeafSameAnswer, NetworkHoldsAddress, Ipv4WithoutSubtree};
+ghost use Rattle.maxminddb.specs.Agreement.{ItemsAgree};
 ghost use Rattle.maxminddb.specs.ListingLaws.{RangeWalkLists, ListingsAreUnique, WholeWalkListsAll, ListedAgrees};
 
+use crate::metadata::Metadata;
+use crate::options::WithinOptions;
 pub use mmdb_value::laws::{
     answer_is_whole_value, answer_is_within_limits, one_value_stands, same_offset_same_result,
     skipping_is_passing, value_is_what_stands, values_bounded,
@@ -49,4 +56,18 @@ pub fn whole_walk()
 /// What is listed of a leaf agrees with the answer for each address in it.
 pub fn listed_agrees()
     ensures { ListedAgrees }
+{}
+
+/// An item of a list that is no error agrees with every lookup inside its network: each address for which
+/// `contains` of the item's `network` is true has the item's leaf, with its offset or without data, for its
+/// one answer.
+pub fn items_agree_with_lookups()
+    ensures { ItemsAgree }
+{}
+
+/// Options are equal exactly where they are the same, and metadata exactly where all nine fields say the
+/// same.
+pub fn metadata_equal_where_same()
+    ensures options { (a b : SpecOptions) → IsTrue (⟦<WithinOptions as PartialEq>⟧.eq a b) ↔ (a ≡ b) }
+    ensures metadata { (a b : SpecMetadata) → IsTrue (⟦<Metadata as PartialEq>⟧.eq a b) ↔ (metadata_datum a ≡ metadata_datum b) }
 {}
