@@ -5,7 +5,7 @@ use Rattle.std.proofs.lemmas.Nat.Bits.{bit_at_cat_low}
 use Rattle.std.proofs.Math.Nat.{two-pow-succ}
 use Rattle.std.proofs.Math.Pow.{pow_pos, pow_mono}
 use Rattle.mmdb_net.specs.Bits.{bit_of, bits_of}
-use Rattle.maxminddb.specs.Alias.{number_of}
+use Rattle.mmdb_net.specs.Bits.{number_of}
 use Rattle.maxminddb.specs.ShownLeaf.{begins_with_zeros}
 
 pub number-below : (rest : ℕ) (s : List Bool) → number_of rest s < 2 ^ rest

@@ -9,7 +9,8 @@ use Rattle.maxminddb.specs.declared.options.WithinOptions.{WithinOptions}
 use Rattle.maxminddb.specs.declared.positions.Position.{Position}
 use Rattle.maxminddb.specs.File.{Database, tree_of, width, has_ipv6}
 use Rattle.maxminddb.specs.Tree.{walk, step}
-use Rattle.maxminddb.specs.Alias.{number_of, is_alias, is_alias_at}
+use Rattle.mmdb_net.specs.Bits.{number_of}
+use Rattle.maxminddb.specs.Alias.{is_alias, is_alias_at}
 use Rattle.maxminddb.specs.Positions.{IsAt, bits_to, half_of}
 use Rattle.maxminddb.specs.Listing.{is_hidden}
 use Rattle.maxminddb.specs.Options.{includes_aliased}

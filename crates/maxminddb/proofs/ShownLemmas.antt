@@ -13,7 +13,7 @@ use Rattle.std.specs.declared.net.ipv6_addr.Ipv6Addr.{Ipv6Addr}
 use Rattle.std.proofs.lemmas.List.{append-nil}
 use Rattle.maxminddb.specs.Lookup.{block_at}
 use Rattle.maxminddb.specs.Shown.{has_ipv4_subtree}
-use Rattle.maxminddb.specs.Alias.{number_of}
+use Rattle.mmdb_net.specs.Bits.{number_of}
 use Rattle.maxminddb.specs.ShownLeaf.{begins_with_zeros, is_leaf_shown_as_ipv4}
 use Rattle.maxminddb.specs.Positions.{IsAt, bits_to}
 use Rattle.maxminddb.proofs.NumberLemmas.{number-below, zeros-number, number-zeros}

@@ -1,15 +1,10 @@
 -- Aliases: other ways to the node where IPv4 begins ("IPv4 addresses in an IPv6 tree" of the MaxMind DB
 -- File Format Specification 2.0).
-use Rattle.std.specs.Prelude.{◌≡◌, ℕ, ◌+◌, ◌≤◌, ◌<◌, ◌^◌, zero, suc, Bool, true, ◌&&◌, ◌==◌, nat_lt, nat_le, List, [], ◌∷◌, length, if◌then◌else◌}
+use Rattle.std.specs.Prelude.{◌≡◌, ℕ, ◌≤◌, ◌<◌, ◌^◌, Bool, true, ◌&&◌, ◌==◌, nat_lt, nat_le, List, length}
+use Rattle.mmdb_net.specs.Bits.{number_of}
 use Rattle.maxminddb.specs.File.{Database, tree_of, has_ipv6}
 use Rattle.maxminddb.specs.Tree.{walk}
 use Rattle.maxminddb.specs.Shown.{ipv4_start, has_ipv4_subtree}
-
--- the number that the bits spell, the highest first, filled with zeros to so many
-abbrev pub number_of : ℕ → List Bool → ℕ
-number_of rest [] = 0
-number_of zero (x ∷ s) = 0
-number_of (suc rest) (x ∷ s) = (if x then 2 ^ rest else 0) + number_of rest s
 
 -- In an IPv6 database where IPv4 begins on a node other than node 0: bits that lead to that node, and are
 -- a number of at least 2^32 where zeros fill them to 128.

@@ -5,7 +5,7 @@ use Rattle.maxminddb.specs.declared.options.WithinOptions.{WithinOptions}
 use Rattle.maxminddb.specs.declared.positions.Position.{Position}
 use Rattle.maxminddb.specs.File.{Database, tree_of, width}
 use Rattle.maxminddb.specs.Tree.{walk, step}
-use Rattle.maxminddb.specs.Alias.{number_of}
+use Rattle.mmdb_net.specs.Bits.{number_of}
 use Rattle.maxminddb.specs.Listing.{Listed, listed_below, listed}
 
 -- the bits that lead to a position

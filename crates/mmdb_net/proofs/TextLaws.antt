@@ -18,9 +18,9 @@ use Rattle.mmdb_net.specs.declared.network.IpNetwork.{IpNetwork}
 use Rattle.mmdb_net.specs.Address.{address_width}
 use Rattle.mmdb_net.specs.Network.{ip_of, prefix_of}
 use Rattle.mmdb_net.specs.NetworkText.{IsPrefixText, IsNetworkText}
-use Rattle.mmdb_net.specs.Bits.{bits_of, zero_bits}
-use Rattle.mmdb_net.specs.FullText.{number_of, filled_to, hex_group, groups_text, prefix_text, ipv4_full_text, ipv6_full_text}
-use Rattle.mmdb_net.proofs.BitLaws.{length-bits_of, bits_of-masked, number_of-bits_of}
+use Rattle.mmdb_net.specs.Bits.{bits_of, zero_bits, number_of}
+use Rattle.mmdb_net.specs.FullText.{hex_group, groups_text, prefix_text, ipv4_full_text, ipv6_full_text}
+use Rattle.mmdb_net.proofs.BitLaws.{length-bits_of, bits_of-masked, number_of-bits_of, number_of-filled}
 use Rattle.mmdb_net.proofs.AddressLaws.{masked-le}
 
 -- ---- hexadecimal digits
@@ -37,22 +37,20 @@ hex_octets n high low small high_is low_is =
 
 -- ---- the full text
 
--- the bits of a block filled with zeros spell the masked number
-pub number_of-filled : (prefix width n : ℕ) → prefix ≤ width → n < 2 ^ width → number_of (filled_to width (take prefix (bits_of width n))) ≡ n / 2 ^ (width - prefix) * 2 ^ (width - prefix)
-number_of-filled prefix width n within fits =
+-- the bits of a block spell the masked number
+pub number_of-block : (prefix width n : ℕ) → prefix ≤ width → n < 2 ^ width → number_of width (take prefix (bits_of width n)) ≡ n / 2 ^ (width - prefix) * 2 ^ (width - prefix)
+number_of-block prefix width n within fits =
     let masked : ℕ = n / 2 ^ (width - prefix) * 2 ^ (width - prefix) in
     let below : masked < 2 ^ width = omega (arith, fits, masked-le n (width - prefix)) in
-    let long : length (take prefix (bits_of width n)) ≡ prefix = length-take-le prefix (bits_of width n) (omega (arith, length-bits_of width n)) in
-    let spelled : filled_to width (take prefix (bits_of width n)) ≡ bits_of width masked =
-    ap (λ (k : ℕ). take prefix (bits_of width n) ++ zero_bits (width - k)) long ∙ sym (bits_of-masked prefix (width - prefix) width n (omega arith)) in
-    ap number_of spelled ∙ number_of-bits_of width masked ∙ mod-eq_of_lt below
+    let spelled : take prefix (bits_of width n) ++ zero_bits (width - prefix) ≡ bits_of width masked = sym (bits_of-masked prefix (width - prefix) width n (omega arith)) in
+    sym (number_of-filled width (width - prefix) (take prefix (bits_of width n))) ∙ ap (number_of width) spelled ∙ number_of-bits_of width masked ∙ mod-eq_of_lt below
 
 pub ipv4_full_text-masked : (a masked : Ipv4Addr) (prefix : ℕ) → prefix ≤ 32 → ipv4_bits a < 2 ^ 32 → IsIpv4OfBits masked (ipv4_bits a / 2 ^ (32 - prefix) * 2 ^ (32 - prefix))
     → ipv4_full_text (take prefix (bits_of 32 (ipv4_bits a))) ≡ ipv4_text (ipv4_octets masked) ++ prefix_text prefix
 unfolding ipv4_full_text IsIpv4OfBits
 ipv4_full_text-masked a masked prefix within fits made =
     let long : length (take prefix (bits_of 32 (ipv4_bits a))) ≡ prefix = length-take-le prefix (bits_of 32 (ipv4_bits a)) (omega (arith, length-bits_of 32 (ipv4_bits a))) in
-    let number = number_of-filled prefix 32 (ipv4_bits a) within fits in
+    let number = number_of-block prefix 32 (ipv4_bits a) within fits in
     ap (λ (m : ℕ). ipv4_text (to_be_bytes w32 m) ++ prefix_text (length (take prefix (bits_of 32 (ipv4_bits a))))) number
     ∙ ap (λ (k : ℕ). ipv4_text (to_be_bytes w32 (ipv4_bits a / 2 ^ (32 - prefix) * 2 ^ (32 - prefix))) ++ prefix_text k) long
     ∙ ap (λ (octets : List ℕ). ipv4_text octets ++ prefix_text prefix) (sym made)
@@ -62,7 +60,7 @@ pub ipv6_full_text-masked : (a masked : Ipv6Addr) (prefix : ℕ) → prefix ≤ 
 unfolding ipv6_full_text IsIpv6OfBits
 ipv6_full_text-masked a masked prefix within fits made =
     let long : length (take prefix (bits_of 128 (ipv6_bits a))) ≡ prefix = length-take-le prefix (bits_of 128 (ipv6_bits a)) (omega (arith, length-bits_of 128 (ipv6_bits a))) in
-    let number = number_of-filled prefix 128 (ipv6_bits a) within fits in
+    let number = number_of-block prefix 128 (ipv6_bits a) within fits in
     ap (λ (m : ℕ). groups_text (segments_of (to_be_bytes w128 m)) ++ prefix_text (length (take prefix (bits_of 128 (ipv6_bits a))))) number
     ∙ ap (λ (k : ℕ). groups_text (segments_of (to_be_bytes w128 (ipv6_bits a / 2 ^ (128 - prefix) * 2 ^ (128 - prefix)))) ++ prefix_text k) long
     ∙ ap (λ (segments : List ℕ). groups_text segments ++ prefix_text prefix) (sym made)

@@ -1,21 +1,12 @@
 -- The full text of a network: the address of its bits, with zeros after them and every group
 -- written out, then `/` and how many bits it has.
-use Rattle.std.specs.Prelude.{ℕ, ◌+◌, ◌-◌, ◌/◌, ◌%◌, ◌^◌, Bool, List, [], ◌∷◌, ◌++◌, length, map, codes, decimal, if◌then◌else◌}
+use Rattle.std.specs.Prelude.{ℕ, ◌/◌, ◌%◌, Bool, List, [], ◌∷◌, ◌++◌, length, map, codes, decimal}
 use Rattle.std.specs.Char.{digit_char}
 use Rattle.std.specs.Int.{w32, w128, to_be_bytes}
 use Rattle.std.specs.List.{join_with_byte}
 use Rattle.std.specs.Net.Addr.{segments_of}
 use Rattle.std.specs.Net.Text.{ipv4_text}
-use Rattle.mmdb_net.specs.Bits.{zero_bits}
-
--- the number that bits spell, the highest first
-unfoldable pub number_of : List Bool → ℕ
-number_of [] = 0
-number_of (bit ∷ bits) = (if bit then 2 ^ length bits else 0) + number_of bits
-
--- the bits, and zeros after them up to the width
-abbrev pub filled_to : ℕ → List Bool → List Bool
-filled_to width bits = bits ++ zero_bits (width - length bits)
+use Rattle.mmdb_net.specs.Bits.{number_of}
 
 -- a group of four lower-case hexadecimal digits
 abbrev pub hex_group : ℕ → List ℕ
@@ -33,10 +24,10 @@ prefix_text prefix = codes "/" ++ decimal prefix
 -- the text of the IPv4 network of these bits: dotted decimal, and the prefix
 unfoldable pub ipv4_full_text : List Bool → List ℕ
 ipv4_full_text block =
-    ipv4_text (to_be_bytes w32 (number_of (filled_to 32 block))) ++ prefix_text (length block)
+    ipv4_text (to_be_bytes w32 (number_of 32 block)) ++ prefix_text (length block)
 
 -- the text of the IPv6 network of these bits: eight groups of four digits, and the prefix
 unfoldable pub ipv6_full_text : List Bool → List ℕ
 ipv6_full_text block =
-    groups_text (segments_of (to_be_bytes w128 (number_of (filled_to 128 block))))
+    groups_text (segments_of (to_be_bytes w128 (number_of 128 block)))
     ++ prefix_text (length block)

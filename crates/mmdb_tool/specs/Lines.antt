@@ -9,7 +9,7 @@ use Rattle.mmdb_net.specs.FullText.{ipv4_full_text, ipv6_full_text}
 use Rattle.maxminddb.specs.File.{Database, before_ipv4}
 use Rattle.maxminddb.specs.Items.{Item, Failure, Network}
 use Rattle.maxminddb.specs.Lookup.{Answers, outcome_at}
-use Rattle.maxminddb.specs.Shown.{is_shown_as_ipv4}
+use Rattle.maxminddb.specs.Shown.{is_shown_as_ipv4, IsShownBy}
 
 -- what stands for the offset of a value
 abbrev pub offset_text : Option ℕ → List ℕ
@@ -21,6 +21,11 @@ offset_text None = codes "-"
 abbrev pub leaf_text : Database → List Bool → Bool → List ℕ
 leaf_text db leaf true = ipv4_full_text (drop (length (before_ipv4 db)) leaf)
 leaf_text db leaf false = ipv6_full_text leaf
+
+-- What is said of a leaf's text is the full text of the network that shows the leaf.
+abbrev pub LeafTextsShowNetworks : Type 0
+LeafTextsShowNetworks =
+    (db : Database) (leaf : List Bool) (as_ipv4 : Bool) (network : IpNetwork) → IsShownBy db leaf as_ipv4 network → leaf_text db leaf as_ipv4 ≡ full_text_of network
 
 -- the line of a network
 abbrev pub network_line : IpNetwork → Option ℕ → List ℕ
