@@ -1,6 +1,9 @@
 pub mod WalkLemmas
+pub mod DescentLemmas
+pub mod TableLemmas
 pub mod LeafLemmas
 pub mod LawLemmas
+pub mod CountLemmas
 pub mod Markers
 pub mod Sources
 pub mod NetworkLemmas

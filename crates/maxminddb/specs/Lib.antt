@@ -4,7 +4,9 @@ pub mod File
 pub mod Leaves
 pub mod Lookup
 pub mod Descents
+pub mod Table
 pub mod Shown
+pub mod Counting
 pub mod Kept
 pub mod Found
 pub mod Laws

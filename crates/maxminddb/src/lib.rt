@@ -12,6 +12,8 @@ mod options;
 mod positions;
 pub mod reader;
 mod source;
+mod steps;
+mod table;
 pub mod tree;
 mod walking;
 
@@ -27,5 +29,6 @@ pub use mmdb_value::{
 };
 pub use options::WithinOptions;
 pub use reader::Reader;
+pub use steps::Steps;
 pub use tree::read_node;
 pub use walking::Within;

@@ -1,6 +1,0 @@
-use Rattle.maxminddb.proofs.LawLemmas.{not_refused}
-use Rattle.maxminddb.proofs.reader.Reader.lookup.Goals as goal
-
-pub returns-clause-of_database : goal.returns-clause-of_database
-returns-clause-of_database g c =
-    (λ none. absurd none, λ at. not_refused c.args.self.now c.args.address _ _ _ c.in-Some.ensures.found c.in_ok-offset.ensures at)
