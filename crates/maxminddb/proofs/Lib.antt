@@ -20,3 +20,4 @@ pub mod AliasLemmas
 pub mod ListingLemmas
 pub mod AgreementLemmas
 pub mod EqualityLemmas
+pub mod RecordLemmas

@@ -1,7 +1,7 @@
 use Rattle.std.proofs.Common.{◌<◌, ap, sym, ◌∙◌, arith}
 use Rattle.maxminddb.specs.Tree.{child}
 use Rattle.mmdb_net.proofs.BitLaws.{length-bits_of, get_or-bits_of}
-use Rattle.maxminddb.proofs.WalkLemmas.{Walks-start, Walks-more, Descends-all}
+use Rattle.maxminddb.proofs.WalkLemmas.{Walks-start, Walks-more, Descends-all, step-child}
 use Rattle.maxminddb.proofs.tree.Nodes.descend.Goals as goal
 
 pub loop-taken-init : goal.loop-taken-init
@@ -14,7 +14,7 @@ loop-taken-preserved c =
     let more : c.loop-taken.taken < width = omega arith in
     let len = length-bits_of width address in
     Walks-more _ _ _ _ _ _ c.loop-taken.invariant (omega arith) c.if-number-self.false
-    (c.read_node-number.ensures.number ∙ ap (child c.args.self.now.bytes.now c.args.self.now.record_size c.loop-taken.number) (sym (get_or-bits_of width address c.loop-taken.taken _ more)))
+    (c.child-number.ensures.value ∙ step-child _ _ _ c.if-number-self.false ∙ ap (child c.args.self.now.bytes.now c.args.self.now.record_size c.loop-taken.number) (sym (get_or-bits_of width address c.loop-taken.taken _ more)))
 
 pub returns-clause-reached : goal.returns-clause-reached
 returns-clause-reached c =
