@@ -1,4 +1,4 @@
-//! The addresses that are looked up: pseudo-random, and the same in the drivers over the peers.
+//! The addresses that are looked up: pseudo-random, and the same in the programs of `bench/`.
 
 use std::alloc::{AllocError, Global};
 use std::net::{IpAddr, Ipv4Addr, Ipv6Addr};

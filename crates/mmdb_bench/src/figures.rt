@@ -51,7 +51,7 @@ fn timed(
     Ok(Runs { nanoseconds, sum })
 }
 
-// How many a second, where one whole holds so many.
+// How many a second, where so many took this time.
 fn rate(count: usize, nanoseconds: u128) -> u128 {
     count as u128 * 1_000_000_000 / nanoseconds.max(1)
 }

@@ -1,5 +1,5 @@
-//! Measures the library. The drivers over the Rust crate and over libmaxminddb look up the same addresses,
-//! and print the same names and sums.
+//! Measures the library. The programs of `bench/`, which measure others, look up the same addresses and
+//! print the same names and sums.
 #![tactic(auto)]
 
 mod addresses;

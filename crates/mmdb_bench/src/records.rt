@@ -1,5 +1,5 @@
-//! The records of GeoIP2 City and Country, with the fields that the Rust crate reads of them. All that a
-//! record may lack is an Option.
+//! The records of GeoIP2 City and Country, with the fields that the Rust crate reads of them. A field
+//! that a record may lack is an Option.
 ghost use Rattle.std.specs.Prelude.{None, true, false};
 
 use crate::fields::{Fields, read_map, read_once, read_part, skip};

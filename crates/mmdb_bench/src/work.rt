@@ -6,8 +6,8 @@ use maxminddb::{LookupResult, MaxMindDbError, Reader, Value, WithinOptions};
 use std::alloc::Global;
 use std::net::IpAddr;
 
-/// A piece of work, whose answer is a sum over all that it found. Two programs that did the same work have
-/// the same sum.
+/// A piece of work, whose answer is a sum over all that it found. Two programs that did the same work
+/// have the same sum.
 #[derive(Clone, Copy)]
 pub(crate) enum Work {
     LoadFile,
@@ -41,7 +41,7 @@ impl Work {
         Work::WalkSkipEmptyValues,
     ];
 
-    /// Its name, as the drivers over the peers print it.
+    /// Its name, as the programs of `bench/` print it too.
     pub(crate) fn name(self) -> &'static str {
         match self {
             Work::LoadFile => "load_file",
