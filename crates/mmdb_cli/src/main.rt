@@ -3,8 +3,18 @@
 
 use mmdb_tool::{Out, run};
 use std::env;
-use std::io::{self, BufWriter, Write};
+use std::io::{self, BufWriter, ErrorKind, Write};
 use std::process::ExitCode;
+
+// The status of a refusal.
+const REFUSED: u8 = 1;
+
+// The status of words that are no command.
+const BAD_WORDS: u8 = 2;
+
+// Arguments come as text alone, and a file is opened by text.
+const NOT_UTF8: &str =
+    "a word is not UTF-8; reach the file by a link, or as /dev/fd/3 with 3< FILE";
 
 // The words after the program's name.
 fn words(rt: &HostRuntime) -> io::Result<Vec<String>> {
@@ -21,16 +31,31 @@ fn finished<W: Write + Drop>(rt: &HostRuntime, mut writer: W, status: u8) -> u8 
     match writer.flush() {
         Err(error) if status == 0 => {
             let _ = eprintln!(rt; "write error: {error}");
-            1
+            REFUSED
         }
         _ => status,
     }
 }
 
-fn main(rt: HostRuntime) -> io::Result<ExitCode> {
-    let words = words(&rt)?;
+// Runs the program on its words, and answers its status.
+fn program(rt: &HostRuntime) -> io::Result<u8> {
+    let words = words(rt)?;
     let mut out = Out::new(BufWriter::new(rt.alloc(), rt.stdout())?);
     let mut err = Out::new(rt.stderr());
-    let status = run(&rt, rt.alloc(), words.as_slice(), &mut out, &mut err);
-    Ok(ExitCode::from(finished(&rt, out.into_inner(), status)))
+    let status = run(rt, rt.alloc(), words.as_slice(), &mut out, &mut err);
+    Ok(finished(rt, out.into_inner(), status))
+}
+
+fn main(rt: HostRuntime) -> ExitCode {
+    match program(&rt) {
+        Ok(status) => ExitCode::from(status),
+        Err(error) if error.kind() == ErrorKind::InvalidData => {
+            let _ = eprintln!(rt; "{NOT_UTF8}");
+            ExitCode::from(BAD_WORDS)
+        }
+        Err(error) => {
+            let _ = eprintln!(rt; "{error}");
+            ExitCode::from(REFUSED)
+        }
+    }
 }

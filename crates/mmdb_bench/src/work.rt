@@ -1,0 +1,220 @@
+//! What is done with a database while the clock runs.
+
+use crate::records::{City, Country};
+use crate::subject::{Subject, node_count};
+use maxminddb::{LookupResult, MaxMindDbError, Reader, Value, WithinOptions};
+use std::alloc::Global;
+use std::net::IpAddr;
+
+/// A piece of work, whose answer is a sum over all that it found. Two programs that did the same work
+/// have the same sum.
+#[derive(Clone, Copy)]
+pub(crate) enum Work {
+    LoadFile,
+    LoadFromMemory,
+    LookupIpv4,
+    LookupIpv4Network,
+    LookupIpv6,
+    DecodeCity,
+    DecodeCountry,
+    DecodeValue,
+    Walk,
+    WalkNetwork,
+    WalkEmpty,
+    WalkSkipEmptyValues,
+}
+
+impl Work {
+    /// All pieces of work, in the order in which they are done.
+    pub(crate) const ALL: [Work; 12] = [
+        Work::LoadFile,
+        Work::LoadFromMemory,
+        Work::LookupIpv4,
+        Work::LookupIpv4Network,
+        Work::LookupIpv6,
+        Work::DecodeCity,
+        Work::DecodeCountry,
+        Work::DecodeValue,
+        Work::Walk,
+        Work::WalkNetwork,
+        Work::WalkEmpty,
+        Work::WalkSkipEmptyValues,
+    ];
+
+    /// Its name, as the programs of `bench/` print it too.
+    pub(crate) fn name(self) -> &'static str {
+        match self {
+            Work::LoadFile => "load_file",
+            Work::LoadFromMemory => "load_from_memory",
+            Work::LookupIpv4 => "lookup_v4",
+            Work::LookupIpv4Network => "lookup_v4_network",
+            Work::LookupIpv6 => "lookup_v6",
+            Work::DecodeCity => "lookup_decode_city",
+            Work::DecodeCountry => "lookup_decode_country",
+            Work::DecodeValue => "lookup_decode_value",
+            Work::Walk => "networks_walk",
+            Work::WalkNetwork => "networks_walk_network",
+            Work::WalkEmpty => "networks_walk_empty",
+            Work::WalkSkipEmptyValues => "networks_walk_skip_empty_values",
+        }
+    }
+
+    /// Whether the database has what it works on.
+    pub(crate) fn suits(self, subject: &Subject<'_>) -> bool {
+        match self {
+            Work::LookupIpv6 => !subject.ipv6.is_empty(),
+            Work::DecodeCity | Work::DecodeCountry => subject.has_places(),
+            _ => true,
+        }
+    }
+
+    /// How many addresses it looks up, or None where it is one whole.
+    pub(crate) fn lookups(self, subject: &Subject<'_>) -> Option<usize> {
+        match self {
+            Work::LookupIpv4 | Work::LookupIpv4Network => Some(subject.ipv4.len()),
+            Work::LookupIpv6 => Some(subject.ipv6.len()),
+            Work::DecodeCity | Work::DecodeCountry | Work::DecodeValue => {
+                Some(subject.fewer().len())
+            }
+            _ => None,
+        }
+    }
+
+    /// Does it once.
+    pub(crate) fn run(
+        self,
+        rt: &HostRuntime,
+        subject: &Subject<'_>,
+    ) -> Result<u64, MaxMindDbError> {
+        let alloc = rt.alloc();
+        let reader = &subject.reader;
+        let options = WithinOptions::default();
+        match self {
+            Work::LoadFile => load_file(rt, subject.path),
+            Work::LoadFromMemory => load_from_memory(alloc, subject.bytes.as_slice()),
+            Work::LookupIpv4 => lookups(reader, subject.ipv4.as_slice()),
+            Work::LookupIpv4Network => lookup_networks(reader, subject.ipv4.as_slice()),
+            Work::LookupIpv6 => lookups(reader, subject.ipv6.as_slice()),
+            Work::DecodeCity => decode_cities(alloc, reader, subject.fewer()),
+            Work::DecodeCountry => decode_countries(alloc, reader, subject.fewer()),
+            Work::DecodeValue => decode_values(alloc, reader, subject.fewer()),
+            Work::Walk => walk(alloc, reader, options),
+            Work::WalkNetwork => walk_networks(alloc, reader, options),
+            Work::WalkEmpty => walk(alloc, reader, options.include_networks_without_data()),
+            Work::WalkSkipEmptyValues => walk(alloc, reader, options.skip_empty_values()),
+        }
+    }
+}
+
+fn load_file(rt: &HostRuntime, path: &str) -> Result<u64, MaxMindDbError> {
+    let reader = Reader::open_readfile(rt, rt.alloc(), path)?;
+    Ok(node_count(reader.metadata()))
+}
+
+fn load_from_memory(alloc: Global, bytes: &[u8]) -> Result<u64, MaxMindDbError> {
+    let reader = Reader::from_source(alloc, bytes)?;
+    Ok(node_count(reader.metadata()))
+}
+
+// 1 where there is no data, and else 2 more than the offset.
+fn offset_term(found: &LookupResult<'_, Vec<u8>>) -> u64 {
+    match found.offset() {
+        Some(offset) => (offset as u64).wrapping_add(2),
+        None => 1,
+    }
+}
+
+fn prefix_term(found: &LookupResult<'_, Vec<u8>>) -> Result<u64, MaxMindDbError> {
+    Ok(u64::from(found.network()?.prefix()))
+}
+
+fn lookups(reader: &Reader<Vec<u8>>, addresses: &[IpAddr]) -> Result<u64, MaxMindDbError> {
+    let mut sum = 0u64;
+    for &address in addresses {
+        let found = reader.lookup(address)?;
+        sum = sum.wrapping_add(offset_term(&found));
+    }
+    Ok(sum)
+}
+
+fn lookup_networks(reader: &Reader<Vec<u8>>, addresses: &[IpAddr]) -> Result<u64, MaxMindDbError> {
+    let mut sum = 0u64;
+    for &address in addresses {
+        let found = reader.lookup(address)?;
+        sum = sum.wrapping_add(prefix_term(&found)?);
+    }
+    Ok(sum)
+}
+
+fn decode_cities(
+    alloc: Global,
+    reader: &Reader<Vec<u8>>,
+    addresses: &[IpAddr],
+) -> Result<u64, MaxMindDbError> {
+    let mut sum = 0u64;
+    for &address in addresses {
+        let city: Option<City<'_>> = reader.lookup(address)?.decode(alloc)?;
+        if let Some(city) = city {
+            sum = sum.wrapping_add(city.term());
+        }
+    }
+    Ok(sum)
+}
+
+fn decode_countries(
+    alloc: Global,
+    reader: &Reader<Vec<u8>>,
+    addresses: &[IpAddr],
+) -> Result<u64, MaxMindDbError> {
+    let mut sum = 0u64;
+    for &address in addresses {
+        let country: Option<Country<'_>> = reader.lookup(address)?.decode(alloc)?;
+        if let Some(country) = country {
+            sum = sum.wrapping_add(country.term());
+        }
+    }
+    Ok(sum)
+}
+
+// How many pairs the maps have.
+fn decode_values(
+    alloc: Global,
+    reader: &Reader<Vec<u8>>,
+    addresses: &[IpAddr],
+) -> Result<u64, MaxMindDbError> {
+    let mut sum = 0u64;
+    for &address in addresses {
+        let value: Option<Value<'_>> = reader.lookup(address)?.decode(alloc)?;
+        if let Some(Value::Map(pairs)) = &value {
+            sum = sum.wrapping_add(pairs.len() as u64);
+        }
+    }
+    Ok(sum)
+}
+
+// How many networks are listed.
+fn walk(
+    alloc: Global,
+    reader: &Reader<Vec<u8>>,
+    options: WithinOptions,
+) -> Result<u64, MaxMindDbError> {
+    let mut sum = 0u64;
+    for item in reader.networks(alloc, options)? {
+        if item.is_ok() {
+            sum = sum.wrapping_add(1);
+        }
+    }
+    Ok(sum)
+}
+
+fn walk_networks(
+    alloc: Global,
+    reader: &Reader<Vec<u8>>,
+    options: WithinOptions,
+) -> Result<u64, MaxMindDbError> {
+    let mut sum = 0u64;
+    for item in reader.networks(alloc, options)? {
+        sum = sum.wrapping_add(prefix_term(&item?)?);
+    }
+    Ok(sum)
+}
