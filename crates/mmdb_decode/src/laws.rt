@@ -1,5 +1,12 @@
 //! Laws of the format: each is the contract of a function that does nothing.
-ghost use Rattle.std.specs.Prelude.{◌≡◌, true};
+ghost use Rattle.std.specs.Prelude.{◌≡◌, true, Some, map, option_map, pos, neg_ℤ};
+ghost use Rattle.std.specs.String.{string_bytes};
+ghost use Rattle.mmdb_format.specs.Equality.{IsEqualityOf};
+ghost use Rattle.mmdb_decode.specs.Arrays.{list_at};
+ghost use Rattle.mmdb_decode.specs.Maps.{text_map_at};
+ghost use Rattle.mmdb_decode.specs.Reading.{mapped};
+ghost use Rattle.mmdb_decode.specs.Scalars.{u16_at, u32_at, u64_at, u128_at, i32_at, bool_at, double_at, float_at, text_at, byte_string_at};
+ghost use Rattle.mmdb_decode.specs.SmallNumbers.{small_at};
 ghost use Rattle.mmdb_decode.specs.State.{Within};
 ghost use Rattle.mmdb_decode.specs.Limits.{AnswerIsWithinLimits, OneReading};
 ghost use Rattle.mmdb_decode.specs.Shapes.{IsShape, IsScalarShape, IsSmallShape, IsOwnedShape, IsContainerShape};
@@ -34,39 +41,47 @@ pub fn values_bounded(d: &Decoder<'_>)
     d.stays_within();
 }
 
-/// Scalars, and texts and byte strings that are lent, are read exactly, under no budget at the start, and
-/// without memory.
-pub fn scalars_take_no_memory()
-    ensures boolean { IsScalarShape ⟦<bool as Decode<'static>>⟧.exact ⟦<bool as Decode<'static>>⟧.starts ⟦<bool as Decode<'static>>⟧.free }
-    ensures u16 { IsScalarShape ⟦<u16 as Decode<'static>>⟧.exact ⟦<u16 as Decode<'static>>⟧.starts ⟦<u16 as Decode<'static>>⟧.free }
-    ensures u32 { IsScalarShape ⟦<u32 as Decode<'static>>⟧.exact ⟦<u32 as Decode<'static>>⟧.starts ⟦<u32 as Decode<'static>>⟧.free }
-    ensures u64 { IsScalarShape ⟦<u64 as Decode<'static>>⟧.exact ⟦<u64 as Decode<'static>>⟧.starts ⟦<u64 as Decode<'static>>⟧.free }
-    ensures u128 { IsScalarShape ⟦<u128 as Decode<'static>>⟧.exact ⟦<u128 as Decode<'static>>⟧.starts ⟦<u128 as Decode<'static>>⟧.free }
-    ensures i32 { IsScalarShape ⟦<i32 as Decode<'static>>⟧.exact ⟦<i32 as Decode<'static>>⟧.starts ⟦<i32 as Decode<'static>>⟧.free }
-    ensures text { IsScalarShape ⟦<&'static str as Decode<'static>>⟧.exact ⟦<&'static str as Decode<'static>>⟧.starts ⟦<&'static str as Decode<'static>>⟧.free }
-    ensures bytes { IsScalarShape ⟦<&'static [u8] as Decode<'static>>⟧.exact ⟦<&'static [u8] as Decode<'static>>⟧.starts ⟦<&'static [u8] as Decode<'static>>⟧.free }
-    ensures double { IsScalarShape ⟦<Double as Decode<'static>>⟧.exact ⟦<Double as Decode<'static>>⟧.starts ⟦<Double as Decode<'static>>⟧.free }
-    ensures float { IsScalarShape ⟦<Float as Decode<'static>>⟧.exact ⟦<Float as Decode<'static>>⟧.starts ⟦<Float as Decode<'static>>⟧.free }
+/// Scalars, and texts and byte strings that are lent, say themselves and are read as the one type of the
+/// format, exactly, under no budget at the start, and without memory.
+pub fn how_scalars_are_read()
+    ensures boolean { let t = ⟦<bool as Decode<'static>>⟧ in IsScalarShape t.datum t.meaning t.exact t.starts t.free (λ v. v) bool_at }
+    ensures u16 { let t = ⟦<u16 as Decode<'static>>⟧ in IsScalarShape t.datum t.meaning t.exact t.starts t.free (λ v. v) u16_at }
+    ensures u32 { let t = ⟦<u32 as Decode<'static>>⟧ in IsScalarShape t.datum t.meaning t.exact t.starts t.free (λ v. v) u32_at }
+    ensures u64 { let t = ⟦<u64 as Decode<'static>>⟧ in IsScalarShape t.datum t.meaning t.exact t.starts t.free (λ v. v) u64_at }
+    ensures u128 { let t = ⟦<u128 as Decode<'static>>⟧ in IsScalarShape t.datum t.meaning t.exact t.starts t.free (λ v. v) u128_at }
+    ensures i32 { let t = ⟦<i32 as Decode<'static>>⟧ in IsScalarShape t.datum t.meaning t.exact t.starts t.free (λ v. v) i32_at }
+    ensures text { let t = ⟦<&'static str as Decode<'static>>⟧ in IsScalarShape t.datum t.meaning t.exact t.starts t.free (λ v. v.now) text_at }
+    ensures bytes { let t = ⟦<&'static [u8] as Decode<'static>>⟧ in IsScalarShape t.datum t.meaning t.exact t.starts t.free (λ v. v.now) byte_string_at }
+    ensures double { let t = ⟦<Double as Decode<'static>>⟧ in IsScalarShape t.datum t.meaning t.exact t.starts t.free (λ v. v.bits) double_at }
+    ensures float { let t = ⟦<Float as Decode<'static>>⟧ in IsScalarShape t.datum t.meaning t.exact t.starts t.free (λ v. v.bits) float_at }
 {}
 
-/// Small numbers are read exactly and without memory, and begin a budget.
-pub fn small_numbers_take_no_memory()
-    ensures u8 { IsSmallShape ⟦<u8 as Decode<'static>>⟧.exact ⟦<u8 as Decode<'static>>⟧.starts ⟦<u8 as Decode<'static>>⟧.free }
-    ensures i8 { IsSmallShape ⟦<i8 as Decode<'static>>⟧.exact ⟦<i8 as Decode<'static>>⟧.starts ⟦<i8 as Decode<'static>>⟧.free }
-    ensures i16 { IsSmallShape ⟦<i16 as Decode<'static>>⟧.exact ⟦<i16 as Decode<'static>>⟧.starts ⟦<i16 as Decode<'static>>⟧.free }
-    ensures i64 { IsSmallShape ⟦<i64 as Decode<'static>>⟧.exact ⟦<i64 as Decode<'static>>⟧.starts ⟦<i64 as Decode<'static>>⟧.free }
+/// Small numbers say themselves and are read as a whole number of any type that fits them, exactly and
+/// without memory, and begin a budget.
+pub fn how_small_numbers_are_read()
+    ensures u8 { let t = ⟦<u8 as Decode<'static>>⟧ in IsSmallShape t.datum t.meaning t.exact t.starts t.free pos (small_at (pos 0) (pos 255)) }
+    ensures i8 { let t = ⟦<i8 as Decode<'static>>⟧ in IsSmallShape t.datum t.meaning t.exact t.starts t.free (λ v. v) (small_at (neg_ℤ (pos 128)) (pos 127)) }
+    ensures i16 { let t = ⟦<i16 as Decode<'static>>⟧ in IsSmallShape t.datum t.meaning t.exact t.starts t.free (λ v. v) (small_at (neg_ℤ (pos 32768)) (pos 32767)) }
+    ensures i64 { let t = ⟦<i64 as Decode<'static>>⟧ in IsSmallShape t.datum t.meaning t.exact t.starts t.free (λ v. v) (small_at (neg_ℤ (pos 9223372036854775808)) (pos 9223372036854775807)) }
 {}
 
-/// Texts and byte strings of one's own are read exactly, under no budget at the start.
-pub fn owned_bytes_are_exact()
-    ensures string { IsOwnedShape ⟦<String as Decode<'static>>⟧.exact ⟦<String as Decode<'static>>⟧.starts ⟦<String as Decode<'static>>⟧.free }
-    ensures owned_bytes { IsOwnedShape ⟦<OwnedBytes as Decode<'static>>⟧.exact ⟦<OwnedBytes as Decode<'static>>⟧.starts ⟦<OwnedBytes as Decode<'static>>⟧.free }
+/// Texts and byte strings of one's own say their bytes, and are read as those that are lent, but take
+/// memory.
+pub fn how_owned_bytes_are_read()
+    ensures string { let t = ⟦<String as Decode<'static>>⟧ in IsOwnedShape t.datum t.meaning t.exact t.starts t.free string_bytes text_at }
+    ensures owned_bytes { let t = ⟦<OwnedBytes as Decode<'static>>⟧ in IsOwnedShape t.datum t.meaning t.exact t.starts t.free (λ v. v.0.items) byte_string_at }
 {}
 
-/// Containers of a type that is read exactly are too; an optional value is as its type.
-pub fn containers_are_exact<'de, T: Decode<'de>>()
+/// Containers of a type that is read exactly are too: a list of what its elements say, and a map of what
+/// its values say by the bytes of their keys. An optional value is read as its type.
+pub fn how_containers_are_read<'de, T: Decode<'de>>()
     requires { T.exact ≡ true }
-    ensures optional { IsShape ⟦<Option<T> as Decode<'de>>⟧.exact ⟦<Option<T> as Decode<'de>>⟧.starts ⟦<Option<T> as Decode<'de>>⟧.free T.starts T.free }
-    ensures list { IsContainerShape ⟦<Vec<T> as Decode<'de>>⟧.exact ⟦<Vec<T> as Decode<'de>>⟧.starts ⟦<Vec<T> as Decode<'de>>⟧.free }
-    ensures text_map { IsContainerShape ⟦<BTreeMap<String, T> as Decode<'de>>⟧.exact ⟦<BTreeMap<String, T> as Decode<'de>>⟧.starts ⟦<BTreeMap<String, T> as Decode<'de>>⟧.free }
+    ensures optional { let t = ⟦<Option<T> as Decode<'de>>⟧ in IsShape t.datum t.meaning t.exact t.starts t.free (option_map T.datum) (mapped Some T.meaning) T.starts T.free }
+    ensures list { let t = ⟦<Vec<T> as Decode<'de>>⟧ in IsContainerShape t.datum t.meaning t.exact t.starts t.free (λ v. map T.datum v.items) (list_at T.meaning) }
+    ensures text_map { let t = ⟦<BTreeMap<String, T> as Decode<'de>>⟧ in IsContainerShape t.datum t.meaning t.exact t.starts t.free (λ m. map (λ e. (string_bytes e.0, T.datum e.1)) m.entries) (text_map_at T.meaning) }
+{}
+
+/// `==` is equality of data.
+pub fn equality_is_equality_of_data()
+    ensures { IsEqualityOf ⟦<OwnedBytes as PartialEq>⟧.eq (λ x. x.0.items) }
 {}
