@@ -1,5 +1,6 @@
-//! Laws of data: each is the contract of a function that does nothing.
+//! Laws of data and of the format: each is the contract of a function that does nothing.
 ghost use Rattle.mmdb_format.specs.Equality.{IsEqualityOf};
+ghost use Rattle.mmdb_format.specs.Unfolding.{OneTreeUnfolds};
 
 use crate::content::{Double, Float};
 use crate::fault::Fault;
@@ -14,4 +15,9 @@ pub fn equality_is_equality_of_data()
     ensures kind { IsEqualityOf ⟦<Kind as PartialEq>⟧.eq (λ kind. kind) }
     ensures fault { IsEqualityOf ⟦<Fault as PartialEq>⟧.eq (λ fault. fault) }
     ensures text { IsEqualityOf ⟦<Text as PartialEq>⟧.eq (λ text. text) }
+{}
+
+/// At most one tree unfolds at a place, and it has one end.
+pub fn one_tree_unfolds()
+    ensures { OneTreeUnfolds }
 {}
