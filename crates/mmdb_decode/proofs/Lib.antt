@@ -10,3 +10,6 @@ pub mod SkipLaws
 pub mod PassingLaws
 pub mod LimitLaws
 pub mod PairLaws
+pub mod DirectLaws
+pub mod ContentLaws
+pub mod ScalarLaws

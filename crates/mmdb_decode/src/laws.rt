@@ -10,6 +10,8 @@ ghost use Rattle.mmdb_decode.specs.SmallNumbers.{small_at};
 ghost use Rattle.mmdb_decode.specs.State.{Within};
 ghost use Rattle.mmdb_decode.specs.Limits.{AnswerIsWithinLimits, OneReading};
 ghost use Rattle.mmdb_decode.specs.Shapes.{IsShape, IsScalarShape, IsSmallShape, IsOwnedShape, IsContainerShape};
+ghost use Rattle.mmdb_format.specs.Contents.{text, bytes, boolean, signed32, number16, number32, number64, number128, double_bits, float_bits};
+ghost use Rattle.mmdb_decode.specs.TypedReads.{ReadsScalars};
 ghost use Rattle.mmdb_decode.specs.Skipping.{SkippingIsPassing};
 
 use crate::decode::{Decode, OwnedBytes};
@@ -84,4 +86,18 @@ pub fn how_containers_are_read<'de, T: Decode<'de>>()
 /// `==` is equality of data.
 pub fn equality_is_equality_of_data()
     ensures { IsEqualityOf ⟦<OwnedBytes as PartialEq>⟧.eq (λ x. x.0.items) }
+{}
+
+/// What is read as a scalar, a text or a byte string is what unfolds there, directly or behind one pointer.
+pub fn scalar_is_what_stands()
+    ensures u16 { ReadsScalars u16_at number16 }
+    ensures u32 { ReadsScalars u32_at number32 }
+    ensures u64 { ReadsScalars u64_at number64 }
+    ensures u128 { ReadsScalars u128_at number128 }
+    ensures i32 { ReadsScalars i32_at signed32 }
+    ensures boolean { ReadsScalars bool_at boolean }
+    ensures double { ReadsScalars double_at double_bits }
+    ensures float { ReadsScalars float_at float_bits }
+    ensures text { ReadsScalars text_at text }
+    ensures bytes { ReadsScalars byte_string_at bytes }
 {}
