@@ -13,3 +13,4 @@ pub mod PairLaws
 pub mod DirectLaws
 pub mod ContentLaws
 pub mod ScalarLaws
+pub mod SmallNumberLaws

@@ -11,7 +11,7 @@ ghost use Rattle.mmdb_decode.specs.State.{Within};
 ghost use Rattle.mmdb_decode.specs.Limits.{AnswerIsWithinLimits, OneReading};
 ghost use Rattle.mmdb_decode.specs.Shapes.{IsShape, IsScalarShape, IsSmallShape, IsOwnedShape, IsContainerShape};
 ghost use Rattle.mmdb_format.specs.Contents.{text, bytes, boolean, signed32, number16, number32, number64, number128, double_bits, float_bits};
-ghost use Rattle.mmdb_decode.specs.TypedReads.{ReadsScalars};
+ghost use Rattle.mmdb_decode.specs.TypedReads.{ReadsScalars, ReadsSmallNumbers};
 ghost use Rattle.mmdb_decode.specs.Skipping.{SkippingIsPassing};
 
 use crate::decode::{Decode, OwnedBytes};
@@ -100,4 +100,10 @@ pub fn scalar_is_what_stands()
     ensures float { ReadsScalars float_at float_bits }
     ensures text { ReadsScalars text_at text }
     ensures bytes { ReadsScalars byte_string_at bytes }
+{}
+
+/// What is read as a small number is the whole number that unfolds there, behind any number of pointers
+/// within the levels.
+pub fn small_number_is_what_stands()
+    ensures { ReadsSmallNumbers }
 {}
