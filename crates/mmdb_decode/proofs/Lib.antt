@@ -14,3 +14,5 @@ pub mod DirectLaws
 pub mod ContentLaws
 pub mod ScalarLaws
 pub mod SmallNumberLaws
+pub mod ContainerLaws
+pub mod ListLaws

@@ -11,7 +11,7 @@ ghost use Rattle.mmdb_decode.specs.State.{Within};
 ghost use Rattle.mmdb_decode.specs.Limits.{AnswerIsWithinLimits, OneReading};
 ghost use Rattle.mmdb_decode.specs.Shapes.{IsShape, IsScalarShape, IsSmallShape, IsOwnedShape, IsContainerShape};
 ghost use Rattle.mmdb_format.specs.Contents.{text, bytes, boolean, signed32, number16, number32, number64, number128, double_bits, float_bits};
-ghost use Rattle.mmdb_decode.specs.TypedReads.{ReadsScalars, ReadsSmallNumbers};
+ghost use Rattle.mmdb_decode.specs.TypedReads.{ReadsScalars, ReadsSmallNumbers, ReadsLists};
 ghost use Rattle.mmdb_decode.specs.Skipping.{SkippingIsPassing};
 
 use crate::decode::{Decode, OwnedBytes};
@@ -106,4 +106,10 @@ pub fn scalar_is_what_stands()
 /// within the levels.
 pub fn small_number_is_what_stands()
     ensures { ReadsSmallNumbers }
+{}
+
+/// What is read as a list is the array that stands there, directly or behind one pointer: its elements in
+/// turn.
+pub fn list_is_what_stands<'de, T: Decode<'de>>()
+    ensures { ReadsLists T.meaning }
 {}
