@@ -16,3 +16,5 @@ pub mod ScalarLaws
 pub mod SmallNumberLaws
 pub mod ContainerLaws
 pub mod ListLaws
+pub mod TextMapLaws
+pub mod RecordStandingLaws

@@ -1,11 +1,15 @@
 -- What typed reads give, in the words of the format: which tree unfolds where a value is read.
-use Rattle.std.specs.Prelude.{◌≡◌, ◌↔◌, ◌⊎◌, ℕ, ◌+◌, ◌<◌, ◌≤◌, ℤ, ◌≤ℤ◌, List, [], ◌∷◌, length, Some, None, true, unwrap_or}
+use Rattle.std.specs.Prelude.{◌≡◌, ◌↔◌, ◌⊎◌, ℕ, ◌+◌, ◌*◌, ◌<◌, ◌≤◌, count_by, ℤ, ◌≤ℤ◌, List, [], ◌∷◌, length, Option, Some, None, Bool, true, unwrap_or, if◌then◌else◌}
+use Rattle.std.specs.Map.{lookup}
+use Rattle.std.specs.Str.{bytes_eq}
 use Rattle.mmdb_format.specs.Header.{HasHeader}
 use Rattle.mmdb_format.specs.Pointer.{PointsTo, most_levels}
 use Rattle.mmdb_format.specs.Contents.{Scalar, scalar_payload, scalar_is_text}
 use Rattle.mmdb_format.specs.Unfolding.{Tree, scalar, pointer, Unfolds, levels_without_key_pointers, without_pointers}
 use Rattle.mmdb_decode.specs.declared.direct.Entered.{Entered}
 use Rattle.mmdb_decode.specs.Arrays.{list_at}
+use Rattle.mmdb_decode.specs.Maps.{Fields, put, key_at, name_at, text_map_at}
+use Rattle.mmdb_decode.specs.Records.{record_at}
 use Rattle.mmdb_decode.specs.Reading.{Reading, Meaning}
 use Rattle.mmdb_decode.specs.SmallNumbers.{whole_number, small_at}
 
@@ -62,3 +66,77 @@ abbrev pub ReadsLists : {A : Type 0} → Meaning A → Type 0
 ReadsLists {A = A} read =
     (s : List ℕ) (p d : ℕ) (vs : List A) (q c b : ℕ) →
     (list_at read s p d ≡ Some (record { value = vs; next = q; values = c; bytes = b })) ↔ ListStands read s p d vs q c b
+
+-- keys of text, each with a value of one meaning behind it, that follow one another
+pub data PairsFollow {A : Type 0} (read : Meaning A) (s : List ℕ) (d : ℕ) : ℕ → List (List ℕ × A) → ℕ → ℕ → ℕ → Type 0 where
+  no_pairs_follow : {p : ℕ} → PairsFollow read s d p [] p 0 0
+  one_pair_follows : {p q c b : ℕ} {xs : List (List ℕ × A)} {k : Reading (List ℕ)} {v : Reading A} → key_at s p d ≡ Some k → read s k.next d ≡ Some v → PairsFollow read s d v.next xs q c b → PairsFollow read s d p ((k.value, v.value) ∷ xs) q (k.values + (v.values + c)) (k.bytes + (v.bytes + b))
+
+-- pairs that are put into a map in turn
+abbrev pub put_all : {A : Type 0} → List (List ℕ × A) → List (List ℕ × A) → List (List ℕ × A)
+put_all m [] = m
+put_all m (x ∷ xs) = put_all (put m x.0 x.1) xs
+
+-- a map with keys of text stands at p: its pairs follow one another, each key and each value one value, and
+-- are put in turn into a map that is empty
+pub record TextMapStands {A : Type 0} (read : Meaning A) (s : List ℕ) (p d : ℕ) (m : List (List ℕ × A)) (q c b : ℕ) : Type 0 where
+  pub table : Entered
+  pub pairs : List (List ℕ × A)
+  pub last : ℕ
+  pub more : ℕ
+  pub stands : ContainerStands 7 s p d table
+  pub follow : PairsFollow read s table.levels table.body pairs last more b
+  pub count : table.count ≡ length pairs
+  pub put : m ≡ put_all [] pairs
+  pub next : q ≡ unwrap_or table.after last
+  pub values : c ≡ 2 * table.count + more
+
+-- what is read as a map with keys of text is such a map
+abbrev pub ReadsTextMaps : {A : Type 0} → Meaning A → Type 0
+ReadsTextMaps {A = A} read =
+    (s : List ℕ) (p d : ℕ) (m : List (List ℕ × A)) (q c b : ℕ) →
+    (text_map_at read s p d ≡ Some (record { value = m; next = q; values = c; bytes = b })) ↔ TextMapStands read s p d m q c b
+
+-- the value of the last pair with a key, or what stood there before
+abbrev pub last_value : {A : Type 0} → List ℕ → Option A → List (List ℕ × A) → Option A
+last_value key before [] = before
+last_value key before (x ∷ xs) = last_value key (if bytes_eq key x.0 then Some x.1 else before) xs
+
+-- of pairs that are put in turn, the last one with a key gives its value
+abbrev pub LastPairStays : Type 0 → Type 0
+LastPairStays A = (pairs : List (List ℕ × A)) (key : List ℕ) → lookup (bytes_eq key) (put_all [] pairs) ≡ last_value key None pairs
+
+-- names, each with what it makes of a record behind it, that follow one another
+pub data FieldsFollow {P : Type 0} (fields : Fields P) (s : List ℕ) (d : ℕ) : P → ℕ → List (List ℕ) → P → ℕ → ℕ → ℕ → Type 0 where
+  no_fields_follow : {x : P} {p : ℕ} → FieldsFollow fields s d x p [] x p 0 0
+  one_field_follows : {x z : P} {p q c b : ℕ} {names : List (List ℕ)} {name : Reading (List ℕ)} {y : Reading P} → name_at s p d ≡ Some name → fields x name.value s name.next d ≡ Some y → FieldsFollow fields s d y.value y.next names z q c b → FieldsFollow fields s d x p (name.value ∷ names) z q (name.values + (y.values + c)) (name.bytes + (y.bytes + b))
+
+-- a record stands at p: a map whose names, with the values behind them, make a record of an empty one
+pub record RecordStands {P : Type 0} (fields : Fields P) (none : P) (s : List ℕ) (p d : ℕ) (names : List (List ℕ)) (x : P) (q c b : ℕ) : Type 0 where
+  pub table : Entered
+  pub last : ℕ
+  pub more : ℕ
+  pub stands : ContainerStands 7 s p d table
+  pub follow : FieldsFollow fields s table.levels none table.body names x last more b
+  pub count : table.count ≡ length names
+  pub next : q ≡ unwrap_or table.after last
+  pub values : c ≡ 2 * table.count + more
+
+-- what is read as a record is such a record
+abbrev pub ReadsRecords : {P : Type 0} → Fields P → P → Type 0
+ReadsRecords {P = P} fields none =
+    (s : List ℕ) (p d : ℕ) (x : P) (q c b : ℕ) →
+    (record_at fields none s p d ≡ Some (record { value = x; next = q; values = c; bytes = b })) ↔ ((names : List (List ℕ)) × RecordStands fields none s p d names x q c b)
+
+-- A name of which a record tells whether it has stood: no field empties it, its own fills it, and where it
+-- has stood nothing is read behind it.
+pub record IsKnown {P : Type 0} (fields : Fields P) (name : List ℕ) (has_stood : P → Bool) : Type 0 where
+  pub stays : (x : P) (other s : List ℕ) (p d : ℕ) (y : Reading P) → has_stood x ≡ true → fields x other s p d ≡ Some y → has_stood y.value ≡ true
+  pub fills : (x : P) (s : List ℕ) (p d : ℕ) (y : Reading P) → fields x name s p d ≡ Some y → has_stood y.value ≡ true
+  pub refused : (x : P) (s : List ℕ) (p d : ℕ) → has_stood x ≡ true → fields x name s p d ≡ None
+
+-- a known name stands at most once in a record
+abbrev pub KnownNamesStandOnce : {P : Type 0} → Fields P → P → Type 0
+KnownNamesStandOnce {P = P} fields none =
+    (name : List ℕ) (has_stood : P → Bool) (s : List ℕ) (p d : ℕ) (names : List (List ℕ)) (x : P) (q c b : ℕ) →
+    IsKnown fields name has_stood → RecordStands fields none s p d names x q c b → count_by (bytes_eq name) names ≤ 1

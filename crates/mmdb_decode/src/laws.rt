@@ -11,11 +11,12 @@ ghost use Rattle.mmdb_decode.specs.State.{Within};
 ghost use Rattle.mmdb_decode.specs.Limits.{AnswerIsWithinLimits, OneReading};
 ghost use Rattle.mmdb_decode.specs.Shapes.{IsShape, IsScalarShape, IsSmallShape, IsOwnedShape, IsContainerShape};
 ghost use Rattle.mmdb_format.specs.Contents.{text, bytes, boolean, signed32, number16, number32, number64, number128, double_bits, float_bits};
-ghost use Rattle.mmdb_decode.specs.TypedReads.{ReadsScalars, ReadsSmallNumbers, ReadsLists};
+ghost use Rattle.mmdb_decode.specs.TypedReads.{ReadsScalars, ReadsSmallNumbers, ReadsLists, ReadsTextMaps, LastPairStays, ReadsRecords, KnownNamesStandOnce};
 ghost use Rattle.mmdb_decode.specs.Skipping.{SkippingIsPassing};
 
 use crate::decode::{Decode, OwnedBytes};
 use crate::decoder::Decoder;
+use crate::record::Record;
 use mmdb_format::content::{Double, Float};
 use std::collections::BTreeMap;
 
@@ -112,4 +113,19 @@ pub fn small_number_is_what_stands()
 /// turn.
 pub fn list_is_what_stands<'de, T: Decode<'de>>()
     ensures { ReadsLists T.meaning }
+{}
+
+/// What is read as a map with keys of text is the map that stands there, directly or behind one pointer: its
+/// pairs in turn, of which the last one with a key gives its value.
+pub fn text_map_is_what_stands<'de, T: Decode<'de>>()
+    ensures read { ReadsTextMaps T.meaning }
+    ensures last { LastPairStays T.Datum }
+{}
+
+/// What is read as a record is the map that stands there, directly or behind one pointer: its fields in
+/// turn. A name of which the record tells whether it has stood, and that is refused then, stands at most
+/// once.
+pub fn record_is_what_stands<'de, R: Record<'de>>()
+    ensures read { ReadsRecords R.fields R.none }
+    ensures known_names { KnownNamesStandOnce R.fields R.none }
 {}
