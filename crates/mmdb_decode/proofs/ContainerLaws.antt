@@ -10,7 +10,8 @@ use Rattle.mmdb_decode.specs.declared.direct.Entered.{Entered}
 use Rattle.mmdb_decode.specs.Scalars.{direct_of}
 use Rattle.mmdb_decode.specs.Arrays.{container_at}
 use Rattle.mmdb_decode.specs.TypedReads.{ContainerStands}
-use Rattle.mmdb_decode.proofs.DirectLaws.{if_bind, if_cond, if_is, StandsDirectly, of_sound, of_here, of_behind}
+use Rattle.mmdb_decode.proofs.Options.{if_bind, if_cond, if_is, if_weaker}
+use Rattle.mmdb_decode.proofs.DirectLaws.{StandsDirectly, of_sound, of_here, of_behind}
 
 -- a pointer's header is its control byte alone
 abbrev IsShort : ℕ → Header → Type 0
@@ -19,10 +20,6 @@ IsShort p header = header.kind ≡ 1 → header.body ≡ p + 1
 sized_kind : (s : List ℕ) (p kind low : ℕ) → IfSome (sized_header s p kind low) (λ header. header.kind ≡ kind)
 unfolding sized_header
 sized_kind s p kind low = if_bind (size_at s p low) _ (λ header. header.kind ≡ kind) (λ z e. refl)
-
-if_weaker : {A : Type 0} (o : Option A) (P Q : A → Type 0) → ((x : A) → P x → Q x) → IfSome o P → IfSome o Q
-if_weaker None P Q k h = tt
-if_weaker (Some x) P Q k h = k x h
 
 short_pointers : (s : List ℕ) (p : ℕ) → IfSome (header_at s p) (IsShort p)
 unfolding header_at

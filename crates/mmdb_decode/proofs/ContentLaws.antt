@@ -6,7 +6,7 @@ use Rattle.std.proofs.lemmas.Bool.Decides.{nat_tests}
 use Rattle.mmdb_format.specs.declared.header.Header.{Header}
 use Rattle.mmdb_format.specs.Header.{◌>>=◌, bytes_at}
 use Rattle.mmdb_format.specs.Contents.{Scalar, text, bytes, boolean, signed32, number16, number32, number64, number128, double_bits, float_bits, content_at, short_number, full_number, truth_of}
-use Rattle.mmdb_decode.proofs.DirectLaws.{if_cond, if_is}
+use Rattle.mmdb_decode.proofs.Options.{if_cond, if_is}
 
 -- the type of a scalar, and what was taken of its header
 abbrev pub IsTakenAs : List ℕ → Header → Scalar → Type 0

@@ -1,6 +1,6 @@
 -- Headers that are read directly or behind one pointer, and the trees that unfold there.
 use Rattle.std.specs.Option.{IfSome}
-use Rattle.std.proofs.Common.{◌≡◌, ◌⊎◌, ℕ, ◌+◌, ◌<◌, List, Option, Some, None, Bool, true, false, nat_eq, nat_lt, refl, sym, ◌∙◌, arith, subst, cond, inl, inr}
+use Rattle.std.proofs.Common.{◌≡◌, ◌⊎◌, ℕ, ◌+◌, ◌<◌, List, Option, Some, None, true, false, nat_eq, nat_lt, refl, sym, ◌∙◌, arith, inl, inr}
 use Rattle.std.proofs.lemmas.Bool.Decides.{nat_tests}
 use Rattle.mmdb_format.specs.declared.header.Header.{Header}
 use Rattle.mmdb_format.specs.declared.header.Pointer.{Pointer}
@@ -12,19 +12,7 @@ use Rattle.mmdb_format.specs.Unfolding.{Tree, scalar, pointer, Unfolds, scalar_h
 use Rattle.mmdb_decode.specs.Reading.{Reading, Meaning}
 use Rattle.mmdb_decode.specs.Scalars.{direct_of}
 use Rattle.mmdb_decode.specs.TypedReads.{ScalarStands}
-
--- what is known of whatever an option holds
-pub if_bind : {A B : Type 0} (o : Option A) (f : A → Option B) (P : B → Type 0) → ((x : A) → o ≡ Some x → IfSome (f x) P) → IfSome (o >>= f) P
-if_bind None f P h = tt
-if_bind (Some x) f P h = h x refl
-
-pub if_cond : {A : Type 0} (b : Bool) (x y : Option A) (P : A → Type 0) → (b ≡ true → IfSome x P) → (b ≡ false → IfSome y P) → IfSome (cond b x y) P
-if_cond true x y P h k = h refl
-if_cond false x y P h k = k refl
-
-pub if_is : {A : Type 0} (o : Option A) (P : A → Type 0) (x : A) → IfSome o P → o ≡ Some x → P x
-if_is None P x h e = absurd (cc)
-if_is (Some y) P x h e = let f : y ≡ x = cc in subst P f h
+use Rattle.mmdb_decode.proofs.Options.{if_bind, if_cond, if_is}
 
 -- a header that is no pointer, directly
 pub record StandsHere (s : List ℕ) (p d : ℕ) (at : Direct) : Type 0 where
@@ -105,7 +93,7 @@ pointer_unfolds (pointer_here {q = q} {header = header} {to = to} h k a u) = rec
 abbrev pub typed : {A : Type 0} → ℕ → (Header → Option A) → (Header → ℕ) → (A → ℕ) → Meaning A
 typed kind take stop cost s p d = direct_of kind s p d >>= λ at. take at.header >>= λ v. Some (record { value = v; next = end_of at (stop at.header); values = 0; bytes = cost v })
 
-unfolds_at : (s : List ℕ) (p d : ℕ) (at : Direct) (c : Scalar) → StandsDirectly s p d at → content_at s at.header ≡ Some c → ScalarStands s p d c (end_of at (content_end at.header))
+pub unfolds_at : (s : List ℕ) (p d : ℕ) (at : Direct) (c : Scalar) → StandsDirectly s p d at → content_at s at.header ≡ Some c → ScalarStands s p d c (end_of at (content_end at.header))
 unfolds_at s p d at c (inl h) k = inl (rw h.after (scalar_here h.here k))
 unfolds_at s p d at c (inr h) k = inr (h.to.target, rw h.after (pointer_here h.here h.kind h.points (scalar_here h.there k)), h.room)
 

@@ -1,3 +1,4 @@
+pub mod Options
 pub mod Texts
 pub mod ReadingLaws
 pub mod StepLaws
@@ -18,3 +19,4 @@ pub mod ContainerLaws
 pub mod ListLaws
 pub mod TextMapLaws
 pub mod RecordStandingLaws
+pub mod ContainerTrees

@@ -5,7 +5,7 @@ use Rattle.mmdb_format.specs.Header.{◌>>=◌}
 use Rattle.mmdb_decode.specs.Reading.{Reading, Meaning, plus}
 use Rattle.mmdb_decode.specs.Arrays.{array_at, elements, list_at}
 use Rattle.mmdb_decode.specs.TypedReads.{ContainerStands, Follow, none_follow, one_follows, ListStands, ReadsLists}
-use Rattle.mmdb_decode.proofs.DirectLaws.{if_bind, if_is}
+use Rattle.mmdb_decode.proofs.Options.{if_bind, if_is}
 use Rattle.mmdb_decode.proofs.ContainerLaws.{container_sound, container_complete}
 
 abbrev at : {A : Type 0} → A → ℕ → ℕ → ℕ → Reading A

@@ -10,7 +10,7 @@ use Rattle.mmdb_decode.specs.Maps.{Fields, name_at, map_at, in_map, pairs_from}
 use Rattle.mmdb_decode.specs.Records.{record_at, field, skipped}
 use Rattle.mmdb_decode.specs.Skipping.{skip_at}
 use Rattle.mmdb_decode.specs.TypedReads.{ContainerStands, FieldsFollow, no_fields_follow, one_field_follows, RecordStands, ReadsRecords, IsKnown, KnownNamesStandOnce}
-use Rattle.mmdb_decode.proofs.DirectLaws.{if_bind, if_is}
+use Rattle.mmdb_decode.proofs.Options.{if_bind, if_is}
 use Rattle.mmdb_decode.proofs.ContainerLaws.{container_sound, container_complete}
 use Rattle.mmdb_decode.proofs.TextMapLaws.{same_bytes}
 

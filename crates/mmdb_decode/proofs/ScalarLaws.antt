@@ -9,7 +9,8 @@ use Rattle.mmdb_format.specs.Contents.{Scalar, text, bytes, boolean, signed32, n
 use Rattle.mmdb_decode.specs.Reading.{Reading, Meaning}
 use Rattle.mmdb_decode.specs.Scalars.{number_of, bits_of, bytes_of, bool_at, u16_at, u32_at, u64_at, u128_at, i32_at, double_at, float_at, text_at, byte_string_at, if_text}
 use Rattle.mmdb_decode.specs.TypedReads.{ScalarStands, ReadsScalars}
-use Rattle.mmdb_decode.proofs.DirectLaws.{if_is, typed, typed_sound, typed_complete}
+use Rattle.mmdb_decode.proofs.Options.{if_is}
+use Rattle.mmdb_decode.proofs.DirectLaws.{typed, typed_sound, typed_complete}
 use Rattle.mmdb_decode.proofs.ContentLaws.{content_is, text_content, bytes_content, bool_content, content_of_16, content_of_32, content_of_64, content_of_128, signed_content, double_content, float_content}
 
 abbrev at : {A : Type 0} → A → ℕ → ℕ → ℕ → Reading A
@@ -42,10 +43,10 @@ reads_any {A = A} kind take stop says t s p d v q c b =
 tested : {A : Type 0} (read : Meaning A) (says : A → Scalar) → ((v : A) → scalar_is_text (says v) ≡ true) → ReadsAny read says → ReadsScalars read says
 tested read says t any s p d v q c b = (λ h. let w = (any s p d v q c b).0 h in (w.0, t v, w.1, w.2), λ h. (any s p d v q c b).1 (h.0, h.2, h.3))
 
-abbrev after_bytes : Header → ℕ
+abbrev pub after_bytes : Header → ℕ
 after_bytes header = header.body + header.size
 
-end_not_bool : (header : Header) (kind : ℕ) → nat_eq kind 14 ≡ false → header.kind ≡ kind → content_end header ≡ after_bytes header
+pub end_not_bool : (header : Header) (kind : ℕ) → nat_eq kind 14 ≡ false → header.kind ≡ kind → content_end header ≡ after_bytes header
 end_not_bool header kind n k = rw (k, n) refl
 
 pub reads_u16 : ReadsScalars u16_at number16

@@ -11,7 +11,7 @@ use Rattle.mmdb_format.specs.Header.{◌>>=◌}
 use Rattle.mmdb_decode.specs.Reading.{Reading, Meaning, plus}
 use Rattle.mmdb_decode.specs.Maps.{key_at, map_at, in_map, pairs_from, pair_of, put, text_map_at}
 use Rattle.mmdb_decode.specs.TypedReads.{ContainerStands, PairsFollow, no_pairs_follow, one_pair_follows, put_all, TextMapStands, ReadsTextMaps, last_value, LastPairStays}
-use Rattle.mmdb_decode.proofs.DirectLaws.{if_bind, if_is}
+use Rattle.mmdb_decode.proofs.Options.{if_bind, if_is}
 use Rattle.mmdb_decode.proofs.ContainerLaws.{container_sound, container_complete}
 
 abbrev at : {A : Type 0} → A → ℕ → ℕ → ℕ → Reading A

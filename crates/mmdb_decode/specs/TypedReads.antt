@@ -4,8 +4,8 @@ use Rattle.std.specs.Map.{lookup}
 use Rattle.std.specs.Str.{bytes_eq}
 use Rattle.mmdb_format.specs.Header.{HasHeader}
 use Rattle.mmdb_format.specs.Pointer.{PointsTo, most_levels}
-use Rattle.mmdb_format.specs.Contents.{Scalar, scalar_payload, scalar_is_text}
-use Rattle.mmdb_format.specs.Unfolding.{Tree, scalar, pointer, Unfolds, levels_without_key_pointers, without_pointers}
+use Rattle.mmdb_format.specs.Contents.{Scalar, text, scalar_payload, scalar_is_text}
+use Rattle.mmdb_format.specs.Unfolding.{Tree, scalar, array, table, pointer, Trees, no_trees, tree, Pairs, no_pairs, pair, Unfolds, levels_without_key_pointers, without_pointers}
 use Rattle.mmdb_decode.specs.declared.direct.Entered.{Entered}
 use Rattle.mmdb_decode.specs.Arrays.{list_at}
 use Rattle.mmdb_decode.specs.Maps.{Fields, put, key_at, name_at, text_map_at}
@@ -17,8 +17,8 @@ use Rattle.mmdb_decode.specs.SmallNumbers.{whole_number, small_at}
 abbrev pub ScalarStands : List ℕ → ℕ → ℕ → Scalar → ℕ → Type 0
 ScalarStands s p d c q = Unfolds s p (scalar c) q ⊎ ((a : ℕ) × Unfolds s p (pointer a (scalar c)) q × (d < most_levels))
 
--- what is read is each scalar that a value says, where it is a text one that is UTF-8; it costs no value
--- after the first, and its bytes if it is a text or a byte string
+-- what is read is the scalar that stands there, a text only if it is UTF-8; it costs no value after the
+-- first, and the bytes of a text or a byte string
 abbrev pub ReadsScalars : {A : Type 0} → Meaning A → (A → Scalar) → Type 0
 ReadsScalars {A = A} read says =
     (s : List ℕ) (p d : ℕ) (v : A) (q c b : ℕ) →
@@ -66,6 +66,19 @@ abbrev pub ReadsLists : {A : Type 0} → Meaning A → Type 0
 ReadsLists {A = A} read =
     (s : List ℕ) (p d : ℕ) (vs : List A) (q c b : ℕ) →
     (list_at read s p d ≡ Some (record { value = vs; next = q; values = c; bytes = b })) ↔ ListStands read s p d vs q c b
+
+-- where a value is read, a tree unfolds that says it, its pointers dropped
+abbrev pub ReadsTrees : {A : Type 0} → Meaning A → (A → Tree) → Type 0
+ReadsTrees {A = A} read says =
+    (s : List ℕ) (p d : ℕ) (r : Reading A) → read s p d ≡ Some r → (u : Tree) × Unfolds s p u r.next × (without_pointers u ≡ says r.value)
+
+abbrev pub trees_of : {A : Type 0} → (A → Tree) → List A → Trees
+trees_of says [] = no_trees
+trees_of says (v ∷ vs) = tree (says v) (trees_of says vs)
+
+-- where each element is a tree that unfolds, so is the list: the array of these
+abbrev pub ListsUnfold : {A : Type 0} → Meaning A → Type 0
+ListsUnfold {A = A} read = (says : A → Tree) → ReadsTrees read says → ReadsTrees (list_at read) (λ vs. array (trees_of says vs))
 
 -- keys of text, each with a value of one meaning behind it, that follow one another
 pub data PairsFollow {A : Type 0} (read : Meaning A) (s : List ℕ) (d : ℕ) : ℕ → List (List ℕ × A) → ℕ → ℕ → ℕ → Type 0 where
@@ -140,3 +153,14 @@ abbrev pub KnownNamesStandOnce : {P : Type 0} → Fields P → P → Type 0
 KnownNamesStandOnce {P = P} fields none =
     (name : List ℕ) (has_stood : P → Bool) (s : List ℕ) (p d : ℕ) (names : List (List ℕ)) (x : P) (q c b : ℕ) →
     IsKnown fields name has_stood → RecordStands fields none s p d names x q c b → count_by (bytes_eq name) names ≤ 1
+
+abbrev pub pairs_of : {A : Type 0} → (A → Tree) → List (List ℕ × A) → Pairs
+pairs_of says [] = no_pairs
+pairs_of says (x ∷ xs) = pair (scalar (text x.0)) (says x.1) (pairs_of says xs)
+
+-- where each value is a tree that unfolds, so is the map: the table of the pairs that are put in turn
+abbrev pub TextMapsUnfold : {A : Type 0} → Meaning A → Type 0
+TextMapsUnfold {A = A} read =
+    (says : A → Tree) → ReadsTrees read says →
+    (s : List ℕ) (p d : ℕ) (r : Reading (List (List ℕ × A))) → text_map_at read s p d ≡ Some r →
+    (u : Tree) × (pairs : List (List ℕ × A)) × Unfolds s p u r.next × (without_pointers u ≡ table (pairs_of says pairs)) × (r.value ≡ put_all [] pairs)

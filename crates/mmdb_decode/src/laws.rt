@@ -11,7 +11,7 @@ ghost use Rattle.mmdb_decode.specs.State.{Within};
 ghost use Rattle.mmdb_decode.specs.Limits.{AnswerIsWithinLimits, OneReading};
 ghost use Rattle.mmdb_decode.specs.Shapes.{IsShape, IsScalarShape, IsSmallShape, IsOwnedShape, IsContainerShape};
 ghost use Rattle.mmdb_format.specs.Contents.{text, bytes, boolean, signed32, number16, number32, number64, number128, double_bits, float_bits};
-ghost use Rattle.mmdb_decode.specs.TypedReads.{ReadsScalars, ReadsSmallNumbers, ReadsLists, ReadsTextMaps, LastPairStays, ReadsRecords, KnownNamesStandOnce};
+ghost use Rattle.mmdb_decode.specs.TypedReads.{ReadsScalars, ReadsSmallNumbers, ReadsLists, ListsUnfold, ReadsTextMaps, TextMapsUnfold, LastPairStays, ReadsRecords, KnownNamesStandOnce};
 ghost use Rattle.mmdb_decode.specs.Skipping.{SkippingIsPassing};
 
 use crate::decode::{Decode, OwnedBytes};
@@ -112,13 +112,15 @@ pub fn small_number_is_what_stands()
 /// What is read as a list is the array that stands there, directly or behind one pointer: its elements in
 /// turn.
 pub fn list_is_what_stands<'de, T: Decode<'de>>()
-    ensures { ReadsLists T.meaning }
+    ensures read { ReadsLists T.meaning }
+    ensures unfolds { ListsUnfold T.meaning }
 {}
 
 /// What is read as a map with keys of text is the map that stands there, directly or behind one pointer: its
 /// pairs in turn, of which the last one with a key gives its value.
 pub fn text_map_is_what_stands<'de, T: Decode<'de>>()
     ensures read { ReadsTextMaps T.meaning }
+    ensures unfolds { TextMapsUnfold T.meaning }
     ensures last { LastPairStays T.Datum }
 {}
 
