@@ -11,7 +11,7 @@ use Rattle.mmdb_decode.specs.declared.direct.Entered.{Entered}
 use Rattle.mmdb_decode.specs.Reading.{Reading, Meaning}
 use Rattle.mmdb_decode.specs.Maps.{key_past, key_at}
 use Rattle.mmdb_decode.specs.Scalars.{if_text}
-use Rattle.mmdb_decode.specs.TypedReads.{ScalarStands, ContainerStands, Follow, none_follow, one_follows, ListStands, ReadsTrees, trees_of, ListsUnfold, PairsFollow, no_pairs_follow, one_pair_follows, put_all, TextMapStands, pairs_of, TextMapsUnfold}
+use Rattle.mmdb_decode.specs.TypedReads.{ScalarStands, ContainerStands, Follow, none_follow, one_follows, ListStands, ReadsTrees, ScalarsUnfold, trees_of, ListsUnfold, PairsFollow, no_pairs_follow, one_pair_follows, put_all, TextMapStands, pairs_of, TextMapsUnfold}
 use Rattle.mmdb_decode.proofs.ContentLaws.{text_content}
 use Rattle.mmdb_decode.proofs.Options.{if_bind, if_cond, if_is}
 use Rattle.mmdb_decode.proofs.DirectLaws.{StandsDirectly, direct_sound, unfolds_at}
@@ -28,6 +28,9 @@ container_unfolds kind s p d last at u here (inr h) = (pointer h.0 u, rw h.4 (po
 pub scalar_tree : (s : List ℕ) (p d : ℕ) (c : Scalar) (q : ℕ) → ScalarStands s p d c q → (u : Tree) × Unfolds s p u q × (without_pointers u ≡ scalar c)
 scalar_tree s p d c q (inl h) = (scalar c, h, refl)
 scalar_tree s p d c q (inr h) = (pointer h.0 (scalar c), h.1, refl)
+
+pub scalars_unfold : {A : Type 0} (read : Meaning A) → ScalarsUnfold read
+scalars_unfold read says reads s p d r h = scalar_tree s p d (says r.value) r.next ((reads s p d r.value r.next r.values r.bytes).0 h).0
 
 -- a key
 abbrev KeyUnfolds : List ℕ → ℕ → List ℕ × ℕ → Type 0

@@ -3,14 +3,17 @@ use Rattle.std.specs.Option.{IfSome}
 use Rattle.std.specs.Map.{lookup}
 use Rattle.std.specs.Str.{bytes_eq}
 use Rattle.std.specs.Cmp.Lexicographic.{slice_cmp}
-use Rattle.std.specs.Ordering.{nat_cmp, match_ordering, is_eq}
-use Rattle.std.proofs.Common.{◌≡◌, ℕ, zero, suc, List, [], ◌∷◌, length, Option, Some, None, Bool, true, false, Ordering, Less, Equal, Greater, refl, sym, ap, ◌∙◌, cond}
+use Rattle.std.specs.List.{AllByRecursion}
+use Rattle.std.specs.List.Sorted.{IsStrictlySortedBy}
+use Rattle.std.specs.Ordering.{nat_cmp, match_ordering, is_eq, ordering_reverse}
+use Rattle.std.proofs.lemmas.Cmp.{nat_list_cmp_total}
+use Rattle.std.proofs.Common.{◌≡◌, ℕ, zero, suc, List, [], ◌∷◌, length, map, Option, Some, None, Bool, true, false, Ordering, Less, Equal, Greater, refl, sym, ap, ◌∙◌, cond}
 use Rattle.std.proofs.lemmas.Map.Lookups.{exact_bytes}
 use Rattle.std.proofs.lemmas.Map.Text.{is_eq-slice_cmp}
 use Rattle.mmdb_format.specs.Header.{◌>>=◌}
 use Rattle.mmdb_decode.specs.Reading.{Reading, Meaning, plus}
 use Rattle.mmdb_decode.specs.Maps.{key_at, map_at, in_map, pairs_from, pair_of, put, text_map_at}
-use Rattle.mmdb_decode.specs.TypedReads.{ContainerStands, PairsFollow, no_pairs_follow, one_pair_follows, put_all, TextMapStands, ReadsTextMaps, last_value, LastPairStays}
+use Rattle.mmdb_decode.specs.TypedReads.{ContainerStands, PairsFollow, no_pairs_follow, one_pair_follows, put_all, TextMapStands, ReadsTextMaps, last_value, LastPairStays, KeysAscend}
 use Rattle.mmdb_decode.proofs.Options.{if_bind, if_is}
 use Rattle.mmdb_decode.proofs.ContainerLaws.{container_sound, container_complete}
 
@@ -97,3 +100,41 @@ lookup_all key (x ∷ xs) m = lookup_all key xs (put m x.0 x.1) ∙ ap (λ o. la
 
 pub last_pair_stays : {A : Type 0} → LastPairStays A
 last_pair_stays pairs key = lookup_all key pairs []
+
+-- the keys ascend
+abbrev Below : List ℕ → List ℕ → Type 0
+Below x y = slice_cmp nat_cmp x y ≡ Less
+
+abbrev keys : {A : Type 0} → List (List ℕ × A) → List (List ℕ)
+keys m = map (λ e. e.0) m
+
+all_put : {A : Type 0} (P : List ℕ → Type 0) (m : List (List ℕ × A)) (k : List ℕ) (v : A) → P k → AllByRecursion P (keys m) → AllByRecursion P (keys (put m k v))
+all_put P [] k v h a = (h, tt)
+all_put P (e ∷ es) k v h a = by_order (slice_cmp nat_cmp k e.0) (all_put P es k v h a.1)
+  where
+    by_order : (o : Ordering) → AllByRecursion P (keys (put es k v)) → AllByRecursion P (keys (match_ordering o ((k, v) ∷ e ∷ es) ((e.0, v) ∷ es) (e ∷ put es k v)))
+    by_order Less more = (h, a)
+    by_order Equal more = a
+    by_order Greater more = (a.0, more)
+
+all_above : (x y : List ℕ) (ks : List (List ℕ)) → Below x y → AllByRecursion (Below y) ks → AllByRecursion (Below x) ks
+all_above x y [] h a = tt
+all_above x y (k ∷ ks) h a = (nat_list_cmp_total.trans x y k h a.0, all_above x y ks h a.1)
+
+sorted_put : {A : Type 0} (m : List (List ℕ × A)) (k : List ℕ) (v : A) → IsStrictlySortedBy (slice_cmp nat_cmp) (keys m) → IsStrictlySortedBy (slice_cmp nat_cmp) (keys (put m k v))
+unfolding IsStrictlySortedBy
+sorted_put [] k v h = (tt, tt)
+sorted_put (e ∷ es) k v h = by_order (slice_cmp nat_cmp k e.0) refl (sorted_put es k v h.1)
+  where
+    by_order : (o : Ordering) → slice_cmp nat_cmp k e.0 ≡ o → IsStrictlySortedBy (slice_cmp nat_cmp) (keys (put es k v)) → IsStrictlySortedBy (slice_cmp nat_cmp) (keys (match_ordering o ((k, v) ∷ e ∷ es) ((e.0, v) ∷ es) (e ∷ put es k v)))
+    by_order Less i more = ((i, all_above k e.0 (keys es) i h.0), h)
+    by_order Equal i more = h
+    by_order Greater i more = (all_put (Below e.0) es k v (nat_list_cmp_total.antisymm e.0 k ∙ ap ordering_reverse i) h.0, more)
+
+sorted_all : {A : Type 0} (xs m : List (List ℕ × A)) → IsStrictlySortedBy (slice_cmp nat_cmp) (keys m) → IsStrictlySortedBy (slice_cmp nat_cmp) (keys (put_all m xs))
+sorted_all [] m h = h
+sorted_all (x ∷ xs) m h = sorted_all xs (put m x.0 x.1) (sorted_put m x.0 x.1 h)
+
+pub keys_ascend : {A : Type 0} → KeysAscend A
+unfolding IsStrictlySortedBy
+keys_ascend pairs = sorted_all pairs [] tt

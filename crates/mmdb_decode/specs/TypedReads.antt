@@ -1,6 +1,9 @@
 -- What typed reads give, in the words of the format: which tree unfolds where a value is read.
-use Rattle.std.specs.Prelude.{◌≡◌, ◌↔◌, ◌⊎◌, ℕ, ◌+◌, ◌*◌, ◌<◌, ◌≤◌, count_by, ℤ, ◌≤ℤ◌, List, [], ◌∷◌, length, Option, Some, None, Bool, true, unwrap_or, if◌then◌else◌}
+use Rattle.std.specs.Prelude.{◌≡◌, ◌↔◌, ◌⊎◌, ℕ, ◌+◌, ◌*◌, ◌<◌, ◌≤◌, count_by, ℤ, ◌≤ℤ◌, List, [], ◌∷◌, length, map, Option, Some, None, Bool, true, unwrap_or, if◌then◌else◌}
+use Rattle.std.specs.Cmp.Lexicographic.{slice_cmp}
+use Rattle.std.specs.List.Sorted.{IsStrictlySortedBy}
 use Rattle.std.specs.Map.{lookup}
+use Rattle.std.specs.Ordering.{nat_cmp}
 use Rattle.std.specs.Str.{bytes_eq}
 use Rattle.mmdb_format.specs.Header.{HasHeader}
 use Rattle.mmdb_format.specs.Pointer.{PointsTo, most_levels}
@@ -72,6 +75,10 @@ abbrev pub ReadsTrees : {A : Type 0} → Meaning A → (A → Tree) → Type 0
 ReadsTrees {A = A} read says =
     (s : List ℕ) (p d : ℕ) (r : Reading A) → read s p d ≡ Some r → (u : Tree) × Unfolds s p u r.next × (without_pointers u ≡ says r.value)
 
+-- a scalar unfolds to itself
+abbrev pub ScalarsUnfold : {A : Type 0} → Meaning A → Type 0
+ScalarsUnfold {A = A} read = (says : A → Scalar) → ReadsScalars read says → ReadsTrees read (λ v. scalar (says v))
+
 abbrev pub trees_of : {A : Type 0} → (A → Tree) → List A → Trees
 trees_of says [] = no_trees
 trees_of says (v ∷ vs) = tree (says v) (trees_of says vs)
@@ -118,6 +125,10 @@ last_value key before (x ∷ xs) = last_value key (if bytes_eq key x.0 then Some
 -- of pairs that are put in turn, the last one with a key gives its value
 abbrev pub LastPairStays : Type 0 → Type 0
 LastPairStays A = (pairs : List (List ℕ × A)) (key : List ℕ) → lookup (bytes_eq key) (put_all [] pairs) ≡ last_value key None pairs
+
+-- and the keys ascend, byte by byte, each standing once
+abbrev pub KeysAscend : Type 0 → Type 0
+KeysAscend A = (pairs : List (List ℕ × A)) → IsStrictlySortedBy (slice_cmp nat_cmp) (map (λ e. e.0) (put_all [] pairs))
 
 -- names, each with what it makes of a record behind it, that follow one another
 pub data FieldsFollow {P : Type 0} (fields : Fields P) (s : List ℕ) (d : ℕ) : P → ℕ → List (List ℕ) → P → ℕ → ℕ → ℕ → Type 0 where

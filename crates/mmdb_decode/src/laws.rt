@@ -11,7 +11,7 @@ ghost use Rattle.mmdb_decode.specs.State.{Within};
 ghost use Rattle.mmdb_decode.specs.Limits.{AnswerIsWithinLimits, OneReading};
 ghost use Rattle.mmdb_decode.specs.Shapes.{IsShape, IsScalarShape, IsSmallShape, IsOwnedShape, IsContainerShape};
 ghost use Rattle.mmdb_format.specs.Contents.{text, bytes, boolean, signed32, number16, number32, number64, number128, double_bits, float_bits};
-ghost use Rattle.mmdb_decode.specs.TypedReads.{ReadsScalars, ReadsSmallNumbers, ReadsLists, ListsUnfold, ReadsTextMaps, TextMapsUnfold, LastPairStays, ReadsRecords, KnownNamesStandOnce};
+ghost use Rattle.mmdb_decode.specs.TypedReads.{ReadsScalars, ScalarsUnfold, ReadsSmallNumbers, ReadsLists, ListsUnfold, ReadsTextMaps, TextMapsUnfold, LastPairStays, KeysAscend, ReadsRecords, KnownNamesStandOnce};
 ghost use Rattle.mmdb_decode.specs.Skipping.{SkippingIsPassing};
 
 use crate::decode::{Decode, OwnedBytes};
@@ -103,6 +103,12 @@ pub fn scalar_is_what_stands()
     ensures bytes { ReadsScalars byte_string_at bytes }
 {}
 
+/// What is read as a scalar unfolds to that scalar, its pointer dropped, so that lists and maps of such values
+/// are what unfolds too.
+pub fn scalars_unfold<'de, T: Decode<'de>>()
+    ensures { ScalarsUnfold T.meaning }
+{}
+
 /// What is read as a small number is the whole number that unfolds there, behind any number of pointers
 /// within the levels.
 pub fn small_number_is_what_stands()
@@ -117,11 +123,12 @@ pub fn list_is_what_stands<'de, T: Decode<'de>>()
 {}
 
 /// What is read as a map with keys of text is the map that stands there, directly or behind one pointer: its
-/// pairs in turn, of which the last one with a key gives its value.
+/// pairs in turn, of which the last one with a key gives its value. Its keys ascend.
 pub fn text_map_is_what_stands<'de, T: Decode<'de>>()
     ensures read { ReadsTextMaps T.meaning }
     ensures unfolds { TextMapsUnfold T.meaning }
     ensures last { LastPairStays T.Datum }
+    ensures ascend { KeysAscend T.Datum }
 {}
 
 /// What is read as a record is the map that stands there, directly or behind one pointer: its fields in
