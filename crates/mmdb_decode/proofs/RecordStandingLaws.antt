@@ -9,7 +9,7 @@ use Rattle.mmdb_decode.specs.Reading.{Reading, Meaning, plus}
 use Rattle.mmdb_decode.specs.Maps.{Fields, name_at, map_at, in_map, pairs_from}
 use Rattle.mmdb_decode.specs.Records.{record_at, field, skipped}
 use Rattle.mmdb_decode.specs.Skipping.{skip_at}
-use Rattle.mmdb_decode.specs.TypedReads.{ContainerStands, FieldsFollow, no_fields_follow, one_field_follows, RecordStands, ReadsRecords, IsKnown, KnownNamesStandOnce}
+use Rattle.mmdb_decode.specs.TypedReads.{ContainerStands, FieldsFollow, no_fields_follow, one_field_follows, RecordStands, ReadsRecords, ReadsWholeRecords, IsKnown, KnownNamesStandOnce}
 use Rattle.mmdb_decode.proofs.Options.{if_bind, if_is}
 use Rattle.mmdb_decode.proofs.ContainerLaws.{container_sound, container_complete}
 use Rattle.mmdb_decode.proofs.TextMapLaws.{same_bytes}
@@ -54,6 +54,29 @@ module _ {P : Type 0} (fields : Fields P) (s : List ℕ) where
 
 pub reads_records : {P : Type 0} (fields : Fields P) (none : P) → ReadsRecords fields none
 reads_records fields none s p d x q c b = (λ h. if_is (record_at fields none s p d) (λ r. (names : List (List ℕ)) × RecordStands fields none s p d names r.value r.next r.values r.bytes) (at x q c b) (record_sound fields s none p d) h, λ h. record_complete fields s none p d h.0 x q c b h.1)
+
+-- a record that is made whole
+whole_taken : {P R : Type 0} (whole : P → Option R) (v : R) (q c b : ℕ) (o : Option (Reading P)) → (o >>= λ r. whole r.value >>= λ y. Some (at y r.next r.values r.bytes)) ≡ Some (at v q c b) → (x : P) × (o ≡ Some (at x q c b)) × (whole x ≡ Some v)
+whole_taken whole v q c b None h = absurd (cc)
+whole_taken {P = P} {R = R} whole v q c b (Some r) h = made (whole r.value) refl h
+  where
+    made : (t : Option R) → whole r.value ≡ t → (t >>= λ y. Some (at y r.next r.values r.bytes)) ≡ Some (at v q c b) → (x : P) × (Some r ≡ Some (at x q c b)) × (whole x ≡ Some v)
+    made None e k = absurd (cc)
+    made (Some y) e k =
+        let same : at y r.next r.values r.bytes ≡ at v q c b = cc in
+        let next = ap (λ (z : Reading R). z.next) same in
+        let values = ap (λ (z : Reading R). z.values) same in
+        let bytes = ap (λ (z : Reading R). z.bytes) same in
+        (r.value, rw (← next, ← values, ← bytes) refl, e ∙ ap (λ (z : Reading R). Some z.value) same)
+
+pub reads_whole_records : {P R : Type 0} (fields : Fields P) (none : P) (whole : P → Option R) → ReadsWholeRecords fields none whole
+reads_whole_records fields none whole s p d v q c b = (
+  λ h.
+      let w = whole_taken whole v q c b (record_at fields none s p d) h in
+      let g = (reads_records fields none s p d w.0 q c b).0 w.1 in
+      (w.0, g.0, g.1, w.2),
+  λ h. let e = (reads_records fields none s p d h.0 q c b).1 (h.1, h.2) in rw (e, h.3) refl,
+)
 
 -- a known name
 module _ {P : Type 0} (fields : Fields P) (name : List ℕ) (has_stood : P → Bool) (known : IsKnown fields name has_stood) where

@@ -12,7 +12,7 @@ use Rattle.mmdb_format.specs.Unfolding.{Tree, scalar, array, table, pointer, Tre
 use Rattle.mmdb_decode.specs.declared.direct.Entered.{Entered}
 use Rattle.mmdb_decode.specs.Arrays.{list_at}
 use Rattle.mmdb_decode.specs.Maps.{Fields, put, key_at, name_at, text_map_at}
-use Rattle.mmdb_decode.specs.Records.{record_at}
+use Rattle.mmdb_decode.specs.Records.{record_at, finished}
 use Rattle.mmdb_decode.specs.Reading.{Reading, Meaning}
 use Rattle.mmdb_decode.specs.SmallNumbers.{whole_number, small_at}
 
@@ -151,6 +151,12 @@ abbrev pub ReadsRecords : {P : Type 0} → Fields P → P → Type 0
 ReadsRecords {P = P} fields none =
     (s : List ℕ) (p d : ℕ) (x : P) (q c b : ℕ) →
     (record_at fields none s p d ≡ Some (record { value = x; next = q; values = c; bytes = b })) ↔ ((names : List (List ℕ)) × RecordStands fields none s p d names x q c b)
+
+-- what is read as a whole record is such a record, of which none of the fields that are required is missing
+abbrev pub ReadsWholeRecords : {P R : Type 0} → Fields P → P → (P → Option R) → Type 0
+ReadsWholeRecords {P = P} {R = R} fields none whole =
+    (s : List ℕ) (p d : ℕ) (v : R) (q c b : ℕ) →
+    (finished whole (record_at fields none) s p d ≡ Some (record { value = v; next = q; values = c; bytes = b })) ↔ ((x : P) × (names : List (List ℕ)) × RecordStands fields none s p d names x q c b × (whole x ≡ Some v))
 
 -- A name of which a record tells whether it has stood: no field empties it, its own fills it, and where it
 -- has stood nothing is read behind it.

@@ -11,7 +11,7 @@ ghost use Rattle.mmdb_decode.specs.State.{Within};
 ghost use Rattle.mmdb_decode.specs.Limits.{AnswerIsWithinLimits, OneReading};
 ghost use Rattle.mmdb_decode.specs.Shapes.{IsShape, IsScalarShape, IsSmallShape, IsOwnedShape, IsContainerShape};
 ghost use Rattle.mmdb_format.specs.Contents.{text, bytes, boolean, signed32, number16, number32, number64, number128, double_bits, float_bits};
-ghost use Rattle.mmdb_decode.specs.TypedReads.{ReadsScalars, ScalarsUnfold, ReadsSmallNumbers, ReadsLists, ListsUnfold, ReadsTextMaps, TextMapsUnfold, LastPairStays, KeysAscend, ReadsRecords, KnownNamesStandOnce};
+ghost use Rattle.mmdb_decode.specs.TypedReads.{ReadsScalars, ScalarsUnfold, ReadsSmallNumbers, ReadsLists, ListsUnfold, ReadsTextMaps, TextMapsUnfold, LastPairStays, KeysAscend, ReadsRecords, ReadsWholeRecords, KnownNamesStandOnce};
 ghost use Rattle.mmdb_decode.specs.Skipping.{SkippingIsPassing};
 
 use crate::decode::{Decode, OwnedBytes};
@@ -136,5 +136,6 @@ pub fn text_map_is_what_stands<'de, T: Decode<'de>>()
 /// once.
 pub fn record_is_what_stands<'de, R: Record<'de>>()
     ensures read { ReadsRecords R.fields R.none }
+    ensures whole { ReadsWholeRecords R.fields R.none R.whole }
     ensures known_names { KnownNamesStandOnce R.fields R.none }
 {}
