@@ -1,3 +1,4 @@
+pub mod Options
 pub mod Texts
 pub mod ReadingLaws
 pub mod StepLaws
@@ -10,3 +11,12 @@ pub mod SkipLaws
 pub mod PassingLaws
 pub mod LimitLaws
 pub mod PairLaws
+pub mod DirectLaws
+pub mod ContentLaws
+pub mod ScalarLaws
+pub mod SmallNumberLaws
+pub mod ContainerLaws
+pub mod ListLaws
+pub mod TextMapLaws
+pub mod RecordStandingLaws
+pub mod ContainerTrees

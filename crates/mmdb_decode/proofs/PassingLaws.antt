@@ -1,5 +1,5 @@
 -- The relation of passing a value, and the function that skips it.
-use Rattle.std.proofs.Common.{◌≡◌, ℕ, suc, zero, ◌+◌, ◌≤◌, max, List, Option, Some, None, Bool, true, false, nat_eq, refl, arith, subst, cond}
+use Rattle.std.proofs.Common.{◌≡◌, ℕ, suc, zero, ◌+◌, ◌≤◌, max, List, Option, Some, None, Bool, true, false, nat_eq, refl, arith, cond}
 use Rattle.std.specs.Option.{IfSome}
 use Rattle.std.proofs.lemmas.Bool.Decides.{nat_tests}
 use Rattle.mmdb_format.specs.declared.header.Header.{Header}
@@ -9,22 +9,10 @@ use Rattle.mmdb_format.specs.Pointer.{pointer_at}
 use Rattle.mmdb_format.specs.Contents.{Scalar, content_at, content_end, passed_end}
 use Rattle.mmdb_decode.specs.Reading.{Reading, Meaning, plus}
 use Rattle.mmdb_decode.specs.Skipping.{most_nested, parts_of, passes, skip_scalar, counted, skip_flat, skip_nested, skip_within, skip_at, Skips, passed_scalar, passed_pointer, passed_container, AllSkip, none_passed, one_more_passed, SkippingIsPassing}
+use Rattle.mmdb_decode.proofs.Options.{if_bind, if_cond, if_is}
 
 abbrev at : ℕ → ℕ → Reading (Unit {0})
 at q values = record { value = tt; next = q; values = values; bytes = 0 }
-
--- what is known of whatever an option holds
-if_bind : {A B : Type 0} (o : Option A) (f : A → Option B) (P : B → Type 0) → ((x : A) → o ≡ Some x → IfSome (f x) P) → IfSome (o >>= f) P
-if_bind None f P h = tt
-if_bind (Some x) f P h = h x refl
-
-if_cond : {A : Type 0} (b : Bool) (x y : Option A) (P : A → Type 0) → (b ≡ true → IfSome x P) → (b ≡ false → IfSome y P) → IfSome (cond b x y) P
-if_cond true x y P h k = h refl
-if_cond false x y P h k = k refl
-
-if_is : {A : Type 0} (o : Option A) (P : A → Type 0) (x : A) → IfSome o P → o ≡ Some x → P x
-if_is None P x h e = absurd (cc)
-if_is (Some y) P x h e = let f : y ≡ x = cc in subst P f h
 
 -- a value that was passed, and so many of them
 pub record IsPassed (s : List ℕ) (p most : ℕ) (r : Reading (Unit {0})) : Type 0 where

@@ -11,3 +11,4 @@ pub mod Skipping
 pub mod Levels
 pub mod Limits
 pub mod Shapes
+pub mod TypedReads

@@ -1,12 +1,22 @@
 //! Laws of the format: each is the contract of a function that does nothing.
-ghost use Rattle.std.specs.Prelude.{◌≡◌, true};
+ghost use Rattle.std.specs.Prelude.{◌≡◌, true, Some, map, option_map, pos, neg_ℤ};
+ghost use Rattle.std.specs.String.{string_bytes};
+ghost use Rattle.mmdb_format.specs.Equality.{IsEqualityOf};
+ghost use Rattle.mmdb_decode.specs.Arrays.{list_at};
+ghost use Rattle.mmdb_decode.specs.Maps.{text_map_at};
+ghost use Rattle.mmdb_decode.specs.Reading.{mapped};
+ghost use Rattle.mmdb_decode.specs.Scalars.{u16_at, u32_at, u64_at, u128_at, i32_at, bool_at, double_at, float_at, text_at, byte_string_at};
+ghost use Rattle.mmdb_decode.specs.SmallNumbers.{small_at};
 ghost use Rattle.mmdb_decode.specs.State.{Within};
 ghost use Rattle.mmdb_decode.specs.Limits.{AnswerIsWithinLimits, OneReading};
 ghost use Rattle.mmdb_decode.specs.Shapes.{IsShape, IsScalarShape, IsSmallShape, IsOwnedShape, IsContainerShape};
+ghost use Rattle.mmdb_format.specs.Contents.{text, bytes, boolean, signed32, number16, number32, number64, number128, double_bits, float_bits};
+ghost use Rattle.mmdb_decode.specs.TypedReads.{ReadsScalars, ScalarsUnfold, ReadsSmallNumbers, ReadsLists, ListsUnfold, ReadsTextMaps, TextMapsUnfold, LastPairStays, KeysAscend, ReadsRecords, ReadsWholeRecords, KnownNamesStandOnce};
 ghost use Rattle.mmdb_decode.specs.Skipping.{SkippingIsPassing};
 
 use crate::decode::{Decode, OwnedBytes};
 use crate::decoder::Decoder;
+use crate::record::Record;
 use mmdb_format::content::{Double, Float};
 use std::collections::BTreeMap;
 
@@ -34,39 +44,98 @@ pub fn values_bounded(d: &Decoder<'_>)
     d.stays_within();
 }
 
-/// Scalars, and texts and byte strings that are lent, are read exactly, under no budget at the start, and
-/// without memory.
-pub fn scalars_take_no_memory()
-    ensures boolean { IsScalarShape ⟦<bool as Decode<'static>>⟧.exact ⟦<bool as Decode<'static>>⟧.starts ⟦<bool as Decode<'static>>⟧.free }
-    ensures u16 { IsScalarShape ⟦<u16 as Decode<'static>>⟧.exact ⟦<u16 as Decode<'static>>⟧.starts ⟦<u16 as Decode<'static>>⟧.free }
-    ensures u32 { IsScalarShape ⟦<u32 as Decode<'static>>⟧.exact ⟦<u32 as Decode<'static>>⟧.starts ⟦<u32 as Decode<'static>>⟧.free }
-    ensures u64 { IsScalarShape ⟦<u64 as Decode<'static>>⟧.exact ⟦<u64 as Decode<'static>>⟧.starts ⟦<u64 as Decode<'static>>⟧.free }
-    ensures u128 { IsScalarShape ⟦<u128 as Decode<'static>>⟧.exact ⟦<u128 as Decode<'static>>⟧.starts ⟦<u128 as Decode<'static>>⟧.free }
-    ensures i32 { IsScalarShape ⟦<i32 as Decode<'static>>⟧.exact ⟦<i32 as Decode<'static>>⟧.starts ⟦<i32 as Decode<'static>>⟧.free }
-    ensures text { IsScalarShape ⟦<&'static str as Decode<'static>>⟧.exact ⟦<&'static str as Decode<'static>>⟧.starts ⟦<&'static str as Decode<'static>>⟧.free }
-    ensures bytes { IsScalarShape ⟦<&'static [u8] as Decode<'static>>⟧.exact ⟦<&'static [u8] as Decode<'static>>⟧.starts ⟦<&'static [u8] as Decode<'static>>⟧.free }
-    ensures double { IsScalarShape ⟦<Double as Decode<'static>>⟧.exact ⟦<Double as Decode<'static>>⟧.starts ⟦<Double as Decode<'static>>⟧.free }
-    ensures float { IsScalarShape ⟦<Float as Decode<'static>>⟧.exact ⟦<Float as Decode<'static>>⟧.starts ⟦<Float as Decode<'static>>⟧.free }
+/// Scalars, and texts and byte strings that are lent, say themselves and are read as the one type of the
+/// format, exactly, under no budget at the start, and without memory.
+pub fn how_scalars_are_read()
+    ensures boolean { let t = ⟦<bool as Decode<'static>>⟧ in IsScalarShape t.datum t.meaning t.exact t.starts t.free (λ v. v) bool_at }
+    ensures u16 { let t = ⟦<u16 as Decode<'static>>⟧ in IsScalarShape t.datum t.meaning t.exact t.starts t.free (λ v. v) u16_at }
+    ensures u32 { let t = ⟦<u32 as Decode<'static>>⟧ in IsScalarShape t.datum t.meaning t.exact t.starts t.free (λ v. v) u32_at }
+    ensures u64 { let t = ⟦<u64 as Decode<'static>>⟧ in IsScalarShape t.datum t.meaning t.exact t.starts t.free (λ v. v) u64_at }
+    ensures u128 { let t = ⟦<u128 as Decode<'static>>⟧ in IsScalarShape t.datum t.meaning t.exact t.starts t.free (λ v. v) u128_at }
+    ensures i32 { let t = ⟦<i32 as Decode<'static>>⟧ in IsScalarShape t.datum t.meaning t.exact t.starts t.free (λ v. v) i32_at }
+    ensures text { let t = ⟦<&'static str as Decode<'static>>⟧ in IsScalarShape t.datum t.meaning t.exact t.starts t.free (λ v. v.now) text_at }
+    ensures bytes { let t = ⟦<&'static [u8] as Decode<'static>>⟧ in IsScalarShape t.datum t.meaning t.exact t.starts t.free (λ v. v.now) byte_string_at }
+    ensures double { let t = ⟦<Double as Decode<'static>>⟧ in IsScalarShape t.datum t.meaning t.exact t.starts t.free (λ v. v.bits) double_at }
+    ensures float { let t = ⟦<Float as Decode<'static>>⟧ in IsScalarShape t.datum t.meaning t.exact t.starts t.free (λ v. v.bits) float_at }
 {}
 
-/// Small numbers are read exactly and without memory, and begin a budget.
-pub fn small_numbers_take_no_memory()
-    ensures u8 { IsSmallShape ⟦<u8 as Decode<'static>>⟧.exact ⟦<u8 as Decode<'static>>⟧.starts ⟦<u8 as Decode<'static>>⟧.free }
-    ensures i8 { IsSmallShape ⟦<i8 as Decode<'static>>⟧.exact ⟦<i8 as Decode<'static>>⟧.starts ⟦<i8 as Decode<'static>>⟧.free }
-    ensures i16 { IsSmallShape ⟦<i16 as Decode<'static>>⟧.exact ⟦<i16 as Decode<'static>>⟧.starts ⟦<i16 as Decode<'static>>⟧.free }
-    ensures i64 { IsSmallShape ⟦<i64 as Decode<'static>>⟧.exact ⟦<i64 as Decode<'static>>⟧.starts ⟦<i64 as Decode<'static>>⟧.free }
+/// Small numbers say themselves and are read as a whole number of any type that fits them, exactly and
+/// without memory, and begin a budget.
+pub fn how_small_numbers_are_read()
+    ensures u8 { let t = ⟦<u8 as Decode<'static>>⟧ in IsSmallShape t.datum t.meaning t.exact t.starts t.free pos (small_at (pos 0) (pos 255)) }
+    ensures i8 { let t = ⟦<i8 as Decode<'static>>⟧ in IsSmallShape t.datum t.meaning t.exact t.starts t.free (λ v. v) (small_at (neg_ℤ (pos 128)) (pos 127)) }
+    ensures i16 { let t = ⟦<i16 as Decode<'static>>⟧ in IsSmallShape t.datum t.meaning t.exact t.starts t.free (λ v. v) (small_at (neg_ℤ (pos 32768)) (pos 32767)) }
+    ensures i64 { let t = ⟦<i64 as Decode<'static>>⟧ in IsSmallShape t.datum t.meaning t.exact t.starts t.free (λ v. v) (small_at (neg_ℤ (pos 9223372036854775808)) (pos 9223372036854775807)) }
 {}
 
-/// Texts and byte strings of one's own are read exactly, under no budget at the start.
-pub fn owned_bytes_are_exact()
-    ensures string { IsOwnedShape ⟦<String as Decode<'static>>⟧.exact ⟦<String as Decode<'static>>⟧.starts ⟦<String as Decode<'static>>⟧.free }
-    ensures owned_bytes { IsOwnedShape ⟦<OwnedBytes as Decode<'static>>⟧.exact ⟦<OwnedBytes as Decode<'static>>⟧.starts ⟦<OwnedBytes as Decode<'static>>⟧.free }
+/// Texts and byte strings of one's own say their bytes, and are read as those that are lent, but take
+/// memory.
+pub fn how_owned_bytes_are_read()
+    ensures string { let t = ⟦<String as Decode<'static>>⟧ in IsOwnedShape t.datum t.meaning t.exact t.starts t.free string_bytes text_at }
+    ensures owned_bytes { let t = ⟦<OwnedBytes as Decode<'static>>⟧ in IsOwnedShape t.datum t.meaning t.exact t.starts t.free (λ v. v.0.items) byte_string_at }
 {}
 
-/// Containers of a type that is read exactly are too; an optional value is as its type.
-pub fn containers_are_exact<'de, T: Decode<'de>>()
+/// Containers of a type that is read exactly are too: a list of what its elements say, and a map of what
+/// its values say by the bytes of their keys. An optional value is read as its type.
+pub fn how_containers_are_read<'de, T: Decode<'de>>()
     requires { T.exact ≡ true }
-    ensures optional { IsShape ⟦<Option<T> as Decode<'de>>⟧.exact ⟦<Option<T> as Decode<'de>>⟧.starts ⟦<Option<T> as Decode<'de>>⟧.free T.starts T.free }
-    ensures list { IsContainerShape ⟦<Vec<T> as Decode<'de>>⟧.exact ⟦<Vec<T> as Decode<'de>>⟧.starts ⟦<Vec<T> as Decode<'de>>⟧.free }
-    ensures text_map { IsContainerShape ⟦<BTreeMap<String, T> as Decode<'de>>⟧.exact ⟦<BTreeMap<String, T> as Decode<'de>>⟧.starts ⟦<BTreeMap<String, T> as Decode<'de>>⟧.free }
+    ensures optional { let t = ⟦<Option<T> as Decode<'de>>⟧ in IsShape t.datum t.meaning t.exact t.starts t.free (option_map T.datum) (mapped Some T.meaning) T.starts T.free }
+    ensures list { let t = ⟦<Vec<T> as Decode<'de>>⟧ in IsContainerShape t.datum t.meaning t.exact t.starts t.free (λ v. map T.datum v.items) (list_at T.meaning) }
+    ensures text_map { let t = ⟦<BTreeMap<String, T> as Decode<'de>>⟧ in IsContainerShape t.datum t.meaning t.exact t.starts t.free (λ m. map (λ e. (string_bytes e.0, T.datum e.1)) m.entries) (text_map_at T.meaning) }
+{}
+
+/// `==` is equality of data.
+pub fn equality_is_equality_of_data()
+    ensures { IsEqualityOf ⟦<OwnedBytes as PartialEq>⟧.eq (λ x. x.0.items) }
+{}
+
+/// What is read as a scalar, a text or a byte string is what unfolds there, directly or behind one pointer.
+pub fn scalar_is_what_stands()
+    ensures u16 { ReadsScalars u16_at number16 }
+    ensures u32 { ReadsScalars u32_at number32 }
+    ensures u64 { ReadsScalars u64_at number64 }
+    ensures u128 { ReadsScalars u128_at number128 }
+    ensures i32 { ReadsScalars i32_at signed32 }
+    ensures boolean { ReadsScalars bool_at boolean }
+    ensures double { ReadsScalars double_at double_bits }
+    ensures float { ReadsScalars float_at float_bits }
+    ensures text { ReadsScalars text_at text }
+    ensures bytes { ReadsScalars byte_string_at bytes }
+{}
+
+/// What is read as a scalar unfolds to that scalar, its pointer dropped, so that lists and maps of such values
+/// are what unfolds too.
+pub fn scalars_unfold<'de, T: Decode<'de>>()
+    ensures { ScalarsUnfold T.meaning }
+{}
+
+/// What is read as a small number is the whole number that unfolds there, behind any number of pointers
+/// within the levels.
+pub fn small_number_is_what_stands()
+    ensures { ReadsSmallNumbers }
+{}
+
+/// What is read as a list is the array that stands there, directly or behind one pointer: its elements in
+/// turn.
+pub fn list_is_what_stands<'de, T: Decode<'de>>()
+    ensures read { ReadsLists T.meaning }
+    ensures unfolds { ListsUnfold T.meaning }
+{}
+
+/// What is read as a map with keys of text is the map that stands there, directly or behind one pointer: its
+/// pairs in turn, of which the last one with a key gives its value. Its keys ascend.
+pub fn text_map_is_what_stands<'de, T: Decode<'de>>()
+    ensures read { ReadsTextMaps T.meaning }
+    ensures unfolds { TextMapsUnfold T.meaning }
+    ensures last { LastPairStays T.Datum }
+    ensures ascend { KeysAscend T.Datum }
+{}
+
+/// What is read as a record is the map that stands there, directly or behind one pointer: its fields in
+/// turn. A name of which the record tells whether it has stood, and that is refused then, stands at most
+/// once.
+pub fn record_is_what_stands<'de, R: Record<'de>>()
+    ensures read { ReadsRecords R.fields R.none }
+    ensures whole { ReadsWholeRecords R.fields R.none R.whole }
+    ensures known_names { KnownNamesStandOnce R.fields R.none }
 {}

@@ -7,3 +7,4 @@ pub mod Faults
 pub mod Contents
 pub mod Views
 pub mod Unfolding
+pub mod Equality

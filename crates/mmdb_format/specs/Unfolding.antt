@@ -37,6 +37,10 @@ mutual
     no_pairs_left : {s : List ℕ} {p : ℕ} → PairsUnfold s p zero no_pairs p
     one_more_pair : {s : List ℕ} {p q r e n : ℕ} {k v : Tree} {ps : Pairs} → Unfolds s p k q → Unfolds s q v r → PairsUnfold s r n ps e → PairsUnfold s p (suc n) (pair k v ps) e
 
+-- at most one tree unfolds at a place, and it has one end
+abbrev pub OneTreeUnfolds : Type 0
+OneTreeUnfolds = (s : List ℕ) (p : ℕ) (t u : Tree) (q r : ℕ) → Unfolds s p t q → Unfolds s p u r → (t ≡ u) × (q ≡ r)
+
 -- the greatest number of containers and pointers on a way down, the pointers of keys left out
 abbrev mutual
   pub levels_without_key_pointers : Tree → ℕ

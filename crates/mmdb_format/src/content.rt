@@ -166,9 +166,10 @@ pub fn passed_end(section: &[u8], header: Header) -> Result<usize, Fault>
     ensures { result_ok result ≡ spec_passed_end section.now header }
 {
     if header.kind == POINTER {
+        let own_bytes = header.size / 8 + 1;
         return match pointer_at(section, header.body, header.size as u8) {
             Ok(pointer) => Ok(pointer.next),
-            Err(_) => Err(Fault::PointerSize(header.size)),
+            Err(_) => Err(Fault::PointerSize(own_bytes)),
         };
     }
     content_at(section, header)?;

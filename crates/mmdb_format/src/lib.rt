@@ -6,4 +6,5 @@ pub mod error;
 pub mod fault;
 pub mod header;
 pub mod kind;
+pub mod laws;
 pub mod message;

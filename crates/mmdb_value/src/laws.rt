@@ -1,4 +1,8 @@
 //! Laws of any value: each is the contract of a function that does nothing.
+ghost use Rattle.std.specs.Prelude.{true, false};
+ghost use Rattle.mmdb_value.specs.AnyValue.{value_at};
+ghost use Rattle.mmdb_value.specs.RawValues.{raw_tree};
+ghost use Rattle.mmdb_value.specs.Values.{value_tree};
 ghost use Rattle.mmdb_value.specs.Standing.{ValueIsWhatStands, AnswerIsWholeValue, OneValueStands};
 ghost use Rattle.mmdb_decode.specs.Shapes.{IsContainerShape};
 
@@ -24,8 +28,8 @@ pub fn one_value_stands()
     ensures { OneValueStands }
 {}
 
-/// Any value is read exactly, under a budget, with memory.
+/// Any value says its tree and is read as what stands there, exactly, under a budget, with memory.
 pub fn any_value_is_exact()
-    ensures tested { IsContainerShape ⟦<Value<'static> as Decode<'static>>⟧.exact ⟦<Value<'static> as Decode<'static>>⟧.starts ⟦<Value<'static> as Decode<'static>>⟧.free }
-    ensures raw { IsContainerShape ⟦<RawValue<'static> as Decode<'static>>⟧.exact ⟦<RawValue<'static> as Decode<'static>>⟧.starts ⟦<RawValue<'static> as Decode<'static>>⟧.free }
+    ensures tested { let t = ⟦<Value<'static> as Decode<'static>>⟧ in IsContainerShape t.datum t.meaning t.exact t.starts t.free value_tree (value_at true) }
+    ensures raw { let t = ⟦<RawValue<'static> as Decode<'static>>⟧ in IsContainerShape t.datum t.meaning t.exact t.starts t.free raw_tree (value_at false) }
 {}

@@ -10,7 +10,7 @@ pub returns-in_err-header : goal.returns-in_err-header
 returns-in_err-header t c = let p = err_from_is_err_and c.from_residual.result c.from_residual.ensures.1 in rw p.1 (nothing_taken _ _ (skip_headless c.args.nested c.args.self.now (sym c.in_err-header.ensures.value)))
 
 pub returns-in_default : goal.returns-in_default
-returns-in_default t c = plain_takes c.args.nested c.args.self.now c.pass_scalar.new.self c.in_ok-header.header c.pass_scalar.result (rw (← c.self.view_is) c.self.invariant) (sym c.in_ok-header.ensures.value) (sym c.in_default.ensures.value) c.pass_scalar.ensures
+returns-in_default t c = plain_takes c.args.nested c.args.self.now c.pass_scalar.new.self c.in_ok-header.header c.pass_scalar.result c.stays_within.ensures (sym c.in_ok-header.ensures.value) (sym c.in_default.ensures.value) c.pass_scalar.ensures
 
 pub returns-then-nested-eq0 : goal.returns-then-nested-eq0
 returns-then-nested-eq0 t c = nothing_taken _ _ (rw c.if-nested-eq0.true (skip_deep c.args.self.now c.in_ok-header.header c.in-Some.parts (sym c.in_ok-header.ensures.value) (sym c.in-Some.ensures.value)))
@@ -31,4 +31,4 @@ loop-preserved t c = record {
 }
 
 pub returns : goal.returns
-returns t c = parts_yes c.args.nested (c.args.nested - 1) c.args.self.now c.enter_inline.new.self c.loop.self c.in_ok-header.header c.in-Some.parts (c.in-Some.parts - c.loop.counter) (omega (arith, c.if-nested-eq0.false)) (sym c.in_ok-header.ensures.value) (sym c.in-Some.ensures.value) c.in_ok-enter_inline.ensures c.loop.invariant.rest (omega (arith, c.loop-test.false)) (rw (← c.self-2.view_is) c.self-2.invariant)
+returns t c = parts_yes c.args.nested (c.args.nested - 1) c.args.self.now c.enter_inline.new.self c.loop.self c.in_ok-header.header c.in-Some.parts (c.in-Some.parts - c.loop.counter) (omega (arith, c.if-nested-eq0.false)) (sym c.in_ok-header.ensures.value) (sym c.in-Some.ensures.value) c.in_ok-enter_inline.ensures c.loop.invariant.rest (omega (arith, c.loop-test.false)) c.stays_within-2.ensures

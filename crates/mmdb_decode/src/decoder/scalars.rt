@@ -1,0 +1,196 @@
+//! Values of one type that hold no others.
+ghost use Rattle.std.specs.Prelude.{◌<◌, ◌≤◌, ◌^◌, true, false, IfOk};
+ghost use Rattle.mmdb_decode.specs.State.{decoded};
+ghost use Rattle.mmdb_decode.specs.Scalars.{number_of, bits_of, bytes_of, u16_at, u32_at, u64_at, u128_at, i32_at, bool_at as spec_bool_at, double_at, float_at, text_at, byte_string_at};
+ghost use Rattle.mmdb_decode.specs.SmallNumbers.{whole_at as spec_whole_at};
+ghost use Rattle.mmdb_decode.specs.Refusal.{Reads, Takes};
+
+use super::Decoder;
+use crate::budget::{begun, spent};
+use crate::direct::{bits_at, bool_at, content_bytes_at, number_at, text_of};
+use crate::whole::whole_at;
+use mmdb_format::content::{Double, Float};
+use mmdb_format::error::DecodeResult;
+use mmdb_format::fault::Fault;
+use mmdb_format::kind::{BYTES, DOUBLE, FLOAT, I32, TEXT, U16, U32, U64, U128};
+use std::alloc::Global;
+
+impl<'de> Decoder<'de> {
+    // A whole number of one type, of at most so many bytes.
+    fn take_number(&mut self, wanted: u16, most: usize) -> Result<u128, Fault>
+        requires { most ≤ 16 }
+        ensures read { Takes (λ n. n) (decoded false (number_of wanted most) self.old) self.old self.new result }
+        ensures bound { IfOk result (λ n. n < 256 ^ most) }
+    {
+        let (n, next) = number_at(self.section, self.place, self.levels, wanted, most)?;
+        self.place = next;
+        Ok(n)
+    }
+
+    // A signed number of 32 bits.
+    fn take_signed(&mut self) -> Result<i32, Fault>
+        ensures { Takes (λ z. z) (decoded false i32_at self.old) self.old self.new result }
+    {
+        let n = self.take_number(I32, 4)?;
+        Ok((n as u32).cast_signed())
+    }
+
+    // The bits of a number of exactly so many bytes.
+    fn take_bits(&mut self, wanted: u16, size: usize) -> Result<u128, Fault>
+        requires { size ≤ 16 }
+        ensures read { Takes (λ n. n) (decoded false (bits_of wanted size) self.old) self.old self.new result }
+        ensures bound { IfOk result (λ n. n < 256 ^ size) }
+    {
+        let (n, next) = bits_at(self.section, self.place, self.levels, wanted, size)?;
+        self.place = next;
+        Ok(n)
+    }
+
+    // A truth value.
+    fn take_bool(&mut self) -> Result<bool, Fault>
+        ensures { Takes (λ b. b) (decoded false spec_bool_at self.old) self.old self.new result }
+    {
+        let (b, next) = bool_at(self.section, self.place, self.levels)?;
+        self.place = next;
+        Ok(b)
+    }
+
+    // A whole number of whatever type, behind any number of pointers.
+    fn take_whole(&mut self) -> Result<i128, Fault>
+        ensures { Takes (λ z. z) (decoded true spec_whole_at self.old) self.old self.new result }
+    {
+        let (number, next) = whole_at(self.section, self.place, self.levels)?;
+        self.budget = begun(self.budget);
+        self.place = next;
+        Ok(number)
+    }
+
+    // The bytes of a text or a byte string.
+    fn take_bytes(&mut self, wanted: u16) -> Result<&'de [u8], Fault>
+        ensures { Takes (λ x. x.now) (decoded false (bytes_of wanted) self.old) self.old self.new result }
+    {
+        let (bytes, next) = content_bytes_at(self.section, self.place, self.levels, wanted)?;
+        self.budget = spent(self.budget, 0, bytes.len())?;
+        self.place = next;
+        Ok(bytes)
+    }
+
+    // A text.
+    fn take_text(&mut self) -> Result<&'de str, Fault>
+        ensures { Takes (λ x. x.now) (decoded false text_at self.old) self.old self.new result }
+    {
+        let bytes = self.take_bytes(TEXT)?;
+        text_of(bytes)
+    }
+
+    /// Reads an unsigned number of 16 bits.
+    pub fn read_u16(&mut self, alloc: Global) -> DecodeResult<u16>
+        ensures { Reads (λ n. n) true (decoded false u16_at self.old) self.old self.new result }
+    {
+        match self.take_number(U16, 2) {
+            Ok(n) => Ok(n as u16),
+            Err(fault) => Err(fault.refusal(alloc, self.place)),
+        }
+    }
+
+    /// Reads an unsigned number of 32 bits.
+    pub fn read_u32(&mut self, alloc: Global) -> DecodeResult<u32>
+        ensures { Reads (λ n. n) true (decoded false u32_at self.old) self.old self.new result }
+    {
+        match self.take_number(U32, 4) {
+            Ok(n) => Ok(n as u32),
+            Err(fault) => Err(fault.refusal(alloc, self.place)),
+        }
+    }
+
+    /// Reads an unsigned number of 64 bits.
+    pub fn read_u64(&mut self, alloc: Global) -> DecodeResult<u64>
+        ensures { Reads (λ n. n) true (decoded false u64_at self.old) self.old self.new result }
+    {
+        match self.take_number(U64, 8) {
+            Ok(n) => Ok(n as u64),
+            Err(fault) => Err(fault.refusal(alloc, self.place)),
+        }
+    }
+
+    /// Reads an unsigned number of 128 bits.
+    pub fn read_u128(&mut self, alloc: Global) -> DecodeResult<u128>
+        ensures { Reads (λ n. n) true (decoded false u128_at self.old) self.old self.new result }
+    {
+        match self.take_number(U128, 16) {
+            Ok(n) => Ok(n),
+            Err(fault) => Err(fault.refusal(alloc, self.place)),
+        }
+    }
+
+    /// Reads a signed number of 32 bits.
+    pub fn read_i32(&mut self, alloc: Global) -> DecodeResult<i32>
+        ensures { Reads (λ z. z) true (decoded false i32_at self.old) self.old self.new result }
+    {
+        match self.take_signed() {
+            Ok(n) => Ok(n),
+            Err(fault) => Err(fault.refusal(alloc, self.place)),
+        }
+    }
+
+    /// Reads a whole number of whatever type: an i32, u16, u32 or u64, behind any number of pointers
+    /// within the levels. At the start it begins a budget.
+    pub fn read_small(&mut self, alloc: Global) -> DecodeResult<i128>
+        ensures { Reads (λ z. z) true (decoded true spec_whole_at self.old) self.old self.new result }
+    {
+        match self.take_whole() {
+            Ok(number) => Ok(number),
+            Err(fault) => Err(fault.refusal(alloc, self.place)),
+        }
+    }
+
+    /// Reads a truth value.
+    pub fn read_bool(&mut self, alloc: Global) -> DecodeResult<bool>
+        ensures { Reads (λ b. b) true (decoded false spec_bool_at self.old) self.old self.new result }
+    {
+        match self.take_bool() {
+            Ok(b) => Ok(b),
+            Err(fault) => Err(fault.refusal(alloc, self.place)),
+        }
+    }
+
+    /// Reads the bits of a number of double precision.
+    pub fn read_double(&mut self, alloc: Global) -> DecodeResult<Double>
+        ensures { Reads (λ x. x.bits) true (decoded false double_at self.old) self.old self.new result }
+    {
+        match self.take_bits(DOUBLE, 8) {
+            Ok(bits) => Ok(Double { bits: bits as u64 }),
+            Err(fault) => Err(fault.refusal(alloc, self.place)),
+        }
+    }
+
+    /// Reads the bits of a number of single precision.
+    pub fn read_float(&mut self, alloc: Global) -> DecodeResult<Float>
+        ensures { Reads (λ x. x.bits) true (decoded false float_at self.old) self.old self.new result }
+    {
+        match self.take_bits(FLOAT, 4) {
+            Ok(bits) => Ok(Float { bits: bits as u32 }),
+            Err(fault) => Err(fault.refusal(alloc, self.place)),
+        }
+    }
+
+    /// Reads a byte string.
+    pub fn read_bytes(&mut self, alloc: Global) -> DecodeResult<&'de [u8]>
+        ensures { Reads (λ x. x.now) true (decoded false byte_string_at self.old) self.old self.new result }
+    {
+        match self.take_bytes(BYTES) {
+            Ok(bytes) => Ok(bytes),
+            Err(fault) => Err(fault.refusal(alloc, self.place)),
+        }
+    }
+
+    /// Reads a text, which is UTF-8.
+    pub fn read_str(&mut self, alloc: Global) -> DecodeResult<&'de str>
+        ensures { Reads (λ s. s.now) true (decoded false text_at self.old) self.old self.new result }
+    {
+        match self.take_text() {
+            Ok(text) => Ok(text),
+            Err(fault) => Err(fault.refusal(alloc, self.place)),
+        }
+    }
+}

@@ -1,0 +1,84 @@
+//! Passing a value without reading it.
+ghost use Rattle.std.specs.Prelude.{◌≡◌, ◌<◌, ◌^◌, true, false, IfSome};
+ghost use Rattle.mmdb_decode.specs.State.{decoded};
+ghost use Rattle.mmdb_decode.specs.Skipping.{skip_within, skip_at, parts_of as spec_parts_of, scalar_passed, entered_inline};
+ghost use Rattle.mmdb_decode.specs.Refusal.{Reads, Takes};
+
+use super::Decoder;
+use crate::budget::spent;
+use mmdb_format::content::passed_end;
+use mmdb_format::error::DecodeResult;
+use mmdb_format::fault::Fault;
+use mmdb_format::header::Header;
+use mmdb_format::kind::{ARRAY, MAP};
+use std::alloc::Global;
+
+/// At most so many containers nest in a value that is skipped.
+const MAX_NESTED: u16 = 128;
+
+impl<'de> Decoder<'de> {
+    /// Passes one inline value. A container's parts are charged; pointers are not followed, and texts
+    /// neither tested for UTF-8 nor charged.
+    pub fn skip_value(&mut self, alloc: Global) -> DecodeResult<()>
+        ensures { Reads (λ x. tt) true (decoded true skip_at self.old) self.old self.new result }
+    {
+        self.start();
+        if let Err(fault) = self.pass(MAX_NESTED) {
+            return Err(fault.refusal(alloc, self.place));
+        }
+        Ok(())
+    }
+
+    // Passes a scalar or a pointer whose header is at the place.
+    fn pass_scalar(&mut self, header: Header) -> Result<(), Fault>
+        requires { header.kind ≡ 1 → header.size < 32 }
+        ensures { Takes (λ x. tt) (scalar_passed self.old header) self.old self.new result }
+    {
+        self.place = passed_end(self.section, header)?;
+        Ok(())
+    }
+
+    // Goes to the first part of a container that is passed, on the same level.
+    fn enter_inline(&mut self, header: Header, parts: usize) -> Result<(), Fault>
+        requires { parts < 2 ^ 26 }
+        ensures { Takes (λ x. tt) (entered_inline self.old header parts) self.old self.new result }
+    {
+        self.budget = spent(self.budget, parts, 0)?;
+        self.place = header.body;
+        Ok(())
+    }
+
+    // Passes one inline value, whose containers nest at most so deep.
+    fn pass(&mut self, nested: u16) -> Result<(), Fault>
+        ensures { Takes (λ x. tt) (decoded false (skip_within nested) self.old) self.old self.new result }
+    {
+        self.stays_within();
+        let header = self.header_here()?;
+        let Some(parts) = parts_of(header) else {
+            return self.pass_scalar(header);
+        };
+        if nested == 0 {
+            return Err(Fault::TooDeep);
+        }
+        self.enter_inline(header, parts)?;
+        for _ in 0..parts {
+            self.pass(nested - 1)?;
+        }
+        self.stays_within();
+        Ok(())
+    }
+}
+
+// How many parts a container has.
+#[tactic(auto, unfolding(crate::specs::Skipping::parts_of))]
+fn parts_of(header: Header) -> Option<usize>
+    requires { header.size < 2 ^ 25 }
+    ensures value { result ≡ spec_parts_of header }
+    ensures bound { IfSome result (λ n. n < 2 ^ 26) }
+{
+    match header.kind {
+        MAP => Some(2 * header.size),
+        ARRAY => Some(header.size),
+        _ => None,
+    }
+}

@@ -1,0 +1,108 @@
+//! Single steps over pointers, into containers and over contents.
+ghost use Rattle.std.specs.Prelude.{◌≡◌, ◌<◌, ◌^◌, true, false, OnOk, OnErr, None};
+ghost use Rattle.mmdb_decode.specs.State.{decoded};
+ghost use Rattle.mmdb_format.specs.Views.{content_view};
+ghost use Rattle.mmdb_decode.specs.Levels.{content_of, entered_pointer, entered_parts};
+ghost use Rattle.mmdb_decode.specs.Refusal.{Reads, Takes};
+
+use super::Decoder;
+use crate::budget::spent;
+use crate::steps::Steps;
+use mmdb_format::content::{Content, content_at, content_end};
+use mmdb_format::error::DecodeResult;
+use mmdb_format::fault::Fault;
+use mmdb_format::header::{Header, MAX_LEVELS, pointer_at};
+use std::alloc::Global;
+
+impl<'de> Decoder<'de> {
+    // What stands behind the header at the place.
+    fn take_content(&mut self, header: Header) -> Result<Content<'de>, Fault>
+        requires { header.size < 2 ^ 25 }
+        ensures { Takes content_view (decoded false (content_of header) self.old) self.old self.new result }
+    {
+        let content = content_at(self.section, header)?;
+        self.budget = spent(self.budget, 0, content.payload())?;
+        self.place = content_end(header);
+        Ok(content)
+    }
+
+    /// Reads what stands behind the header at the place, which is that of a value that holds no others.
+    /// A text is not tested for UTF-8.
+    pub fn read_content(&mut self, alloc: Global, header: Header) -> DecodeResult<Content<'de>>
+        requires { header.size < 2 ^ 25 }
+        ensures { Reads content_view true (decoded false (content_of header) self.old) self.old self.new result }
+    {
+        match self.take_content(header) {
+            Ok(content) => Ok(content),
+            Err(fault) => Err(fault.refusal(alloc, self.place)),
+        }
+    }
+
+    // Goes to a pointer's target.
+    fn follow(&mut self, header: Header) -> Result<usize, Fault>
+        requires { header.size < 32 }
+        ensures { Takes (λ next. next) (entered_pointer self.old header) self.old self.new result }
+    {
+        if self.levels >= MAX_LEVELS {
+            return Err(Fault::TooDeep);
+        }
+        let pointer = pointer_at(self.section, header.body, header.size as u8)?;
+        self.place = pointer.target;
+        self.levels += 1;
+        Ok(pointer.next)
+    }
+
+    // Goes to a container's first part.
+    fn descend(&mut self, header: Header, count: usize) -> Result<(), Fault>
+        requires { count < 2 ^ 26 }
+        ensures ok { OnOk result (entered_parts self.old header count ≡ Some self.new) }
+        ensures err { OnErr result (entered_parts self.old header count ≡ None) }
+        ensures same { OnErr result (self.new ≡ self.old) }
+    {
+        if self.levels >= MAX_LEVELS {
+            return Err(Fault::TooDeep);
+        }
+        self.budget = spent(self.budget, count, 0)?;
+        self.place = header.body;
+        self.levels += 1;
+        Ok(())
+    }
+}
+
+impl<'de> Steps for Decoder<'de> {
+    ghost state = { λ d. d };
+
+    fn begin_budget(&mut self) {
+        self.start();
+    }
+
+    fn header(&self, alloc: Global) -> DecodeResult<Header> {
+        match self.header_here() {
+            Ok(header) => Ok(header),
+            Err(fault) => Err(fault.refusal(alloc, self.place)),
+        }
+    }
+
+    fn enter_pointer(&mut self, alloc: Global, header: Header) -> DecodeResult<usize> {
+        match self.follow(header) {
+            Ok(next) => Ok(next),
+            Err(fault) => Err(fault.refusal(alloc, self.place)),
+        }
+    }
+
+    fn enter_parts(&mut self, alloc: Global, header: Header, count: usize) -> DecodeResult<()> {
+        if let Err(fault) = self.descend(header, count) {
+            return Err(fault.refusal(alloc, self.place));
+        }
+        Ok(())
+    }
+
+    fn leave_level(&mut self) {
+        self.levels -= 1;
+    }
+
+    fn leave_pointer(&mut self, next: usize) {
+        self.place = next;
+        self.levels -= 1;
+    }
+}
