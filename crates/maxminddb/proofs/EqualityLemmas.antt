@@ -45,21 +45,35 @@ metadata_decides a b =
     let languages = lists string_eq string_bytes texts a.languages.items b.languages.items in
     let types = texts a.database_type b.database_type in
     let all =
-        both _ _ _ _ (Decides-eqb a.binary_format_major_version b.binary_format_major_version)
-        (both _ _ _ _ (Decides-eqb a.binary_format_minor_version b.binary_format_minor_version)
-        (both _ _ _ _ (Decides-eqb a.build_epoch b.build_epoch)
-        (both _ _ _ _ types
-        (both _ _ _ _ descriptions
-        (both _ _ _ _ (Decides-eqb a.ip_version b.ip_version)
-        (both _ _ _ _ languages
-        (both _ _ _ _ (Decides-eqb a.node_count b.node_count) (Decides-eqb a.record_size b.record_size)))))))) in
-    (λ h. let p = all.0 h in cc (p.0, p.1.0, p.1.1.0, p.1.1.1.0, p.1.1.1.1.0, p.1.1.1.1.1.0, p.1.1.1.1.1.1.0, p.1.1.1.1.1.1.1.0, p.1.1.1.1.1.1.1.1),
-     λ e. all.1 (
+    both _ _ _ _ (Decides-eqb a.binary_format_major_version b.binary_format_major_version)
+    (both _ _ _ _ (Decides-eqb a.binary_format_minor_version b.binary_format_minor_version)
+    (both _ _ _ _ (Decides-eqb a.build_epoch b.build_epoch)
+    (both _ _ _ _ types
+    (both _ _ _ _ descriptions
+    (both _ _ _ _ (Decides-eqb a.ip_version b.ip_version)
+    (both _ _ _ _ languages
+    (both _ _ _ _ (Decides-eqb a.node_count b.node_count) (Decides-eqb a.record_size b.record_size)))))))) in (
+      λ h. let p = all.0 h in cc (p.0, p.1.0, p.1.1.0, p.1.1.1.0, p.1.1.1.1.0, p.1.1.1.1.1.0, p.1.1.1.1.1.1.0, p.1.1.1.1.1.1.1.0, p.1.1.1.1.1.1.1.1),
+      λ e. all.1 (
         ap (λ (m : MetadataDatum). m.binary_format_major_version) e,
-        (ap (λ (m : MetadataDatum). m.binary_format_minor_version) e,
-        (ap (λ (m : MetadataDatum). m.build_epoch) e,
-        (ap (λ (m : MetadataDatum). m.database_type) e,
-        (ap (λ (m : MetadataDatum). m.description) e,
-        (ap (λ (m : MetadataDatum). m.ip_version) e,
-        (ap (λ (m : MetadataDatum). m.languages) e,
-        (ap (λ (m : MetadataDatum). m.node_count) e, ap (λ (m : MetadataDatum). m.record_size) e)))))))))
+        (
+          ap (λ (m : MetadataDatum). m.binary_format_minor_version) e,
+          (
+            ap (λ (m : MetadataDatum). m.build_epoch) e,
+            (
+              ap (λ (m : MetadataDatum). m.database_type) e,
+              (
+                ap (λ (m : MetadataDatum). m.description) e,
+                (
+                  ap (λ (m : MetadataDatum). m.ip_version) e,
+                  (
+                    ap (λ (m : MetadataDatum). m.languages) e,
+                    (ap (λ (m : MetadataDatum). m.node_count) e, ap (λ (m : MetadataDatum). m.record_size) e),
+                  ),
+                ),
+              ),
+            ),
+          ),
+        ),
+      ),
+    )

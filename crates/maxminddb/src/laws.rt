@@ -1,9 +1,7 @@
 //! Laws of leaves and answers, each the contract of a function that does nothing.
-ghost use Rattle.std.specs.Prelude.{◌≡◌, ◌↔◌, IsTrue};
+ghost use Rattle.mmdb_format.specs.Equality.{IsEqualityOf};
 ghost use Rattle.maxminddb.specs.Source.{SourceDecides};
 ghost use Rattle.maxminddb.specs.Metadata.{metadata_datum};
-ghost use Rattle.maxminddb.specs.declared.metadata.Metadata.{Metadata as SpecMetadata};
-ghost use Rattle.maxminddb.specs.declared.options.WithinOptions.{WithinOptions as SpecOptions};
 ghost use Rattle.maxminddb.specs.Laws.{LeavesAreDisjoint, EachAddressHasOneLeaf, EachAddressIsAnswered, AnswersAreUnique, SameLeafSameAnswer, NetworkHoldsAddress, Ipv4WithoutSubtree};
 ghost use Rattle.maxminddb.specs.Agreement.{ItemsAgree};
 ghost use Rattle.maxminddb.specs.ListingLaws.{RangeWalkLists, ListingsAreUnique, WholeWalkListsAll, ListedAgrees};
@@ -68,6 +66,6 @@ pub fn items_agree_with_lookups()
 /// Options are equal exactly where they are the same, and metadata exactly where all nine fields say the
 /// same.
 pub fn metadata_equal_where_same()
-    ensures options { (a b : SpecOptions) → IsTrue (⟦<WithinOptions as PartialEq>⟧.eq a b) ↔ (a ≡ b) }
-    ensures metadata { (a b : SpecMetadata) → IsTrue (⟦<Metadata as PartialEq>⟧.eq a b) ↔ (metadata_datum a ≡ metadata_datum b) }
+    ensures options { IsEqualityOf ⟦<WithinOptions as PartialEq>⟧.eq (λ options. options) }
+    ensures metadata { IsEqualityOf ⟦<Metadata as PartialEq>⟧.eq metadata_datum }
 {}
