@@ -103,8 +103,8 @@ pub fn scalar_is_what_stands()
     ensures bytes { ReadsScalars byte_string_at bytes }
 {}
 
-/// What is read as a scalar unfolds to that scalar, its pointer dropped, so that lists and maps of such values
-/// are what unfolds too.
+/// What is read as a scalar unfolds to that scalar, its pointer dropped; so lists and maps of such values
+/// unfold too.
 pub fn scalars_unfold<'de, T: Decode<'de>>()
     ensures { ScalarsUnfold T.meaning }
 {}
@@ -122,8 +122,8 @@ pub fn list_is_what_stands<'de, T: Decode<'de>>()
     ensures unfolds { ListsUnfold T.meaning }
 {}
 
-/// What is read as a map with keys of text is the map that stands there, directly or behind one pointer: its
-/// pairs in turn, of which the last one with a key gives its value. Its keys ascend.
+/// What is read as a map with keys of text is the map that stands there, directly or behind one pointer:
+/// its pairs in turn, of which the last one with a key gives its value. Its keys ascend.
 pub fn text_map_is_what_stands<'de, T: Decode<'de>>()
     ensures read { ReadsTextMaps T.meaning }
     ensures unfolds { TextMapsUnfold T.meaning }
