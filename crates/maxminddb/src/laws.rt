@@ -8,9 +8,14 @@ ghost use Rattle.maxminddb.specs.ListingLaws.{RangeWalkLists, ListingsAreUnique,
 
 use crate::metadata::Metadata;
 use crate::options::WithinOptions;
+pub use mmdb_net::laws::networks_equal_where_same;
 pub use mmdb_value::laws::{
-    answer_is_whole_value, answer_is_within_limits, one_value_stands, same_offset_same_result,
-    skipping_is_passing, value_is_what_stands, values_bounded,
+    answer_is_whole_value, answer_is_within_limits, any_value_is_exact, how_containers_are_read,
+    how_owned_bytes_are_read, how_scalars_are_read, how_small_numbers_are_read,
+    list_is_what_stands, one_tree_unfolds, one_value_stands, owned_bytes_equal_where_same,
+    record_is_what_stands, same_offset_same_result, scalar_is_what_stands,
+    scalars_equal_where_same, scalars_unfold, skipping_is_passing, small_number_is_what_stands,
+    text_map_is_what_stands, value_is_what_stands, values_bounded,
 };
 
 /// Leaves are disjoint blocks, and each full address begins with exactly one.

@@ -18,6 +18,7 @@ use crate::decode::{Decode, OwnedBytes};
 use crate::decoder::Decoder;
 use crate::record::Record;
 use mmdb_format::content::{Double, Float};
+pub use mmdb_format::laws::{one_tree_unfolds, scalars_equal_where_same};
 use std::collections::BTreeMap;
 
 /// Skipping a value is passing it in the words of the format.
@@ -84,8 +85,8 @@ pub fn how_containers_are_read<'de, T: Decode<'de>>()
     ensures text_map { let t = ⟦<BTreeMap<String, T> as Decode<'de>>⟧ in IsContainerShape t.datum t.meaning t.exact t.starts t.free (λ m. map (λ e. (string_bytes e.0, T.datum e.1)) m.entries) (text_map_at T.meaning) }
 {}
 
-/// `==` is equality of data.
-pub fn equality_is_equality_of_data()
+/// `==` of byte strings of one's own is equality of their bytes.
+pub fn owned_bytes_equal_where_same()
     ensures { IsEqualityOf ⟦<OwnedBytes as PartialEq>⟧.eq (λ x. x.0.items) }
 {}
 

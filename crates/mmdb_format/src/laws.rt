@@ -9,7 +9,7 @@ use crate::message::Text;
 
 /// `==` is equality of data: of numbers that are not whole it compares the bits, so that it tells apart the
 /// zeros, and no number from itself.
-pub fn equality_is_equality_of_data()
+pub fn scalars_equal_where_same()
     ensures double { IsEqualityOf ⟦<Double as PartialEq>⟧.eq (λ x. x.bits) }
     ensures float { IsEqualityOf ⟦<Float as PartialEq>⟧.eq (λ x. x.bits) }
     ensures kind { IsEqualityOf ⟦<Kind as PartialEq>⟧.eq (λ kind. kind) }

@@ -10,7 +10,11 @@ use crate::any_value::Value;
 use crate::raw_value::RawValue;
 use mmdb_decode::decode::Decode;
 pub use mmdb_decode::laws::{
-    answer_is_within_limits, same_offset_same_result, skipping_is_passing, values_bounded,
+    answer_is_within_limits, how_containers_are_read, how_owned_bytes_are_read,
+    how_scalars_are_read, how_small_numbers_are_read, list_is_what_stands, one_tree_unfolds,
+    owned_bytes_equal_where_same, record_is_what_stands, same_offset_same_result,
+    scalar_is_what_stands, scalars_equal_where_same, scalars_unfold, skipping_is_passing,
+    small_number_is_what_stands, text_map_is_what_stands, values_bounded,
 };
 
 /// What is read as any value is what unfolds there, with its measures.
