@@ -7,11 +7,7 @@ use std::process::Abort;
 use std::test::Fail;
 
 // The line of an address, or the refusal.
-fn line_of(
-    alloc: Global,
-    reader: &Reader<&[u8]>,
-    address: &str,
-) -> Result<String, Fail> {
+fn line_of(alloc: Global, reader: &Reader<&[u8]>, address: &str) -> Result<String, Fail> {
     let line = lookup_line(alloc, reader, address.parse()?);
     match line {
         Ok(line) => Ok(line),

@@ -20,7 +20,10 @@ pub fn words_of(alloc: Global, texts: &[&str]) -> Result<Vec<String>, AllocError
 /// Asserts what was written.
 pub fn assert_written(rt: &impl Abort, sink: Out<Vec<u8>>, text: &str, case: &[&str]) {
     let bytes = sink.into_inner();
-    assert!(rt; bytes.as_slice() == text.as_bytes(), "at {case:?}: {bytes:?}");
+    assert!(rt;
+        bytes.as_slice() == text.as_bytes(),
+        "at {case:?}: {bytes:?}"
+    );
 }
 
 /// Asserts what the program does with its words over files.

@@ -1,6 +1,6 @@
 //! Which options and metadata are equal, and which are not.
 use maxminddb::{Metadata, Reader, WithinOptions};
-use mmdb_vectors::builder::{BASE, BASE_DATA, Fields, base_file, file};
+use mmdb_vectors::builder::{BASE_DATA, Field, base_file, changed_file};
 use mmdb_vectors::equality::equality;
 use std::test::Fail;
 
@@ -29,15 +29,15 @@ fn options(rt: HostRuntime) {
     }
 }
 
-/// The base file's fields with another value in one of them.
+/// Another value in one of the base file's fields.
 #[rattlefmt::skip]
-const OTHERS: [Fields<'static>; 6] = [
-    Fields { minor_version: b"\xA1\x01", ..BASE },
-    Fields { build_epoch: b"\x01\x02\x02", ..BASE },
-    Fields { database_type: b"\x41U", ..BASE },
-    Fields { ip_version: b"\xA1\x06", ..BASE },
-    Fields { node_count: b"\xC1\x02", ..BASE },
-    Fields { record_size: b"\xA1\x1C", ..BASE },
+const OTHERS: &[(Field, &[u8])] = &[
+    (Field::MinorVersion, b"\xA1\x01"),
+    (Field::BuildEpoch, b"\x01\x02\x02"),
+    (Field::DatabaseType, b"\x41U"),
+    (Field::IpVersion, b"\xA1\x06"),
+    (Field::NodeCount, b"\xC1\x02"),
+    (Field::RecordSize, b"\xA1\x1C"),
 ];
 
 #[test]
@@ -48,12 +48,13 @@ fn metadata_of_files(rt: HostRuntime) -> Result<(), Fail> {
     assert!(rt; equality(base.metadata(), again.metadata()) == Some(true));
     assert!(rt; equality(base.metadata(), &base.metadata().clone()?) == Some(true));
     // Fourteen bytes of nodes have room for each of the trees.
-    for (case, fields) in OTHERS.iter().enumerate() {
-        let nodes = b"\x00\x00\x01\x00\x00\x11\0\0\0\0\0\0\0\0";
-        let other = Reader::from_source(alloc, file(alloc, nodes, BASE_DATA, *fields)?)?;
+    let nodes = b"\x00\x00\x01\x00\x00\x11\0\0\0\0\0\0\0\0";
+    for change in OTHERS {
+        let other = Reader::from_source(alloc, changed_file(alloc, nodes, BASE_DATA, &[*change])?)?;
+        let (field, _) = change;
         assert!(rt;
             equality(base.metadata(), other.metadata()) == Some(false),
-            "{case}"
+            "{field:?}"
         );
     }
     Ok(())

@@ -1,7 +1,8 @@
 //! Which files are accepted, and what their metadata say.
 use super::answers::{answer, high, low, verdict};
 use maxminddb::{MaxMindDbError, Metadata, Reader};
-use mmdb_vectors::builder::{BASE, BASE_DATA, BASE_NODE, Fields, base_file, file};
+use mmdb_vectors::builder::{BASE_DATA, BASE_NODE, Changes, Field, base_file, changed_file};
+use std::alloc::Global;
 use std::process::Abort;
 use std::test::Fail;
 
@@ -16,87 +17,57 @@ const TOO_LATE: &str =
 const NO_LOCATION: &str =
     "invalid database: the MaxMind DB file's data pointer resolves to an invalid location";
 
+/// Changes of metadata, and the refusal.
+type Refusals = &'static [(Changes<'static>, &'static str)];
+
 const WITHOUT: &str = "0.0.0.0/1 -";
 
 const BEHIND: &str = "128.0.0.0/1 0";
 
-/// A file, and what its lower and its upper half are answered.
-#[derive(Clone, Copy)]
-struct Case {
-    name: &'static str,
-    node: &'static [u8],
-    data: &'static [u8],
-    fields: Fields<'static>,
-    lower: &'static str,
-    upper: &'static str,
-}
+/// Nodes, data and changed metadata, and what the lower and the upper half of the file are answered.
+type Case = (
+    &'static str,
+    &'static [u8],
+    &'static [u8],
+    Changes<'static>,
+    &'static str,
+    &'static str,
+);
 
-const BASE_CASE: Case = Case {
-    name: "the base file",
-    node: BASE_NODE,
-    data: BASE_DATA,
-    fields: BASE,
-    lower: WITHOUT,
-    upper: BEHIND,
-};
-
-const CASES: [Case; 7] = [
-    BASE_CASE,
-    Case {
-        name: "one more byte",
-        fields: Fields {
-            more: b"\x00",
-            ..BASE
-        },
-        ..BASE_CASE
-    },
-    Case {
-        name: "another minor version",
-        fields: Fields {
-            minor_version: b"\xA1\x09",
-            ..BASE
-        },
-        ..BASE_CASE
-    },
-    Case {
-        name: "a marker in the data",
-        data: b"\x41x\x8E\xAB\xCD\xEFMaxMind.com",
-        ..BASE_CASE
-    },
-    Case {
-        name: "no data",
-        node: b"\x00\x00\x01\x00\x00\x01",
-        data: b"",
-        upper: "128.0.0.0/1 -",
-        ..BASE_CASE
-    },
-    Case {
-        name: "an offset without data",
-        data: b"",
-        upper: NO_LOCATION,
-        ..BASE_CASE
-    },
-    Case {
-        name: "no room",
-        fields: Fields {
-            node_count: b"\xC1\x02",
-            ..BASE
-        },
-        lower: NO_ROOM,
-        upper: NO_ROOM,
-        ..BASE_CASE
-    },
+#[rattlefmt::skip]
+const CASES: &[Case] = &[
+    ("the base file", BASE_NODE, BASE_DATA, &[], WITHOUT, BEHIND),
+    ("one more byte", BASE_NODE, BASE_DATA, &[(Field::More, b"\x00")], WITHOUT, BEHIND),
+    (
+        "another minor version",
+        BASE_NODE,
+        BASE_DATA,
+        &[(Field::MinorVersion, b"\xA1\x09")],
+        WITHOUT,
+        BEHIND,
+    ),
+    (
+        "a marker in the data",
+        BASE_NODE,
+        b"\x41x\x8E\xAB\xCD\xEFMaxMind.com",
+        &[],
+        WITHOUT,
+        BEHIND,
+    ),
+    ("no data", b"\x00\x00\x01\x00\x00\x01", b"", &[], WITHOUT, "128.0.0.0/1 -"),
+    ("an offset without data", BASE_NODE, b"", &[], WITHOUT, NO_LOCATION),
+    ("no room", BASE_NODE, BASE_DATA, &[(Field::NodeCount, b"\xC1\x02")], NO_ROOM, NO_ROOM),
 ];
 
 #[test]
 fn accepted_and_refused(rt: HostRuntime) -> Result<(), Fail> {
     let alloc = rt.alloc();
-    for case in CASES {
-        let file = file(alloc, case.node, case.data, case.fields)?;
-        for (address, text) in [(low(), case.lower), (high(), case.upper)] {
-            let answered = answer(alloc, file.as_slice(), address)?;
-            assert!(rt; answered.as_str() == text, "{}: {answered}", case.name);
-        }
+    for (case, nodes, data, changes, lower, upper) in CASES {
+        let file = changed_file(alloc, nodes, data, changes)?;
+        let answered = answer(alloc, file.as_slice(), low())?;
+        assert!(rt; answered.as_str() == *lower, "{case}: {answered}");
+        let answered = answer(alloc, file.as_slice(), high())?;
+        assert!(rt; answered.as_str() == *upper, "{case}: {answered}");
     }
     Ok(())
 }
@@ -135,45 +106,19 @@ fn beginnings_refused(rt: HostRuntime) -> Result<(), Fail> {
     Ok(())
 }
 
-const LATE: Fields<'static> = Fields {
-    build_epoch: b"\x08\x02\x80\0\0\0\0\0\0\0",
-    ..BASE
-};
+const LATE: (Field, &[u8]) = (Field::BuildEpoch, b"\x08\x02\x80\0\0\0\0\0\0\0");
 
-const ROOM: Fields<'static> = Fields {
-    node_count: b"\xC1\x02",
-    ..BASE
-};
+const ROOM: (Field, &[u8]) = (Field::NodeCount, b"\xC1\x02");
 
-const SIZE_FIRST: Fields<'static> = Fields {
-    record_size: b"\xA1\x10",
-    ..ROOM
-};
+const SIZE: (Field, &[u8]) = (Field::RecordSize, b"\xA1\x10");
 
-const EPOCH_FIRST: Fields<'static> = Fields {
-    build_epoch: b"\x08\x02\x80\0\0\0\0\0\0\0",
-    ..SIZE_FIRST
-};
+const COUNT: (Field, &[u8]) = (Field::NodeCount, b"\xC0");
 
-const COUNT_FIRST: Fields<'static> = Fields {
-    node_count: b"\xC0",
-    ..EPOCH_FIRST
-};
+const IP: (Field, &[u8]) = (Field::IpVersion, b"\xA1\x05");
 
-const IP_FIRST: Fields<'static> = Fields {
-    ip_version: b"\xA1\x05",
-    ..COUNT_FIRST
-};
+const MAJOR: (Field, &[u8]) = (Field::MajorVersion, b"\xA1\x03");
 
-const MAJOR_FIRST: Fields<'static> = Fields {
-    major_version: b"\xA1\x03",
-    ..IP_FIRST
-};
-
-const FIELD_FIRST: Fields<'static> = Fields {
-    database_type: b"\xA1\x07",
-    ..MAJOR_FIRST
-};
+const TYPE: (Field, &[u8]) = (Field::DatabaseType, b"\xA1\x07");
 
 const WRONG_SIZE: &str = "invalid database: record_size - Expected: 24, 28, or 32 Actual: 16";
 
@@ -183,120 +128,113 @@ const WRONG_IP: &str = "invalid database: ip_version - Expected: 4 or 6 Actual: 
 
 const WRONG_MAJOR: &str = "invalid database: binary_format_major_version - Expected: 2 Actual: 3";
 
-/// Each of the second files has one fault more than the one before it, and what is named is the first of
-/// its faults. A longer `build_epoch` moves the fields after it by 7 bytes.
+/// Files with one fault and with all that are named later, where the fault of the node count stands in the
+/// place of that of room. A longer `build_epoch` moves the fields after it by 7 bytes.
 #[rattlefmt::skip]
-const FAULTS: [(Fields<'static>, &str); 13] = [
-    (ROOM, NO_ROOM),
-    (Fields { record_size: b"\xA1\x10", ..BASE }, WRONG_SIZE),
-    (SIZE_FIRST, WRONG_SIZE),
-    (LATE, TOO_LATE),
-    (EPOCH_FIRST, TOO_LATE),
-    (Fields { node_count: b"\xC0", ..BASE }, NO_NODE),
-    (COUNT_FIRST, NO_NODE),
-    (Fields { ip_version: b"\xA1\x05", ..BASE }, WRONG_IP),
-    (IP_FIRST, WRONG_IP),
-    (Fields { major_version: b"\xA1\x03", ..BASE }, WRONG_MAJOR),
-    (MAJOR_FIRST, WRONG_MAJOR),
+const FAULTS: Refusals = &[
+    (&[ROOM], NO_ROOM),
+    (&[SIZE], WRONG_SIZE),
+    (&[SIZE, ROOM], WRONG_SIZE),
+    (&[LATE], TOO_LATE),
+    (&[LATE, SIZE, ROOM], TOO_LATE),
+    (&[COUNT], NO_NODE),
+    (&[COUNT, LATE, SIZE], NO_NODE),
+    (&[IP], WRONG_IP),
+    (&[IP, COUNT, LATE, SIZE], WRONG_IP),
+    (&[MAJOR], WRONG_MAJOR),
+    (&[MAJOR, IP, COUNT, LATE, SIZE], WRONG_MAJOR),
+    (&[TYPE], "decoding error at offset 89: expected string, got type 5"),
     (
-        Fields { database_type: b"\xA1\x07", ..BASE },
-        "decoding error at offset 89: expected string, got type 5",
+        &[TYPE, MAJOR, IP, COUNT, LATE, SIZE],
+        "decoding error at offset 96: expected string, got type 5",
     ),
-    (FIELD_FIRST, "decoding error at offset 96: expected string, got type 5"),
 ];
 
-#[test]
-fn earlier_fault_is_named(rt: HostRuntime) -> Result<(), Fail> {
-    let alloc = rt.alloc();
-    for (fields, text) in FAULTS {
-        let file = file(alloc, BASE_NODE, BASE_DATA, fields)?;
+// Asserts with which texts files of these data and metadata are refused.
+fn assert_refusals(
+    rt: &impl Abort,
+    alloc: Global,
+    data: &[u8],
+    rows: Refusals,
+) -> Result<(), Fail> {
+    for (changes, text) in rows {
+        let file = changed_file(alloc, BASE_NODE, data, changes)?;
         let refusal = verdict(alloc, file.as_slice())?;
-        assert!(rt; refusal.as_str() == text, "{refusal}, not {text}");
+        assert!(rt; refusal.as_str() == *text, "{refusal}, not {text}");
     }
     Ok(())
 }
 
-/// Data and metadata whose values are not read, and the refusal. `InvalidDatabase` counts from the start
-/// of the file, the others from that of the metadata: these begin at 36 and the length of the data.
+#[test]
+fn earlier_fault_is_named(rt: HostRuntime) -> Result<(), Fail> {
+    assert_refusals(&rt, rt.alloc(), BASE_DATA, FAULTS)
+}
+
+/// Metadata whose values are not read, and the refusal. `InvalidDatabase` counts from the start of the
+/// file, the others from that of the metadata: these begin at 36 and the length of the data.
 #[rattlefmt::skip]
-const UNREAD: [(&[u8], Fields<'static>, &str); 7] = [
+const UNREAD: Refusals = &[
     (
-        BASE_DATA,
-        Fields { record_size: b"\xA2\x18", ..BASE },
+        &[(Field::RecordSize, b"\xA2\x18")],
         "invalid database at offset 197: u16 of size 2",
     ),
     (
-        b"\x48abcdefgh",
-        Fields { record_size: b"\xA2\x18", ..BASE },
-        "invalid database at offset 204: u16 of size 2",
-    ),
-    (
-        BASE_DATA,
-        Fields { database_type: b"\x20\xFF", ..BASE },
+        &[(Field::DatabaseType, b"\x20\xFF")],
         "invalid database at offset 127: unexpected end of buffer",
     ),
     (
-        BASE_DATA,
-        Fields { map: 0xEA, more: b"\x41z\x00\x05", ..BASE },
+        &[(Field::Map, b"\xEA"), (Field::More, b"\x41z\x00\x05")],
         "invalid database at offset 201: unknown data type: 12",
     ),
     (
-        BASE_DATA,
-        Fields { map: 0xE8, ..BASE },
+        &[(Field::Map, b"\xE8")],
         "decoding error at offset 147: missing field `record_size`",
     ),
     (
-        BASE_DATA,
-        Fields { map: 0xEA, more: b"\x4Aip_version\xA1\x04", ..BASE },
+        &[(Field::Map, b"\xEA"), (Field::More, b"\x4Aip_version\xA1\x04")],
         "decoding error at offset 172: duplicate field `ip_version`",
     ),
     (
-        BASE_DATA,
-        Fields { major_version: b"\x1E\x04\xFE\xE3", map: 0xE1, ..BASE },
-        "decoding error at offset 29: expected u16, got type 11",
+        &[(Field::Map, b"\xEA"), (Field::More, b"\x41z\x1E\x04\xFE\xE3")],
+        "resource limit exceeded at offset 163: exceeded maximum number of data structure values",
+    ),
+];
+
+/// The same behind seven bytes of data more.
+#[rattlefmt::skip]
+const UNREAD_LATER: Refusals = &[
+    (
+        &[(Field::RecordSize, b"\xA2\x18")],
+        "invalid database at offset 204: u16 of size 2",
+    ),
+    (
+        &[(Field::Map, b"\xE8")],
+        "decoding error at offset 147: missing field `record_size`",
     ),
 ];
 
 #[test]
 fn metadata_refused(rt: HostRuntime) -> Result<(), Fail> {
-    let alloc = rt.alloc();
-    for (data, fields, text) in UNREAD {
-        let file = file(alloc, BASE_NODE, data, fields)?;
-        let refusal = verdict(alloc, file.as_slice())?;
-        assert!(rt; refusal.as_str() == text, "{refusal}, not {text}");
-    }
-    let most = Fields {
-        map: 0xEA,
-        more: b"\x41z\x1E\x04\xFE\xE3",
-        ..BASE
-    };
-    let file = file(alloc, BASE_NODE, BASE_DATA, most)?;
-    let refusal = verdict(alloc, file.as_slice())?;
-    let text =
-        "resource limit exceeded at offset 163: exceeded maximum number of data structure values";
-    assert!(rt; refusal.as_str() == text, "{refusal}");
-    Ok(())
+    assert_refusals(&rt, rt.alloc(), BASE_DATA, UNREAD)?;
+    assert_refusals(&rt, rt.alloc(), b"\x48abcdefgh", UNREAD_LATER)
 }
+
+/// Metadata that are read, and name the type `T`.
+#[rattlefmt::skip]
+const READ: &[(&str, Changes<'static>)] = &[
+    ("the base file", &[]),
+    ("a pointer", &[(Field::DatabaseType, b"\x20\xA1"), (Field::More, b"\x41T")]),
+    (
+        "an unknown field whose pointer leads nowhere",
+        &[(Field::Map, b"\xEA"), (Field::More, b"\x41z\x20\xFF")],
+    ),
+];
 
 #[test]
 fn metadata_read(rt: HostRuntime) -> Result<(), Fail> {
     let alloc = rt.alloc();
-    let pointer = Fields {
-        database_type: b"\x20\xA1",
-        more: b"\x41T",
-        ..BASE
-    };
-    let unknown = Fields {
-        map: 0xEA,
-        more: b"\x41z\x20\xFF",
-        ..BASE
-    };
-    for (case, fields) in [
-        ("the base file", BASE),
-        ("a pointer", pointer),
-        ("an unknown field whose pointer leads nowhere", unknown),
-    ] {
-        let file = file(alloc, BASE_NODE, BASE_DATA, fields)?;
+    for (case, changes) in READ {
+        let file = changed_file(alloc, BASE_NODE, BASE_DATA, changes)?;
         let reader = Reader::from_source(alloc, file)?;
         assert!(rt; reader.metadata().database_type.as_str() == "T", "{case}");
     }
@@ -328,14 +266,15 @@ fn build_epoch_at_the_limit(rt: HostRuntime) -> Result<(), Fail> {
     let base = Reader::from_source(alloc, base_file(alloc)?)?;
     assert_base_metadata(&rt, base.metadata());
     assert!(rt; base.metadata().build_time(alloc)? == 1);
-    let refused = file(alloc, BASE_NODE, BASE_DATA, LATE)?;
+    let refused = changed_file(alloc, BASE_NODE, BASE_DATA, &[LATE])?;
     let refusal = verdict(alloc, refused.as_slice())?;
     assert!(rt; refusal.as_str() == TOO_LATE, "{refusal}");
-    let largest = Fields {
-        build_epoch: b"\x08\x02\x7F\xFF\xFF\xFF\xFF\xFF\xFF\xFF",
-        ..BASE
-    };
-    let reader = Reader::from_source(alloc, file(alloc, BASE_NODE, BASE_DATA, largest)?)?;
+    let largest = (
+        Field::BuildEpoch,
+        b"\x08\x02\x7F\xFF\xFF\xFF\xFF\xFF\xFF\xFF".as_slice(),
+    );
+    let bytes = changed_file(alloc, BASE_NODE, BASE_DATA, &[largest])?;
+    let reader = Reader::from_source(alloc, bytes)?;
     let time = reader.metadata().build_time(alloc)?;
     assert!(rt; time == 9_223_372_036_854_775_807, "{time}");
     let mut later = reader.metadata().clone()?;
