@@ -1,4 +1,4 @@
-//! Tests of the program: its words, what it writes, the lines of networks, and sinks that fail.
+//! Tests of the program: its words, the files that it opens, and what it writes.
 #![tactic(auto)]
 
 #[cfg(test)]

@@ -1,4 +1,4 @@
-//! Tests of readers: files and their metadata, lookups and what they hold, and walks over networks.
+//! Tests of readers: files, their metadata, and lookups of addresses.
 #![tactic(auto)]
 
 #[cfg(test)]

@@ -1,9 +1,5 @@
-//! What no clause says: worked rows over public calls, printed texts, files, and want of memory.
+//! What no clause says: worked rows over public calls, printed texts, and files.
 mod answers;
-mod decodes;
-mod equalities;
 mod files;
 mod lookups;
-mod memory;
 mod metadata;
-mod walks;

@@ -1,6 +1,7 @@
 //! Runs of the program.
 use mmdb_tool::{Out, run, run_bytes};
-use std::alloc::{AllocError, Global};
+use mmdb_vectors::words::words_of;
+use std::alloc::Global;
 use std::process::Abort;
 use std::rt::Files;
 use std::test::Fail;
@@ -8,17 +9,8 @@ use std::test::Fail;
 /// What a run ends with: its status, and what it wrote on standard output and on standard error.
 pub type Done<'a> = (u8, &'a str, &'a str);
 
-/// The words of a program, its name left out.
-pub fn words_of(alloc: Global, texts: &[&str]) -> Result<Vec<String>, AllocError> {
-    let mut words = Vec::new(alloc);
-    for text in texts {
-        words.push(String::from_str(alloc, text)?)?;
-    }
-    Ok(words)
-}
-
-/// Asserts what was written.
-pub fn assert_written(rt: &impl Abort, sink: Out<Vec<u8>>, text: &str, case: &[&str]) {
+// Asserts what was written.
+fn assert_written(rt: &impl Abort, sink: Out<Vec<u8>>, text: &str, case: &[&str]) {
     let bytes = sink.into_inner();
     assert!(rt;
         bytes.as_slice() == text.as_bytes(),

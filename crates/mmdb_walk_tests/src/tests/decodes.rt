@@ -1,5 +1,5 @@
 //! What stands behind a lookup that is not read as it is asked for.
-use super::answers::high;
+use super::found::high;
 use maxminddb::{
     Decode, Double, Float, MaxMindDbError, Metadata, OwnedBytes, RawValue, Reader, Value,
 };

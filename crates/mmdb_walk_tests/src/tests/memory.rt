@@ -1,7 +1,7 @@
 //! Calls where memory is refused.
 ghost use Rattle.std.specs.Prelude.{◌<◌};
 
-use super::answers::{high, low, told};
+use super::found::{high, low, told};
 use maxminddb::{Decode, IpNetwork, MaxMindDbError, Metadata, Reader, fuzzing};
 use mmdb_vectors::builder::base_file;
 use mmdb_vectors::hoard::Hoard;

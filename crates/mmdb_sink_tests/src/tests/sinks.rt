@@ -1,14 +1,24 @@
 //! Sinks that take one byte a call, and then no more.
-use super::runs::{assert_written, words_of};
 use super::sink::{End, OneByte};
 use maxminddb::{MaxMindDbError, Reader, WithinOptions};
 use mmdb_tool::{Fault, ListError, Out, list_to, run_bytes};
 use mmdb_vectors::builder::base_file;
 use mmdb_vectors::equality::equality;
+use mmdb_vectors::words::words_of;
 use std::io;
+use std::process::Abort;
 use std::test::Fail;
 
 const FOUND: [&str; 3] = ["lookup", "here.mmdb", "200.0.0.1"];
+
+// Asserts what was written.
+fn assert_written(rt: &impl Abort, sink: Out<Vec<u8>>, text: &str, case: &[&str]) {
+    let bytes = sink.into_inner();
+    assert!(rt;
+        bytes.as_slice() == text.as_bytes(),
+        "at {case:?}: {bytes:?}"
+    );
+}
 
 #[test]
 fn sinks_that_fail(rt: HostRuntime) -> Result<(), Fail> {
