@@ -10,25 +10,23 @@ use std::test::Fail;
 #[test]
 fn errors_print_their_texts(rt: HostRuntime) -> Result<(), Fail> {
     let alloc = rt.alloc();
+    let (unexpected, bad) = ("unexpected type", "bad address");
     for (error, text) in [
         (
             invalid_database(alloc, "something went wrong"),
             "invalid database: something went wrong",
         ),
         (
-            decoding(alloc, "unexpected type"),
+            decoding(alloc, unexpected),
             "decoding error: unexpected type",
         ),
         (
-            decoding_at(alloc, "unexpected type", 100),
+            decoding_at(alloc, unexpected, 100),
             "decoding error at offset 100: unexpected type",
         ),
+        (invalid_input(alloc, bad), "invalid input: bad address"),
         (
-            invalid_input(alloc, "bad address"),
-            "invalid input: bad address",
-        ),
-        (
-            decoding_at_path(alloc, "unexpected type", 100, "/city/names/en"),
+            decoding_at_path(alloc, unexpected, 100, "/city/names/en"),
             "decoding error at offset 100 (path: /city/names/en): unexpected type",
         ),
         (
