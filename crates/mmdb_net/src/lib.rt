@@ -10,6 +10,3 @@ mod text;
 pub use error::IpNetworkError;
 pub use mask::mask_ip;
 pub use network::{IpNetwork, Ipv4Network, Ipv6Network};
-
-#[cfg(test)]
-mod tests;

@@ -9,8 +9,6 @@ pub mod fuzzing;
 pub mod laws;
 pub mod raw_value;
 pub mod shared;
-#[cfg(test)]
-mod tests;
 
 pub use any_value::Value;
 pub use mmdb_decode::decode::{Decode, OwnedBytes};

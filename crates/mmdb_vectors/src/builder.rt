@@ -8,7 +8,7 @@ const MARKER: &[u8] = b"\xAB\xCD\xEFMaxMind.com";
 #[derive(Clone, Copy, Debug)]
 pub struct Fields<'a> {
     /// The header of the map.
-    pub map: u8,
+    pub map: &'a [u8],
     pub major_version: &'a [u8],
     pub minor_version: &'a [u8],
     pub build_epoch: &'a [u8],
@@ -20,9 +20,45 @@ pub struct Fields<'a> {
     pub more: &'a [u8],
 }
 
+/// One of the fields.
+#[derive(Clone, Copy, Debug, PartialEq, Eq)]
+pub enum Field {
+    Map,
+    MajorVersion,
+    MinorVersion,
+    BuildEpoch,
+    DatabaseType,
+    IpVersion,
+    NodeCount,
+    RecordSize,
+    More,
+}
+
+/// What stands in the place of some fields of the base file.
+pub type Changes<'a> = &'a [(Field, &'a [u8])];
+
+impl<'a> Fields<'a> {
+    /// The fields with this value in one of them.
+    fn with(self, field: Field, value: &'a [u8]) -> Fields<'a> {
+        let mut fields = self;
+        match field {
+            Field::Map => fields.map = value,
+            Field::MajorVersion => fields.major_version = value,
+            Field::MinorVersion => fields.minor_version = value,
+            Field::BuildEpoch => fields.build_epoch = value,
+            Field::DatabaseType => fields.database_type = value,
+            Field::IpVersion => fields.ip_version = value,
+            Field::NodeCount => fields.node_count = value,
+            Field::RecordSize => fields.record_size = value,
+            Field::More => fields.more = value,
+        }
+        fields
+    }
+}
+
 /// The fields of the base file: IPv4, one node, 24 bits.
 pub const BASE: Fields<'static> = Fields {
-    map: 0xE9,
+    map: b"\xE9",
     major_version: b"\xA1\x02",
     minor_version: b"\xA0",
     build_epoch: b"\x01\x02\x01",
@@ -47,7 +83,7 @@ fn push_field(file: &mut Vec<u8>, name: &str, value: &[u8]) -> Result<(), AllocE
 }
 
 fn push_metadata(file: &mut Vec<u8>, fields: Fields<'_>) -> Result<(), AllocError> {
-    file.push(fields.map)?;
+    file.extend_from_slice(fields.map)?;
     push_field(file, "binary_format_major_version", fields.major_version)?;
     push_field(file, "binary_format_minor_version", fields.minor_version)?;
     push_field(file, "build_epoch", fields.build_epoch)?;
@@ -74,6 +110,20 @@ pub fn file(
     file.extend_from_slice(MARKER)?;
     push_metadata(&mut file, fields)?;
     Ok(file)
+}
+
+/// A file of these nodes and data, with the metadata of the base file but for the changes.
+pub fn changed_file(
+    alloc: Global,
+    nodes: &[u8],
+    data: &[u8],
+    changes: Changes<'_>,
+) -> Result<Vec<u8>, AllocError> {
+    let mut fields = BASE;
+    for (field, value) in changes {
+        fields = fields.with(*field, value);
+    }
+    file(alloc, nodes, data, fields)
 }
 
 /// The base file, of 199 bytes.

@@ -1,11 +1,9 @@
-//! What tests share, and the tests: a builder of files, a hoard of memory, a file that fails, and a
-//! sink that refuses.
+//! What tests of several crates share: a builder of files, a file that fails, a hoard of memory, what
+//! the two operators of equality say, and a program's words.
 #![tactic(auto)]
 
 pub mod builder;
+pub mod equality;
 pub mod file;
 pub mod hoard;
-pub mod probe;
-pub mod sink;
-#[cfg(test)]
-mod tests;
+pub mod words;

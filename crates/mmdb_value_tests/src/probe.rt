@@ -1,10 +1,13 @@
 //! A record written by hand, from outside the crates that read.
 ghost use Rattle.std.specs.Prelude.{◌≡◌, Some, true, IfOk, IfErr, option_map};
 ghost use Rattle.mmdb_decode.specs.Refusal.{Refuses, answer};
-ghost use Rattle.mmdb_vectors.specs.Probe.{Probe as SpecProbe, no_probe, probe_fields, probe_at};
+ghost use Rattle.mmdb_value_tests.specs.Probe.{Probe as SpecProbe, no_probe, probe_fields, probe_at};
 
-use mmdb_value::record::{Record, named, read_once, read_record};
-use mmdb_value::{Decode, DecodeResult, Decoder, fuzzing};
+use mmdb_decode::decode::Decode;
+use mmdb_decode::decoder::Decoder;
+use mmdb_decode::fuzzing;
+use mmdb_decode::record::{Record, named, read_once, read_record};
+use mmdb_format::error::DecodeResult;
 use std::alloc::Global;
 
 /// A number and a text, either of which may be missing.

@@ -1,24 +1,20 @@
-use super::answers::{high, refusal};
-use crate::builder::base_file;
-use crate::file::OneFile;
+//! Files that can't be read, and files on disk.
+use super::answers::{found_text, high};
 use maxminddb::{MaxMindDbError, Reader};
-use mmdb_tool::lookup_line;
-use std::alloc::{AllocError, Global};
+use mmdb_vectors::builder::base_file;
+use mmdb_vectors::file::OneFile;
+use std::alloc::Global;
 use std::fs;
 use std::rt::Files;
 use std::test::Fail;
 
-// What a file at a path answers: the line of an address, the kind of refusal of a file that can't be
+// What a file at a path answers: what an address is told, the kind of refusal of a file that can't be
 // read, or another refusal.
-fn answer_at<R: Files>(rt: &R, alloc: Global, path: &str) -> Result<String, AllocError> {
-    let line = match Reader::open_readfile(rt, alloc, path) {
-        Ok(reader) => lookup_line(alloc, &reader, high()),
-        Err(MaxMindDbError::Io(_)) => return String::from_str(alloc, "i/o error"),
-        Err(error) => Err(error),
-    };
-    match line {
-        Ok(line) => Ok(line),
-        Err(error) => refusal(alloc, &error),
+fn answer_at<R: Files>(rt: &R, alloc: Global, path: &str) -> Result<String, MaxMindDbError> {
+    match Reader::open_readfile(rt, alloc, path) {
+        Ok(reader) => found_text(alloc, reader.lookup(high())),
+        Err(MaxMindDbError::Io(_)) => Ok(String::from_str(alloc, "i/o error")?),
+        Err(error) => Ok(format!(in alloc; "{error}")?),
     }
 }
 
@@ -27,7 +23,7 @@ fn reads_that_fail(rt: HostRuntime) -> Result<(), Fail> {
     let alloc = rt.alloc();
     let base = base_file(alloc)?;
     let (whole, empty) = (base.as_slice(), b"".as_slice());
-    let found = "128.0.0.0/1 0\n";
+    let found = "128.0.0.0/1 0";
     let no_marker = "invalid database: could not find MaxMind DB metadata in file";
     // Ten reads, and one that finds the end.
     for (path, bytes, fails_at, text) in [
@@ -46,7 +42,10 @@ fn reads_that_fail(rt: HostRuntime) -> Result<(), Fail> {
             fails_at,
         };
         let answered = answer_at(&files, alloc, path)?;
-        assert_eq!(rt; answered.as_str(), text, "{path}, failing at {fails_at}");
+        assert!(rt;
+            answered.as_str() == text,
+            "{path}, failing at {fails_at}: {answered}"
+        );
     }
     Ok(())
 }
@@ -58,7 +57,7 @@ fn files_on_disk(rt: HostRuntime) -> Result<(), Fail> {
     fs::write(&rt, "written.mmdb", base.as_slice())?;
     fs::write(&rt, "empty.mmdb", b"".as_slice())?;
     for (path, text) in [
-        ("written.mmdb", "128.0.0.0/1 0\n"),
+        ("written.mmdb", "128.0.0.0/1 0"),
         (
             "empty.mmdb",
             "invalid database: could not find MaxMind DB metadata in file",
@@ -67,7 +66,7 @@ fn files_on_disk(rt: HostRuntime) -> Result<(), Fail> {
         ("gone.mmdb", "i/o error"),
     ] {
         let answered = answer_at(&rt, alloc, path)?;
-        assert_eq!(rt; answered.as_str(), text, "{path}");
+        assert!(rt; answered.as_str() == text, "{path}: {answered}");
     }
     fs::remove_file(&rt, "written.mmdb")?;
     fs::remove_file(&rt, "empty.mmdb")?;

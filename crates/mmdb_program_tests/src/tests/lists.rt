@@ -1,17 +1,12 @@
-//! The networks of ranges, as text and one by one.
+//! The lists of ranges.
 ghost use Rattle.std.specs.Prelude.{◌<◌};
 
-use super::programs::assert_done_with;
-use crate::builder::{
+use super::runs::assert_done_with;
+use mmdb_vectors::builder::{
     BASE, BASE_NODE, base_file, base_with_node, file, file_with_alias, file_without_subtree,
 };
-use crate::hoard::Hoard;
-use crate::sink::{End, OneByte};
-use maxminddb::laws::{listed_agrees, range_walk, whole_walk};
-use maxminddb::{IpNetwork, MaxMindDbError, Reader, WithinOptions};
-use mmdb_tool::{Fault, ListError, list_to};
 use std::alloc::{AllocError, Global};
-use std::net::{IpAddr, Ipv4Addr, Ipv6Addr};
+use std::net::{Ipv4Addr, Ipv6Addr};
 use std::process::Abort;
 use std::test::Fail;
 
@@ -174,136 +169,5 @@ fn left_spine(rt: HostRuntime) -> Result<(), Fail> {
         let prefix = 32 - place;
         text.push_str(format!(in alloc; "{address}/{prefix} 0\n")?.as_str())?;
     }
-    assert_lists(&rt, alloc, bytes.as_slice(), &[(&[WHOLE], text.as_str())])?;
-    let reader = Reader::from_source(alloc, bytes.as_slice())?;
-    let walk = reader.networks(alloc, WithinOptions::default())?;
-    let large = Hoard::of_large_blocks(alloc);
-    let small = Hoard::of_all_left(alloc);
-    let mut faults = 0u32;
-    let mut networks = 0u32;
-    for item in walk {
-        match item {
-            Ok(_found) => networks = networks.saturating_add(1),
-            Err(_fault) => faults = faults.saturating_add(1),
-        }
-    }
-    drop(small);
-    drop(large);
-    assert_eq!(rt; (faults, networks), (1, 32));
-    Ok(())
-}
-
-#[test]
-fn whole_space_and_its_end(rt: HostRuntime) -> Result<(), Fail> {
-    let alloc = rt.alloc();
-    let bytes = base_file(alloc)?;
-    let reader = Reader::from_source(alloc, bytes.as_slice())?;
-    let mut walk = reader.within(
-        alloc,
-        IpNetwork::new(IpAddr::V4(Ipv4Addr::UNSPECIFIED), 0)?,
-        WithinOptions::default().include_networks_without_data(),
-    )?;
-    for (network, offset) in [("0.0.0.0/1", None), ("128.0.0.0/1", Some(0))] {
-        let found = walk.next().ok_or("no item")??;
-        assert_eq!(rt; found.network()?, network.parse()?);
-        assert_eq!(rt; found.offset(), offset);
-    }
-    assert!(rt; walk.next().is_none());
-    assert!(rt; walk.next().is_none());
-    let refused = reader.within(alloc, "::/0".parse()?, WithinOptions::default());
-    assert!(rt; matches!(&refused, Err(MaxMindDbError::InvalidInput { .. })));
-    range_walk();
-    whole_walk();
-    listed_agrees();
-    Ok(())
-}
-
-#[test]
-fn lists_to_sinks_that_end(rt: HostRuntime) -> Result<(), Fail> {
-    let alloc = rt.alloc();
-    let bytes = base_file(alloc)?;
-    let reader = Reader::from_source(alloc, bytes.as_slice())?;
-    for (ends_at, end, fault, wrote) in [
-        (100, End::Refuses, Fault::Free, LEAF),
-        (6, End::Refuses, Fault::Refused, "128.0"),
-        (6, End::TakesNone, Fault::Stalled, "128.0"),
-    ] {
-        let mut sink = OneByte::new(Vec::with_capacity(alloc, 16)?, ends_at, end);
-        let done = list_to(
-            alloc,
-            &reader,
-            WHOLE.parse()?,
-            WithinOptions::default(),
-            &mut sink,
-        );
-        assert_eq!(rt; sink.bytes(), wrote.as_bytes());
-        assert_eq!(rt; sink.fault(), fault);
-        let told = match done {
-            Ok(()) => Fault::Free,
-            Err(ListError::Write(_)) => Fault::Refused,
-            Err(ListError::Stopped) => Fault::Stalled,
-            Err(ListError::Database(error)) => return Err(Fail::from(error)),
-        };
-        assert_eq!(rt; told, fault);
-    }
-    let mut sink = OneByte::new(Vec::with_capacity(alloc, 16)?, 100, End::Refuses);
-    let refused = list_to(
-        alloc,
-        &reader,
-        "::/0".parse()?,
-        WithinOptions::default(),
-        &mut sink,
-    );
-    assert!(rt;
-        matches!(
-            &refused,
-            Err(ListError::Database(MaxMindDbError::InvalidInput { .. }))
-        )
-    );
-    assert_eq!(rt; sink.bytes(), b"".as_slice());
-    Ok(())
-}
-
-// What a list wrote with so much memory, and whether it was refused for memory.
-fn list_met(
-    alloc: Global,
-    reader: &Reader<&[u8]>,
-    range: IpNetwork,
-    sink: &mut OneByte,
-    budget: usize,
-) -> Option<bool>
-    requires { budget < 1000000 }
-{
-    let small = Hoard::of_all_but(alloc, budget);
-    let done = list_to(alloc, reader, range, WithinOptions::default(), sink);
-    drop(small);
-    match done {
-        Ok(()) => Some(false),
-        Err(ListError::Database(MaxMindDbError::Memory)) => Some(true),
-        Err(_) => None,
-    }
-}
-
-#[test]
-fn growths_of_lists_refused_in_turn(rt: HostRuntime) -> Result<(), Fail> {
-    let alloc = rt.alloc();
-    let bytes = base_file(alloc)?;
-    let reader = Reader::from_source(alloc, bytes.as_slice())?;
-    let range: IpNetwork = WHOLE.parse()?;
-    let mut refused = 0u32;
-    for step in 0..256usize {
-        let mut sink = OneByte::new(Vec::with_capacity(alloc, 16)?, 100, End::Refuses);
-        let large = Hoard::of_large_blocks(alloc);
-        let met = list_met(alloc, &reader, range, &mut sink, step * 16);
-        drop(large);
-        let wants_more = met == Some(true);
-        assert!(rt; wants_more || met == Some(false), "with {step}");
-        assert_eq!(rt; sink.bytes(), if wants_more { "" } else { LEAF }.as_bytes());
-        if !wants_more {
-            break;
-        }
-        refused = refused.saturating_add(1);
-    }
-    assert!(rt; refused >= 2 && refused < 256, "{refused}");
-    Ok(())
+    assert_lists(&rt, alloc, bytes.as_slice(), &[(&[WHOLE], text.as_str())])
 }

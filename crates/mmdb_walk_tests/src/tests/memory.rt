@@ -1,11 +1,10 @@
+//! Calls where memory is refused.
 ghost use Rattle.std.specs.Prelude.{◌<◌};
 
-use super::answers::{high, low, told};
-use crate::builder::base_file;
-use crate::hoard::Hoard;
-use maxminddb::{IpNetwork, MaxMindDbError, Metadata, Reader};
-use mmdb_tool::lookup_line;
-use mmdb_value::Decode;
+use super::found::{high, low, told};
+use maxminddb::{Decode, IpNetwork, MaxMindDbError, Metadata, Reader, fuzzing};
+use mmdb_vectors::builder::base_file;
+use mmdb_vectors::hoard::Hoard;
 use std::alloc::{AllocError, Global};
 use std::net::{IpAddr, Ipv6Addr};
 use std::test::Fail;
@@ -14,8 +13,9 @@ use std::test::Fail;
 #[derive(Clone, Copy, Debug, PartialEq, Eq)]
 enum Call {
     FromSource,
-    LookupLine,
     CloneOfMetadata,
+    /// A read of metadata that lack a field, whose refusal names the field.
+    RefusedMetadata,
 }
 
 /// What came of a call.
@@ -49,18 +49,6 @@ fn source_met(alloc: Global, file: &[u8], budget: usize) -> Met
     }
 }
 
-fn line_met(alloc: Global, reader: &Reader<&[u8]>, budget: usize) -> Met
-    requires { budget < 1000000 }
-{
-    let small = Hoard::of_all_but(alloc, budget);
-    let line = lookup_line(alloc, reader, high());
-    drop(small);
-    match line {
-        Ok(line) => answer_met(line.as_str() == "128.0.0.0/1 0\n"),
-        Err(error) => refusal_met(&error),
-    }
-}
-
 fn clone_met(alloc: Global, reader: &Reader<&[u8]>, budget: usize) -> Met
     requires { budget < 1000000 }
 {
@@ -73,6 +61,19 @@ fn clone_met(alloc: Global, reader: &Reader<&[u8]>, budget: usize) -> Met
     }
 }
 
+fn refused_met(alloc: Global, budget: usize) -> Met
+    requires { budget < 1000000 }
+{
+    let small = Hoard::of_all_but(alloc, budget);
+    let read = fuzzing::decode::<Metadata>(alloc, b"\xE0");
+    drop(small);
+    match read {
+        Ok(_) => Met::Wrong,
+        Err(MaxMindDbError::Decoding { .. }) => Met::Answer,
+        Err(error) => refusal_met(&error),
+    }
+}
+
 // How many runs met a refusal before the first that met none, and what that one met.
 fn refused_in_turn(alloc: Global, call: Call, reader: &Reader<&[u8]>, file: &[u8]) -> (u32, Met) {
     let mut refused = 0u32;
@@ -80,8 +81,8 @@ fn refused_in_turn(alloc: Global, call: Call, reader: &Reader<&[u8]>, file: &[u8
         let budget = step * 16;
         let met = match call {
             Call::FromSource => source_met(alloc, file, budget),
-            Call::LookupLine => line_met(alloc, reader, budget),
             Call::CloneOfMetadata => clone_met(alloc, reader, budget),
+            Call::RefusedMetadata => refused_met(alloc, budget),
         };
         if met != Met::Refusal {
             return (refused, met);
@@ -98,14 +99,14 @@ fn growths_refused_in_turn(rt: HostRuntime) -> Result<(), Fail> {
     let reader = Reader::from_source(alloc, file.as_slice())?;
     for (call, least) in [
         (Call::FromSource, 4),
-        (Call::LookupLine, 2),
         (Call::CloneOfMetadata, 4),
+        (Call::RefusedMetadata, 1),
     ] {
         let large = Hoard::of_large_blocks(alloc);
         let (refused, met) = refused_in_turn(alloc, call, &reader, file.as_slice());
         drop(large);
         println!(rt; "{call:?}: {refused} runs met a refusal")?;
-        assert_eq!(rt; met, Met::Answer, "{call:?}");
+        assert!(rt; met == Met::Answer, "{call:?}");
         assert!(rt; refused >= least, "{call:?}: {refused}");
     }
     Ok(())
@@ -135,7 +136,6 @@ fn every_growth_refused(rt: HostRuntime) -> Result<(), Fail> {
     let large = Hoard::of_large_blocks(alloc);
     let small = Hoard::of_all_left(alloc);
     let opened = Reader::from_source(alloc, file.as_slice());
-    let line = lookup_line(alloc, &reader, high());
     let without = found(&reader, low());
     let behind = found(&reader, high());
     let refused = found(&reader, IpAddr::V6(Ipv6Addr::LOCALHOST));
@@ -145,12 +145,11 @@ fn every_growth_refused(rt: HostRuntime) -> Result<(), Fail> {
     drop(small);
     drop(large);
     assert!(rt; matches!(&opened, Err(MaxMindDbError::Memory)));
-    assert!(rt; matches!(&line, Err(MaxMindDbError::Memory)));
-    assert_eq!(rt; without?, (false, None, "0.0.0.0/1".parse()?));
-    assert_eq!(rt; behind?, (true, Some(0), "128.0.0.0/1".parse()?));
+    assert!(rt; without? == (false, None, "0.0.0.0/1".parse()?));
+    assert!(rt; behind? == (true, Some(0), "128.0.0.0/1".parse()?));
     assert!(rt; matches!(&refused, Err(MaxMindDbError::InvalidInput { .. })));
-    assert_eq!(rt; text?, Some("x"));
-    assert_eq!(rt; no_text?, None);
+    assert!(rt; text? == Some("x"));
+    assert!(rt; no_text?.is_none());
     assert!(rt; matches!(&number, Err(MaxMindDbError::Memory)));
     assert!(rt; Reader::from_source(alloc, file.as_slice()).is_ok());
     Ok(())

@@ -1,0 +1,5 @@
+//! What no clause says: worked rows over public calls, printed texts, and files.
+mod answers;
+mod files;
+mod lookups;
+mod metadata;

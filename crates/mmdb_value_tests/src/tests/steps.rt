@@ -1,0 +1,168 @@
+//! The single steps of a decoder, by hand.
+use super::told::told;
+use mmdb_decode::laws::{
+    containers_are_exact, owned_bytes_are_exact, scalars_take_no_memory,
+    small_numbers_take_no_memory,
+};
+use mmdb_value::laws::{
+    answer_is_whole_value, answer_is_within_limits, any_value_is_exact, one_value_stands,
+    same_offset_same_result, skipping_is_passing, value_is_what_stands, values_bounded,
+};
+use mmdb_value::{DecodeResult, Decoder, Entries, Items, Kind, Value, empty_container};
+use std::alloc::Global;
+use std::test::Fail;
+
+/// A map of k to an array of the numbers 5 and 6.
+const PAIR: &[u8] = b"\xE1\x41k\x02\x04\xA1\x05\xA1\x06";
+
+// What is left of an array of two numbers, before and after the first.
+fn first_of_two(
+    alloc: Global,
+    d: &mut Decoder<'_>,
+    items: &mut Items,
+) -> DecodeResult<(usize, usize, u16, usize)> {
+    let before = d.remaining(items);
+    let hint = d.hint(items);
+    if !d.next_item(items) {
+        return Ok((before, hint, 0, 0));
+    }
+    let first = d.read_u16(alloc)?;
+    Ok((before, hint, first, d.remaining(items)))
+}
+
+// The key of the map, the type of its value, and what the array of two tells.
+fn pair_told<'de>(
+    alloc: Global,
+    d: &mut Decoder<'de>,
+    entries: &mut Entries,
+) -> DecodeResult<(Option<&'de [u8]>, Kind, (usize, usize, u16, usize))> {
+    let key = d.next_raw_key(alloc, entries)?;
+    let kind = d.peek_kind(alloc)?;
+    let mut items = d.begin_array_of(alloc, 2)?;
+    let told = first_of_two(alloc, d, &mut items);
+    items.give_up(d);
+    Ok((key, kind, told?))
+}
+
+#[test]
+fn steps_of_a_decoder(rt: HostRuntime) -> Result<(), Fail> {
+    let alloc = rt.alloc();
+    let mut d = Decoder::new(PAIR, 0);
+    assert!(rt; d.peek_kind(alloc)? == Kind::Map);
+    assert!(rt; d.offset() == 0);
+    let mut entries = d.begin_map(alloc)?;
+    let told = pair_told(alloc, &mut d, &mut entries);
+    entries.give_up(&mut d);
+    let (key, kind, numbers) = told?;
+    assert!(rt; key == Some(b"k".as_slice()));
+    assert!(rt; kind == Kind::Array);
+    assert!(rt; numbers == (2, 2, 5, 1));
+    assert!(rt; d.offset() == 7);
+    d.skip_value(alloc)?;
+    assert!(rt; d.offset() == 9);
+    values_bounded(&d);
+    Ok(())
+}
+
+// Enters an array of so many elements, and gives it up.
+fn enter_array_of(alloc: Global, d: &mut Decoder<'_>, len: usize) -> DecodeResult<()> {
+    let items = d.begin_array_of(alloc, len)?;
+    items.give_up(d);
+    Ok(())
+}
+
+#[test]
+fn arrays_of_a_length(rt: HostRuntime) -> Result<(), Fail> {
+    let alloc = rt.alloc();
+    for (section, place, len, text) in [
+        (PAIR, 3, 2, "read"),
+        (
+            PAIR,
+            3,
+            3,
+            "decoding error at offset 5: expected tuple of length 3, got array of length 2",
+        ),
+        (
+            b"\x02\x04\xA0\xA0".as_slice(),
+            0,
+            3,
+            "decoding error at offset 2: expected tuple of length 3, got array of length 2",
+        ),
+        (
+            PAIR,
+            0,
+            1,
+            "decoding error at offset 0: expected array, got type 7",
+        ),
+    ] {
+        let mut d = Decoder::new(section, place);
+        let answer = told(alloc, enter_array_of(alloc, &mut d, len))?;
+        assert!(rt; answer.as_str() == text, "{answer}");
+    }
+    Ok(())
+}
+
+/// Values that are skipped, and what is told. The size of a pointer is the number of its own bytes after
+/// the control byte.
+#[rattlefmt::skip]
+const SKIPPED: &[(&[u8], &str)] = &[
+    (b"\x20\xFF", "read"),
+    (b"\x20", "invalid database at offset 0: pointer of size 1"),
+    (b"\x27", "invalid database at offset 0: pointer of size 1"),
+    (b"\x28\x00", "invalid database at offset 0: pointer of size 2"),
+    (b"\x30\x00\x00", "invalid database at offset 0: pointer of size 3"),
+    (b"\x37", "invalid database at offset 0: pointer of size 3"),
+    (b"\x38\x00\x00\x00", "invalid database at offset 0: pointer of size 4"),
+    (b"\x3F", "invalid database at offset 0: pointer of size 4"),
+    // In a container it is the place of the value that is passed.
+    (b"\x02\x04\xA1\x07\x28", "invalid database at offset 4: pointer of size 2"),
+    (b"\x02\x04\xA1\x07\x00\x05", "invalid database at offset 4: unknown data type: 12"),
+];
+
+#[test]
+fn values_skipped(rt: HostRuntime) -> Result<(), Fail> {
+    let alloc = rt.alloc();
+    for (section, text) in SKIPPED {
+        let answer = told(alloc, Decoder::new(section, 0).skip_value(alloc))?;
+        assert!(rt; answer.as_str() == *text, "{section:?}: {answer}");
+    }
+    Ok(())
+}
+
+#[rattlefmt::skip]
+const HEADS: &[(&[u8], Option<bool>)] = &[
+    (b"\xE0", Some(true)),
+    (b"\x00\x04", Some(true)),
+    (b"\x20\x02\xE0", Some(true)),
+    (b"\xE1", Some(false)),
+    (b"\x40", Some(false)),
+    (b"\x00\x06", Some(false)),
+    (b"", None),
+    (b"\x00", None),
+    (b"\x5D", None),
+    (b"\x20", None),
+    (b"\x20\x02\x20\x00", None),
+];
+
+#[test]
+fn empty_containers(rt: HostRuntime) {
+    for (section, empty) in HEADS {
+        let told = empty_container(section, 0).ok();
+        assert!(rt; told == *empty, "{told:?} at {section:?}");
+    }
+}
+
+#[test]
+fn laws_are_called() {
+    skipping_is_passing();
+    answer_is_within_limits::<Value<'_>>();
+    same_offset_same_result::<Value<'_>>();
+    scalars_take_no_memory();
+    small_numbers_take_no_memory();
+    owned_bytes_are_exact();
+    containers_are_exact::<u16>();
+    value_is_what_stands();
+    answer_is_whole_value();
+    one_value_stands();
+    any_value_is_exact();
+}
