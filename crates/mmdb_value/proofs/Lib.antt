@@ -8,3 +8,6 @@ pub mod GrammarWhole
 pub mod StandingLaws
 pub mod ValueTrees
 pub mod RawTrees
+mod TreeTests
+mod ValueEquality
+mod RawEquality

@@ -5,6 +5,7 @@ ghost use Rattle.mmdb_value.specs.RawValues.{raw_tree};
 ghost use Rattle.mmdb_value.specs.Values.{value_tree};
 ghost use Rattle.mmdb_value.specs.Standing.{ValueIsWhatStands, AnswerIsWholeValue, OneValueStands};
 ghost use Rattle.mmdb_decode.specs.Shapes.{IsContainerShape};
+ghost use Rattle.mmdb_format.specs.Equality.{IsEqualityOf};
 
 use crate::any_value::Value;
 use crate::raw_value::RawValue;
@@ -36,4 +37,10 @@ pub fn one_value_stands()
 pub fn any_value_is_exact()
     ensures tested { let t = ⟦<Value<'static> as Decode<'static>>⟧ in IsContainerShape t.datum t.meaning t.exact t.starts t.free value_tree (value_at true) }
     ensures raw { let t = ⟦<RawValue<'static> as Decode<'static>>⟧ in IsContainerShape t.datum t.meaning t.exact t.starts t.free raw_tree (value_at false) }
+{}
+
+/// `==` of any values is equality of their trees.
+pub fn values_equal_where_same()
+    ensures tested { IsEqualityOf ⟦<Value<'static> as PartialEq>⟧.eq value_tree }
+    ensures raw { IsEqualityOf ⟦<RawValue<'static> as PartialEq>⟧.eq raw_tree }
 {}
