@@ -15,7 +15,7 @@ pub use mmdb_value::laws::{
     list_is_what_stands, one_tree_unfolds, one_value_stands, owned_bytes_equal_where_same,
     record_is_what_stands, same_offset_same_result, scalar_is_what_stands,
     scalars_equal_where_same, scalars_unfold, skipping_is_passing, small_number_is_what_stands,
-    text_map_is_what_stands, value_is_what_stands, values_bounded,
+    text_map_is_what_stands, value_is_what_stands, values_bounded, values_equal_where_same,
 };
 
 /// Leaves are disjoint blocks, and each full address begins with exactly one.

@@ -1,21 +1,11 @@
 //! What no clause says: which texts are read, and with which errors. Each public call runs once.
-ghost use Rattle.std.specs.Prelude.{◌≡◌, ◌↔◌, IsTrue};
-ghost use Rattle.mmdb_net.specs.Network.{ip_of, prefix_of};
-
+use mmdb_net::laws::networks_equal_where_same;
 use mmdb_net::{IpNetwork, IpNetworkError, Ipv4Network, Ipv6Network, mask_ip};
 use mmdb_vectors::equality::equality;
 use std::alloc::Global;
 use std::net::{IpAddr, Ipv4Addr, Ipv6Addr};
 use std::process::Abort;
 use std::test::Fail;
-
-// Equality compares the address and the prefix. The derives have no clause of their own, so this
-// function states theirs.
-fn is_same(a: IpNetwork, b: IpNetwork) -> bool
-    ensures { IsTrue result ↔ ((ip_of a ≡ ip_of b) × (prefix_of a ≡ prefix_of b)) }
-{
-    a == b
-}
 
 /// A text that is read as a network, and what is told of it.
 #[derive(Clone, Copy)]
@@ -257,7 +247,6 @@ fn networks_that_are_equal(rt: HostRuntime) -> Result<(), Fail> {
         };
         assert!(rt; of_one_kind == Some(is_equal), "{a} and {b}");
         assert!(rt; equality(&left, &right) == Some(is_equal), "{a} and {b}");
-        assert!(rt; is_same(left, right) == is_equal, "{a} and {b}");
     }
     Ok(())
 }
@@ -289,4 +278,9 @@ fn masked_addresses(rt: HostRuntime) -> Result<(), Fail> {
         assert!(rt; mask_ip(address, prefix) == masked, "{masked:?}/{prefix}");
     }
     Ok(())
+}
+
+#[test]
+fn laws_are_called() {
+    networks_equal_where_same();
 }

@@ -3,3 +3,4 @@ mod answers;
 mod files;
 mod lookups;
 mod metadata;
+mod table;

@@ -169,3 +169,34 @@ pub fn file_without_subtree(alloc: Global) -> Result<Vec<u8>, AllocError> {
     };
     file(alloc, b"\x00\x00\x11\x00\x00\x01", BASE_DATA, fields)
 }
+
+/// An IPv4 file of twenty nodes: each leads to the next on the left, the last one to no data, and each to
+/// offset 0 on the right.
+pub fn file_of_twenty_nodes(alloc: Global) -> Result<Vec<u8>, AllocError> {
+    let mut nodes = Vec::new(alloc);
+    for node in 0..20u32 {
+        push_node_24(&mut nodes, node + 1, 36)?;
+    }
+    changed_file(
+        alloc,
+        nodes.as_slice(),
+        BASE_DATA,
+        &[(Field::NodeCount, b"\xC1\x14".as_slice())],
+    )
+}
+
+/// An IPv4 file of eighteen nodes, one a level: both halves of each are the next one, but of the last one,
+/// which has no data on the left and offset 0 on the right.
+pub fn file_of_shared_nodes(alloc: Global) -> Result<Vec<u8>, AllocError> {
+    let mut nodes = Vec::new(alloc);
+    for node in 0..17u32 {
+        push_node_24(&mut nodes, node + 1, node + 1)?;
+    }
+    push_node_24(&mut nodes, 18, 34)?;
+    changed_file(
+        alloc,
+        nodes.as_slice(),
+        BASE_DATA,
+        &[(Field::NodeCount, b"\xC1\x12".as_slice())],
+    )
+}

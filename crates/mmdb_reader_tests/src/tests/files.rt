@@ -25,14 +25,14 @@ fn reads_that_fail(rt: HostRuntime) -> Result<(), Fail> {
     let (whole, empty) = (base.as_slice(), b"".as_slice());
     let found = "128.0.0.0/1 0";
     let no_marker = "invalid database: could not find MaxMind DB metadata in file";
-    // Ten reads, and one that finds the end.
+    // Ten reads, and those that find the end.
     for (path, bytes, fails_at, text) in [
         ("here.mmdb", whole, 1000, found),
         ("here.mmdb", whole, 0, "i/o error"),
         ("here.mmdb", whole, 1, "i/o error"),
         ("here.mmdb", whole, 5, "i/o error"),
         ("here.mmdb", whole, 10, "i/o error"),
-        ("here.mmdb", whole, 11, found),
+        ("here.mmdb", whole, 20, found),
         ("gone.mmdb", whole, 1000, "i/o error"),
         ("here.mmdb", empty, 1000, no_marker),
     ] {

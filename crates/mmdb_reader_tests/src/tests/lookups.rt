@@ -1,7 +1,8 @@
 //! Lookups.
 use super::answers::{assert_answers, told};
 use maxminddb::laws::{
-    leaves_partition, listed_agrees, network_holds_address, range_walk, same_leaf_same_answer,
+    items_agree_with_lookups, leaves_partition, listed_agrees, metadata_equal_where_same,
+    network_holds_address, networks_equal_where_same, range_walk, same_leaf_same_answer,
     source_decides, whole_walk,
 };
 use maxminddb::{Reader, read_node};
@@ -167,4 +168,7 @@ fn laws_are_called() {
     range_walk();
     whole_walk();
     listed_agrees();
+    items_agree_with_lookups();
+    metadata_equal_where_same();
+    networks_equal_where_same();
 }

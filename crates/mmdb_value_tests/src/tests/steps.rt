@@ -1,12 +1,13 @@
 //! The single steps of a decoder, by hand.
 use super::told::told;
-use mmdb_decode::laws::{
-    containers_are_exact, owned_bytes_are_exact, scalars_take_no_memory,
-    small_numbers_take_no_memory,
-};
+use crate::probe::Probe;
 use mmdb_value::laws::{
-    answer_is_whole_value, answer_is_within_limits, any_value_is_exact, one_value_stands,
-    same_offset_same_result, skipping_is_passing, value_is_what_stands, values_bounded,
+    answer_is_whole_value, answer_is_within_limits, any_value_is_exact, how_containers_are_read,
+    how_owned_bytes_are_read, how_scalars_are_read, how_small_numbers_are_read,
+    list_is_what_stands, one_tree_unfolds, one_value_stands, owned_bytes_equal_where_same,
+    record_is_what_stands, same_offset_same_result, scalar_is_what_stands,
+    scalars_equal_where_same, scalars_unfold, skipping_is_passing, small_number_is_what_stands,
+    text_map_is_what_stands, value_is_what_stands, values_bounded, values_equal_where_same,
 };
 use mmdb_value::{DecodeResult, Decoder, Entries, Items, Kind, Value, empty_container};
 use std::alloc::Global;
@@ -157,10 +158,20 @@ fn laws_are_called() {
     skipping_is_passing();
     answer_is_within_limits::<Value<'_>>();
     same_offset_same_result::<Value<'_>>();
-    scalars_take_no_memory();
-    small_numbers_take_no_memory();
-    owned_bytes_are_exact();
-    containers_are_exact::<u16>();
+    how_scalars_are_read();
+    how_small_numbers_are_read();
+    how_owned_bytes_are_read();
+    how_containers_are_read::<u16>();
+    one_tree_unfolds();
+    scalar_is_what_stands();
+    scalars_unfold::<u16>();
+    small_number_is_what_stands();
+    list_is_what_stands::<u16>();
+    text_map_is_what_stands::<u16>();
+    record_is_what_stands::<Probe<'_>>();
+    scalars_equal_where_same();
+    owned_bytes_equal_where_same();
+    values_equal_where_same();
     value_is_what_stands();
     answer_is_whole_value();
     one_value_stands();

@@ -3,16 +3,25 @@ ghost use Rattle.std.specs.Prelude.{◌<◌};
 
 use super::found::{high, low, told};
 use maxminddb::{Decode, IpNetwork, MaxMindDbError, Metadata, Reader, fuzzing};
-use mmdb_vectors::builder::base_file;
+use mmdb_vectors::builder::{BASE_DATA, BASE_NODE, Field, base_file, changed_file};
 use mmdb_vectors::hoard::Hoard;
 use std::alloc::{AllocError, Global};
 use std::net::{IpAddr, Ipv6Addr};
 use std::test::Fail;
 
+/// Where the metadata of the base file begin.
+const METADATA_AT: usize = 38;
+
+/// Less than a table of a reader takes, and much more than its metadata.
+const NO_TABLE: usize = 65_536;
+
+/// More than a reader of an IPv4 database takes.
+const ENOUGH: usize = 600_000;
+
 /// A call that takes memory.
 #[derive(Clone, Copy, Debug, PartialEq, Eq)]
 enum Call {
-    FromSource,
+    ReadMetadata,
     CloneOfMetadata,
     /// A read of metadata that lack a field, whose refusal names the field.
     RefusedMetadata,
@@ -37,14 +46,17 @@ fn refusal_met(error: &MaxMindDbError) -> Met {
     }
 }
 
-fn source_met(alloc: Global, file: &[u8], budget: usize) -> Met
+fn metadata_met(alloc: Global, file: &[u8], budget: usize) -> Met
     requires { budget < 1000000 }
 {
+    let Some(bytes) = file.get(METADATA_AT..) else {
+        return Met::Wrong;
+    };
     let small = Hoard::of_all_but(alloc, budget);
-    let opened = Reader::from_source(alloc, file);
+    let read = fuzzing::decode::<Metadata>(alloc, bytes);
     drop(small);
-    match opened {
-        Ok(reader) => answer_met(reader.metadata().node_count == 1),
+    match read {
+        Ok(metadata) => answer_met(metadata.node_count == 1),
         Err(error) => refusal_met(&error),
     }
 }
@@ -80,7 +92,7 @@ fn refused_in_turn(alloc: Global, call: Call, reader: &Reader<&[u8]>, file: &[u8
     for step in 0..256usize {
         let budget = step * 16;
         let met = match call {
-            Call::FromSource => source_met(alloc, file, budget),
+            Call::ReadMetadata => metadata_met(alloc, file, budget),
             Call::CloneOfMetadata => clone_met(alloc, reader, budget),
             Call::RefusedMetadata => refused_met(alloc, budget),
         };
@@ -98,7 +110,7 @@ fn growths_refused_in_turn(rt: HostRuntime) -> Result<(), Fail> {
     let file = base_file(alloc)?;
     let reader = Reader::from_source(alloc, file.as_slice())?;
     for (call, least) in [
-        (Call::FromSource, 4),
+        (Call::ReadMetadata, 4),
         (Call::CloneOfMetadata, 4),
         (Call::RefusedMetadata, 1),
     ] {
@@ -152,5 +164,41 @@ fn every_growth_refused(rt: HostRuntime) -> Result<(), Fail> {
     assert!(rt; no_text?.is_none());
     assert!(rt; matches!(&number, Err(MaxMindDbError::Memory)));
     assert!(rt; Reader::from_source(alloc, file.as_slice()).is_ok());
+    Ok(())
+}
+
+// What a file is told where about so many bytes are left, or the text of its refusal.
+fn verdict_within(alloc: Global, file: &[u8], budget: usize) -> Result<String, AllocError>
+    requires { budget < 1000000 }
+{
+    let large = Hoard::of_large_blocks(alloc);
+    let small = Hoard::of_all_but(alloc, budget);
+    let opened = Reader::from_source(alloc, file);
+    drop(small);
+    drop(large);
+    match opened {
+        Ok(_) => String::from_str(alloc, "accepted"),
+        Err(error) => format!(in alloc; "{error}"),
+    }
+}
+
+#[test]
+fn table_refused(rt: HostRuntime) -> Result<(), Fail> {
+    let alloc = rt.alloc();
+    let base = base_file(alloc)?;
+    let record_size = [(Field::RecordSize, b"\xA1\x10".as_slice())];
+    let refused = changed_file(alloc, BASE_NODE, BASE_DATA, &record_size)?;
+    let wrong_size = "invalid database: record_size - Expected: 24, 28, or 32 Actual: 16";
+    // What else refuses a file does so before the table is reserved.
+    for (file, budget, text) in [
+        (&base, ENOUGH, "accepted"),
+        (&base, NO_TABLE, "out of memory"),
+        (&base, 0, "out of memory"),
+        (&refused, ENOUGH, wrong_size),
+        (&refused, NO_TABLE, wrong_size),
+    ] {
+        let met = verdict_within(alloc, file.as_slice(), budget)?;
+        assert!(rt; met.as_str() == text, "with {budget}: {met}");
+    }
     Ok(())
 }
