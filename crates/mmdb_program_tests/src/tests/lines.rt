@@ -1,5 +1,6 @@
 //! The lines of addresses.
 use maxminddb::Reader;
+use mmdb_tool::laws::{faults_equal_where_same, leaf_texts_show_networks};
 use mmdb_tool::lookup_line;
 use mmdb_vectors::builder::{base_file, base_with_node, file_with_alias, file_without_subtree};
 use std::alloc::Global;
@@ -60,4 +61,10 @@ fn lines_of_addresses(rt: HostRuntime) -> Result<(), Fail> {
     assert_lines(&rt, alloc, alias.as_slice(), &rows)?;
     let rows = [("1.2.3.4", "0000:0000:0000:0000:0000:0000:0000:0000/1 0\n")];
     assert_lines(&rt, alloc, file_without_subtree(alloc)?.as_slice(), &rows)
+}
+
+#[test]
+fn laws_are_called() {
+    leaf_texts_show_networks();
+    faults_equal_where_same();
 }
