@@ -1,11 +1,11 @@
 -- `==` of raw values is equality of their trees.
-use Rattle.std.proofs.Common.{◌≡◌, Bool, false, ◌&&◌, refl, ap, sym, subst, ◌∙◌}
+use Rattle.std.proofs.Common.{◌≡◌, Bool, false, refl, ap, sym, subst, ◌∙◌}
 use Rattle.std.proofs.lemmas.Bool.Decides.{Decides-int_eq}
 use Rattle.std.proofs.Math.Bool.{beq}
 use Rattle.std.specs.Bool.{Decides}
 use Rattle.std.specs.Cmp.{booleans_Decides}
 use Rattle.std.specs.Ordering.{int_eq}
-use Rattle.std.specs.Prelude.{nat_eq, bytes_eq}
+use Rattle.std.specs.Prelude.{nat_eq}
 use Rattle.mmdb_format.specs.Contents.{text, bytes, number16, number32, number64, number128, double_bits, float_bits}
 use Rattle.mmdb_format.specs.Unfolding.{Tree, scalar, array, table}
 use Rattle.mmdb_value.specs.contracts.raw_value.RawValue.{the_parts}
@@ -17,48 +17,18 @@ use Rattle.mmdb_value.specs.declared.raw_value.RawValue.TheFolds.{map-RawValue, 
 use Rattle.mmdb_value.specs.declared.raw_value.RawValue.TheOpen.{RawValue-F}
 use Rattle.mmdb_value.specs.declared.raw_value.RawValue.TheViews.{roll-RawValue, out-roll-RawValue}
 use Rattle.mmdb_value.specs.RawValues.{raw_tree, tree_step}
-use Rattle.mmdb_value.proofs.TreeTests.{IsDecided, Known, apart, texts, numbers, arrays, tables}
+use Rattle.mmdb_value.proofs.TreeTests.{IsDecided, Known, ◌⨾◌, same_bytes, same_double, same_float, same_elements, same_pairs, apart, texts, numbers, arrays, tables}
 use denote.Enum.Compared.{Each, by}
 use denote.Signature.{static_lft}
-use lib.Pointwise.{pointwise}
 
 abbrev same : RawValue → RawValue → Bool
 same = ghosts.eq
 
--- the test of each variant
+-- the tests of the variants, in their order
 abbrev tests : Each Bool (the_parts static_lft)
-tests = (
-  λ a b. bytes_eq a.0.now b.0.now,
-  (
-    λ a b. bytes_eq a.0.now b.0.now,
-    (
-      λ a b. beq a.0 b.0,
-      (
-        λ a b. int_eq a.0 b.0,
-        (
-          λ a b. nat_eq a.0 b.0,
-          (
-            λ a b. nat_eq a.0 b.0,
-            (
-              λ a b. nat_eq a.0 b.0,
-              (
-                λ a b. nat_eq a.0 b.0,
-                (
-                  λ a b. nat_eq a.0.bits b.0.bits,
-                  (
-                    λ a b. nat_eq a.0.bits b.0.bits,
-                    (λ a b. pointwise same a.0.items b.0.items, (λ a b. pointwise (λ p q. bytes_eq p.0.now q.0.now && same p.1 q.1) a.0.items b.0.items, tt)),
-                  ),
-                ),
-              ),
-            ),
-          ),
-        ),
-      ),
-    ),
-  ),
-)
+tests = same_bytes ⨾ same_bytes ⨾ beq ⨾ int_eq ⨾ nat_eq ⨾ nat_eq ⨾ nat_eq ⨾ nat_eq ⨾ same_double ⨾ same_float ⨾ same_elements same ⨾ same_pairs same ⨾ tt
 
+-- one level of values
 abbrev layer : RawValue-F RawValue → RawValue-F RawValue → Bool
 layer x y = by false false (the_parts static_lft) tests (split-RawValue the_family x) (split-RawValue the_family y)
 

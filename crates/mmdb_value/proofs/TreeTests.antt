@@ -1,11 +1,13 @@
 -- Tests of parts of values, and what the trees of those parts say.
-use Rattle.std.proofs.Common.{◌≡◌, ℕ, Bool, true, false, ◌&&◌, List, [], ◌∷◌, map, refl, ap, Bor}
+use Rattle.std.proofs.Common.{◌≡◌, ℕ, Bool, true, false, ◌&&◌, List, [], ◌∷◌, map, refl, ap, Bor, Vec, Global}
 use Rattle.std.proofs.lemmas.Bool.{and_parts, and_from}
 use Rattle.std.proofs.lemmas.Bool.Decides.{Decides-eqb}
 use Rattle.std.proofs.lemmas.Slice.Eq.{bytes_eq-Decides}
 use Rattle.std.specs.Bool.{Decides}
 use Rattle.std.specs.Prelude.{nat_eq, bytes_eq}
 use Rattle.mmdb_format.specs.Contents.{text, bytes, boolean, signed32, number16, number32, number64, number128, double_bits, float_bits}
+use Rattle.mmdb_format.specs.declared.content.Double.{Double}
+use Rattle.mmdb_format.specs.declared.content.Float.{Float}
 use Rattle.mmdb_format.specs.Unfolding.{Tree, scalar, array, table, pointer}
 use Rattle.mmdb_value.specs.AnyValue.{trees_of, pairs_of}
 use lib.Pointwise.{pointwise}
@@ -17,6 +19,26 @@ texts f once x y = let h = bytes_eq-Decides x y in (λ e. ap f (h.0 e), λ e. h.
 -- the same of numbers
 pub numbers : {A : Type 0} (f : ℕ → A) → ((x y : ℕ) → f x ≡ f y → x ≡ y) → (x y : ℕ) → Decides (nat_eq x y) (f x ≡ f y)
 numbers f once x y = let h = Decides-eqb x y in (λ e. ap f (h.0 e), λ e. h.1 (once x y e))
+
+-- the test of a variant with one field, before those of the later variants
+infixr 10 ◌⨾◌
+abbrev pub ◌⨾◌ : {A L : Type 0} → (A → A → Bool) → L → (A × Unit {0} → A × Unit {0} → Bool) × L
+test ⨾ later = (λ a b. test a.0 b.0, later)
+
+abbrev pub same_bytes : Bor (List ℕ) → Bor (List ℕ) → Bool
+same_bytes x y = bytes_eq x.now y.now
+
+abbrev pub same_double : Double → Double → Bool
+same_double x y = nat_eq x.bits y.bits
+
+abbrev pub same_float : Float → Float → Bool
+same_float x y = nat_eq x.bits y.bits
+
+abbrev pub same_elements : {V : Type 0} → (V → V → Bool) → Vec V Global → Vec V Global → Bool
+same_elements same x y = pointwise same x.items y.items
+
+abbrev pub same_pairs : {V : Type 0} → (V → V → Bool) → Vec (Bor (List ℕ) × V) Global → Vec (Bor (List ℕ) × V) Global → Bool
+same_pairs same x y = pointwise (λ p q. same_bytes p.0 q.0 && same p.1 q.1) x.items y.items
 
 module _ {V : Type 0} (same : V → V → Bool) (says : V → Tree) where
   -- from this value on the test decides equality of trees
