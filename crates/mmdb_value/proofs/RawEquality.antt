@@ -21,6 +21,7 @@ use Rattle.mmdb_value.proofs.TreeTests.{IsDecided, Known, ◌⨾◌, same_bytes,
 use denote.Enum.Compared.{Each, by}
 use denote.Signature.{static_lft}
 
+-- what `==` computes
 abbrev same : RawValue → RawValue → Bool
 same = ghosts.eq
 
@@ -32,15 +33,19 @@ tests = same_bytes ⨾ same_bytes ⨾ beq ⨾ int_eq ⨾ nat_eq ⨾ nat_eq ⨾ n
 abbrev layer : RawValue-F RawValue → RawValue-F RawValue → Bool
 layer x y = by false false (the_parts static_lft) tests (split-RawValue the_family x) (split-RawValue the_family y)
 
+-- `==` compares one level
 same_is : (a b : RawValue) → same a b ≡ layer (out-RawValue a) (out-RawValue b)
 same_is a b = is a b
 
+-- the tree of one level
 abbrev seen : RawValue-F RawValue → Tree
 seen x = tree_step (map-RawValue RawValue Tree raw_tree x)
 
+-- a value of which `==` decides equality of trees
 abbrev Decided : Type 0
 Decided = Known same raw_tree
 
+-- one level of such values, as values
 abbrev told : RawValue-F Decided → RawValue-F RawValue
 told = map-RawValue Decided RawValue (λ e. e.0)
 
@@ -60,6 +65,7 @@ layers (RawValue-F.Array x) (RawValue-F.Array y) = let h = arrays same raw_tree 
 layers (RawValue-F.Map x) (RawValue-F.Map y) = let h = tables same raw_tree x.items y.items in (λ e. ap table (h.0 e), λ e. h.1 (cc))
 layers _ _ = apart _ _ _ refl refl
 
+-- so of a value made of them
 made : (x : RawValue-F Decided) → IsDecided same raw_tree (roll-RawValue (told x))
 made x b =
     let test : same (roll-RawValue (told x)) b ≡ layer (told x) (out-RawValue b) = same_is (roll-RawValue (told x)) b ∙ ap (λ y. layer y (out-RawValue b)) (out-roll-RawValue (told x)) in

@@ -25,6 +25,7 @@ infixr 10 ◌⨾◌
 abbrev pub ◌⨾◌ : {A L : Type 0} → (A → A → Bool) → L → (A × Unit {0} → A × Unit {0} → Bool) × L
 test ⨾ later = (λ a b. test a.0 b.0, later)
 
+-- the tests of the fields
 abbrev pub same_bytes : Bor (List ℕ) → Bor (List ℕ) → Bool
 same_bytes x y = bytes_eq x.now y.now
 
@@ -41,10 +42,11 @@ abbrev pub same_pairs : {V : Type 0} → (V → V → Bool) → Vec (Bor (List �
 same_pairs same x y = pointwise (λ p q. same_bytes p.0 q.0 && same p.1 q.1) x.items y.items
 
 module _ {V : Type 0} (same : V → V → Bool) (says : V → Tree) where
-  -- from this value on the test decides equality of trees
+  -- the test of this value against any decides equality of trees
   abbrev pub IsDecided : V → Type 0
   IsDecided a = (b : V) → Decides (same a b) (says a ≡ says b)
 
+  -- a value with that
   abbrev pub Known : Type 0
   Known = (a : V) × IsDecided a
 
@@ -57,9 +59,11 @@ module _ {V : Type 0} (same : V → V → Bool) (says : V → Tree) where
       let first = x.1 y in let rest = arrays xs ys in
       (λ h. let both = and_parts _ _ h in let p = first.0 both.0 in let q = rest.0 both.1 in cc, λ e. and_from _ _ (first.1 (cc)) (rest.1 (cc)))
 
+  -- pairs as keys and trees
   abbrev pub shown : List (Bor (List ℕ) × V) → List (List ℕ × Tree)
   shown ys = map {A = Bor (List ℕ) × Tree} {B = List ℕ × Tree} (λ e. (e.0.now, e.1)) (map {A = Bor (List ℕ) × V} {B = Bor (List ℕ) × Tree} (λ e. (e.0, says e.1)) ys)
 
+  -- pairs whose values are known, as pairs
   abbrev pub known : List (Bor (List ℕ) × Known) → List (Bor (List ℕ) × V)
   known xs = map {A = Bor (List ℕ) × Known} {B = Bor (List ℕ) × V} (λ e. (e.0, e.1.0)) xs
 

@@ -21,6 +21,7 @@ use Rattle.mmdb_value.proofs.TreeTests.{IsDecided, Known, ◌⨾◌, same_bytes,
 use denote.Enum.Compared.{Each, by}
 use denote.Signature.{static_lft}
 
+-- what `==` computes
 abbrev same : Value → Value → Bool
 same = ghosts.eq
 
@@ -32,15 +33,19 @@ tests = same_bytes ⨾ same_bytes ⨾ beq ⨾ int_eq ⨾ nat_eq ⨾ nat_eq ⨾ n
 abbrev layer : Value-F Value → Value-F Value → Bool
 layer x y = by false false (the_parts static_lft) tests (split-Value the_family x) (split-Value the_family y)
 
+-- `==` compares one level
 same_is : (a b : Value) → same a b ≡ layer (out-Value a) (out-Value b)
 same_is a b = is a b
 
+-- the tree of one level
 abbrev seen : Value-F Value → Tree
 seen x = tree_step (map-Value Value Tree value_tree x)
 
+-- a value of which `==` decides equality of trees
 abbrev Decided : Type 0
 Decided = Known same value_tree
 
+-- one level of such values, as values
 abbrev told : Value-F Decided → Value-F Value
 told = map-Value Decided Value (λ e. e.0)
 
@@ -60,6 +65,7 @@ layers (Value-F.Array x) (Value-F.Array y) = let h = arrays same value_tree x.it
 layers (Value-F.Map x) (Value-F.Map y) = let h = tables same value_tree x.items y.items in (λ e. ap table (h.0 e), λ e. h.1 (cc))
 layers _ _ = apart _ _ _ refl refl
 
+-- so of a value made of them
 made : (x : Value-F Decided) → IsDecided same value_tree (roll-Value (told x))
 made x b =
     let test : same (roll-Value (told x)) b ≡ layer (told x) (out-Value b) = same_is (roll-Value (told x)) b ∙ ap (λ y. layer y (out-Value b)) (out-roll-Value (told x)) in

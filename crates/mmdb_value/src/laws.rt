@@ -39,7 +39,8 @@ pub fn any_value_is_exact()
     ensures raw { let t = ⟦<RawValue<'static> as Decode<'static>>⟧ in IsContainerShape t.datum t.meaning t.exact t.starts t.free raw_tree (value_at false) }
 {}
 
-/// `==` of any values is equality of their trees.
+/// `==` of any values is equality of their trees: of kinds too, of bits where a number is not whole, and of
+/// pairs in file order.
 pub fn values_equal_where_same()
     ensures tested { IsEqualityOf ⟦<Value<'static> as PartialEq>⟧.eq value_tree }
     ensures raw { IsEqualityOf ⟦<RawValue<'static> as PartialEq>⟧.eq raw_tree }
