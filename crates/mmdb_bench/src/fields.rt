@@ -25,6 +25,7 @@ pub(crate) trait Fields<'de>: Sized + Drop {
 }
 
 // A field that stands again is refused before its value is read.
+#[inline(always)]
 fn refuse_second<T>(
     alloc: Global,
     name: &str,
@@ -38,6 +39,7 @@ fn refuse_second<T>(
 }
 
 /// Reads a field whose type can be decoded.
+#[inline(always)]
 pub(crate) fn read_once<'de, T: Decode<'de>>(
     alloc: Global,
     d: &mut Decoder<'de>,

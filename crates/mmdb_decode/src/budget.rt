@@ -19,6 +19,7 @@ pub struct Charges {
 }
 
 /// The budget with so much more charged. Without a budget nothing is charged.
+#[inline(always)]
 pub(crate) fn spent(
     budget: Option<Charges>,
     values: usize,
@@ -47,6 +48,7 @@ pub(crate) fn spent(
 }
 
 /// The budget, begun with one value where it has not begun.
+#[inline(always)]
 pub(crate) fn begun(budget: Option<Charges>) -> Option<Charges>
     requires { Within budget }
     ensures value { result ≡ spec_begun true budget }

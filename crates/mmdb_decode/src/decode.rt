@@ -56,6 +56,7 @@ impl<'de> Decode<'de> for u16 {
 
     ghost free = { true };
 
+    #[inline(always)]
     fn decode(alloc: Global, d: &mut Decoder<'de>) -> DecodeResult<u16> {
         d.read_u16(alloc)
     }
@@ -72,6 +73,7 @@ impl<'de> Decode<'de> for u32 {
 
     ghost free = { true };
 
+    #[inline(always)]
     fn decode(alloc: Global, d: &mut Decoder<'de>) -> DecodeResult<u32> {
         d.read_u32(alloc)
     }
@@ -88,6 +90,7 @@ impl<'de> Decode<'de> for u64 {
 
     ghost free = { true };
 
+    #[inline(always)]
     fn decode(alloc: Global, d: &mut Decoder<'de>) -> DecodeResult<u64> {
         d.read_u64(alloc)
     }
@@ -104,6 +107,7 @@ impl<'de> Decode<'de> for u128 {
 
     ghost free = { true };
 
+    #[inline(always)]
     fn decode(alloc: Global, d: &mut Decoder<'de>) -> DecodeResult<u128> {
         d.read_u128(alloc)
     }
@@ -120,6 +124,7 @@ impl<'de> Decode<'de> for i32 {
 
     ghost free = { true };
 
+    #[inline(always)]
     fn decode(alloc: Global, d: &mut Decoder<'de>) -> DecodeResult<i32> {
         d.read_i32(alloc)
     }
@@ -136,6 +141,7 @@ impl<'de> Decode<'de> for bool {
 
     ghost free = { true };
 
+    #[inline(always)]
     fn decode(alloc: Global, d: &mut Decoder<'de>) -> DecodeResult<bool> {
         d.read_bool(alloc)
     }
@@ -152,6 +158,7 @@ impl<'de> Decode<'de> for Double {
 
     ghost free = { true };
 
+    #[inline(always)]
     fn decode(alloc: Global, d: &mut Decoder<'de>) -> DecodeResult<Double> {
         d.read_double(alloc)
     }
@@ -168,6 +175,7 @@ impl<'de> Decode<'de> for Float {
 
     ghost free = { true };
 
+    #[inline(always)]
     fn decode(alloc: Global, d: &mut Decoder<'de>) -> DecodeResult<Float> {
         d.read_float(alloc)
     }
@@ -271,6 +279,7 @@ impl<'de> Decode<'de> for &'de str {
 
     ghost free = { true };
 
+    #[inline(always)]
     fn decode(alloc: Global, d: &mut Decoder<'de>) -> DecodeResult<&'de str> {
         d.read_str(alloc)
     }

@@ -55,6 +55,7 @@ impl<'de> Decoder<'de> {
     }
 
     /// The place that is read next.
+    #[inline(always)]
     pub fn offset(&self) -> usize
         ensures { result ≡ self.now.place }
     {
@@ -63,6 +64,7 @@ impl<'de> Decoder<'de> {
 
     // What is charged is within the limits. It does nothing: a proof knows the decoder's invariant
     // where a field of it is read.
+    #[inline(always)]
     pub(crate) fn stays_within(&self)
         ensures { Within self.now.budget }
     {
@@ -81,6 +83,7 @@ impl<'de> Decoder<'de> {
     }
 
     // The header at the place.
+    #[inline(always)]
     fn header_here(&self) -> Result<Header, Fault>
         ensures value { result_ok result ≡ spec_header_at self.now.section self.now.place }
         ensures bound { IfOk result (λ h. (h.size < 2 ^ 25) × (h.kind ≡ 1 → h.size < 32)) }

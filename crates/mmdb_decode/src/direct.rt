@@ -20,6 +20,7 @@ pub struct Entered {
 }
 
 /// The header of a value of one type.
+#[inline(always)]
 #[tactic(auto, unfolding(crate::specs::Scalars::direct_of))]
 fn direct_of(section: &[u8], place: usize, levels: u16, wanted: u16) -> Result<Direct, Fault>
     ensures value { result_ok result ≡ spec_direct_of wanted section.now place levels }
@@ -33,6 +34,7 @@ fn direct_of(section: &[u8], place: usize, levels: u16, wanted: u16) -> Result<D
 }
 
 /// A whole number of one type, of at most so many bytes, and the place after it.
+#[inline(always)]
 #[tactic(auto, unfolding(crate::specs::Scalars::number_of))]
 pub(crate) fn number_at(
     section: &[u8],
@@ -51,6 +53,7 @@ pub(crate) fn number_at(
 }
 
 /// The bits of a number of exactly so many bytes, and the place after it.
+#[inline(always)]
 #[tactic(auto, unfolding(crate::specs::Scalars::bits_of))]
 pub(crate) fn bits_at(
     section: &[u8],
@@ -69,6 +72,7 @@ pub(crate) fn bits_at(
 }
 
 /// A truth value, and the place after it.
+#[inline(always)]
 #[tactic(auto, unfolding(crate::specs::Scalars::bool_at))]
 pub(crate) fn bool_at(section: &[u8], place: usize, levels: u16) -> Result<(bool, usize), Fault>
     ensures { option_map free_of_charge (result_ok result) ≡ spec_bool_at section.now place levels }
@@ -81,6 +85,7 @@ pub(crate) fn bool_at(section: &[u8], place: usize, levels: u16) -> Result<(bool
 }
 
 /// All the bytes of a text or a byte string, and the place after it.
+#[inline(always)]
 #[tactic(auto, unfolding(crate::specs::Scalars::bytes_of))]
 pub(crate) fn content_bytes_at(
     section: &[u8],
@@ -97,6 +102,7 @@ pub(crate) fn content_bytes_at(
 }
 
 /// A container of one type, which is one level.
+#[inline(always)]
 #[tactic(auto, unfolding(crate::specs::Arrays::container_at))]
 pub(crate) fn container_at(
     section: &[u8],
@@ -120,6 +126,7 @@ pub(crate) fn container_at(
 }
 
 /// The bytes as text, where they are UTF-8.
+#[inline(always)]
 pub fn text_of(bytes: &[u8]) -> Result<&str, Fault>
     ensures value { option_map (λ x. x.now) (result_ok result) ≡ if_text bytes.now }
     ensures same { IfOk result (λ x. x.now ≡ bytes.now) }

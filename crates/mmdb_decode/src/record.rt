@@ -62,6 +62,7 @@ pub trait Record<'de>: Sized + Drop {
 }
 
 /// Whether a name is spelled so.
+#[inline(always)]
 #[tactic(auto, unfolding(crate::specs::Records::named))]
 pub fn named(name: &[u8], text: &str) -> bool
     ensures { result ≡ spec_named name.now text.now }
@@ -97,6 +98,7 @@ pub fn duplicate_field(alloc: Global, name: &str, offset: usize) -> MaxMindDbErr
 }
 
 /// Reads a field that stands at most once. One that stands again is refused before its value is read.
+#[inline(always)]
 pub fn read_once<'de, T: Decode<'de>>(
     alloc: Global,
     d: &mut Decoder<'de>,

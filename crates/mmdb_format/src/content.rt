@@ -38,6 +38,7 @@ pub enum Content<'de> {
 
 impl Header {
     /// The fault of a size that the type does not have, or that runs past the section.
+    #[inline(always)]
     pub fn wrong_size(self) -> Fault
         ensures { result ≡ Fault.SizeOf (kind_of_number self.kind) self.size }
     {
@@ -46,6 +47,7 @@ impl Header {
 }
 
 /// The bytes of a text or a byte string.
+#[inline(always)]
 pub fn content_bytes(section: &[u8], header: Header) -> Result<&[u8], Fault>
     ensures value { option_map (λ x. x.now) (result_ok result) ≡ bytes_of_content section.now header }
     ensures inside { IfOk result (λ x. header.body + header.size ≤ length section.now) }
@@ -58,6 +60,7 @@ pub fn content_bytes(section: &[u8], header: Header) -> Result<&[u8], Fault>
 }
 
 /// A number of at most so many bytes.
+#[inline(always)]
 pub fn short_number(section: &[u8], header: Header, most: usize) -> Result<u128, Fault>
     requires { most ≤ 16 }
     ensures value { result_ok result ≡ spec_short_number section.now header most }
@@ -74,6 +77,7 @@ pub fn short_number(section: &[u8], header: Header, most: usize) -> Result<u128,
 }
 
 /// A number of exactly so many bytes.
+#[inline(always)]
 pub fn full_number(section: &[u8], header: Header, size: usize) -> Result<u128, Fault>
     requires { size ≤ 16 }
     ensures value { result_ok result ≡ spec_full_number section.now header size }
@@ -90,6 +94,7 @@ pub fn full_number(section: &[u8], header: Header, size: usize) -> Result<u128, 
 }
 
 /// What stands behind the header of a value that holds no others.
+#[inline(always)]
 #[tactic(auto, unfolding(crate::specs::Contents::content_at))]
 pub fn content_at(section: &[u8], header: Header) -> Result<Content<'_>, Fault>
     ensures value { option_map content_view (result_ok result) ≡ spec_content_at section.now header }
@@ -120,6 +125,7 @@ pub fn content_at(section: &[u8], header: Header) -> Result<Content<'_>, Fault>
 }
 
 /// The place after the content.
+#[inline(always)]
 pub fn content_end(header: Header) -> usize
     requires { spec_content_end header < 2 ^ 64 }
     ensures { result ≡ spec_content_end header }
@@ -133,6 +139,7 @@ pub fn content_end(header: Header) -> usize
 
 impl Content<'_> {
     /// How many bytes of text or of a byte string it has.
+    #[inline(always)]
     pub fn payload(&self) -> usize
         ensures { result ≡ scalar_payload (content_view self.now) }
     {
@@ -144,6 +151,7 @@ impl Content<'_> {
 }
 
 /// The bytes of a map's key and the place after it: a text, directly or behind one pointer.
+#[inline(always)]
 #[tactic(auto, unfolding(crate::specs::Contents::key_bytes_at))]
 pub fn key_bytes_at(section: &[u8], place: usize) -> Result<(&[u8], usize), Fault>
     ensures value { option_map (λ x. (x.0.now, x.1)) (result_ok result) ≡ spec_key_bytes_at section.now place }
@@ -160,6 +168,7 @@ pub fn key_bytes_at(section: &[u8], place: usize) -> Result<(&[u8], usize), Faul
 }
 
 /// The place after a scalar or a pointer that is passed without being followed.
+#[inline(always)]
 #[tactic(auto, unfolding(crate::specs::Contents::passed_end))]
 pub fn passed_end(section: &[u8], header: Header) -> Result<usize, Fault>
     requires { header.kind ≡ 1 → header.size < 32 }

@@ -34,6 +34,7 @@ pub struct Direct {
 }
 
 /// The number that the bytes spell, the most significant first.
+#[inline(always)]
 pub fn spelled(bytes: &[u8]) -> u128
     requires { length bytes.now ≤ 16 }
     ensures value { result ≡ spec_spelled bytes.now }
@@ -47,6 +48,7 @@ pub fn spelled(bytes: &[u8]) -> u128
 }
 
 /// So many bytes from a place on.
+#[inline(always)]
 #[tactic(auto, unfolding(crate::specs::Header::bytes_at))]
 pub fn bytes_at(section: &[u8], place: usize, len: usize) -> Option<&[u8]>
     ensures len { IfSome result (λ x. length x.now ≡ len) }
@@ -60,6 +62,7 @@ pub fn bytes_at(section: &[u8], place: usize, len: usize) -> Option<&[u8]>
     }
 }
 
+#[inline(always)]
 #[tactic(auto, unfolding(crate::specs::Header::number_at, crate::specs::Header::bytes_at))]
 pub fn wide_number_at(section: &[u8], place: usize, len: usize) -> Option<u128>
     requires { len ≤ 16 }
@@ -74,6 +77,7 @@ pub fn wide_number_at(section: &[u8], place: usize, len: usize) -> Option<u128>
 }
 
 /// The number in a few bytes at a place.
+#[inline(always)]
 fn number_at(section: &[u8], place: usize, len: usize) -> Result<usize, Fault>
     requires { len ≤ 4 }
     ensures value { result_ok result ≡ spec_number_at section.now place len }
@@ -85,6 +89,7 @@ fn number_at(section: &[u8], place: usize, len: usize) -> Result<usize, Fault>
     }
 }
 
+#[inline(always)]
 #[tactic(auto, unfolding(crate::specs::Header::size_at))]
 fn size_at(section: &[u8], place: usize, low: u8) -> Result<(usize, usize), Fault>
     ensures value { result_ok result ≡ spec_size_at section.now place low }
@@ -98,6 +103,7 @@ fn size_at(section: &[u8], place: usize, low: u8) -> Result<(usize, usize), Faul
     })
 }
 
+#[inline(always)]
 #[tactic(auto, unfolding(crate::specs::Header::sized_header))]
 fn sized_header(section: &[u8], place: usize, kind: u16, low: u8) -> Result<Header, Fault>
     requires { 1 < kind }
@@ -109,6 +115,7 @@ fn sized_header(section: &[u8], place: usize, kind: u16, low: u8) -> Result<Head
 }
 
 /// The header at a place.
+#[inline(always)]
 #[tactic(auto, unfolding(crate::specs::Header::header_at))]
 pub fn header_at(section: &[u8], place: usize) -> Result<Header, Fault>
     ensures value { result_ok result ≡ spec_header_at section.now place }
@@ -134,6 +141,7 @@ pub fn header_at(section: &[u8], place: usize) -> Result<Header, Fault>
 }
 
 /// The pointer whose control byte has these low five bits, and whose bytes begin at a place.
+#[inline(always)]
 #[tactic(auto, unfolding(crate::specs::Pointer::pointer_at))]
 pub fn pointer_at(section: &[u8], place: usize, low: u8) -> Result<Pointer, Fault>
     requires { low < 32 }
@@ -155,6 +163,7 @@ pub fn pointer_at(section: &[u8], place: usize, low: u8) -> Result<Pointer, Faul
     })
 }
 
+#[inline(always)]
 #[tactic(auto, unfolding(crate::specs::Pointer::behind))]
 fn behind(section: &[u8], levels: u16, pointer: Pointer) -> Result<Direct, Fault>
     ensures value { result_ok result ≡ spec_behind section.now levels pointer }
@@ -175,6 +184,7 @@ fn behind(section: &[u8], levels: u16, pointer: Pointer) -> Result<Direct, Fault
 }
 
 /// The header that is no pointer at a place, directly or behind one pointer.
+#[inline(always)]
 #[tactic(auto, unfolding(crate::specs::Pointer::direct_at))]
 pub fn direct_at(section: &[u8], place: usize, levels: u16) -> Result<Direct, Fault>
     ensures value { result_ok result ≡ spec_direct_at section.now place levels }

@@ -62,6 +62,7 @@ pub enum Kind {
 
 impl Kind {
     /// The type that has this number.
+    #[inline(always)]
     pub fn of_number(number: u16) -> Kind
         ensures { result ≡ kind_of_number number }
     {

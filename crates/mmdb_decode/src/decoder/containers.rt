@@ -15,6 +15,7 @@ use mmdb_format::kind::{ARRAY, MAP};
 use std::alloc::Global;
 
 impl<'de> Decoder<'de> {
+    #[inline(always)]
     fn enter_array(&mut self) -> Result<Items, Fault>
         ensures { Takes (λ items. items) (entered_array self.old) self.old self.new result }
     {
@@ -86,6 +87,7 @@ impl<'de> Decoder<'de> {
     }
 
     // Goes back to the levels before a container, and to the place after a pointer that led to it.
+    #[inline(always)]
     fn leave(&mut self, after: Option<usize>, levels: u16)
         ensures { self.new ≡ record self.old { place = unwrap_or after self.old.place; levels = levels } }
     {
@@ -109,6 +111,7 @@ impl<'de> Decoder<'de> {
         self.leave(after, levels);
     }
 
+    #[inline(always)]
     fn enter_map(&mut self) -> Result<Entries, Fault>
         ensures { Takes (λ entries. entries) (entered_map self.old) self.old self.new result }
     {

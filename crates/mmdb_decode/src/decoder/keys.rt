@@ -18,6 +18,7 @@ const FREE_NAME: usize = 32;
 
 impl<'de> Decoder<'de> {
     // A key, some of whose first bytes are free.
+    #[inline(always)]
     fn take_key(&mut self, free: usize) -> Result<&'de [u8], Fault>
         ensures { Takes (λ x. x.now) (decoded false (key_past free) self.old) self.old self.new result }
     {
@@ -28,6 +29,7 @@ impl<'de> Decoder<'de> {
     }
 
     // A key that is text.
+    #[inline(always)]
     fn take_text_key(&mut self) -> Result<&'de str, Fault>
         ensures { Takes (λ x. x.now) (decoded false key_at self.old) self.old self.new result }
     {
@@ -36,6 +38,7 @@ impl<'de> Decoder<'de> {
     }
 
     // The next key, where one is left.
+    #[inline(always)]
     fn step_key(&mut self, entries: &mut Entries, free: usize) -> Result<Option<&'de [u8]>, Fault>
         ensures key { NextKey (key_past free) self.old self.new entries.old entries.new result }
         ensures rest { entries.new ≡ with_pairs_left (pairs_left entries.new) entries.old }
@@ -50,6 +53,7 @@ impl<'de> Decoder<'de> {
     }
 
     // The next key, where one is left: a text.
+    #[inline(always)]
     fn step_text_key(&mut self, entries: &mut Entries) -> Result<Option<&'de str>, Fault>
         ensures key { NextKey key_at self.old self.new entries.old entries.new result }
         ensures rest { entries.new ≡ with_pairs_left (pairs_left entries.new) entries.old }
@@ -65,6 +69,7 @@ impl<'de> Decoder<'de> {
 
     /// The next field's name, of which the first 32 bytes are free and which is not tested for UTF-8.
     /// The caller then reads or skips one value. None where no field remains.
+    #[inline(always)]
     pub fn next_field(
         &mut self,
         alloc: Global,

@@ -17,6 +17,7 @@ use std::alloc::Global;
 
 impl<'de> Decoder<'de> {
     // A whole number of one type, of at most so many bytes.
+    #[inline(always)]
     fn take_number(&mut self, wanted: u16, most: usize) -> Result<u128, Fault>
         requires { most ≤ 16 }
         ensures read { Takes (λ n. n) (decoded false (number_of wanted most) self.old) self.old self.new result }
@@ -28,6 +29,7 @@ impl<'de> Decoder<'de> {
     }
 
     // A signed number of 32 bits.
+    #[inline(always)]
     fn take_signed(&mut self) -> Result<i32, Fault>
         ensures { Takes (λ z. z) (decoded false i32_at self.old) self.old self.new result }
     {
@@ -36,6 +38,7 @@ impl<'de> Decoder<'de> {
     }
 
     // The bits of a number of exactly so many bytes.
+    #[inline(always)]
     fn take_bits(&mut self, wanted: u16, size: usize) -> Result<u128, Fault>
         requires { size ≤ 16 }
         ensures read { Takes (λ n. n) (decoded false (bits_of wanted size) self.old) self.old self.new result }
@@ -47,6 +50,7 @@ impl<'de> Decoder<'de> {
     }
 
     // A truth value.
+    #[inline(always)]
     fn take_bool(&mut self) -> Result<bool, Fault>
         ensures { Takes (λ b. b) (decoded false spec_bool_at self.old) self.old self.new result }
     {
@@ -66,6 +70,7 @@ impl<'de> Decoder<'de> {
     }
 
     // The bytes of a text or a byte string.
+    #[inline(always)]
     fn take_bytes(&mut self, wanted: u16) -> Result<&'de [u8], Fault>
         ensures { Takes (λ x. x.now) (decoded false (bytes_of wanted) self.old) self.old self.new result }
     {
@@ -76,6 +81,7 @@ impl<'de> Decoder<'de> {
     }
 
     // A text.
+    #[inline(always)]
     fn take_text(&mut self) -> Result<&'de str, Fault>
         ensures { Takes (λ x. x.now) (decoded false text_at self.old) self.old self.new result }
     {
@@ -84,6 +90,7 @@ impl<'de> Decoder<'de> {
     }
 
     /// Reads an unsigned number of 16 bits.
+    #[inline(always)]
     pub fn read_u16(&mut self, alloc: Global) -> DecodeResult<u16>
         ensures { Reads (λ n. n) true (decoded false u16_at self.old) self.old self.new result }
     {
@@ -94,6 +101,7 @@ impl<'de> Decoder<'de> {
     }
 
     /// Reads an unsigned number of 32 bits.
+    #[inline(always)]
     pub fn read_u32(&mut self, alloc: Global) -> DecodeResult<u32>
         ensures { Reads (λ n. n) true (decoded false u32_at self.old) self.old self.new result }
     {
@@ -104,6 +112,7 @@ impl<'de> Decoder<'de> {
     }
 
     /// Reads an unsigned number of 64 bits.
+    #[inline(always)]
     pub fn read_u64(&mut self, alloc: Global) -> DecodeResult<u64>
         ensures { Reads (λ n. n) true (decoded false u64_at self.old) self.old self.new result }
     {
@@ -114,6 +123,7 @@ impl<'de> Decoder<'de> {
     }
 
     /// Reads an unsigned number of 128 bits.
+    #[inline(always)]
     pub fn read_u128(&mut self, alloc: Global) -> DecodeResult<u128>
         ensures { Reads (λ n. n) true (decoded false u128_at self.old) self.old self.new result }
     {
@@ -185,6 +195,7 @@ impl<'de> Decoder<'de> {
     }
 
     /// Reads a text, which is UTF-8.
+    #[inline(always)]
     pub fn read_str(&mut self, alloc: Global) -> DecodeResult<&'de str>
         ensures { Reads (λ s. s.now) true (decoded false text_at self.old) self.old self.new result }
     {
