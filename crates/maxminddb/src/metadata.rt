@@ -30,13 +30,16 @@ pub struct Metadata {
     pub record_size: u16,
 }
 
-// An `InvalidDatabase` with this text.
-fn refusal(text: String) -> MaxMindDbError
-    ensures { kind_of result ≡ OfDatabase }
+// An `InvalidDatabase` with this text, or `Memory`.
+fn refusal(alloc: Global, text: String) -> MaxMindDbError
+    ensures { IsOfOrMemory OfDatabase result }
 {
-    MaxMindDbError::InvalidDatabase {
-        message: Message::Made(text),
-        offset: None,
+    match Message::of_text(alloc, text) {
+        Ok(message) => MaxMindDbError::InvalidDatabase {
+            message,
+            offset: None,
+        },
+        Err(_) => MaxMindDbError::Memory,
     }
 }
 
@@ -48,7 +51,7 @@ fn too_late(alloc: Global, epoch: u64) -> MaxMindDbError
         "build_epoch - Unix timestamp is too large to represent as SystemTime: {epoch}"
     );
     match text {
-        Ok(text) => refusal(text),
+        Ok(text) => refusal(alloc, text),
         Err(_) => MaxMindDbError::Memory,
     }
 }
@@ -102,12 +105,12 @@ impl Metadata {
             let text = format!(in alloc;
                 "binary_format_major_version - Expected: 2 Actual: {format}"
             )?;
-            return Err(refusal(text));
+            return Err(refusal(alloc, text));
         }
         let ip = self.ip_version;
         if ip != 4 && ip != 6 {
             let text = format!(in alloc; "ip_version - Expected: 4 or 6 Actual: {ip}")?;
-            return Err(refusal(text));
+            return Err(refusal(alloc, text));
         }
         if self.node_count == 0 {
             return Err(MaxMindDbError::InvalidDatabase {
@@ -120,12 +123,12 @@ impl Metadata {
             let text = format!(in alloc;
                 "build_epoch - Unix timestamp is too large to represent as SystemTime: {epoch}"
             )?;
-            return Err(refusal(text));
+            return Err(refusal(alloc, text));
         }
         let size = self.record_size;
         if size != 24 && size != 28 && size != 32 {
             let text = format!(in alloc; "record_size - Expected: 24, 28, or 32 Actual: {size}")?;
-            return Err(refusal(text));
+            return Err(refusal(alloc, text));
         }
         Ok(())
     }

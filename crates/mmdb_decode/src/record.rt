@@ -70,12 +70,13 @@ pub fn named(name: &[u8], text: &str) -> bool
     name == text.as_bytes()
 }
 
-fn of_field(message: Result<String, AllocError>, offset: usize) -> MaxMindDbError
+#[inline(always)]
+fn of_field(message: Result<Message, AllocError>, offset: usize) -> MaxMindDbError
     ensures { IsOfOrMemory OfDecoding result }
 {
     match message {
         Ok(message) => MaxMindDbError::Decoding {
-            message: Message::Made(message),
+            message,
             offset: Some(offset),
             path: None,
         },
@@ -83,18 +84,33 @@ fn of_field(message: Result<String, AllocError>, offset: usize) -> MaxMindDbErro
     }
 }
 
+// These texts are made out of line, as those of faults are: so a reader of fields holds no large local.
+#[cold]
+#[inline(never)]
+fn missing_text(alloc: Global, name: &str) -> Result<Message, AllocError> {
+    Message::of_text(alloc, format!(in alloc; "missing field `{name}`")?)
+}
+
+#[cold]
+#[inline(never)]
+fn duplicate_text(alloc: Global, name: &str) -> Result<Message, AllocError> {
+    Message::of_text(alloc, format!(in alloc; "duplicate field `{name}`")?)
+}
+
 /// The refusal of a record without a field that is required.
+#[inline(always)]
 pub fn missing_field(alloc: Global, name: &str, offset: usize) -> MaxMindDbError
     ensures { IsOfOrMemory OfDecoding result }
 {
-    of_field(format!(in alloc; "missing field `{name}`"), offset)
+    of_field(missing_text(alloc, name), offset)
 }
 
 /// The refusal of a record in which a field stands twice.
+#[inline(always)]
 pub fn duplicate_field(alloc: Global, name: &str, offset: usize) -> MaxMindDbError
     ensures { IsOfOrMemory OfDecoding result }
 {
-    of_field(format!(in alloc; "duplicate field `{name}`"), offset)
+    of_field(duplicate_text(alloc, name), offset)
 }
 
 /// Reads a field that stands at most once. One that stands again is refused before its value is read.

@@ -15,6 +15,14 @@ step_fits n b i h k l =
     let most : 256 ^ (i + 1) ≤ 256 ^ 16 = pow-le-pow_right pos le in
     omega arith
 
+pub step_fits_short : (n b i : ℕ) → n < 256 ^ i → b < 256 → i < 8 → n * 256 + b < 2 ^ 64
+step_fits_short n b i h k l =
+    let below = step_below n b i h k in
+    let pos : zero < 256 = omega arith in
+    let le : i + 1 ≤ 8 = omega arith in
+    let most : 256 ^ (i + 1) ≤ 256 ^ 8 = pow-le-pow_right pos le in
+    omega arith
+
 pub spelled_step : (bytes : List ℕ) (n i : ℕ) → i < length bytes → spelled_after (n * 256 + get_or bytes i 0) (drop (i + 1) bytes) ≡ spelled_after n (drop i bytes)
 spelled_step bytes n i h = rw (add-one, drop-cons bytes i 0) refl
 

@@ -58,9 +58,9 @@ abbrev pub IsMadeOf : Parts → MaxMindDbError → Type 0
 IsMadeOf p (InvalidDatabase message offset) =
     (p.kind ≡ OfDatabase) × ((message_made message ≡ Some p.message) × ((offset ≡ p.offset) × (p.path ≡ None)))
 IsMadeOf p (Decoding message offset path) =
-    (p.kind ≡ OfDecoding) × ((message_made message ≡ Some p.message) × ((offset ≡ p.offset) × (option_map string_bytes path ≡ p.path)))
+    (p.kind ≡ OfDecoding) × ((message_made message ≡ Some p.message) × ((offset ≡ p.offset) × (option_map (λ text. string_bytes text.value) path ≡ p.path)))
 IsMadeOf p (ResourceLimit message offset path) =
-    (p.kind ≡ OfLimit) × ((message_made message ≡ Some p.message) × ((offset ≡ p.offset) × (option_map string_bytes path ≡ p.path)))
+    (p.kind ≡ OfLimit) × ((message_made message ≡ Some p.message) × ((offset ≡ p.offset) × (option_map (λ text. string_bytes text.value) path ≡ p.path)))
 IsMadeOf p (InvalidInput message) =
     (p.kind ≡ OfInput) × ((message_made message ≡ Some p.message) × ((p.offset ≡ None) × (p.path ≡ None)))
 IsMadeOf p (Io e) = ⊥

@@ -28,14 +28,14 @@ pub enum MaxMindDbError {
     Decoding {
         message: Message,
         offset: Option<usize>,
-        path: Option<String>,
+        path: Option<Box<String>>,
     },
     /// A value is larger than a reader allows.
     #[error("resource limit exceeded{at}{path}: {message}", at = At(.offset), path = Along(.path))]
     ResourceLimit {
         message: Message,
         offset: Option<usize>,
-        path: Option<String>,
+        path: Option<Box<String>>,
     },
     /// A network can't be made or read.
     #[error("invalid network: {0}")]
@@ -68,7 +68,7 @@ impl fmt::Display for At<'_> {
 
 /// The path of an error in its text: nothing where it is not known.
 #[derive(Drop)]
-struct Along<'a>(&'a Option<String>);
+struct Along<'a>(&'a Option<Box<String>>);
 
 impl fmt::Display for Along<'_> {
     fn fmt<W: fmt::Write>(&self, f: &mut fmt::Formatter<W>) -> fmt::Result {
@@ -180,7 +180,7 @@ fn try_decoding_at_path(
     Ok(MaxMindDbError::Decoding {
         message: Message::made(alloc, message)?,
         offset: Some(offset),
-        path: Some(String::from_str(alloc, path)?),
+        path: Some(Box::new(alloc, String::from_str(alloc, path)?)?),
     })
 }
 

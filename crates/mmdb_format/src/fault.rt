@@ -61,34 +61,37 @@ impl Fault {
         }
     }
 
+    // Kept out of line, and its result small: so the calls that may refuse hold no large local.
+    #[cold]
+    #[inline(never)]
     fn message(self, alloc: Global) -> Result<Message, AllocError> {
         let text = match self {
             Fault::SizeOf(kind, size) => {
                 let name = kind.name();
-                return Ok(Message::Made(format!(in alloc; "{name} of size {size}")?));
+                return Message::of_text(alloc, format!(in alloc; "{name} of size {size}")?);
             }
             Fault::PointerSize(size) => {
-                return Ok(Message::Made(format!(in alloc; "pointer of size {size}")?));
+                return Message::of_text(alloc, format!(in alloc; "pointer of size {size}")?);
             }
             Fault::UnknownType(number) => {
-                return Ok(Message::Made(format!(in alloc; "unknown data type: {number}")?));
+                return Message::of_text(alloc, format!(in alloc; "unknown data type: {number}")?);
             }
             Fault::KeyOfType(number) => {
-                return Ok(Message::Made(format!(in alloc; "expected string, got type {number}")?));
+                return Message::of_text(alloc, format!(in alloc; "expected string, got type {number}")?);
             }
             Fault::Cycle(place) => {
-                return Ok(Message::Made(format!(in alloc;
+                return Message::of_text(alloc, format!(in alloc;
                     "cyclic data pointer references offset {place}"
-                )?));
+                )?);
             }
             Fault::Unexpected(wanted, found) => {
                 let name = wanted.name();
-                return Ok(Message::Made(format!(in alloc; "expected {name}, got type {found}")?));
+                return Message::of_text(alloc, format!(in alloc; "expected {name}, got type {found}")?);
             }
             Fault::WrongLength(wanted, found) => {
-                return Ok(Message::Made(format!(in alloc;
+                return Message::of_text(alloc, format!(in alloc;
                     "expected tuple of length {wanted}, got array of length {found}"
-                )?));
+                )?);
             }
             Fault::EndOfBuffer => Text::EndOfBuffer,
             Fault::KeyTooLong => Text::KeyTooLong,
@@ -106,6 +109,7 @@ impl Fault {
 
     /// The error that tells of this fault at an offset, or `Memory` where its text holds a number
     /// and there is no memory for it.
+    #[inline(always)]
     pub fn refusal(self, alloc: Global, offset: usize) -> MaxMindDbError
         ensures { IsOfOrMemory (kind_of_fault self) result }
     {

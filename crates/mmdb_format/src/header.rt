@@ -33,9 +33,21 @@ pub struct Direct {
     pub levels: u16,
 }
 
-/// The number that the bytes spell, the most significant first.
+// The number that at most eight bytes spell, in one register.
 #[inline(always)]
-pub fn spelled(bytes: &[u8]) -> u128
+fn spelled_short(bytes: &[u8]) -> u64
+    requires { length bytes.now ≤ 8 }
+    ensures value { result ≡ spec_spelled bytes.now }
+    ensures bound { result < 256 ^ length bytes.now }
+{
+    let mut n: u64 = 0;
+    for b in bytes {
+        n = n * 256 + u64::from(*b);
+    }
+    n
+}
+
+fn spelled_long(bytes: &[u8]) -> u128
     requires { length bytes.now ≤ 16 }
     ensures value { result ≡ spec_spelled bytes.now }
     ensures bound { result < 256 ^ length bytes.now }
@@ -45,6 +57,20 @@ pub fn spelled(bytes: &[u8]) -> u128
         n = n * 256 + u128::from(*b);
     }
     n
+}
+
+/// The number that the bytes spell, the most significant first.
+#[inline(always)]
+pub fn spelled(bytes: &[u8]) -> u128
+    requires { length bytes.now ≤ 16 }
+    ensures value { result ≡ spec_spelled bytes.now }
+    ensures bound { result < 256 ^ length bytes.now }
+{
+    if bytes.len() <= 8 {
+        u128::from(spelled_short(bytes))
+    } else {
+        spelled_long(bytes)
+    }
 }
 
 /// So many bytes from a place on.
@@ -147,15 +173,12 @@ pub fn pointer_at(section: &[u8], place: usize, low: u8) -> Result<Pointer, Faul
     requires { low < 32 }
     ensures { result_ok result ≡ spec_pointer_at section.now place low }
 {
-    let shape = low / 8;
-    let len = usize::from(shape) + 1;
-    let n = number_at(section, place, len)?;
     let high = usize::from(low % 8);
-    let target = match shape {
-        0 => high * 256 + n,
-        1 => high * 65_536 + n + 2_048,
-        2 => high * 16_777_216 + n + 526_336,
-        _ => n,
+    let (target, len) = match low / 8 {
+        0 => (high * 256 + number_at(section, place, 1)?, 1),
+        1 => (high * 65_536 + number_at(section, place, 2)? + 2_048, 2),
+        2 => (high * 16_777_216 + number_at(section, place, 3)? + 526_336, 3),
+        _ => (number_at(section, place, 4)?, 4),
     };
     Ok(Pointer {
         target,

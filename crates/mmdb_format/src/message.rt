@@ -1,5 +1,5 @@
 //! The texts of errors.
-ghost use Rattle.std.specs.Prelude.{◌≡◌, IfOk};
+ghost use Rattle.std.specs.Prelude.{◌≡◌, Some, IfOk, string_bytes};
 ghost use Rattle.mmdb_format.specs.Message.{message_made};
 
 use std::alloc::{AllocError, Global};
@@ -62,11 +62,12 @@ impl Text {
     }
 }
 
-/// The text of an error: a fixed one, or one that was made and takes memory.
+/// The text of an error: a fixed one, or one that was made and takes memory. A made one stands behind a
+/// box, so that an error is small.
 #[derive(Debug, Drop)]
 pub enum Message {
     Fixed(Text),
-    Made(String),
+    Made(Box<String>),
 }
 
 impl Message {
@@ -78,11 +79,18 @@ impl Message {
         }
     }
 
+    /// A text that was made.
+    pub fn of_text(alloc: Global, text: String) -> Result<Message, AllocError>
+        ensures { IfOk result (λ message. message_made message ≡ Some (string_bytes text)) }
+    {
+        Ok(Message::Made(Box::new(alloc, text)?))
+    }
+
     /// A copy of a text.
     pub(crate) fn made(alloc: Global, text: &str) -> Result<Message, AllocError>
         ensures { IfOk result (λ message. message_made message ≡ Some text.now) }
     {
-        Ok(Message::Made(String::from_str(alloc, text)?))
+        Message::of_text(alloc, String::from_str(alloc, text)?)
     }
 }
 

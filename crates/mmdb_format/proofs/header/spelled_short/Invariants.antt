@@ -1,6 +1,6 @@
 use Rattle.std.proofs.Common.{◌≡◌, ◌<◌, ◌^◌, drop}
 use Rattle.mmdb_format.specs.Header.{spelled, spelled_after}
-use Rattle.mmdb_format.proofs.header.spelled.Given as goal
+use Rattle.mmdb_format.proofs.header.spelled_short.Given as goal
 
 abbrev pub invariant-loop-b : goal.invariant-loop-b
 invariant-loop-b l = record {
