@@ -5,18 +5,18 @@ use crate::reader::Reader;
 use std::convert::AsSlice;
 
 /// A number of the tree, with the bits that lead to it: the first `prefix` bits of an address whose
-/// other bits are zero.
+/// other bits are zero. Its fields fill its size: bytes between them would be copied in pieces.
 #[derive(Clone, Copy)]
 pub(crate) struct Position {
-    pub(crate) number: usize,
     pub(crate) address: u128,
-    pub(crate) prefix: u8,
+    pub(crate) number: usize,
+    pub(crate) prefix: usize,
 }
 
 /// Where every walk begins.
 pub(crate) const ROOT: Position = Position {
-    number: 0,
     address: 0,
+    number: 0,
     prefix: 0,
 };
 
@@ -27,7 +27,7 @@ impl Position {
     pub(crate) fn has_halves<S: AsSlice<u8> + Drop>(&self, reader: &Reader<S>) -> bool
         ensures { MatchBool result (HasHalves reader.now self.now) (IsEnd reader.now self.now) }
     {
-        self.prefix < reader.width() && self.number < reader.nodes().node_count
+        self.prefix < usize::from(reader.width()) && self.number < reader.nodes().node_count
     }
 
     /// The lower or the upper half of the addresses of this position.
@@ -36,14 +36,14 @@ impl Position {
         requires halves { HasHalves reader.now self }
         ensures { result ≡ half_of reader.now self right }
     {
-        let size = 1u128 << (reader.width() - self.prefix - 1);
+        let size = 1u128 << (usize::from(reader.width()) - self.prefix - 1);
         Position {
-            number: reader.nodes().child(self.number, right),
             address: if right {
                 self.address + size
             } else {
                 self.address
             },
+            number: reader.nodes().child(self.number, right),
             prefix: self.prefix + 1,
         }
     }

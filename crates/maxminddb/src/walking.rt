@@ -145,14 +145,14 @@ impl<S: AsSlice<u8> + Drop> Reader<S> {
                 reader: self,
                 offset,
                 address: IpAddr::V4(Ipv4Addr::from_bits(position.address as u32)),
-                prefix: position.prefix - (self.width() - 32),
+                prefix: position.prefix as u8 - (self.width() - 32),
             };
         }
         LookupResult {
             reader: self,
             offset,
             address: IpAddr::V6(Ipv6Addr::from_bits(position.address)),
-            prefix: position.prefix,
+            prefix: position.prefix as u8,
         }
     }
 
@@ -196,14 +196,14 @@ impl<S: AsSlice<u8> + Drop> Reader<S> {
     {
         let width = self.width();
         let mut position = ROOT;
-        while position.prefix < range.prefix {
+        while position.prefix < usize::from(range.prefix) {
             if self.hides(position, options) {
                 return None;
             }
             if !position.has_halves(self) {
                 return Some(position);
             }
-            let right = range.has_bit(width - position.prefix - 1);
+            let right = range.has_bit(width - position.prefix as u8 - 1);
             position = position.half(self, right);
         }
         Some(position)
