@@ -6,3 +6,4 @@ pub mod CityTables
 pub mod EnterpriseTables
 pub mod NetworkTables
 pub mod RecordTables
+pub mod RecordShapes

@@ -2,6 +2,7 @@
 #![tactic(auto, unfolding(mmdb_decode::specs::Tables::fields_of, mmdb_decode::specs::Tables::part_field, mmdb_decode::specs::State::decoded, mmdb_decode::specs::Records::named, mmdb_decode::specs::Records::field, mmdb_decode::specs::Records::skipped, crate::specs::RecordTables::top_country_table, crate::specs::RecordTables::top_city_table, crate::specs::RecordTables::top_enterprise_table))]
 
 ghost use Rattle.std.specs.Prelude.{◌≡◌, false};
+ghost use Rattle.std.specs.Vec.{vec_capacity};
 ghost use Rattle.mmdb_decode.specs.Tables.{data_of, no_data};
 ghost use Rattle.mmdb_geoip2.specs.RecordTables.{top_country_table, top_city_table, top_enterprise_table};
 
@@ -87,17 +88,7 @@ impl<'de> Fields<'de> for City<'de> {
     ghost free = { false };
 
     fn empty(alloc: Global) -> City<'de> {
-        City {
-            city: city::City::empty(alloc),
-            continent: city::Continent::empty(alloc),
-            country: city::Country::empty(alloc),
-            location: city::Location::empty(alloc),
-            postal: city::Postal::empty(alloc),
-            registered_country: city::Country::empty(alloc),
-            represented_country: city::RepresentedCountry::empty(alloc),
-            subdivisions: Vec::new(alloc),
-            traits: city::Traits::empty(alloc),
-        }
+        City::empty(alloc)
     }
 
     fn read_field(
@@ -150,17 +141,7 @@ impl<'de> Fields<'de> for Enterprise<'de> {
     ghost free = { false };
 
     fn empty(alloc: Global) -> Enterprise<'de> {
-        Enterprise {
-            city: enterprise::City::empty(alloc),
-            continent: enterprise::Continent::empty(alloc),
-            country: enterprise::Country::empty(alloc),
-            location: enterprise::Location::empty(alloc),
-            postal: enterprise::Postal::empty(alloc),
-            registered_country: enterprise::Country::empty(alloc),
-            represented_country: enterprise::RepresentedCountry::empty(alloc),
-            subdivisions: Vec::new(alloc),
-            traits: enterprise::Traits::empty(alloc),
-        }
+        Enterprise::empty(alloc)
     }
 
     fn read_field(
@@ -187,17 +168,39 @@ impl<'de> Fields<'de> for Enterprise<'de> {
 impl<'de> City<'de> {
     /// A record of which no field stands, in place of a default. It takes no memory.
     pub fn empty(alloc: Global) -> City<'de>
-        ensures { data_of top_city_table result ≡ no_data top_city_table }
+        ensures none { data_of top_city_table result ≡ no_data top_city_table }
+        ensures no_memory { vec_capacity result.subdivisions ≡ 0 }
     {
-        <City<'de> as Fields<'de>>::empty(alloc)
+        City {
+            city: city::City::empty(alloc),
+            continent: city::Continent::empty(alloc),
+            country: city::Country::empty(alloc),
+            location: city::Location::empty(alloc),
+            postal: city::Postal::empty(alloc),
+            registered_country: city::Country::empty(alloc),
+            represented_country: city::RepresentedCountry::empty(alloc),
+            subdivisions: Vec::new(alloc),
+            traits: city::Traits::empty(alloc),
+        }
     }
 }
 
 impl<'de> Enterprise<'de> {
     /// A record of which no field stands, in place of a default. It takes no memory.
     pub fn empty(alloc: Global) -> Enterprise<'de>
-        ensures { data_of top_enterprise_table result ≡ no_data top_enterprise_table }
+        ensures none { data_of top_enterprise_table result ≡ no_data top_enterprise_table }
+        ensures no_memory { vec_capacity result.subdivisions ≡ 0 }
     {
-        <Enterprise<'de> as Fields<'de>>::empty(alloc)
+        Enterprise {
+            city: enterprise::City::empty(alloc),
+            continent: enterprise::Continent::empty(alloc),
+            country: enterprise::Country::empty(alloc),
+            location: enterprise::Location::empty(alloc),
+            postal: enterprise::Postal::empty(alloc),
+            registered_country: enterprise::Country::empty(alloc),
+            represented_country: enterprise::RepresentedCountry::empty(alloc),
+            subdivisions: Vec::new(alloc),
+            traits: enterprise::Traits::empty(alloc),
+        }
     }
 }
