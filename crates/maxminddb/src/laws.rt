@@ -9,8 +9,8 @@ ghost use Rattle.maxminddb.specs.ListingLaws.{RangeWalkLists, ListingsAreUnique,
 use crate::metadata::Metadata;
 use crate::options::WithinOptions;
 pub use mmdb_geoip2::laws::{
-    empty_means_absent, how_records_are_read, record_clones_say_same, record_defaults_say_nothing,
-    records_equal_where_same,
+    empty_means_absent, how_records_are_read, record_clones_say_same, record_clones_take_no_memory,
+    record_defaults_say_nothing, records_equal_where_same,
 };
 pub use mmdb_net::laws::networks_equal_where_same;
 pub use mmdb_value::laws::{
