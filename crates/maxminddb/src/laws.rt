@@ -8,6 +8,10 @@ ghost use Rattle.maxminddb.specs.ListingLaws.{RangeWalkLists, ListingsAreUnique,
 
 use crate::metadata::Metadata;
 use crate::options::WithinOptions;
+pub use mmdb_geoip2::laws::{
+    empty_means_absent, how_records_are_read, record_clones_say_same, record_clones_take_no_memory,
+    record_defaults_say_nothing, records_equal_where_same,
+};
 pub use mmdb_net::laws::networks_equal_where_same;
 pub use mmdb_value::laws::{
     answer_is_whole_value, answer_is_within_limits, any_value_is_exact, how_containers_are_read,
@@ -15,7 +19,8 @@ pub use mmdb_value::laws::{
     list_is_what_stands, one_tree_unfolds, one_value_stands, owned_bytes_equal_where_same,
     record_is_what_stands, same_offset_same_result, scalar_is_what_stands,
     scalars_equal_where_same, scalars_unfold, skipping_is_passing, small_number_is_what_stands,
-    text_map_is_what_stands, value_is_what_stands, values_bounded, values_equal_where_same,
+    table_is_what_stands, text_map_is_what_stands, value_is_what_stands, values_bounded,
+    values_equal_where_same,
 };
 
 /// Leaves are disjoint blocks, and each full address begins with exactly one.

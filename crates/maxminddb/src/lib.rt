@@ -19,6 +19,7 @@ mod walking;
 
 pub use lookup_result::LookupResult;
 pub use metadata::Metadata;
+pub use mmdb_geoip2 as geoip2;
 pub use mmdb_net as geonet;
 pub use mmdb_net::{IpNetwork, IpNetworkError, Ipv4Network, Ipv6Network, mask_ip};
 pub use mmdb_value as values;

@@ -3,9 +3,7 @@
 #![tactic(auto)]
 
 mod addresses;
-mod fields;
 mod figures;
-mod records;
 mod subject;
 mod work;
 

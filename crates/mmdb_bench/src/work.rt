@@ -1,7 +1,7 @@
 //! What is done with a database while the clock runs.
 
-use crate::records::{City, Country};
 use crate::subject::{Subject, node_count};
+use maxminddb::geoip2::{City, Country};
 use maxminddb::{LookupResult, MaxMindDbError, Reader, Value, WithinOptions};
 use std::alloc::Global;
 use std::net::IpAddr;
@@ -146,6 +146,24 @@ fn lookup_networks(reader: &Reader<Vec<u8>>, addresses: &[IpAddr]) -> Result<u64
     Ok(sum)
 }
 
+fn length(text: Option<&str>) -> u64 {
+    match text {
+        Some(text) => text.len() as u64,
+        None => 0,
+    }
+}
+
+// 1, and the lengths of the English name and of the country's code.
+fn city_term(city: &City<'_>) -> u64 {
+    1u64.wrapping_add(length(city.city.names.english))
+        .wrapping_add(length(city.country.iso_code))
+}
+
+// 1, and the length of the country's code.
+fn country_term(country: &Country<'_>) -> u64 {
+    1u64.wrapping_add(length(country.country.iso_code))
+}
+
 fn decode_cities(
     alloc: Global,
     reader: &Reader<Vec<u8>>,
@@ -154,8 +172,8 @@ fn decode_cities(
     let mut sum = 0u64;
     for &address in addresses {
         let city: Option<City<'_>> = reader.lookup(address)?.decode(alloc)?;
-        if let Some(city) = city {
-            sum = sum.wrapping_add(city.term());
+        if let Some(city) = &city {
+            sum = sum.wrapping_add(city_term(city));
         }
     }
     Ok(sum)
@@ -169,8 +187,8 @@ fn decode_countries(
     let mut sum = 0u64;
     for &address in addresses {
         let country: Option<Country<'_>> = reader.lookup(address)?.decode(alloc)?;
-        if let Some(country) = country {
-            sum = sum.wrapping_add(country.term());
+        if let Some(country) = &country {
+            sum = sum.wrapping_add(country_term(country));
         }
     }
     Ok(sum)

@@ -20,3 +20,4 @@ pub mod ListLaws
 pub mod TextMapLaws
 pub mod RecordStandingLaws
 pub mod ContainerTrees
+pub mod TableLaws

@@ -9,6 +9,8 @@ pub mod Maps
 pub mod Records
 pub mod Skipping
 pub mod Levels
+pub mod FieldShapes
+pub mod Tables
 pub mod Limits
 pub mod Shapes
 pub mod TypedReads

@@ -15,6 +15,7 @@ use Rattle.mmdb_decode.specs.Maps.{Fields, put, key_at, name_at, text_map_at}
 use Rattle.mmdb_decode.specs.Records.{record_at, finished}
 use Rattle.mmdb_decode.specs.Reading.{Reading, Meaning}
 use Rattle.mmdb_decode.specs.SmallNumbers.{whole_number, small_at}
+use Rattle.mmdb_decode.specs.Tables.{Table, Data, Parts, fields_of, no_parts, whole_of, record_of}
 
 -- a scalar stands at p and ends before q: directly, or behind one pointer, for which a level is left
 abbrev pub ScalarStands : List ℕ → ℕ → ℕ → Scalar → ℕ → Type 0
@@ -157,6 +158,12 @@ abbrev pub ReadsWholeRecords : {P R : Type 0} → Fields P → P → (P → Opti
 ReadsWholeRecords {P = P} {R = R} fields none whole =
     (s : List ℕ) (p d : ℕ) (v : R) (q c b : ℕ) →
     (finished whole (record_at fields none) s p d ≡ Some (record { value = v; next = q; values = c; bytes = b })) ↔ ((x : P) × (names : List (List ℕ)) × RecordStands fields none s p d names x q c b × (whole x ≡ Some v))
+
+-- what is read by a table of fields is such a record, and says what its fields say
+abbrev pub ReadsTables : {R : Type 0} → Table R → Type 0
+ReadsTables t =
+    (s : List ℕ) (p d : ℕ) (v : Data t) (q c b : ℕ) →
+    (record_of t s p d ≡ Some (record { value = v; next = q; values = c; bytes = b })) ↔ ((x : Parts t) × (names : List (List ℕ)) × RecordStands (fields_of t) (no_parts t) s p d names x q c b × (whole_of t x ≡ Some v))
 
 -- A name of which a record tells whether it has stood: no field empties it, its own fills it, and where it
 -- has stood nothing is read behind it.

@@ -26,6 +26,7 @@ pub enum Text {
     OutOfRange,
     NotWhole,
     AlreadyFailed,
+    TooManySubdivisions,
 }
 
 impl Text {
@@ -58,6 +59,7 @@ impl Text {
             Text::OutOfRange => "number out of range",
             Text::NotWhole => "expected a whole number",
             Text::AlreadyFailed => "this check has already failed",
+            Text::TooManySubdivisions => "subdivisions exceeds maximum length of 32",
         }
     }
 }

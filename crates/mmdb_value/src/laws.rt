@@ -15,7 +15,7 @@ pub use mmdb_decode::laws::{
     how_scalars_are_read, how_small_numbers_are_read, list_is_what_stands, one_tree_unfolds,
     owned_bytes_equal_where_same, record_is_what_stands, same_offset_same_result,
     scalar_is_what_stands, scalars_equal_where_same, scalars_unfold, skipping_is_passing,
-    small_number_is_what_stands, text_map_is_what_stands, values_bounded,
+    small_number_is_what_stands, table_is_what_stands, text_map_is_what_stands, values_bounded,
 };
 
 /// What is read as any value is what unfolds there, with its measures.

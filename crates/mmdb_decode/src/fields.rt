@@ -1,0 +1,141 @@
+//! Records that are read in place, field by field, as a table of their fields tells.
+ghost use Rattle.std.specs.Prelude.{◌≡◌, Bool, true, false, Some, IfErr, OnOk, OnErr, IsSome};
+ghost use Rattle.mmdb_decode.specs.Maps.{pairs_from, name_at, pairs_left, with_pairs_left};
+ghost use Rattle.mmdb_decode.specs.State.{decoded, GivenUp};
+ghost use Rattle.mmdb_decode.specs.Refusal.{Refuses, Kept};
+ghost use Rattle.mmdb_decode.specs.Records.{FieldRead};
+ghost use Rattle.mmdb_decode.specs.Tables.{Table, Data, data_of, no_data, parts_met, flags, fields_of, record_of, part_once};
+
+use crate::decode::Decode;
+use crate::decoder::Decoder;
+use crate::items::Entries;
+use crate::record::duplicate_field;
+use mmdb_format::error::DecodeResult;
+use std::alloc::Global;
+
+/// Which parts of a record were met.
+#[derive(Clone, Copy)]
+pub struct Met(
+    pub bool,
+    pub bool,
+    pub bool,
+    pub bool,
+    pub bool,
+    pub bool,
+    pub bool,
+    pub bool,
+    pub bool,
+);
+
+/// A record that a table tells of: its fields are optional, or parts that are records or lists of their
+/// own, of which there are at most nine. Such a record can be decoded.
+pub trait Fields<'de>: Sized + Drop {
+    /// A row for each field: its name in the file, its shape, and where the record keeps it.
+    ghost table: { Table Self };
+
+    /// Whether a success takes no memory.
+    ghost free: { Bool } = { true };
+
+    /// A record of which no field was met.
+    fn empty(alloc: Global) -> Self
+        ensures { data_of table result ≡ no_data table };
+
+    /// Reads or skips the value after a name.
+    fn read_field(
+        &mut self,
+        met: &mut Met,
+        alloc: Global,
+        name: &'de [u8],
+        d: &mut Decoder<'de>,
+    ) -> DecodeResult<()>
+        requires { IsSome d.old.budget }
+        ensures { FieldRead free (decoded false (fields_of table (parts_met table (flags met.old) self.old) name.now) d.old) (parts_met table (flags met.new) self.new) d.old d.new result };
+}
+
+// Reads the fields that are left of a map.
+fn read_rest<'de, R: Fields<'de>>(
+    alloc: Global,
+    d: &mut Decoder<'de>,
+    entries: &mut Entries,
+    fields: &mut R,
+    met: &mut Met,
+) -> DecodeResult<()>
+    requires { IsSome d.old.budget }
+    ensures ok { OnOk result (decoded false (pairs_from name_at (fields_of R.table) (parts_met R.table (flags met.old) fields.old) (pairs_left entries.old)) d.old ≡ Some (parts_met R.table (flags met.new) fields.new, d.new)) }
+    ensures rest { entries.new ≡ with_pairs_left (pairs_left entries.new) entries.old }
+    ensures spent { OnOk result (pairs_left entries.new ≡ 0) }
+    ensures kept { OnOk result (Kept d.old d.new) }
+    ensures err { IfErr result (λ e. Refuses R.free e (decoded false (pairs_from name_at (fields_of R.table) (parts_met R.table (flags met.old) fields.old) (pairs_left entries.old)) d.old)) }
+    ensures given_up { OnErr result (GivenUp d.old d.new) }
+{
+    while let Some(name) = d.next_field(alloc, entries)? {
+        fields.read_field(met, alloc, name, d)?;
+    }
+    Ok(())
+}
+
+// Reads a map into a record of which no field was met.
+fn read_into<'de, R: Fields<'de>>(
+    alloc: Global,
+    d: &mut Decoder<'de>,
+    fields: &mut R,
+) -> DecodeResult<()>
+    requires { data_of R.table fields.old ≡ no_data R.table }
+    ensures ok { OnOk result (decoded true (record_of R.table) d.old ≡ Some (data_of R.table fields.new, d.new)) }
+    ensures kept { OnOk result (Kept d.old d.new) }
+    ensures err { IfErr result (λ e. Refuses R.free e (decoded true (record_of R.table) d.old)) }
+    ensures given_up { OnErr result (GivenUp d.old d.new) }
+{
+    let mut met = Met(
+        false, false, false, false, false, false, false, false, false,
+    );
+    let mut entries = d.begin_map(alloc)?;
+    match read_rest(alloc, d, &mut entries, fields, &mut met) {
+        Ok(()) => {
+            d.end_map(entries);
+            Ok(())
+        }
+        Err(e) => {
+            entries.give_up(d);
+            Err(e)
+        }
+    }
+}
+
+impl<'de, R: Fields<'de>> Decode<'de> for R {
+    ghost Datum = { Data R.table };
+
+    ghost datum = { data_of R.table };
+
+    ghost meaning = { record_of R.table };
+
+    ghost starts = { true };
+
+    ghost free = { R.free };
+
+    fn decode(alloc: Global, d: &mut Decoder<'de>) -> DecodeResult<R> {
+        let mut fields = R::empty(alloc);
+        read_into(alloc, d, &mut fields)?;
+        Ok(fields)
+    }
+}
+
+/// Reads a part that stands at most once. One that stands again is refused before its value is read.
+pub fn read_part<'de, R: Fields<'de>>(
+    alloc: Global,
+    d: &mut Decoder<'de>,
+    name: &str,
+    met: &mut bool,
+    part: &mut R,
+) -> DecodeResult<()>
+    requires { IsSome d.old.budget }
+    ensures { FieldRead R.free (decoded false (part_once (record_of R.table) (met.old, data_of R.table part.old)) d.old) (met.new, data_of R.table part.new) d.old d.new result }
+{
+    if *met {
+        return Err(duplicate_field(alloc, name, d.offset()));
+    }
+    *part = R::empty(alloc);
+    read_into(alloc, d, part)?;
+    *met = true;
+    Ok(())
+}
