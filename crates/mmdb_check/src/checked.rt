@@ -1,7 +1,7 @@
 //! A check with a memory.
-ghost use Rattle.std.specs.Prelude.{◌≡◌, ◌↔◌, ℕ, IfOk, IfErr, OnOk, OnErr, IsOk, map, leb, true, false};
+ghost use Rattle.std.specs.Prelude.{◌≡◌, ◌↔◌, ℕ, ◌-◌, ◌*◌, length, IfOk, IfErr, OnOk, OnErr, IsOk, map, leb, true, false};
 ghost use Rattle.mmdb_format.specs.Error.{OfInput, OfMemory, kind_of, IsRefusedAs};
-ghost use Rattle.mmdb_check.specs.Checking.{Seen, holds, IsAllowed, CanAdd, Added};
+ghost use Rattle.mmdb_check.specs.Checking.{Seen, holds, IsAllowed, CanAdd, Added, Costs};
 ghost use Rattle.mmdb_check.specs.Memory.{Ready};
 
 use crate::work::{Refusal, UNSEEN, Work};
@@ -26,7 +26,7 @@ pub struct Checked<'s> {
 impl<'s> Model for Checked<'s> {
     ghost Value = { Seen };
 
-    ghost view = { λ c. record { section = c.work.section.now; good = map (leb 2) c.work.marks.items; failed = c.failed } };
+    ghost view = { λ c. record { section = c.work.section.now; good = map (leb 2) c.work.marks.items; charged = 8 * length c.work.section.now - c.work.left; failed = c.failed } };
 
     ghost invariant = { λ c. c.failed ≡ false → Ready c.work.section.now c.work.marks.items c.work.left };
 }
@@ -37,6 +37,7 @@ impl<'s> Checked<'s> {
     pub fn new(alloc: Global, section: &'s [u8]) -> Result<Checked<'s>, MaxMindDbError>
         ensures section { IfOk result (λ c. c.section ≡ section.now) }
         ensures none { IfOk result (λ c. (q : ℕ) → holds c.good q ≡ false) }
+        ensures charged { IfOk result (λ c. c.charged ≡ 0) }
         ensures going { IfOk result (λ c. c.failed ≡ false) }
         ensures memory { IfErr result (λ e. kind_of e ≡ OfMemory) }
     {
@@ -69,6 +70,7 @@ pub fn check_value(alloc: Global, c: &mut Checked, place: usize) -> Result<(), M
     ensures section { c.new.section ≡ c.old.section }
     ensures exact { IsOk result ↔ ((c.old.failed ≡ false) × CanAdd c.old.section (holds c.old.good) place) }
     ensures ok { OnOk result (Added c.old.section (holds c.old.good) (holds c.new.good) place) }
+    ensures charged { OnOk result (Costs c.new.section (holds c.new.good) c.new.charged) }
     ensures going { OnOk result (c.new.failed ≡ false) }
     ensures err { OnErr result (c.new.failed ≡ true) }
     ensures after_err { IsRefusedAs OfInput result ↔ (c.old.failed ≡ true) }
