@@ -28,3 +28,4 @@ pub mod Progress
 pub mod StopLemmas
 pub mod WholeLemmas
 pub mod AliasedLookups
+pub mod Narrow

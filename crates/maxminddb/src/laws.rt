@@ -4,7 +4,7 @@ ghost use Rattle.maxminddb.specs.Source.{SourceDecides};
 ghost use Rattle.maxminddb.specs.Metadata.{metadata_datum};
 ghost use Rattle.maxminddb.specs.Laws.{LeavesAreDisjoint, EachAddressHasOneLeaf, EachAddressIsAnswered, AnswersAreUnique, SameLeafSameAnswer, NetworkHoldsAddress, Ipv4WithoutSubtree};
 ghost use Rattle.maxminddb.specs.Agreement.{ItemsAgree};
-ghost use Rattle.maxminddb.specs.WholeLaws.{StopsAreExact, OffsetsAreExact, LookupsSucceed, AnsweredOffsetsAreWalked, WholeFilesAnswer, GoesOnAsIpv4, AliasesEndAsIpv4};
+ghost use Rattle.maxminddb.specs.WholeLaws.{FewPositionsWait, FewStopsAreTaken, StopsAreExact, OffsetsAreExact, LookupsSucceed, AnsweredOffsetsAreWalked, WholeFilesAnswer, GoesOnAsIpv4, AliasesEndAsIpv4};
 ghost use Rattle.maxminddb.specs.ListingLaws.{RangeWalkLists, ListingsAreUnique, WholeWalkListsAll, ListedAgrees};
 
 use crate::metadata::Metadata;
@@ -82,6 +82,13 @@ pub fn metadata_equal_where_same()
 pub fn walk_stops()
     ensures stops { StopsAreExact }
     ensures offsets { OffsetsAreExact }
+{}
+
+/// While such a walk is under way at most 129 positions wait, and it takes at most one stop more than three for
+/// each node.
+pub fn few_positions_wait()
+    ensures wait { FewPositionsWait }
+    ensures stops { FewStopsAreTaken }
 {}
 
 /// In a tree none of whose walked leaves is faulty every lookup succeeds, behind aliases too; and in a whole
