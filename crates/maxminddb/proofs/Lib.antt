@@ -21,3 +21,11 @@ pub mod ListingLemmas
 pub mod AgreementLemmas
 pub mod EqualityLemmas
 pub mod RecordLemmas
+pub mod HighBits
+pub mod Visits
+pub mod Points
+pub mod Progress
+pub mod StopLemmas
+pub mod WholeLemmas
+pub mod AliasedLookups
+pub mod Narrow

@@ -25,3 +25,7 @@ pub mod Enumeration
 pub mod ListingLaws
 pub mod Findings
 pub mod Agreement
+pub mod Stops
+pub mod Walked
+pub mod Whole
+pub mod WholeLaws

@@ -4,6 +4,7 @@ ghost use Rattle.maxminddb.specs.Source.{SourceDecides};
 ghost use Rattle.maxminddb.specs.Metadata.{metadata_datum};
 ghost use Rattle.maxminddb.specs.Laws.{LeavesAreDisjoint, EachAddressHasOneLeaf, EachAddressIsAnswered, AnswersAreUnique, SameLeafSameAnswer, NetworkHoldsAddress, Ipv4WithoutSubtree};
 ghost use Rattle.maxminddb.specs.Agreement.{ItemsAgree};
+ghost use Rattle.maxminddb.specs.WholeLaws.{FewPositionsWait, FewStopsAreTaken, StopsAreExact, OffsetsAreExact, LookupsSucceed, AnsweredOffsetsAreWalked, WholeFilesAnswer, GoesOnAsIpv4, AliasesEndAsIpv4};
 ghost use Rattle.maxminddb.specs.ListingLaws.{RangeWalkLists, ListingsAreUnique, WholeWalkListsAll, ListedAgrees};
 
 use crate::metadata::Metadata;
@@ -16,10 +17,11 @@ pub use mmdb_net::laws::networks_equal_where_same;
 pub use mmdb_value::laws::{
     answer_is_whole_value, answer_is_within_limits, any_value_is_exact, how_containers_are_read,
     how_owned_bytes_are_read, how_scalars_are_read, how_small_numbers_are_read,
-    list_is_what_stands, one_tree_unfolds, one_value_stands, owned_bytes_equal_where_same,
-    record_is_what_stands, same_offset_same_result, scalar_is_what_stands,
-    scalars_equal_where_same, scalars_unfold, skipping_is_passing, small_number_is_what_stands,
-    table_is_what_stands, text_map_is_what_stands, value_is_what_stands, values_bounded,
+    list_is_what_stands, no_place_is_met_again, one_tree_unfolds, one_value_stands, order_is_free,
+    owned_bytes_equal_where_same, record_is_what_stands, same_offset_same_result,
+    scalar_is_what_stands, scalars_equal_where_same, scalars_unfold, skipping_is_passing,
+    small_number_is_what_stands, table_is_what_stands, text_map_is_what_stands,
+    value_is_what_stands, values_bounded,
     values_equal_where_same,
 };
 
@@ -78,4 +80,33 @@ pub fn items_agree_with_lookups()
 pub fn metadata_equal_where_same()
     ensures options { IsEqualityOf ⟦<WithinOptions as PartialEq>⟧.eq (λ options. options) }
     ensures metadata { IsEqualityOf ⟦<Metadata as PartialEq>⟧.eq metadata_datum }
+{}
+
+/// The stops of a walk over the whole tree are exactly the topmost aliases and the leaves behind no alias,
+/// ascending, each once, and their offsets are those of the values of these leaves.
+pub fn walk_stops()
+    ensures stops { StopsAreExact }
+    ensures offsets { OffsetsAreExact }
+{}
+
+/// While such a walk is under way at most 129 positions wait, and it takes at most one stop more than three for
+/// each node.
+pub fn few_positions_wait()
+    ensures wait { FewPositionsWait }
+    ensures stops { FewStopsAreTaken }
+{}
+
+/// In a tree none of whose walked leaves is faulty every lookup succeeds, behind aliases too; and in a whole
+/// file a tree of valid texts unfolds at each offset that a lookup answers.
+pub fn whole_file_answers()
+    ensures lookups { LookupsSucceed }
+    ensures offsets { AnsweredOffsetsAreWalked }
+    ensures whole { WholeFilesAnswer }
+{}
+
+/// Behind an alias the walk goes on as where IPv4 begins; behind one of at most 96 bits it ends within 32
+/// bits on a leaf that leads where a walked leaf of IPv4 does.
+pub fn aliases_lead_to_ipv4()
+    ensures goes_on { GoesOnAsIpv4 }
+    ensures ends { AliasesEndAsIpv4 }
 {}

@@ -15,6 +15,8 @@ mod source;
 mod steps;
 mod table;
 pub mod tree;
+mod verify;
+mod walked;
 mod walking;
 
 pub use lookup_result::LookupResult;
@@ -24,9 +26,10 @@ pub use mmdb_net as geonet;
 pub use mmdb_net::{IpNetwork, IpNetworkError, Ipv4Network, Ipv6Network, mask_ip};
 pub use mmdb_value as values;
 pub use mmdb_value::{
-    Decode, DecodeResult, Decoder, Double, Entries, Float, Items, Kind, MaxMindDbError, OwnedBytes,
-    RawValue, Value, decoding, decoding_at, decoding_at_path, empty_container, fuzzing as fuzzing,
-    invalid_database, invalid_database_at, invalid_input, resource_limit_at,
+    Checked, Decode, DecodeResult, Decoder, Double, Entries, Float, Items, Kind, MaxMindDbError,
+    OwnedBytes, RawValue, Value, check_value, decoding, decoding_at, decoding_at_path,
+    empty_container, fuzzing as fuzzing, invalid_database, invalid_database_at, invalid_input,
+    resource_limit_at,
 };
 pub use options::WithinOptions;
 pub use reader::Reader;

@@ -51,7 +51,7 @@ impl Range {
 }
 
 // The error for a database that is not as its format says.
-fn invalid(text: Text) -> MaxMindDbError
+pub(crate) fn invalid(text: Text) -> MaxMindDbError
     ensures { kind_of result ≡ OfDatabase }
 {
     MaxMindDbError::InvalidDatabase {

@@ -41,6 +41,22 @@ mutual
 abbrev pub OneTreeUnfolds : Type 0
 OneTreeUnfolds = (s : List ℕ) (p : ℕ) (t u : Tree) (q r : ℕ) → Unfolds s p t q → Unfolds s p u r → (t ≡ u) × (q ≡ r)
 
+-- the greatest number of containers and pointers on a way down, the pointers of keys too
+abbrev mutual
+  pub levels : Tree → ℕ
+  levels (scalar c) = 0
+  levels (array ts) = suc (trees_all_levels ts)
+  levels (table ps) = suc (pairs_all_levels ps)
+  levels (pointer a t) = suc (levels t)
+
+  pub trees_all_levels : Trees → ℕ
+  trees_all_levels no_trees = 0
+  trees_all_levels (tree t ts) = max (levels t) (trees_all_levels ts)
+
+  pub pairs_all_levels : Pairs → ℕ
+  pairs_all_levels no_pairs = 0
+  pairs_all_levels (pair k v ps) = max (levels k) (max (levels v) (pairs_all_levels ps))
+
 -- the greatest number of containers and pointers on a way down, the pointers of keys left out
 abbrev mutual
   pub levels_without_key_pointers : Tree → ℕ

@@ -26,13 +26,18 @@ pub(crate) enum Command<'a> {
         range: IpNetwork,
         options: WithinOptions,
     },
+    /// Whether the file is whole.
+    Verify {
+        file: &'a str,
+    },
 }
 
 impl<'a> Command<'a> {
     /// The path of the file that it reads.
     pub(crate) fn file(&self) -> &'a str {
         match *self {
-            Command::Lookup { file, .. } | Command::List { file, .. } => file,
+            Command::Lookup { file, .. } | Command::List { file, .. } | Command::Verify { file } =>
+                file,
         }
     }
 }
@@ -98,6 +103,9 @@ pub(crate) fn command_of(words: &[String]) -> Option<Command<'_>> {
         [command, file, range, options @ ..] if command.as_str() == "list" => {
             list_of(file.as_str(), range.as_str(), options)
         }
+        [command, file] if command.as_str() == "verify" => Some(Command::Verify {
+            file: file.as_str(),
+        }),
         _ => None,
     }
 }

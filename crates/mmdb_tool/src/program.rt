@@ -16,6 +16,9 @@ const REFUSED: u8 = 1;
 /// The status of words that are no command.
 const BAD_WORDS: u8 = 2;
 
+/// What is said of a file that is whole.
+const WHOLE: &str = "ok\n";
+
 /// The text of a refusal that there is no memory to print.
 const NO_MEMORY: &str = "out of memory\n";
 
@@ -75,6 +78,10 @@ fn answer<S: AsSlice<u8> + Drop, O: Sink>(
             range,
             options,
         } => list_to(alloc, &reader, range, options, out)?,
+        Command::Verify { file: _ } => {
+            reader.verify(alloc)?;
+            put_all(out, WHOLE.as_bytes())?;
+        }
     }
     Ok(())
 }

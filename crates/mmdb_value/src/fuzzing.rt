@@ -1,4 +1,4 @@
-//! Decoding from the beginning of a section.
+//! Decoding from the beginning of a section, and the check of its first value.
 ghost use Rattle.std.specs.Prelude.{◌≡◌, IfOk, IfErr, true, false};
 ghost use Rattle.mmdb_format.specs.Error.{MemoryApart};
 ghost use Rattle.mmdb_format.specs.Unfolding.{Tree};
@@ -8,6 +8,7 @@ ghost use Rattle.mmdb_value.specs.RawValues.{raw_tree};
 
 use crate::any_value::Value;
 use crate::raw_value::RawValue;
+pub use mmdb_check::fuzzing::verify;
 pub use mmdb_decode::fuzzing::decode;
 use mmdb_format::error::DecodeResult;
 use std::alloc::Global;

@@ -9,6 +9,7 @@ ghost use Rattle.mmdb_format.specs.Equality.{IsEqualityOf};
 
 use crate::any_value::Value;
 use crate::raw_value::RawValue;
+pub use mmdb_check::laws::{no_place_is_met_again, order_is_free};
 use mmdb_decode::decode::Decode;
 pub use mmdb_decode::laws::{
     answer_is_within_limits, how_containers_are_read, how_owned_bytes_are_read,

@@ -1,16 +1,17 @@
-//! The values of a MaxMind DB file: any value read whole, and what `mmdb_format` and `mmdb_decode` have
-//! for users.
+//! The values of a MaxMind DB file: any value read whole, and what `mmdb_format`, `mmdb_check` and
+//! `mmdb_decode` have for users.
 #![tactic(auto)]
 
 pub mod any_value;
 
-/// Decoding from the beginning of a section.
+/// Decoding from the beginning of a section, and the check of its first value.
 pub mod fuzzing;
 pub mod laws;
 pub mod raw_value;
 pub mod shared;
 
 pub use any_value::Value;
+pub use mmdb_check::checked::{Checked, check_value};
 pub use mmdb_decode::decode::{Decode, OwnedBytes};
 pub use mmdb_decode::decoder::Decoder;
 pub use mmdb_decode::items::{Entries, Items};

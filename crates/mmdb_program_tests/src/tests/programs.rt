@@ -1,6 +1,6 @@
 //! The program's words, and the files that it opens.
 use super::runs::{assert_done, assert_done_with};
-use mmdb_vectors::builder::base_file;
+use mmdb_vectors::builder::{BASE, BASE_NODE, base_file, base_with_node, file};
 use mmdb_vectors::file::OneFile;
 use std::test::Fail;
 use std::{fs, io};
@@ -28,6 +28,7 @@ const RUN: &[(&[&str], u8, &str, &str)] = &[
         "",
         "invalid input: cannot iterate IPv6 network in IPv4-only database\n",
     ),
+    (&["verify", "here.mmdb"], 0, "ok\n", ""),
 ];
 
 /// Words that are no command: no file is opened, and that of most is missing.
@@ -49,6 +50,7 @@ const BAD: &[&[&str]] = &[
     &["", "lookup", "gone.mmdb", "1.1.1.1"],
     &["verify"],
     &["verify", "gone.mmdb", "extra"],
+    &["VERIFY", "gone.mmdb"],
     &["list", "gone.mmdb"],
     &["list", "gone.mmdb", "x"],
     &["list", "--empty", "gone.mmdb", "0.0.0.0/0"],
@@ -143,8 +145,30 @@ fn refused_files(rt: HostRuntime) -> Result<(), Fail> {
             &["lookup", path, "1.1.1.1"],
             (1, "", text),
         )?;
+        assert_done(&rt, alloc, &files, &["verify", path], (1, "", text))?;
     }
     assert_done_with(&rt, alloc, b"", &FOUND, (1, "", no_marker))
+}
+
+#[test]
+fn damaged_files(rt: HostRuntime) -> Result<(), Fail> {
+    let alloc = rt.alloc();
+    let nowhere = base_with_node(alloc, b"\x00\x00\x10\x00\x00\x11")?;
+    let cyclic = file(alloc, BASE_NODE, b"\x20\x00", BASE)?;
+    for (bytes, text) in [
+        (
+            &nowhere,
+            "invalid database: the MaxMind DB file's data pointer resolves to an invalid location\n",
+        ),
+        (
+            &cyclic,
+            "invalid database at offset 22: cyclic data pointer references offset 0\n",
+        ),
+    ] {
+        let words = ["verify", "here.mmdb"];
+        assert_done_with(&rt, alloc, bytes.as_slice(), &words, (1, "", text))?;
+    }
+    Ok(())
 }
 
 #[test]

@@ -1,0 +1,14 @@
+pub mod Inlines
+pub mod Trees
+pub mod Unfoldings
+pub mod Owned
+pub mod Sums
+pub mod Marks
+pub mod Passing
+pub mod Accepting
+pub mod Steps
+pub mod Costs
+pub mod Checks
+pub mod Several
+pub mod Members
+pub mod LawLemmas

@@ -1,0 +1,6 @@
+pub mod Checking
+pub mod Inline
+pub mod Values
+pub mod Memory
+pub mod Places
+pub mod Laws

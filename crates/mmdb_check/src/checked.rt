@@ -1,0 +1,104 @@
+//! A check with a memory.
+ghost use Rattle.std.specs.Prelude.{◌≡◌, ◌↔◌, ℕ, ◌-◌, ◌*◌, length, IfOk, IfErr, OnOk, OnErr, IsOk, map, leb, true, false};
+ghost use Rattle.mmdb_format.specs.Error.{OfInput, OfMemory, kind_of, IsRefusedAs};
+ghost use Rattle.mmdb_check.specs.Checking.{Seen, holds, IsAllowed, CanAdd, Added, Costs};
+ghost use Rattle.mmdb_check.specs.Memory.{Ready};
+
+use crate::work::{Refusal, UNSEEN, Work};
+use mmdb_format::error::MaxMindDbError;
+use mmdb_format::fault::Fault;
+use mmdb_format::message::{Message, Text};
+use std::alloc::Global;
+use std::marker::Model;
+
+/// A section of a file, and the places in it that were found good.
+///
+/// A place is good whose value is a finite tree of valid texts, at most 128 containers and pointers deep, and
+/// whose pointers lead to good places alone. Each good place costs its own values: one for each value and
+/// pointer that stands there under no pointer, and one for each byte of a text among them. Together they may
+/// cost eight times the section's length.
+#[derive(Drop)]
+pub struct Checked<'s> {
+    work: Work<'s>,
+    failed: bool,
+}
+
+impl<'s> Model for Checked<'s> {
+    ghost Value = { Seen };
+
+    ghost view = { λ c. record { section = c.work.section.now; good = map (leb 2) c.work.marks.items; charged = 8 * length c.work.section.now - c.work.left; failed = c.failed } };
+
+    ghost invariant = { λ c. c.failed ≡ false → Ready c.work.section.now c.work.marks.items c.work.left };
+}
+
+impl<'s> Checked<'s> {
+    /// A check of this section, no place of which is good yet. It takes a byte of memory for each byte of the
+    /// section, and is refused, as `Memory`, only where there is none.
+    pub fn new(alloc: Global, section: &'s [u8]) -> Result<Checked<'s>, MaxMindDbError>
+        ensures section { IfOk result (λ c. c.section ≡ section.now) }
+        ensures none { IfOk result (λ c. (q : ℕ) → holds c.good q ≡ false) }
+        ensures charged { IfOk result (λ c. c.charged ≡ 0) }
+        ensures going { IfOk result (λ c. c.failed ≡ false) }
+        ensures memory { IfErr result (λ e. kind_of e ≡ OfMemory) }
+    {
+        let marks = vec![in alloc; UNSEEN; section.len()]?;
+        let left = 8 * section.len() as u128;
+        Ok(Checked {
+            work: Work {
+                section,
+                marks,
+                left,
+                refusal: Refusal {
+                    fault: Fault::EndOfBuffer,
+                    place: 0,
+                },
+            },
+            failed: false,
+        })
+    }
+}
+
+/// Checks the value at a place, and all that it leads to: keys may be of any type, and pointers may lead to
+/// pointers.
+///
+/// It succeeds, whatever memory there is, exactly where no check was refused before, the value can be found
+/// good, and the good places that would result keep the allowance. Refused are, as `InvalidDatabase`, a value
+/// that can't be read, a text that is not UTF-8, a pointer to a place under check and more than 128 levels; as
+/// `ResourceLimit` more work than is allowed; as `InvalidInput`, and nothing else is, every check after a
+/// refusal. `Memory` takes the place of a refusal whose text finds none. Offsets count from the section's start.
+pub fn check_value(alloc: Global, c: &mut Checked, place: usize) -> Result<(), MaxMindDbError>
+    ensures section { c.new.section ≡ c.old.section }
+    ensures exact { IsOk result ↔ ((c.old.failed ≡ false) × CanAdd c.old.section (holds c.old.good) place) }
+    ensures ok { OnOk result (Added c.old.section (holds c.old.good) (holds c.new.good) place) }
+    ensures charged { OnOk result (Costs c.new.section (holds c.new.good) c.new.charged) }
+    ensures going { OnOk result (c.new.failed ≡ false) }
+    ensures err { OnErr result (c.new.failed ≡ true) }
+    ensures after_err { IsRefusedAs OfInput result ↔ (c.old.failed ≡ true) }
+{
+    if c.failed {
+        return Err(MaxMindDbError::InvalidInput {
+            message: Message::Fixed(Text::AlreadyFailed),
+        });
+    }
+    c.failed = true;
+    match c.work.target(place, 0) {
+        Ok(_) => {
+            c.failed = false;
+            Ok(())
+        }
+        Err(_) => {
+            let refusal = c.work.refusal;
+            Err(refusal.fault.refusal(alloc, refusal.place))
+        }
+    }
+}
+
+impl Checked<'_> {
+    // The good places keep the allowance.
+    pub(crate) fn keeps_allowance(&self)
+        requires { self.now.failed ≡ false }
+        ensures { IsAllowed self.now.section (holds self.now.good) }
+    {
+        let _failed = self.failed;
+    }
+}

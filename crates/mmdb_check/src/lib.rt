@@ -1,0 +1,10 @@
+//! The check of a value and of all that it leads to, with a memory of the places that were found good.
+#![tactic(auto)]
+
+pub mod checked;
+/// The check of a section's first value.
+pub mod fuzzing;
+mod inline;
+pub mod laws;
+pub mod places;
+mod work;

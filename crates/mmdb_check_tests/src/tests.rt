@@ -1,0 +1,8 @@
+//! What no clause says: worked rows over public calls, printed texts, and want of memory.
+//!
+//! The place in a refusal is that of the value that is refused; of a pointer to a place under check, or past the
+//! section, it is the place to which the pointer leads.
+mod checks;
+mod hostile;
+mod memory;
+mod sections;
