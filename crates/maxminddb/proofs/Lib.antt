@@ -21,3 +21,5 @@ pub mod ListingLemmas
 pub mod AgreementLemmas
 pub mod EqualityLemmas
 pub mod RecordLemmas
+pub mod PathLemmas
+pub mod PartLemmas
