@@ -29,3 +29,5 @@ pub mod StopLemmas
 pub mod WholeLemmas
 pub mod AliasedLookups
 pub mod Narrow
+pub mod PathLemmas
+pub mod PartLemmas

@@ -13,6 +13,9 @@ pub mod Laws
 pub mod MetadataShape
 pub mod Source
 pub mod Decoding
+pub mod Selecting
+pub mod PathText
+pub mod Parts
 pub mod Alias
 pub mod Options
 pub mod Empty

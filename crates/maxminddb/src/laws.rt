@@ -1,14 +1,19 @@
-//! Laws of leaves and answers, each the contract of a function that does nothing.
+//! Laws of leaves, answers and paths, each the contract of a function that does nothing.
+ghost use Rattle.std.specs.Prelude.{◌↔◌, IsTrue};
 ghost use Rattle.mmdb_format.specs.Equality.{IsEqualityOf};
 ghost use Rattle.maxminddb.specs.Source.{SourceDecides};
 ghost use Rattle.maxminddb.specs.Metadata.{metadata_datum};
 ghost use Rattle.maxminddb.specs.Laws.{LeavesAreDisjoint, EachAddressHasOneLeaf, EachAddressIsAnswered, AnswersAreUnique, SameLeafSameAnswer, NetworkHoldsAddress, Ipv4WithoutSubtree};
 ghost use Rattle.maxminddb.specs.Agreement.{ItemsAgree};
 ghost use Rattle.maxminddb.specs.WholeLaws.{FewPositionsWait, FewStopsAreTaken, StopsAreExact, OffsetsAreExact, LookupsSucceed, AnsweredOffsetsAreWalked, WholeFilesAnswer, GoesOnAsIpv4, AliasesEndAsIpv4};
+ghost use Rattle.maxminddb.specs.Parts.{PathSelects, PathLeadsNowhere};
+ghost use Rattle.maxminddb.specs.Selecting.{IsSameStep};
+ghost use Rattle.maxminddb.specs.declared.path.PathElement.{PathElement as SpecPathElement};
 ghost use Rattle.maxminddb.specs.ListingLaws.{RangeWalkLists, ListingsAreUnique, WholeWalkListsAll, ListedAgrees};
 
 use crate::metadata::Metadata;
 use crate::options::WithinOptions;
+use crate::path::PathElement;
 pub use mmdb_geoip2::laws::{
     empty_means_absent, how_records_are_read, record_clones_say_same, record_clones_take_no_memory,
     record_defaults_say_nothing, records_equal_where_same,
@@ -109,4 +114,16 @@ pub fn whole_file_answers()
 pub fn aliases_lead_to_ipv4()
     ensures goes_on { GoesOnAsIpv4 }
     ensures ends { AliasesEndAsIpv4 }
+{}
+
+/// Where a value unfolds to a tree and a path leads to a place, the tree has a part along the path, and that
+/// part unfolds at the place; where the path leads nowhere, the tree has no such part.
+pub fn path_selects()
+    ensures part { PathSelects }
+    ensures nowhere { PathLeadsNowhere }
+{}
+
+/// Steps of a path are equal exactly where they are of one kind and have the same index or spelling.
+pub fn steps_equal_where_same()
+    ensures { (a b : SpecPathElement) → IsTrue (⟦<PathElement<'static> as PartialEq>⟧.eq a b) ↔ IsSameStep a b }
 {}

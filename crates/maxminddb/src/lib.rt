@@ -9,8 +9,10 @@ pub mod metadata;
 mod metadata_fields;
 mod offsets;
 mod options;
+pub mod path;
 mod positions;
 pub mod reader;
+mod selecting;
 mod source;
 mod steps;
 mod table;
@@ -32,6 +34,7 @@ pub use mmdb_value::{
     resource_limit_at,
 };
 pub use options::WithinOptions;
+pub use path::{PathElement, render_path};
 pub use reader::Reader;
 pub use steps::Steps;
 pub use tree::read_node;

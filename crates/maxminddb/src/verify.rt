@@ -21,16 +21,19 @@ use mmdb_format::message::{Message, Text};
 use std::alloc::{AllocError, Global};
 use std::convert::AsSlice;
 
+fn too_many_stops_text(alloc: Global, most: usize) -> Result<Message, AllocError> {
+    Message::of_text(alloc, format!(in alloc;
+        "search tree appears to have a cycle or invalid structure (exceeded {most} iterations)"
+    )?)
+}
+
 // The error for a tree whose walk stops more often than allowed.
 fn too_many_stops(alloc: Global, most: usize) -> MaxMindDbError
     ensures { IsOfOrMemory OfDatabase result }
 {
-    let text: Result<String, AllocError> = format!(in alloc;
-        "search tree appears to have a cycle or invalid structure (exceeded {most} iterations)"
-    );
-    match text {
-        Ok(text) => MaxMindDbError::InvalidDatabase {
-            message: Message::Made(text),
+    match too_many_stops_text(alloc, most) {
+        Ok(message) => MaxMindDbError::InvalidDatabase {
+            message,
             offset: None,
         },
         Err(_) => MaxMindDbError::Memory,

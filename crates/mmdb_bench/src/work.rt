@@ -2,7 +2,7 @@
 
 use crate::subject::{Subject, node_count};
 use maxminddb::geoip2::{City, Country};
-use maxminddb::{LookupResult, MaxMindDbError, Reader, Value, WithinOptions};
+use maxminddb::{LookupResult, MaxMindDbError, Reader, Value, WithinOptions, path};
 use std::alloc::Global;
 use std::net::IpAddr;
 
@@ -17,6 +17,7 @@ pub(crate) enum Work {
     LookupIpv6,
     DecodeCity,
     DecodeCountry,
+    PathIsoCode,
     DecodeValue,
     Walk,
     WalkNetwork,
@@ -26,7 +27,7 @@ pub(crate) enum Work {
 
 impl Work {
     /// All pieces of work, in the order in which they are done.
-    pub(crate) const ALL: [Work; 12] = [
+    pub(crate) const ALL: [Work; 13] = [
         Work::LoadFile,
         Work::LoadFromMemory,
         Work::LookupIpv4,
@@ -34,6 +35,7 @@ impl Work {
         Work::LookupIpv6,
         Work::DecodeCity,
         Work::DecodeCountry,
+        Work::PathIsoCode,
         Work::DecodeValue,
         Work::Walk,
         Work::WalkNetwork,
@@ -51,6 +53,7 @@ impl Work {
             Work::LookupIpv6 => "lookup_v6",
             Work::DecodeCity => "lookup_decode_city",
             Work::DecodeCountry => "lookup_decode_country",
+            Work::PathIsoCode => "lookup_path_iso_code",
             Work::DecodeValue => "lookup_decode_value",
             Work::Walk => "networks_walk",
             Work::WalkNetwork => "networks_walk_network",
@@ -63,7 +66,7 @@ impl Work {
     pub(crate) fn suits(self, subject: &Subject<'_>) -> bool {
         match self {
             Work::LookupIpv6 => !subject.ipv6.is_empty(),
-            Work::DecodeCity | Work::DecodeCountry => subject.has_places(),
+            Work::DecodeCity | Work::DecodeCountry | Work::PathIsoCode => subject.has_places(),
             _ => true,
         }
     }
@@ -73,7 +76,7 @@ impl Work {
         match self {
             Work::LookupIpv4 | Work::LookupIpv4Network => Some(subject.ipv4.len()),
             Work::LookupIpv6 => Some(subject.ipv6.len()),
-            Work::DecodeCity | Work::DecodeCountry | Work::DecodeValue => {
+            Work::DecodeCity | Work::DecodeCountry | Work::PathIsoCode | Work::DecodeValue => {
                 Some(subject.fewer().len())
             }
             _ => None,
@@ -97,6 +100,7 @@ impl Work {
             Work::LookupIpv6 => lookups(reader, subject.ipv6.as_slice()),
             Work::DecodeCity => decode_cities(alloc, reader, subject.fewer()),
             Work::DecodeCountry => decode_countries(alloc, reader, subject.fewer()),
+            Work::PathIsoCode => path_iso_codes(alloc, reader, subject.fewer()),
             Work::DecodeValue => decode_values(alloc, reader, subject.fewer()),
             Work::Walk => walk(alloc, reader, options),
             Work::WalkNetwork => walk_networks(alloc, reader, options),
@@ -189,6 +193,23 @@ fn decode_countries(
         let country: Option<Country<'_>> = reader.lookup(address)?.decode(alloc)?;
         if let Some(country) = &country {
             sum = sum.wrapping_add(country_term(country));
+        }
+    }
+    Ok(sum)
+}
+
+// How long the codes of the countries are.
+fn path_iso_codes(
+    alloc: Global,
+    reader: &Reader<Vec<u8>>,
+    addresses: &[IpAddr],
+) -> Result<u64, MaxMindDbError> {
+    let path = path!["country", "iso_code"];
+    let mut sum = 0u64;
+    for &address in addresses {
+        let code: Option<&str> = reader.lookup(address)?.decode_path(alloc, &path)?;
+        if let Some(code) = code {
+            sum = sum.wrapping_add(code.len() as u64);
         }
     }
     Ok(sum)

@@ -8,6 +8,7 @@ pub mod MapLaws
 pub mod RecordLaws
 pub mod LevelLaws
 pub mod SkipLaws
+pub mod SelectLaws
 pub mod PassingLaws
 pub mod LimitLaws
 pub mod PairLaws

@@ -8,6 +8,7 @@ ghost use Rattle.mmdb_decode.specs.Peeking.{kind_at};
 mod containers;
 mod keys;
 mod scalars;
+mod selecting;
 mod skipping;
 mod stepping;
 

@@ -41,6 +41,7 @@ pub fn same_offset_same_result<'de, T: Decode<'de>>()
 {}
 
 /// What a decoder under a budget has charged never passes the limits, after a refusal too.
+#[inline(always)]
 pub fn values_bounded(d: &Decoder<'_>)
     ensures { Within d.now.budget }
 {

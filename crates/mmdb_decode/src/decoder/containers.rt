@@ -16,7 +16,7 @@ use std::alloc::Global;
 
 impl<'de> Decoder<'de> {
     #[inline(always)]
-    fn enter_array(&mut self) -> Result<Items, Fault>
+    pub(super) fn enter_array(&mut self) -> Result<Items, Fault>
         ensures { Takes (λ items. items) (entered_array self.old) self.old self.new result }
     {
         let at = container_at(self.section, self.place, self.levels, ARRAY)?;
@@ -112,7 +112,7 @@ impl<'de> Decoder<'de> {
     }
 
     #[inline(always)]
-    fn enter_map(&mut self) -> Result<Entries, Fault>
+    pub(super) fn enter_map(&mut self) -> Result<Entries, Fault>
         ensures { Takes (λ entries. entries) (entered_map self.old) self.old self.new result }
     {
         let at = container_at(self.section, self.place, self.levels, MAP)?;

@@ -39,7 +39,11 @@ impl<'de> Decoder<'de> {
 
     // The next key, where one is left.
     #[inline(always)]
-    fn step_key(&mut self, entries: &mut Entries, free: usize) -> Result<Option<&'de [u8]>, Fault>
+    pub(super) fn step_key(
+        &mut self,
+        entries: &mut Entries,
+        free: usize,
+    ) -> Result<Option<&'de [u8]>, Fault>
         ensures key { NextKey (key_past free) self.old self.new entries.old entries.new result }
         ensures rest { entries.new ≡ with_pairs_left (pairs_left entries.new) entries.old }
     {

@@ -14,7 +14,7 @@ use mmdb_format::kind::{ARRAY, MAP};
 use std::alloc::Global;
 
 /// At most so many containers nest in a value that is skipped.
-const MAX_NESTED: u16 = 128;
+pub(super) const MAX_NESTED: u16 = 128;
 
 impl<'de> Decoder<'de> {
     /// Passes one inline value. A container's parts are charged; pointers are not followed, and texts
@@ -49,7 +49,7 @@ impl<'de> Decoder<'de> {
     }
 
     // Passes one inline value, whose containers nest at most so deep.
-    fn pass(&mut self, nested: u16) -> Result<(), Fault>
+    pub(super) fn pass(&mut self, nested: u16) -> Result<(), Fault>
         ensures { Takes (λ x. tt) (decoded false (skip_within nested) self.old) self.old self.new result }
     {
         self.stays_within();

@@ -1,0 +1,116 @@
+//! Steps of a path: from a map or an array to one of its values.
+ghost use Rattle.std.specs.Prelude.{◌≡◌, Option, Some, None, Bool, true, false};
+ghost use Rattle.mmdb_decode.specs.Maps.{pairs_left, with_pairs_left};
+ghost use Rattle.mmdb_decode.specs.Refusal.{Takes};
+ghost use Rattle.mmdb_decode.specs.Selecting.{to_key as spec_to_key, to_element as spec_to_element, from_front, from_end, at_key, at_element};
+ghost use Rattle.mmdb_decode.specs.Skipping.{passes, skip_at};
+ghost use Rattle.mmdb_decode.specs.State.{decoded};
+
+use super::Decoder;
+use super::skipping::MAX_NESTED;
+use crate::items::Entries;
+use crate::record::named;
+use mmdb_format::fault::Fault;
+
+impl<'de> Decoder<'de> {
+    /// Goes to the value of the first pair of the map at the place whose key has these bytes, on the same
+    /// level, and tells whether there is one. Takes no memory.
+    ///
+    /// The map's keys and values are charged, and the bytes of each key up to that one; the values before
+    /// it are skipped. Refused where no map stands there, directly or behind one pointer.
+    #[inline(always)]
+    pub fn go_to_key(&mut self, key: &str) -> Result<bool, Fault>
+        ensures { Takes (λ b. b) (decoded true (at_key key.now) self.old) self.old self.new result }
+    {
+        let mut entries = self.enter_map()?;
+        let found = self.to_key(&mut entries, key);
+        entries.give_up(self);
+        found
+    }
+
+    /// Goes to an element of the array at the place, counted from its front, on the same level, and tells
+    /// whether there is one. Takes no memory.
+    ///
+    /// The array's elements are charged; those before that one are skipped, where it is there. Refused
+    /// where no array stands there, directly or behind one pointer.
+    #[inline(always)]
+    pub fn go_to_index(&mut self, index: usize) -> Result<bool, Fault>
+        ensures { Takes (λ b. b) (decoded true (at_element (from_front index)) self.old) self.old self.new result }
+    {
+        let items = self.enter_array()?;
+        let found = self.to_element(front_place(index, items.remaining));
+        items.give_up(self);
+        found
+    }
+
+    /// The same, counted from the array's end: 0 is the last element.
+    #[inline(always)]
+    pub fn go_to_index_from_end(&mut self, index: usize) -> Result<bool, Fault>
+        ensures { Takes (λ b. b) (decoded true (at_element (from_end index)) self.old) self.old self.new result }
+    {
+        let items = self.enter_array()?;
+        let found = self.to_element(end_place(index, items.remaining));
+        items.give_up(self);
+        found
+    }
+
+    // Goes to the value of the first pair left whose key has these bytes.
+    #[inline(always)]
+    fn to_key(&mut self, entries: &mut Entries, key: &str) -> Result<bool, Fault>
+        ensures found { Takes (λ b. b) (decoded false (spec_to_key key.now (pairs_left entries.old)) self.old) self.old self.new result }
+        ensures rest { entries.new ≡ with_pairs_left (pairs_left entries.new) entries.old }
+    {
+        while let Some(name) = self.step_key(entries, 0)? {
+            if named(name, key) {
+                self.stays_within();
+                return Ok(true);
+            }
+            self.pass(MAX_NESTED)?;
+        }
+        Ok(false)
+    }
+
+    // Goes to the element before which so many stand.
+    #[inline(always)]
+    fn to_element(&mut self, before: Option<usize>) -> Result<bool, Fault>
+        ensures { Takes (λ b. b) (decoded false (spec_to_element before) self.old) self.old self.new result }
+    {
+        let Some(before) = before else {
+            self.stays_within();
+            return Ok(false);
+        };
+        self.pass_all(before)?;
+        Ok(true)
+    }
+
+    // Passes so many values.
+    fn pass_all(&mut self, count: usize) -> Result<(), Fault>
+        ensures { Takes (λ x. tt) (decoded false (passes skip_at count) self.old) self.old self.new result }
+    {
+        for _ in 0..count {
+            self.pass(MAX_NESTED)?;
+        }
+        self.stays_within();
+        Ok(())
+    }
+}
+
+// How many of the elements stand before the one that is counted from the front.
+#[inline(always)]
+fn front_place(index: usize, count: usize) -> Option<usize>
+    ensures { result ≡ from_front index count }
+{
+    if index < count { Some(index) } else { None }
+}
+
+// How many of the elements stand before the one that is counted from the end.
+#[inline(always)]
+fn end_place(index: usize, count: usize) -> Option<usize>
+    ensures { result ≡ from_end index count }
+{
+    if index < count {
+        Some(count - 1 - index)
+    } else {
+        None
+    }
+}
