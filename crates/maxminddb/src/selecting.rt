@@ -12,7 +12,7 @@ use mmdb_format::error::MaxMindDbError;
 use mmdb_format::fault::Fault;
 use mmdb_format::kind::Kind;
 use mmdb_format::message::Message;
-use std::alloc::Global;
+use std::alloc::{AllocError, Global};
 
 /// Why a step of a path was refused, and how many steps came before it.
 #[derive(Clone, Copy)]
