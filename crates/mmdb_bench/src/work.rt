@@ -22,11 +22,12 @@ pub(crate) enum Work {
     WalkNetwork,
     WalkEmpty,
     WalkSkipEmptyValues,
+    Verify,
 }
 
 impl Work {
     /// All pieces of work, in the order in which they are done.
-    pub(crate) const ALL: [Work; 12] = [
+    pub(crate) const ALL: [Work; 13] = [
         Work::LoadFile,
         Work::LoadFromMemory,
         Work::LookupIpv4,
@@ -39,6 +40,7 @@ impl Work {
         Work::WalkNetwork,
         Work::WalkEmpty,
         Work::WalkSkipEmptyValues,
+        Work::Verify,
     ];
 
     /// Its name, as the programs of `bench/` print it too.
@@ -56,6 +58,7 @@ impl Work {
             Work::WalkNetwork => "networks_walk_network",
             Work::WalkEmpty => "networks_walk_empty",
             Work::WalkSkipEmptyValues => "networks_walk_skip_empty_values",
+            Work::Verify => "verify",
         }
     }
 
@@ -102,6 +105,7 @@ impl Work {
             Work::WalkNetwork => walk_networks(alloc, reader, options),
             Work::WalkEmpty => walk(alloc, reader, options.include_networks_without_data()),
             Work::WalkSkipEmptyValues => walk(alloc, reader, options.skip_empty_values()),
+            Work::Verify => reader.verify(alloc).map(|()| 1),
         }
     }
 }
