@@ -23,6 +23,7 @@ pub(crate) enum Work {
     WalkNetwork,
     WalkEmpty,
     WalkSkipEmptyValues,
+    Verify,
 }
 
 impl Work {
@@ -41,6 +42,7 @@ impl Work {
         Work::WalkNetwork,
         Work::WalkEmpty,
         Work::WalkSkipEmptyValues,
+        Work::Verify,
     ];
 
     /// Its name, as the programs of `bench/` print it too.
@@ -59,6 +61,7 @@ impl Work {
             Work::WalkNetwork => "networks_walk_network",
             Work::WalkEmpty => "networks_walk_empty",
             Work::WalkSkipEmptyValues => "networks_walk_skip_empty_values",
+            Work::Verify => "verify",
         }
     }
 
@@ -106,6 +109,7 @@ impl Work {
             Work::WalkNetwork => walk_networks(alloc, reader, options),
             Work::WalkEmpty => walk(alloc, reader, options.include_networks_without_data()),
             Work::WalkSkipEmptyValues => walk(alloc, reader, options.skip_empty_values()),
+            Work::Verify => reader.verify(alloc).map(|()| 1),
         }
     }
 }

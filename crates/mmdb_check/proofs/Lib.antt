@@ -12,3 +12,4 @@ pub mod Checks
 pub mod Several
 pub mod Members
 pub mod LawLemmas
+pub mod Halting

@@ -2,5 +2,6 @@ pub mod Checking
 pub mod Inline
 pub mod Values
 pub mod Memory
+pub mod Halting
 pub mod Places
 pub mod Laws

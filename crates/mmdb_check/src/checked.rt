@@ -2,6 +2,7 @@
 ghost use Rattle.std.specs.Prelude.{◌≡◌, ◌↔◌, ℕ, ◌-◌, ◌*◌, length, IfOk, IfErr, OnOk, OnErr, IsOk, map, leb, true, false};
 ghost use Rattle.mmdb_format.specs.Error.{OfInput, OfMemory, kind_of, IsRefusedAs};
 ghost use Rattle.mmdb_check.specs.Checking.{Seen, holds, IsAllowed, CanAdd, Added, Costs};
+ghost use Rattle.mmdb_check.specs.Halting.{IsHalted};
 ghost use Rattle.mmdb_check.specs.Memory.{Ready};
 
 use crate::work::{Refusal, UNSEEN, Work};
@@ -73,6 +74,7 @@ pub fn check_value(alloc: Global, c: &mut Checked, place: usize) -> Result<(), M
     ensures charged { OnOk result (Costs c.new.section (holds c.new.good) c.new.charged) }
     ensures going { OnOk result (c.new.failed ≡ false) }
     ensures err { OnErr result (c.new.failed ≡ true) }
+    ensures halted { OnErr result (c.old.failed ≡ false → IsHalted c.new.section (holds c.new.good) c.new.charged) }
     ensures after_err { IsRefusedAs OfInput result ↔ (c.old.failed ≡ true) }
 {
     if c.failed {

@@ -1,0 +1,68 @@
+-- What a check had done when it was refused.
+use Rattle.std.specs.Prelude.{◌≡◌, ℕ, zero, suc, ◌+◌, ◌≤◌, List, [], ◌∷◌, Some, Bool, true, false, ◌||◌, ◌==◌}
+use Rattle.mmdb_check.specs.declared.inline.Inline.TheVariants.{Scalar, Parts, Pointer}
+use Rattle.mmdb_check.specs.Inline.{inline_at}
+use Rattle.mmdb_check.specs.Checking.{Costs}
+use Rattle.mmdb_check.specs.Values.{work_of}
+use Rattle.mmdb_check.specs.Memory.{mark, is_good, Sound}
+
+-- Of n values that stand one after the other from p, a part was passed in the order of the file: up to the place q,
+-- where so many values are still to come. It costs one for each value and pointer, and one for each byte of a text.
+pub data Passes : List ℕ → ℕ → ℕ → ℕ → ℕ → ℕ → Type 0 where
+  none_passed : {s : List ℕ} {p n : ℕ} → Passes s p n p n 0
+  scalar_passed : {s : List ℕ} {p n q left cost size end : ℕ} {valid : Bool} → Passes s p n q (suc left) cost → inline_at s q ≡ Some (Scalar size valid end) → Passes s p n end left (cost + suc size)
+  parts_passed : {s : List ℕ} {p n q left cost count start : ℕ} → Passes s p n q (suc left) cost → inline_at s q ≡ Some (Parts count start) → Passes s p n start (count + left) (cost + 1)
+  pointer_passed : {s : List ℕ} {p n q left cost target end : ℕ} → Passes s p n q (suc left) cost → inline_at s q ≡ Some (Pointer target end) → Passes s p n end left (cost + 1)
+
+abbrev pub CostOfPart : List ℕ → ℕ → ℕ → ℕ → Type 0
+CostOfPart s p n cost = (q : ℕ) × (left : ℕ) × Passes s p n q left cost
+
+-- a place under check, and what the part of its value cost that was passed
+pub record Part : Type 0 where
+  pub place : ℕ
+  pub cost : ℕ
+
+abbrev pub is_under : List Part → ℕ → Bool
+is_under [] q = false
+is_under (x ∷ parts) q = (q == x.place) || is_under parts q
+
+-- each stands once
+abbrev pub Once : List Part → Type 0
+Once [] = Unit {0}
+Once (x ∷ parts) = (is_under parts x.place ≡ false) × Once parts
+
+abbrev pub ArePassed : List ℕ → List Part → Type 0
+ArePassed s [] = Unit {0}
+ArePassed s (x ∷ parts) = CostOfPart s x.place 1 x.cost × ArePassed s parts
+
+abbrev pub parts_cost : List Part → ℕ
+parts_cost [] = 0
+parts_cost (x ∷ parts) = x.cost + parts_cost parts
+
+-- What was charged is the cost of the good places, and of the parts passed of the places under check, none of
+-- which is good.
+pub record IsHalted (s : List ℕ) (good : ℕ → Bool) (charged : ℕ) : Type 0 where
+  pub parts : List Part
+  pub passed : ArePassed s parts
+  pub once : Once parts
+  pub under : (q : ℕ) → is_under parts q ≡ true → good q ≡ false
+  pub cost : ℕ
+  pub good_cost : Costs s good cost
+  pub total : charged ≡ cost + parts_cost parts
+
+-- The same between two memories, where so much was charged that no place under check was charged for.
+pub record Halted (s m : List ℕ) (l cost : ℕ) (m' : List ℕ) (l' : ℕ) : Type 0 where
+  pub parts : List Part
+  pub passed : ArePassed s parts
+  pub once : Once parts
+  pub fresh : (q : ℕ) → is_under parts q ≡ true → mark m q ≡ 0
+  pub under : (q : ℕ) → is_under parts q ≡ true → mark m' q ≡ 1
+  pub kept : (q : ℕ) → 1 ≤ mark m q → mark m' q ≡ mark m q
+  pub sound : Sound s m'
+  pub spent : l' + (cost + parts_cost parts) + work_of s (is_good m') ≡ l + work_of s (is_good m)
+
+-- n values from p were being passed
+pub record Halts (s m : List ℕ) (l n p : ℕ) (m' : List ℕ) (l' : ℕ) : Type 0 where
+  pub cost : ℕ
+  pub part : CostOfPart s p n cost
+  pub rest : Halted s m l cost m' l'
