@@ -1,0 +1,6 @@
+//! Tests of the GeoIP2 records: each struct with all its fields, worked rows with printed texts, equality,
+//! and want of memory.
+#![tactic(auto)]
+
+#[cfg(test)]
+mod tests;

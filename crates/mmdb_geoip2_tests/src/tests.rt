@@ -1,0 +1,7 @@
+//! What no clause says: worked rows over public calls, printed texts, and want of memory.
+mod equalities;
+mod fields;
+mod laws;
+mod memory;
+mod rows;
+mod section;

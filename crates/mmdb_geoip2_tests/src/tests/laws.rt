@@ -1,0 +1,19 @@
+//! Each law is called.
+use mmdb_decode::laws::table_is_what_stands;
+use mmdb_geoip2::laws::{
+    empty_means_absent, how_records_are_read, record_clones_say_same, record_clones_take_no_memory,
+    record_defaults_say_nothing, records_equal_where_same,
+};
+use mmdb_geoip2::{City, Names};
+
+#[test]
+fn laws_are_called() {
+    how_records_are_read();
+    records_equal_where_same();
+    record_defaults_say_nothing();
+    empty_means_absent();
+    record_clones_say_same();
+    record_clones_take_no_memory();
+    table_is_what_stands::<Names<'_>>();
+    table_is_what_stands::<City<'_>>();
+}

@@ -1,0 +1,170 @@
+//! Worked rows: bytes, and what is read of them or told.
+use super::section::repeated;
+use mmdb_decode::decode::Decode;
+use mmdb_decode::fuzzing::decode;
+use mmdb_format::error::DecodeResult;
+use mmdb_geoip2::{City, Country, Domain, Enterprise, MAX_SUBDIVISIONS};
+use std::alloc::{AllocError, Global};
+use std::process::Abort;
+use std::test::Fail;
+
+const READ: &str = "read";
+
+// The text of a refusal, which has its kind and its place, or `read`.
+fn told<T: Drop>(alloc: Global, answer: DecodeResult<T>) -> Result<String, AllocError> {
+    match answer {
+        Ok(_) => String::from_str(alloc, READ),
+        Err(error) => format!(in alloc; "{error}"),
+    }
+}
+
+// Asserts what is told of sections that are read as a record.
+fn assert_told<'de, T: Decode<'de>>(
+    rt: &impl Abort,
+    alloc: Global,
+    rows: &[(&'de [u8], &str)],
+) -> Result<(), Fail> {
+    for (section, text) in rows {
+        let answer = told(alloc, decode::<T>(alloc, section))?;
+        assert!(rt; answer.as_str() == *text, "{section:?}: {answer}");
+    }
+    Ok(())
+}
+
+#[test]
+fn empty_city(rt: HostRuntime) -> Result<(), Fail> {
+    let city: City<'_> = decode(rt.alloc(), b"\xE0")?;
+    assert!(rt; city.city.is_empty() && city.continent.is_empty() && city.country.is_empty());
+    assert!(rt; city.location.is_empty() && city.postal.is_empty() && city.traits.is_empty());
+    assert!(rt; city.registered_country.is_empty() && city.represented_country.is_empty());
+    assert!(rt; city.subdivisions.is_empty());
+    Ok(())
+}
+
+#[test]
+fn english_name_of_a_city(rt: HostRuntime) -> Result<(), Fail> {
+    let city: City<'_> = decode(rt.alloc(), b"\xE1\x44city\xE1\x45names\xE1\x42en\x41A")?;
+    assert!(rt; city.city.names.english == Some("A"));
+    assert!(rt; !city.city.is_empty());
+    Ok(())
+}
+
+#[test]
+fn confidence_of_a_city(rt: HostRuntime) -> Result<(), Fail> {
+    let found: Enterprise<'_> = decode(rt.alloc(), b"\xE1\x44city\xE1\x4Aconfidence\xA1\x07")?;
+    assert!(rt; found.city.confidence == Some(7));
+    Ok(())
+}
+
+#[test]
+fn type_of_a_represented_country(rt: HostRuntime) -> Result<(), Fail> {
+    let found: Country<'_> = decode(
+        rt.alloc(),
+        b"\xE1\x53represented_country\xE1\x44type\x48military",
+    )?;
+    assert!(rt; found.represented_country.representation_type == Some("military"));
+    Ok(())
+}
+
+/// Cities.
+#[rattlefmt::skip]
+const CITIES: &[(&[u8], &str)] = &[
+    (b"\xE0", READ),
+    (b"\x20\x02\xE1\x44city\x20\x0A\xE0", READ),
+    (b"\x41x", "decoding error at offset 0: expected map, got type 2"),
+    (b"\xE1\xA1\x07\xA1\x07", "invalid database at offset 1: expected string, got type 5"),
+    (b"\xE2\x44city\xE0\x44city\xE0", "decoding error at offset 12: duplicate field `city`"),
+    // A field that stands again is refused before its value is read.
+    (b"\xE2\x44city\xE0\x44city", "decoding error at offset 12: duplicate field `city`"),
+    (b"\xE1\x46postal\xE2\x44code\x41x\x44code\x41y", "decoding error at offset 21: duplicate field `code`"),
+    (b"\xE2\x4Csubdivisions\x00\x04\x4Csubdivisions\x00\x04", "decoding error at offset 29: duplicate field `subdivisions`"),
+    // All numbers but confidences are of exactly their type.
+    (b"\xE1\x48location\xE1\x4Ametro_code\xA1\x07", READ),
+    (b"\xE1\x48location\xE1\x4Ametro_code\xC1\x07", "decoding error at offset 22: expected u16, got type 6"),
+    (b"\xE1\x44city\xE1\x4Ageoname_id\xA1\x07", "decoding error at offset 18: expected u32, got type 5"),
+    (b"\xE1\x46traits\xE1\x4Ais_anycast\xA1\x01", "decoding error at offset 20: expected bool, got type 5"),
+    (b"\xE1\x46postal\xE1\x44code\x42\xFF\xFE", "invalid database at offset 17: invalid UTF-8 in string"),
+];
+
+/// Enterprises.
+#[rattlefmt::skip]
+const ENTERPRISES: &[(&[u8], &str)] = &[
+    (b"\xE1\x44city\xE1\x4Aconfidence\xA1\x07", READ),
+    (b"\xE1\x44city\xE1\x4Aconfidence\xC1\xFF", READ),
+    (b"\xE1\x44city\xE1\x4Aconfidence\x01\x01\x00", READ),
+    (b"\xE1\x44city\xE1\x4Aconfidence\x01\x02\x01", READ),
+    (b"\xE1\x44city\xE1\x4Aconfidence\xA2\x01\x00", "decoding error at offset 21: number out of range"),
+    (b"\xE1\x44city\xE1\x4Aconfidence\x04\x01\xFF\xFF\xFF\xFF", "decoding error at offset 24: number out of range"),
+    (b"\xE1\x44city\xE1\x4Aconfidence\x41x", "decoding error at offset 18: expected a whole number"),
+    (b"\xE1\x46postal\xE2\x44code\x41x\x4Aconfidence\xA1\x64", READ),
+];
+
+/// Domains.
+#[rattlefmt::skip]
+const DOMAINS: &[(&[u8], &str)] = &[
+    (b"\xE2\x46domain\x41x\x46domain\x41y", "decoding error at offset 17: duplicate field `domain`"),
+    (b"\xE1\x46domain\x81x", "decoding error at offset 8: expected string, got type 4"),
+];
+
+#[test]
+fn records_told(rt: HostRuntime) -> Result<(), Fail> {
+    let alloc = rt.alloc();
+    assert_told::<City<'_>>(&rt, alloc, CITIES)?;
+    assert_told::<Enterprise<'_>>(&rt, alloc, ENTERPRISES)?;
+    assert_told::<Domain<'_>>(&rt, alloc, DOMAINS)
+}
+
+/// Arrays of so many empty maps as subdivisions, and what is told.
+#[rattlefmt::skip]
+const SUBDIVISIONS: &[(&[u8], usize, &str)] = &[
+    (b"\xE1\x4Csubdivisions\x00\x04", 0, READ),
+    (b"\xE1\x4Csubdivisions\x1D\x04\x03", 32, READ),
+    (b"\xE1\x4Csubdivisions\x1D\x04\x04", 33, "decoding error at offset 17: subdivisions exceeds maximum length of 32"),
+    (b"\xE1\x4Csubdivisions\x1E\x04\x00\x00", 285, "decoding error at offset 18: subdivisions exceeds maximum length of 32"),
+    (b"\xE1\x4Csubdivisions\x1D\x04\x04", 32, "invalid database at offset 49: unexpected end of buffer"),
+    (b"\xE1\x4Csubdivisions\x1D\x04\x04", 1, "invalid database at offset 18: unexpected end of buffer"),
+];
+
+#[test]
+fn subdivisions_at_the_limit(rt: HostRuntime) -> Result<(), Fail> {
+    let alloc = rt.alloc();
+    for (start, times, text) in SUBDIVISIONS {
+        let section = repeated(alloc, start, 0xE0, *times)?;
+        let city = told(alloc, decode::<City<'_>>(alloc, section.as_slice()))?;
+        assert!(rt; city.as_str() == *text, "{times}: {city}");
+        let other = told(alloc, decode::<Enterprise<'_>>(alloc, section.as_slice()))?;
+        assert!(rt; other.as_str() == *text, "{times}: {other}");
+    }
+    Ok(())
+}
+
+#[test]
+fn so_many_subdivisions(rt: HostRuntime) -> Result<(), Fail> {
+    let alloc = rt.alloc();
+    let section = repeated(alloc, b"\xE1\x4Csubdivisions\x1D\x04\x03", 0xE0, 32)?;
+    let city: City<'_> = decode(alloc, section.as_slice())?;
+    assert!(rt; city.subdivisions.len() == MAX_SUBDIVISIONS);
+    Ok(())
+}
+
+#[test]
+fn domain_at_the_limit(rt: HostRuntime) -> Result<(), Fail> {
+    let alloc = rt.alloc();
+    for (start, times, text) in [
+        (
+            b"\xE1\x46domain\x5F\x1E\xFE\xE3".as_slice(),
+            2_097_152usize,
+            READ,
+        ),
+        (
+            b"\xE1\x46domain\x5F\x1E\xFE\xE4".as_slice(),
+            2_097_153,
+            "resource limit exceeded at offset 8: exceeded maximum size of data structure string and bytes values",
+        ),
+    ] {
+        let section = repeated(alloc, start, b'a', times)?;
+        let domain = told(alloc, decode::<Domain<'_>>(alloc, section.as_slice()))?;
+        assert!(rt; domain.as_str() == text, "{domain}");
+    }
+    Ok(())
+}
