@@ -8,7 +8,6 @@ pub mod Arrays
 pub mod Maps
 pub mod Records
 pub mod Skipping
-pub mod Passing
 pub mod Selecting
 pub mod Levels
 pub mod FieldShapes

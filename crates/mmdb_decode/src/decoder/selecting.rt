@@ -7,6 +7,7 @@ ghost use Rattle.mmdb_decode.specs.Skipping.{passes, skip_at};
 ghost use Rattle.mmdb_decode.specs.State.{decoded};
 
 use super::Decoder;
+use super::skipping::MAX_NESTED;
 use crate::items::Entries;
 use crate::record::named;
 use mmdb_format::fault::Fault;
@@ -64,7 +65,7 @@ impl<'de> Decoder<'de> {
                 self.stays_within();
                 return Ok(true);
             }
-            self.pass_value()?;
+            self.pass(MAX_NESTED)?;
         }
         Ok(false)
     }
@@ -87,7 +88,7 @@ impl<'de> Decoder<'de> {
         ensures { Takes (λ x. tt) (decoded false (passes skip_at count) self.old) self.old self.new result }
     {
         for _ in 0..count {
-            self.pass_value()?;
+            self.pass(MAX_NESTED)?;
         }
         self.stays_within();
         Ok(())

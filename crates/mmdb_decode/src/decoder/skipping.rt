@@ -2,7 +2,6 @@
 ghost use Rattle.std.specs.Prelude.{◌≡◌, ◌<◌, ◌^◌, true, false, IfSome};
 ghost use Rattle.mmdb_decode.specs.State.{decoded};
 ghost use Rattle.mmdb_decode.specs.Skipping.{skip_within, skip_at, parts_of as spec_parts_of, scalar_passed, entered_inline};
-ghost use Rattle.mmdb_decode.specs.Passing.{PassesPlain};
 ghost use Rattle.mmdb_decode.specs.Refusal.{Reads, Takes};
 
 use super::Decoder;
@@ -15,7 +14,7 @@ use mmdb_format::kind::{ARRAY, MAP};
 use std::alloc::Global;
 
 /// At most so many containers nest in a value that is skipped.
-const MAX_NESTED: u16 = 128;
+pub(super) const MAX_NESTED: u16 = 128;
 
 impl<'de> Decoder<'de> {
     /// Passes one inline value. A container's parts are charged; pointers are not followed, and texts
@@ -24,7 +23,7 @@ impl<'de> Decoder<'de> {
         ensures { Reads (λ x. tt) true (decoded true skip_at self.old) self.old self.new result }
     {
         self.start();
-        if let Err(fault) = self.pass_value() {
+        if let Err(fault) = self.pass(MAX_NESTED) {
             return Err(fault.refusal(alloc, self.place));
         }
         Ok(())
@@ -49,34 +48,8 @@ impl<'de> Decoder<'de> {
         Ok(())
     }
 
-    // Passes one inline value that holds no others, and tells whether one stands there. A container is left
-    // where it is.
-    #[inline(always)]
-    fn pass_plain(&mut self) -> Result<bool, Fault>
-        ensures { PassesPlain (λ nested. decoded false (skip_within nested) self.old) self.old self.new result }
-    {
-        self.stays_within();
-        let header = self.header_here()?;
-        let None = parts_of(header) else {
-            return Ok(false);
-        };
-        self.pass_scalar(header)?;
-        Ok(true)
-    }
-
-    // Passes one inline value.
-    #[inline(always)]
-    pub(super) fn pass_value(&mut self) -> Result<(), Fault>
-        ensures { Takes (λ x. tt) (decoded false skip_at self.old) self.old self.new result }
-    {
-        if self.pass_plain()? {
-            return Ok(());
-        }
-        self.pass(MAX_NESTED)
-    }
-
     // Passes one inline value, whose containers nest at most so deep.
-    fn pass(&mut self, nested: u16) -> Result<(), Fault>
+    pub(super) fn pass(&mut self, nested: u16) -> Result<(), Fault>
         ensures { Takes (λ x. tt) (decoded false (skip_within nested) self.old) self.old self.new result }
     {
         self.stays_within();
@@ -89,9 +62,6 @@ impl<'de> Decoder<'de> {
         }
         self.enter_inline(header, parts)?;
         for _ in 0..parts {
-            if self.pass_plain()? {
-                continue;
-            }
             self.pass(nested - 1)?;
         }
         self.stays_within();

@@ -1,8 +1,7 @@
-use Rattle.std.proofs.Common.{◌≡◌, ℕ, ◌-◌, ◌+◌, Some, None, true, false, sym, arith}
+use Rattle.std.proofs.Common.{◌-◌, ◌+◌, false, sym, arith}
 use Rattle.std.proofs.lemmas.Result.{err_from_is_err_and}
 use Rattle.mmdb_decode.specs.Skipping.{skip_within}
 use Rattle.mmdb_decode.specs.Refusal.{Kept}
-use Rattle.mmdb_decode.specs.State.{decoded, GivenUp}
 use Rattle.mmdb_decode.proofs.StepLaws.{nothing_taken, kept_decoded, kept_trans, given_up_trans}
 use Rattle.mmdb_decode.proofs.SkipLaws.{skip_headless, skip_deep, inline_kept, plain_takes, parts_no, parts_yes, parts_stop, pass_goes_on}
 use Rattle.mmdb_decode.proofs.decoder.Decoder.+pass.Goals as goal
@@ -19,41 +18,17 @@ returns-then-nested-eq0 t c = nothing_taken _ _ (rw c.if-nested-eq0.true (skip_d
 pub returns-in_err-enter_inline : goal.returns-in_err-enter_inline
 returns-in_err-enter_inline t c = let p = err_from_is_err_and c.from_residual-in_err-enter_inline.result c.from_residual-in_err-enter_inline.ensures.1 in rw p.1 (c.in_err-enter_inline.ensures.0, parts_no c.args.nested (c.args.nested - 1) c.args.self.now c.in_ok-header.header c.in-Some.parts (omega (arith, c.if-nested-eq0.false)) (sym c.in_ok-header.ensures.value) (sym c.in-Some.ensures.value) c.in_err-enter_inline.ensures.1)
 
-pub returns-in_err-pass_plain : goal.returns-in_err-pass_plain
-returns-in_err-pass_plain t c =
-    let p = err_from_is_err_and c.from_residual-in_err-pass_plain.result c.from_residual-in_err-pass_plain.ensures.1 in
-    let entered : Kept c.args.self.now c.loop.self = kept_trans c.args.self.now c.enter_inline.new.self c.loop.self (inline_kept c.args.self.now c.enter_inline.new.self c.in_ok-header.header c.in-Some.parts c.in_ok-enter_inline.ensures) c.loop.invariant.kept in
-    rw p.1 (given_up_trans c.args.self.now c.loop.self c.pass_plain.new.self entered c.in_err-pass_plain.ensures.0, parts_stop c.args.nested (c.args.nested - 1) c.args.self.now c.enter_inline.new.self c.loop.self c.in_ok-header.header c.in-Some.parts (c.in-Some.parts - c.loop.counter) (c.in-Some.parts - (c.loop.counter + 1)) (omega (arith, c.if-nested-eq0.false)) (sym c.in_ok-header.ensures.value) (sym c.in-Some.ensures.value) c.in_ok-enter_inline.ensures c.loop.invariant.rest (omega (arith, c.loop-test.true)) (c.in_err-pass_plain.ensures.1 (c.args.nested - 1)))
-
-pub loop-preserved-then-branch : goal.loop-preserved-then-branch
-loop-preserved-then-branch t c =
-    let plain : c.in_ok-pass_plain.field-0 ≡ true = c.if-branch.true in
-    let skipped : (nested : ℕ) → decoded false (skip_within nested) c.loop.self ≡ Some (tt, c.pass_plain.new.self) = rw plain at c.in_ok-pass_plain.ensures in
-    record {
-      rest = pass_goes_on (skip_within (c.args.nested - 1)) _ (c.in-Some.parts - c.loop.counter) (c.in-Some.parts - (c.loop.counter + 1)) c.loop.self c.pass_plain.new.self c.loop.invariant.rest (omega (arith, c.loop-test.true)) (skipped (c.args.nested - 1));
-      kept = kept_trans c.enter_inline.new.self c.loop.self c.pass_plain.new.self c.loop.invariant.kept (kept_decoded false (skip_within (c.args.nested - 1)) c.loop.self c.pass_plain.new.self tt (skipped (c.args.nested - 1)));
-    }
-
 pub returns-in_err-pass : goal.returns-in_err-pass
 returns-in_err-pass t c =
     let p = err_from_is_err_and c.from_residual-in_err-pass.result c.from_residual-in_err-pass.ensures.1 in
-    let container : c.in_ok-pass_plain.field-0 ≡ false = c.if-branch.false in
-    let same : c.pass_plain.new.self ≡ c.loop.self = rw container at c.in_ok-pass_plain.ensures in
-    let gone : GivenUp c.pass_plain.new.self c.pass.new.self = c.in_err-pass.ensures.0 in
-    let stopped : decoded false (skip_within (c.args.nested - 1)) c.pass_plain.new.self ≡ None = c.in_err-pass.ensures.1 in
     let entered : Kept c.args.self.now c.loop.self = kept_trans c.args.self.now c.enter_inline.new.self c.loop.self (inline_kept c.args.self.now c.enter_inline.new.self c.in_ok-header.header c.in-Some.parts c.in_ok-enter_inline.ensures) c.loop.invariant.kept in
-    rw p.1 (given_up_trans c.args.self.now c.loop.self c.pass.new.self entered (rw same at gone), parts_stop c.args.nested (c.args.nested - 1) c.args.self.now c.enter_inline.new.self c.loop.self c.in_ok-header.header c.in-Some.parts (c.in-Some.parts - c.loop.counter) (c.in-Some.parts - (c.loop.counter + 1)) (omega (arith, c.if-nested-eq0.false)) (sym c.in_ok-header.ensures.value) (sym c.in-Some.ensures.value) c.in_ok-enter_inline.ensures c.loop.invariant.rest (omega (arith, c.loop-test.true)) (rw same at stopped))
+    rw p.1 (given_up_trans c.args.self.now c.loop.self c.pass.new.self entered c.in_err-pass.ensures.0, parts_stop c.args.nested (c.args.nested - 1) c.args.self.now c.enter_inline.new.self c.loop.self c.in_ok-header.header c.in-Some.parts (c.in-Some.parts - c.loop.counter) (c.in-Some.parts - (c.loop.counter + 1)) (omega (arith, c.if-nested-eq0.false)) (sym c.in_ok-header.ensures.value) (sym c.in-Some.ensures.value) c.in_ok-enter_inline.ensures c.loop.invariant.rest (omega (arith, c.loop-test.true)) c.in_err-pass.ensures.1)
 
 pub loop-preserved : goal.loop-preserved
-loop-preserved t c =
-    let container : c.in_ok-pass_plain.field-0 ≡ false = c.if-branch.false in
-    let same : c.pass_plain.new.self ≡ c.loop.self = rw container at c.in_ok-pass_plain.ensures in
-    let there : decoded false (skip_within (c.args.nested - 1)) c.pass_plain.new.self ≡ Some (tt, c.pass.new.self) = c.in_ok-pass.ensures in
-    let skipped : decoded false (skip_within (c.args.nested - 1)) c.loop.self ≡ Some (tt, c.pass.new.self) = rw same at there in
-    record {
-      rest = pass_goes_on (skip_within (c.args.nested - 1)) _ (c.in-Some.parts - c.loop.counter) (c.in-Some.parts - (c.loop.counter + 1)) c.loop.self c.pass.new.self c.loop.invariant.rest (omega (arith, c.loop-test.true)) skipped;
-      kept = kept_trans c.enter_inline.new.self c.loop.self c.pass.new.self c.loop.invariant.kept (kept_decoded false (skip_within (c.args.nested - 1)) c.loop.self c.pass.new.self tt skipped);
-    }
+loop-preserved t c = record {
+  rest = pass_goes_on (skip_within (c.args.nested - 1)) _ (c.in-Some.parts - c.loop.counter) (c.in-Some.parts - (c.loop.counter + 1)) c.loop.self c.pass.new.self c.loop.invariant.rest (omega (arith, c.loop-test.true)) c.in_ok-pass.ensures;
+  kept = kept_trans c.enter_inline.new.self c.loop.self c.pass.new.self c.loop.invariant.kept (kept_decoded false (skip_within (c.args.nested - 1)) c.loop.self c.pass.new.self tt c.in_ok-pass.ensures);
+}
 
 pub returns : goal.returns
 returns t c = parts_yes c.args.nested (c.args.nested - 1) c.args.self.now c.enter_inline.new.self c.loop.self c.in_ok-header.header c.in-Some.parts (c.in-Some.parts - c.loop.counter) (omega (arith, c.if-nested-eq0.false)) (sym c.in_ok-header.ensures.value) (sym c.in-Some.ensures.value) c.in_ok-enter_inline.ensures c.loop.invariant.rest (omega (arith, c.loop-test.false)) c.stays_within-2.ensures
