@@ -8,10 +8,9 @@ ghost use Rattle.maxminddb.specs.Selecting.{at_step, selected};
 use crate::path::{PathElement, render_path};
 use mmdb_decode::decoder::Decoder;
 use mmdb_decode::laws::values_bounded;
-use mmdb_format::error::MaxMindDbError;
+use mmdb_format::error::{MaxMindDbError, decoding_at};
 use mmdb_format::fault::Fault;
 use mmdb_format::kind::Kind;
-use mmdb_format::message::Message;
 use std::alloc::Global;
 
 /// Why a step of a path was refused, and how many steps came before it.
@@ -81,11 +80,7 @@ fn mismatch(alloc: Global, step: &PathElement<'_>, found: u16, place: usize) -> 
         PathElement::Index(_) | PathElement::IndexFromEnd(_) => "array",
     };
     match format!(in alloc; "expected {wanted} for {step:?}, got type {found}") {
-        Ok(message) => MaxMindDbError::Decoding {
-            message: Message::Made(message),
-            offset: Some(place),
-            path: None,
-        },
+        Ok(message) => decoding_at(alloc, message.as_str(), place),
         Err(_) => MaxMindDbError::Memory,
     }
 }
@@ -116,6 +111,11 @@ impl RefusedStep {
     }
 }
 
+// The text of a path, as an error holds it.
+fn path_held(alloc: Global, path: &[PathElement<'_>]) -> Result<Option<String>, MaxMindDbError> {
+    Ok(Some(render_path(alloc, path)?))
+}
+
 /// The error with a path, where it is of the kinds that have one and has none.
 pub(crate) fn with_path(
     alloc: Global,
@@ -129,11 +129,11 @@ pub(crate) fn with_path(
             message,
             offset,
             path: None,
-        } => match render_path(alloc, path) {
-            Ok(text) => MaxMindDbError::Decoding {
+        } => match path_held(alloc, path) {
+            Ok(path) => MaxMindDbError::Decoding {
                 message,
                 offset,
-                path: Some(text),
+                path,
             },
             Err(_) => MaxMindDbError::Memory,
         },
@@ -141,11 +141,11 @@ pub(crate) fn with_path(
             message,
             offset,
             path: None,
-        } => match render_path(alloc, path) {
-            Ok(text) => MaxMindDbError::ResourceLimit {
+        } => match path_held(alloc, path) {
+            Ok(path) => MaxMindDbError::ResourceLimit {
                 message,
                 offset,
-                path: Some(text),
+                path,
             },
             Err(_) => MaxMindDbError::Memory,
         },
