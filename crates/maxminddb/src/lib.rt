@@ -9,7 +9,7 @@ pub mod metadata;
 mod metadata_fields;
 mod offsets;
 mod options;
-pub mod path;
+mod path;
 mod positions;
 pub mod reader;
 mod selecting;

@@ -124,8 +124,12 @@ impl RefusedStep {
     }
 }
 
-fn boxed_path(alloc: Global, path: &[PathElement<'_>]) -> Result<Box<String>, MaxMindDbError> {
-    Ok(Box::new(alloc, render_path(alloc, path)?)?)
+// The text of a path, as an error holds it.
+fn path_held(
+    alloc: Global,
+    path: &[PathElement<'_>],
+) -> Result<Option<Box<String>>, MaxMindDbError> {
+    Ok(Some(Box::new(alloc, render_path(alloc, path)?)?))
 }
 
 /// The error with a path, where it is of the kinds that have one and has none.
@@ -141,11 +145,11 @@ pub(crate) fn with_path(
             message,
             offset,
             path: None,
-        } => match boxed_path(alloc, path) {
-            Ok(text) => MaxMindDbError::Decoding {
+        } => match path_held(alloc, path) {
+            Ok(path) => MaxMindDbError::Decoding {
                 message,
                 offset,
-                path: Some(text),
+                path,
             },
             Err(_) => MaxMindDbError::Memory,
         },
@@ -153,11 +157,11 @@ pub(crate) fn with_path(
             message,
             offset,
             path: None,
-        } => match boxed_path(alloc, path) {
-            Ok(text) => MaxMindDbError::ResourceLimit {
+        } => match path_held(alloc, path) {
+            Ok(path) => MaxMindDbError::ResourceLimit {
                 message,
                 offset,
-                path: Some(text),
+                path,
             },
             Err(_) => MaxMindDbError::Memory,
         },
