@@ -3,7 +3,7 @@ use super::files::{
     alias_fan, badly_separated, deep, deep_last, ladder, of_three_leaves, overlap, undescribed,
     with_data,
 };
-use maxminddb::laws::{aliases_lead_to_ipv4, walk_stops, whole_file_answers};
+use maxminddb::laws::{aliases_lead_to_ipv4, few_positions_wait, walk_stops, whole_file_answers};
 use maxminddb::{Reader, Steps};
 use mmdb_vectors::builder::{
     BASE_DATA, BASE_NODE, Field, base_file, base_with_node, changed_file, file_with_alias,
@@ -229,6 +229,7 @@ fn records_in_any_order(rt: HostRuntime) -> Result<(), Fail> {
 #[test]
 fn laws_are_called() {
     walk_stops();
+    few_positions_wait();
     whole_file_answers();
     aliases_lead_to_ipv4();
 }
