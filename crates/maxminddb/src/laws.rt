@@ -26,8 +26,7 @@ pub use mmdb_value::laws::{
     owned_bytes_equal_where_same, record_is_what_stands, same_offset_same_result,
     scalar_is_what_stands, scalars_equal_where_same, scalars_unfold, skipping_is_passing,
     small_number_is_what_stands, table_is_what_stands, text_map_is_what_stands,
-    value_is_what_stands, values_bounded,
-    values_equal_where_same,
+    value_is_what_stands, values_bounded, values_equal_where_same,
 };
 
 /// Leaves are disjoint blocks, and each full address begins with exactly one.

@@ -72,16 +72,15 @@ fn charge_container(alloc: Global, d: &mut Decoder<'_>, kind: Kind) -> Result<()
     Ok(())
 }
 
-fn mismatch_text(
-    alloc: Global,
-    step: &PathElement<'_>,
-    found: u16,
-) -> Result<Message, AllocError> {
+fn mismatch_text(alloc: Global, step: &PathElement<'_>, found: u16) -> Result<Message, AllocError> {
     let wanted = match step {
         PathElement::Key(_) => "map",
         PathElement::Index(_) | PathElement::IndexFromEnd(_) => "array",
     };
-    Message::of_text(alloc, format!(in alloc; "expected {wanted} for {step:?}, got type {found}")?)
+    Message::of_text(
+        alloc,
+        format!(in alloc; "expected {wanted} for {step:?}, got type {found}")?,
+    )
 }
 
 // The refusal of a step by the type of the value at a place.

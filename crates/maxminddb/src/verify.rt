@@ -22,9 +22,12 @@ use std::alloc::{AllocError, Global};
 use std::convert::AsSlice;
 
 fn too_many_stops_text(alloc: Global, most: usize) -> Result<Message, AllocError> {
-    Message::of_text(alloc, format!(in alloc;
-        "search tree appears to have a cycle or invalid structure (exceeded {most} iterations)"
-    )?)
+    Message::of_text(
+        alloc,
+        format!(in alloc;
+            "search tree appears to have a cycle or invalid structure (exceeded {most} iterations)"
+        )?,
+    )
 }
 
 // The error for a tree whose walk stops more often than allowed.

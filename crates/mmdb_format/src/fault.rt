@@ -77,21 +77,31 @@ impl Fault {
                 return Message::of_text(alloc, format!(in alloc; "unknown data type: {number}")?);
             }
             Fault::KeyOfType(number) => {
-                return Message::of_text(alloc, format!(in alloc; "expected string, got type {number}")?);
+                return Message::of_text(
+                    alloc,
+                    format!(in alloc; "expected string, got type {number}")?,
+                );
             }
             Fault::Cycle(place) => {
-                return Message::of_text(alloc, format!(in alloc;
-                    "cyclic data pointer references offset {place}"
-                )?);
+                return Message::of_text(
+                    alloc,
+                    format!(in alloc; "cyclic data pointer references offset {place}")?,
+                );
             }
             Fault::Unexpected(wanted, found) => {
                 let name = wanted.name();
-                return Message::of_text(alloc, format!(in alloc; "expected {name}, got type {found}")?);
+                return Message::of_text(
+                    alloc,
+                    format!(in alloc; "expected {name}, got type {found}")?,
+                );
             }
             Fault::WrongLength(wanted, found) => {
-                return Message::of_text(alloc, format!(in alloc;
-                    "expected tuple of length {wanted}, got array of length {found}"
-                )?);
+                return Message::of_text(
+                    alloc,
+                    format!(in alloc;
+                        "expected tuple of length {wanted}, got array of length {found}"
+                    )?,
+                );
             }
             Fault::EndOfBuffer => Text::EndOfBuffer,
             Fault::KeyTooLong => Text::KeyTooLong,

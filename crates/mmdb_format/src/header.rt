@@ -177,7 +177,10 @@ pub fn pointer_at(section: &[u8], place: usize, low: u8) -> Result<Pointer, Faul
     let (target, len) = match low / 8 {
         0 => (high * 256 + number_at(section, place, 1)?, 1),
         1 => (high * 65_536 + number_at(section, place, 2)? + 2_048, 2),
-        2 => (high * 16_777_216 + number_at(section, place, 3)? + 526_336, 3),
+        2 => (
+            high * 16_777_216 + number_at(section, place, 3)? + 526_336,
+            3,
+        ),
         _ => (number_at(section, place, 4)?, 4),
     };
     Ok(Pointer {
