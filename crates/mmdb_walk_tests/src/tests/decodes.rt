@@ -1,5 +1,6 @@
 //! What stands behind a lookup that is not read as it is asked for.
-use super::found::high;
+use super::found::{high, low};
+use maxminddb::geoip2::City;
 use maxminddb::{
     Decode, Double, Float, MaxMindDbError, Metadata, OwnedBytes, RawValue, Reader, Value,
 };
@@ -23,6 +24,7 @@ enum Wanted {
     List,
     Map,
     Record,
+    City,
     Any,
     Raw,
 }
@@ -45,6 +47,12 @@ const ROWS: &[(&[u8], Wanted, &str)] = &[
         b"\xE0",
         Wanted::Record,
         "decoding error at offset 1: missing field `binary_format_major_version`",
+    ),
+    (b"\xE1\x44city\x41x", Wanted::City, "decoding error at offset 6: expected map, got type 2"),
+    (
+        b"\xE1\x44city\xE1\x45names\xE1\x42en\x41\xFF",
+        Wanted::City,
+        "invalid database at offset 41: invalid UTF-8 in string",
     ),
     (b"\xA3\0\0\0", Wanted::U16, "invalid database at offset 22: u16 of size 3"),
     (b"\x42x", Wanted::Text, "invalid database at offset 22: string of size 2"),
@@ -99,6 +107,7 @@ fn decoded_as(
         Wanted::List => decoded::<Vec<u16>>(alloc, reader),
         Wanted::Map => decoded::<BTreeMap<String, u16>>(alloc, reader),
         Wanted::Record => decoded::<Metadata>(alloc, reader),
+        Wanted::City => decoded::<City<'_>>(alloc, reader),
         Wanted::Any => decoded::<Value<'_>>(alloc, reader),
         Wanted::Raw => decoded::<RawValue<'_>>(alloc, reader),
     }
@@ -145,5 +154,18 @@ fn later_values_refused(rt: HostRuntime) -> Result<(), Fail> {
             "{data:?}: {refusal}, not {text}"
         );
     }
+    Ok(())
+}
+
+#[test]
+fn city_of_a_lookup(rt: HostRuntime) -> Result<(), Fail> {
+    let alloc = rt.alloc();
+    let data = b"\xE1\x44city\xE1\x45names\xE1\x42en\x41A";
+    let file = file(alloc, BASE_NODE, data, BASE)?;
+    let reader = Reader::from_source(alloc, file.as_slice())?;
+    let city: Option<City<'_>> = reader.lookup(high())?.decode(alloc)?;
+    assert!(rt; matches!(&city, Some(city) if city.city.names.english == Some("A")));
+    let none: Option<City<'_>> = reader.lookup(low())?.decode(alloc)?;
+    assert!(rt; none.is_none());
     Ok(())
 }
