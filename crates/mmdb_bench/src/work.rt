@@ -28,7 +28,7 @@ pub(crate) enum Work {
 
 impl Work {
     /// All pieces of work, in the order in which they are done.
-    pub(crate) const ALL: [Work; 13] = [
+    pub(crate) const ALL: [Work; 14] = [
         Work::LoadFile,
         Work::LoadFromMemory,
         Work::LookupIpv4,
