@@ -1,7 +1,7 @@
 -- Bytes that are text.
 use Rattle.std.proofs.Common.{◌≡◌, ℕ, List, Some, None, Bool, true, false, refl, sym, cond}
-use Rattle.std.specs.Str.{is_utf8, IsUtf8}
-use Rattle.std.proofs.lemmas.Str.{is_utf8-from_IsUtf8, IsUtf8-from_is_utf8}
+use Rattle.std.specs.Str.{is_utf8, IsUtf8, IsAscii}
+use Rattle.std.proofs.lemmas.Str.{is_utf8-from_IsUtf8, IsUtf8-from_is_utf8, IsUtf8-from_ascii}
 use Rattle.std.proofs.Common.{Result, Ok, Err, option_map, Bor}
 use Rattle.std.specs.Result.{result_ok}
 use Rattle.mmdb_decode.specs.Scalars.{if_text}
@@ -11,6 +11,9 @@ use Rattle.mmdb_decode.specs.Refusal.{Takes}
 use Rattle.mmdb_decode.specs.State.{GivenUp}
 use Rattle.mmdb_decode.proofs.StepLaws.{kept_decoded, given_up_kept}
 use Rattle.mmdb_decode.proofs.ReadingLaws.{checked_ok, checked_missing, checked_none}
+
+pub ascii_text : (bytes : List ℕ) → IsAscii bytes → IsUtf8 bytes
+ascii_text bytes h = IsUtf8-from_ascii bytes h
 
 pub text_yes : (bytes : List ℕ) → IsUtf8 bytes → if_text bytes ≡ Some bytes
 text_yes bytes h = rw (is_utf8-from_IsUtf8 bytes h) refl

@@ -4,7 +4,10 @@ ghost use Rattle.std.specs.Result.{result_ok};
 ghost use Rattle.mmdb_decode.specs.Scalars.{direct_of as spec_direct_of, number_of, bits_of, bool_at as spec_bool_at, bytes_of, if_text, free_of_charge, costs_its_length};
 ghost use Rattle.mmdb_decode.specs.Arrays.{container_at as spec_container_at};
 ghost use Rattle.std.specs.Prelude.{length};
+ghost use Rattle.std.specs.Prelude.{MatchBool};
+ghost use Rattle.std.specs.Str.{IsUtf8};
 
+use crate::ascii::is_short_ascii;
 use mmdb_format::content::{content_bytes, full_number, short_number};
 use mmdb_format::fault::Fault;
 use mmdb_format::header::{Direct, MAX_LEVELS, direct_at};
@@ -125,14 +128,32 @@ pub(crate) fn container_at(
     })
 }
 
-/// The bytes as text, where they are UTF-8.
+// Whether bytes are UTF-8. Few that are ASCII are told without a loop, and of std's answer for all others
+// nothing but its being one is looked at.
+#[tactic(auto, using(crate::proofs::Texts::ascii_text))]
+#[inline(always)]
+fn is_text(bytes: &[u8]) -> bool
+    ensures { MatchBool result (IsUtf8 bytes.now) (¬ (IsUtf8 bytes.now)) }
+{
+    if is_short_ascii(bytes) {
+        return true;
+    }
+    match std::str::from_utf8(bytes) {
+        Ok(_) => true,
+        Err(_) => false,
+    }
+}
+
+/// The bytes as text, where they are UTF-8. The text is made of the bytes at hand: one taken out of an answer in
+/// memory would wait for it.
+#[tactic(auto, using(crate::proofs::Texts::text_yes, crate::proofs::Texts::text_no))]
 #[inline(always)]
 pub fn text_of(bytes: &[u8]) -> Result<&str, Fault>
     ensures value { option_map (λ x. x.now) (result_ok result) ≡ if_text bytes.now }
     ensures same { IfOk result (λ x. x.now ≡ bytes.now) }
 {
-    match std::str::from_utf8(bytes) {
-        Ok(text) => Ok(text),
-        Err(_) => Err(Fault::InvalidUtf8),
+    if !is_text(bytes) {
+        return Err(Fault::InvalidUtf8);
     }
+    Ok(unsafe { std::str::from_utf8_unchecked(bytes) })
 }

@@ -1,5 +1,5 @@
 //! Headers and pointers.
-ghost use Rattle.std.specs.Prelude.{◌≡◌, ℕ, ◌<◌, ◌≤◌, ◌^◌, ◌+◌, length, IfSome, IfOk, option_map};
+ghost use Rattle.std.specs.Prelude.{◌≡◌, ◌≢◌, ℕ, ◌<◌, ◌≤◌, ◌^◌, ◌+◌, ◌/◌, length, Some, slice_get, IfSome, IfOk, option_map};
 ghost use Rattle.std.specs.Result.{result_ok};
 ghost use Rattle.mmdb_format.specs.Header.{bytes_at as spec_bytes_at, spelled as spec_spelled, number_at as spec_number_at, size_at as spec_size_at, sized_header as spec_sized_header, header_at as spec_header_at};
 ghost use Rattle.mmdb_format.specs.Pointer.{pointer_at as spec_pointer_at, direct_at as spec_direct_at, behind as spec_behind};
@@ -104,18 +104,18 @@ pub fn wide_number_at(section: &[u8], place: usize, len: usize) -> Option<u128>
 
 /// The number in a few bytes at a place.
 #[inline(always)]
+#[tactic(auto, unfolding(crate::specs::Header::number_at))]
 fn number_at(section: &[u8], place: usize, len: usize) -> Result<usize, Fault>
     requires { len ≤ 4 }
     ensures value { result_ok result ≡ spec_number_at section.now place len }
     ensures bound { IfOk result (λ n. (n < 256 ^ len) × (place + len ≤ length section.now)) }
 {
-    match wide_number_at(section, place, len) {
-        Some(n) => Ok(n as usize),
+    match bytes_at(section, place, len) {
+        Some(bytes) => Ok(spelled_short(bytes) as usize),
         None => Err(Fault::EndOfBuffer),
     }
 }
 
-#[inline(always)]
 #[tactic(auto, unfolding(crate::specs::Header::size_at))]
 fn size_at(section: &[u8], place: usize, low: u8) -> Result<(usize, usize), Fault>
     ensures value { result_ok result ≡ spec_size_at section.now place low }
@@ -129,7 +129,6 @@ fn size_at(section: &[u8], place: usize, low: u8) -> Result<(usize, usize), Faul
     })
 }
 
-#[inline(always)]
 #[tactic(auto, unfolding(crate::specs::Header::sized_header))]
 fn sized_header(section: &[u8], place: usize, kind: u16, low: u8) -> Result<Header, Fault>
     requires { 1 < kind }
@@ -140,9 +139,27 @@ fn sized_header(section: &[u8], place: usize, kind: u16, low: u8) -> Result<Head
     Ok(Header { kind, size, body })
 }
 
-/// The header at a place.
-#[inline(always)]
+// A header with a type byte or length bytes of its own, after its control byte.
+#[inline(never)]
 #[tactic(auto, unfolding(crate::specs::Header::header_at))]
+fn long_header_at(section: &[u8], place: usize, control: u8) -> Result<Header, Fault>
+    requires control { slice_get section.now place ≡ Some control }
+    requires no_pointer { control / 32 ≢ 1 }
+    ensures value { result_ok result ≡ spec_header_at section.now place }
+    ensures bound { IfOk result (λ h. (h.size < 2 ^ 25) × (h.kind ≡ 1 → h.size < 32)) }
+{
+    if control / 32 != 0 {
+        return sized_header(section, place + 1, u16::from(control / 32), control % 32);
+    }
+    match section.get(place + 1) {
+        Some(kind) => sized_header(section, place + 2, u16::from(*kind) + 7, control % 32),
+        None => Err(Fault::EndOfBuffer),
+    }
+}
+
+/// The header at a place. One that is its control byte alone is made where it is asked for.
+#[inline(always)]
+#[tactic(auto, unfolding(crate::specs::Header::header_at, crate::specs::Header::sized_header, crate::specs::Header::size_at))]
 pub fn header_at(section: &[u8], place: usize) -> Result<Header, Fault>
     ensures value { result_ok result ≡ spec_header_at section.now place }
     ensures bound { IfOk result (λ h. (h.size < 2 ^ 25) × (h.kind ≡ 1 → h.size < 32)) }
@@ -150,20 +167,16 @@ pub fn header_at(section: &[u8], place: usize) -> Result<Header, Fault>
     let Some(control) = section.get(place) else {
         return Err(Fault::EndOfBuffer);
     };
-    match *control / 32 {
-        0 => {
-            let Some(kind) = section.get(place + 1) else {
-                return Err(Fault::EndOfBuffer);
-            };
-            sized_header(section, place + 2, u16::from(*kind) + 7, *control % 32)
-        }
-        1 => Ok(Header {
-            kind: POINTER,
-            size: usize::from(*control % 32),
+    let kind = *control / 32;
+    let low = *control % 32;
+    if kind == 1 || kind > 1 && low < 29 {
+        return Ok(Header {
+            kind: u16::from(kind),
+            size: usize::from(low),
             body: place + 1,
-        }),
-        kind => sized_header(section, place + 1, u16::from(kind), *control % 32),
+        });
     }
+    long_header_at(section, place, *control)
 }
 
 /// The pointer whose control byte has these low five bits, and whose bytes begin at a place.

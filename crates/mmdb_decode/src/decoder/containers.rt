@@ -129,6 +129,7 @@ impl<'de> Decoder<'de> {
     }
 
     /// Enters a map, and charges its keys and values.
+    #[inline(always)]
     pub fn begin_map(&mut self, alloc: Global) -> DecodeResult<Entries>
         ensures { Reads (λ entries. entries) true (entered_map self.old) self.old self.new result }
     {
