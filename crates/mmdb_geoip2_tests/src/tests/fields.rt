@@ -8,7 +8,7 @@ use mmdb_geoip2::{
     AnonymousIp, Asn, City, ConnectionType, Country, DensityIncome, Domain, Enterprise, Isp, Names,
     city, country, enterprise,
 };
-use std::alloc::Global;
+use std::alloc::{AllocError, Global};
 use std::fmt::Debug;
 use std::process::Abort;
 use std::test::Fail;
@@ -179,12 +179,9 @@ pub const TOP_ENTERPRISE: Row = Row {
     shown: "1 k 2 z 3 4 r 5 6 t",
 };
 
-#[test]
-fn country_of_all_parts(rt: HostRuntime) -> Result<(), Fail> {
-    let alloc = rt.alloc();
-    let section = with_unknown(alloc, TOP_COUNTRY.before, TOP_COUNTRY.after)?;
-    let record: Country<'_> = decode(alloc, section.as_slice())?;
-    let text = format!(in alloc;
+// A field of each part of a record.
+fn country_text(alloc: Global, record: &Country<'_>) -> Result<String, AllocError> {
+    format!(in alloc;
         "{} {} {} {} {}",
         record.continent.code.unwrap_or("-"),
         record.country.iso_code.unwrap_or("-"),
@@ -194,16 +191,21 @@ fn country_of_all_parts(rt: HostRuntime) -> Result<(), Fail> {
             .representation_type
             .unwrap_or("-"),
         record.traits.is_anycast.unwrap_or(false)
-    )?;
+    )
+}
+
+#[test]
+fn country_of_all_parts(rt: HostRuntime) -> Result<(), Fail> {
+    let alloc = rt.alloc();
+    let section = with_unknown(alloc, TOP_COUNTRY.before, TOP_COUNTRY.after)?;
+    let record: Country<'_> = decode(alloc, section.as_slice())?;
+    let text = country_text(alloc, &record)?;
     assert!(rt; text.as_str() == TOP_COUNTRY.shown, "{text}");
     Ok(())
 }
 
-#[test]
-fn city_of_all_parts(rt: HostRuntime) -> Result<(), Fail> {
-    let alloc = rt.alloc();
-    let section = with_unknown(alloc, TOP_CITY.before, TOP_CITY.after)?;
-    let record: City<'_> = decode(alloc, section.as_slice())?;
+// A field of each part of a record.
+fn city_text(alloc: Global, record: &City<'_>) -> Result<String, AllocError> {
     let mut text = format!(in alloc;
         "{} {} {} {} {} {} {}",
         record.city.geoname_id.unwrap_or(0),
@@ -222,16 +224,21 @@ fn city_of_all_parts(rt: HostRuntime) -> Result<(), Fail> {
         text.push_str(part.iso_code.unwrap_or("-"))?;
     }
     let anycast = record.traits.is_anycast.unwrap_or(false);
-    let text = format!(in alloc; "{text} {anycast}")?;
+    format!(in alloc; "{text} {anycast}")
+}
+
+#[test]
+fn city_of_all_parts(rt: HostRuntime) -> Result<(), Fail> {
+    let alloc = rt.alloc();
+    let section = with_unknown(alloc, TOP_CITY.before, TOP_CITY.after)?;
+    let record: City<'_> = decode(alloc, section.as_slice())?;
+    let text = city_text(alloc, &record)?;
     assert!(rt; text.as_str() == TOP_CITY.shown, "{text}");
     Ok(())
 }
 
-#[test]
-fn enterprise_of_all_parts(rt: HostRuntime) -> Result<(), Fail> {
-    let alloc = rt.alloc();
-    let section = with_unknown(alloc, TOP_ENTERPRISE.before, TOP_ENTERPRISE.after)?;
-    let record: Enterprise<'_> = decode(alloc, section.as_slice())?;
+// A field of each part of a record.
+fn enterprise_text(alloc: Global, record: &Enterprise<'_>) -> Result<String, AllocError> {
     let mut text = format!(in alloc;
         "{} {} {} {} {} {} {}",
         record.city.confidence.unwrap_or(0),
@@ -249,7 +256,15 @@ fn enterprise_of_all_parts(rt: HostRuntime) -> Result<(), Fail> {
         text = format!(in alloc; "{text} {}", part.confidence.unwrap_or(0))?;
     }
     let user = record.traits.user_type.unwrap_or("-");
-    let text = format!(in alloc; "{text} {user}")?;
+    format!(in alloc; "{text} {user}")
+}
+
+#[test]
+fn enterprise_of_all_parts(rt: HostRuntime) -> Result<(), Fail> {
+    let alloc = rt.alloc();
+    let section = with_unknown(alloc, TOP_ENTERPRISE.before, TOP_ENTERPRISE.after)?;
+    let record: Enterprise<'_> = decode(alloc, section.as_slice())?;
+    let text = enterprise_text(alloc, &record)?;
     assert!(rt; text.as_str() == TOP_ENTERPRISE.shown, "{text}");
     Ok(())
 }
