@@ -1,6 +1,7 @@
 //! What errors of lists and of reports print.
 use maxminddb::{IpNetworkError, MaxMindDbError, invalid_database_at, resource_limit_at};
 use mmdb_report::ReportError;
+use mmdb_report::laws::counts_are_of_networks;
 use mmdb_tool::ListError;
 use std::io;
 use std::test::Fail;
@@ -54,4 +55,9 @@ fn errors_of_reports(rt: HostRuntime) -> Result<(), Fail> {
         assert!(rt; printed.as_str() == text, "{printed}");
     }
     Ok(())
+}
+
+#[test]
+fn laws_of_reports_are_called() {
+    counts_are_of_networks();
 }
