@@ -4,10 +4,10 @@ use maxminddb::geoip2::{
     city, country, enterprise,
 };
 use maxminddb::{
-    Checked, Decode, DecodeResult, Decoder, Double, Float, IpNetwork, Ipv4Network, Ipv6Network,
-    MaxMindDbError, Metadata, OwnedBytes, PathElement, RawValue, Reader, Steps, Value,
-    WithinOptions, check_value, decoding, decoding_at, decoding_at_path, empty_container, fuzzing,
-    invalid_database, invalid_database_at, invalid_input, render_path, resource_limit_at,
+    Checked, Decode, Decoder, Double, Float, IpNetwork, Ipv4Network, Ipv6Network, MaxMindDbError,
+    Metadata, OwnedBytes, PathElement, RawValue, Reader, Steps, Value, WithinOptions, check_value,
+    decoding, decoding_at, decoding_at_path, empty_container, fuzzing, invalid_database,
+    invalid_database_at, invalid_input, render_path, resource_limit_at,
 };
 use mmdb_report::report_on;
 use mmdb_tool::{Out, Sink, list_to, lookup_line, run, run_bytes};
@@ -22,8 +22,10 @@ use std::test::Fail;
 /// A call, and whether it succeeded.
 type Row = (&'static str, bool);
 
-/// An address that has a value in the base file.
-const HIGH: IpAddr = IpAddr::V4(Ipv4Addr::new(200, 0, 0, 1));
+// An address that has a value in the base file.
+fn high() -> IpAddr {
+    IpAddr::V4(Ipv4Addr::new(200, 0, 0, 1))
+}
 
 /// A map of k to 5, with an array of two numbers after it.
 const PAIRS: &[u8] = b"\xE1\x41k\xA1\x05\x02\x04\xA1\x05\xA1\x06";
@@ -31,19 +33,19 @@ const PAIRS: &[u8] = b"\xE1\x41k\xA1\x05\x02\x04\xA1\x05\xA1\x06";
 /// Where the array stands.
 const ARRAY_AT: usize = 5;
 
-fn of_networks(alloc: Global) -> Result<[Row; 7], Fail> {
+fn of_networks(alloc: Global, rows: &mut Vec<Row>) -> Result<(), Fail> {
     let ipv4 = Ipv4Network::new(Ipv4Addr::LOCALHOST, 8)?;
     let ipv6 = Ipv6Network::new(Ipv6Addr::LOCALHOST, 8)?;
     let parsed: IpNetwork = "10.0.0.0/8".parse()?;
-    Ok([
+    Ok(rows.extend_from_slice(&[
         ("Ipv4Network::new", ipv4.prefix() == 8),
         ("Ipv6Network::new", ipv6.prefix() == 8),
-        ("IpNetwork::new", IpNetwork::new(HIGH, 8).is_ok()),
+        ("IpNetwork::new", IpNetwork::new(high(), 8).is_ok()),
         ("IpNetwork::from_str", parsed.prefix() == 8),
         ("Ipv4Network::full_text", ipv4.full_text(alloc).is_ok()),
         ("Ipv6Network::full_text", ipv6.full_text(alloc).is_ok()),
         ("IpNetwork::full_text", parsed.full_text(alloc).is_ok()),
-    ])
+    ])?)
 }
 
 // Whether an error was made, and not one of memory.
@@ -129,7 +131,7 @@ fn of_scalars(alloc: Global) -> [Row; 13] {
 }
 
 // Enters a map and an array, and gives both up.
-fn enter(alloc: Global) -> DecodeResult<[Row; 6]> {
+fn enter(alloc: Global, rows: &mut Vec<Row>) -> Result<(), MaxMindDbError> {
     let mut d = Decoder::new(PAIRS, 0);
     let mut fields = d.begin_map(alloc)?;
     let field = d.next_field(alloc, &mut fields);
@@ -150,14 +152,14 @@ fn enter(alloc: Global) -> DecodeResult<[Row; 6]> {
     let of_two = d.begin_array_of(alloc, 2)?;
     let left = d.remaining(&of_two);
     of_two.give_up(&mut d);
-    Ok([
+    Ok(rows.extend_from_slice(&[
         ("begin_map, next_field", field?.is_some()),
         ("next_key", key?.is_some()),
         ("next_raw_key", raw_key?.is_some()),
         ("begin_array, next_item", item),
         ("begin_array_of", left == 2),
         ("empty_container", empty_container(PAIRS, 0).is_ok()),
-    ])
+    ])?)
 }
 
 fn reads<'de, T: Decode<'de>>(alloc: Global, section: &'de [u8]) -> bool {
@@ -255,34 +257,34 @@ fn of_parts(alloc: Global) -> [Row; 13] {
     ]
 }
 
-fn of_checks(alloc: Global) -> Result<[Row; 5], Fail> {
+fn of_checks(alloc: Global, rows: &mut Vec<Row>) -> Result<(), Fail> {
     let mut checked = Checked::new(alloc, PAIRS)?;
     let city = fuzzing::decode::<City<'_>>(alloc, EMPTY)?;
     let found = fuzzing::decode::<Enterprise<'_>>(alloc, EMPTY)?;
-    Ok([
+    Ok(rows.extend_from_slice(&[
         ("Checked::new", true),
         ("check_value", check_value(alloc, &mut checked, 0).is_ok()),
         ("fuzzing::verify", fuzzing::verify(alloc, PAIRS).is_ok()),
         ("City::clone", city.clone().is_ok()),
         ("Enterprise::clone", found.clone().is_ok()),
-    ])
+    ])?)
 }
 
-fn of_readers(alloc: Global, reader: &Reader<&[u8]>) -> Result<[Row; 12], Fail> {
+fn of_readers(alloc: Global, reader: &Reader<&[u8]>, rows: &mut Vec<Row>) -> Result<(), Fail> {
     let options = WithinOptions::default();
     let range: IpNetwork = "0.0.0.0/0".parse()?;
-    let found = reader.lookup(HIGH)?;
+    let found = reader.lookup(high())?;
     let cloned: Metadata = reader.metadata().clone()?;
     if cloned.node_count > 1000 || reader.metadata().node_count > 1000 {
         return Err(Fail::from("too many nodes"));
     }
     let path = [PathElement::from("k")];
     let (mut looked, mut verified) = (Steps::new(), Steps::new());
-    Ok([
+    Ok(rows.extend_from_slice(&[
         ("lookup", found.has_data()),
         (
             "lookup_counted",
-            reader.lookup_counted(HIGH, &mut looked).is_ok(),
+            reader.lookup_counted(high(), &mut looked).is_ok(),
         ),
         ("network", found.network().is_ok()),
         ("decode", found.decode::<&str>(alloc).is_ok()),
@@ -297,16 +299,16 @@ fn of_readers(alloc: Global, reader: &Reader<&[u8]>) -> Result<[Row; 12], Fail> 
             "verify_counted",
             reader.verify_counted(alloc, &mut verified).is_ok(),
         ),
-    ])
+    ])?)
 }
 
-fn of_lists(alloc: Global, reader: &Reader<&[u8]>) -> Result<[Row; 4], Fail> {
+fn of_lists(alloc: Global, reader: &Reader<&[u8]>, rows: &mut Vec<Row>) -> Result<(), Fail> {
     let options = WithinOptions::default();
     let range: IpNetwork = "0.0.0.0/0".parse()?;
     let mut out = Out::new(Vec::new(alloc));
-    Ok([
+    Ok(rows.extend_from_slice(&[
         ("Out::put", out.put(b"x").is_ok()),
-        ("lookup_line", lookup_line(alloc, reader, HIGH).is_ok()),
+        ("lookup_line", lookup_line(alloc, reader, high()).is_ok()),
         (
             "list_to",
             list_to(alloc, reader, range, options, &mut out).is_ok(),
@@ -315,10 +317,10 @@ fn of_lists(alloc: Global, reader: &Reader<&[u8]>) -> Result<[Row; 4], Fail> {
             "report_on",
             report_on(alloc, reader, range, options).is_ok(),
         ),
-    ])
+    ])?)
 }
 
-fn of_programs(alloc: Global, file: &[u8]) -> Result<[Row; 4], Fail> {
+fn of_programs(alloc: Global, file: &[u8], rows: &mut Vec<Row>) -> Result<(), Fail> {
     let files = OneFile {
         bytes: file,
         step: 64,
@@ -328,7 +330,7 @@ fn of_programs(alloc: Global, file: &[u8]) -> Result<[Row; 4], Fail> {
     let words = words.as_slice();
     let mut out = Out::new(Vec::new(alloc));
     let mut err = Out::new(Vec::new(alloc));
-    Ok([
+    Ok(rows.extend_from_slice(&[
         ("from_source", Reader::from_source(alloc, file).is_ok()),
         (
             "open_readfile",
@@ -339,7 +341,7 @@ fn of_programs(alloc: Global, file: &[u8]) -> Result<[Row; 4], Fail> {
             "run_bytes",
             run_bytes(alloc, file, words, &mut out, &mut err) == 0,
         ),
-    ])
+    ])?)
 }
 
 #[test]
@@ -348,19 +350,19 @@ fn calls_succeed(rt: HostRuntime) -> Result<(), Fail> {
     let file = base_file(alloc)?;
     let reader = Reader::from_source(alloc, file.as_slice())?;
     let mut rows = Vec::new(alloc);
-    rows.extend_from_slice(&of_networks(alloc)?)?;
+    of_networks(alloc, &mut rows)?;
     rows.extend_from_slice(&of_errors(alloc))?;
     rows.extend_from_slice(&of_scalars(alloc))?;
-    rows.extend_from_slice(&enter(alloc)?)?;
+    enter(alloc, &mut rows)?;
     rows.extend_from_slice(&of_types(alloc))?;
     rows.extend_from_slice(&of_records(alloc))?;
     rows.extend_from_slice(&of_parts(alloc))?;
-    rows.extend_from_slice(&of_checks(alloc)?)?;
-    rows.extend_from_slice(&of_readers(alloc, &reader)?)?;
-    rows.extend_from_slice(&of_lists(alloc, &reader)?)?;
-    rows.extend_from_slice(&of_programs(alloc, file.as_slice())?)?;
-    for (call, succeeded) in rows {
-        assert!(rt; succeeded, "{call}");
+    of_checks(alloc, &mut rows)?;
+    of_readers(alloc, &reader, &mut rows)?;
+    of_lists(alloc, &reader, &mut rows)?;
+    of_programs(alloc, file.as_slice(), &mut rows)?;
+    for (call, succeeded) in &rows {
+        assert!(rt; *succeeded, "{call}");
     }
     Ok(())
 }
