@@ -1,5 +1,5 @@
 -- How items are counted.
-use Rattle.std.proofs.Common.{◌≡◌, ℕ, ◌+◌, ◌≤◌, ◌<◌, ◌==◌, slice_index, replicate, inl, inr, Bool, true, false, not, ◌&&◌, List, [], ◌∷◌, ◌++◌, length, Option, Some, None, sym, ap, ◌∙◌, subst, refl, cond, arith, length-append}
+use Rattle.std.proofs.Common.{◌≡◌, ℕ, ◌+◌, ◌≤◌, ◌==◌, slice_index, replicate, inl, inr, Bool, not, ◌&&◌, List, ◌∷◌, ◌++◌, length, Option, sym, ap, ◌∙◌, subst, refl, cond, arith, length-append}
 use Rattle.std.specs.List.{count_by}
 use Rattle.std.proofs.lemmas.List.{get_or-replicate, get_or_past, length-replicate}
 use Rattle.std.proofs.lemmas.List.Sums.{sum_by-cons}
@@ -10,7 +10,7 @@ use Rattle.mmdb_net.specs.declared.network.IpNetwork.TheVariants.{V4, V6}
 use Rattle.mmdb_net.specs.Network.{prefix_of, block_of}
 use Rattle.mmdb_net.proofs.NetworkLaws.{length-block_of}
 use Rattle.maxminddb.specs.File.{Database, before_ipv4}
-use Rattle.maxminddb.specs.Items.{Item, Network}
+use Rattle.maxminddb.specs.Items.{Network}
 use Rattle.maxminddb.specs.Shown.{IsShownBy}
 use Rattle.mmdb_report.specs.Counts.{is_ipv4_of, is_ipv6_of}
 

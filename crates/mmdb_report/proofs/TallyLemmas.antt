@@ -1,7 +1,7 @@
 -- What was counted so far, and what is still to come.
-use Rattle.std.proofs.Common.{rules, ◌≡◌, ℕ, ◌+◌, ◌<◌, ◌≤◌, nat_eq, Bool, true, false, ◌||◌, List, [], ◌∷◌, ◌++◌, length, slice_index, cond, sym, ap, ◌∙◌, subst, refl, arith, add_assoc}
-use Rattle.std.specs.List.{count_by, flat_map, list_any}
-use Rattle.std.specs.Set.{is_member, distinct_count}
+use Rattle.std.proofs.Common.{◌≡◌, ℕ, ◌+◌, ◌<◌, ◌≤◌, nat_eq, Bool, true, false, ◌||◌, List, [], ◌∷◌, length, slice_index, sym, ap, ◌∙◌, subst, refl, arith, add_assoc}
+use Rattle.std.specs.List.{count_by}
+use Rattle.std.specs.Set.{is_member}
 use Rattle.std.specs.Cmp.{nat_eq_equiv}
 use Rattle.std.proofs.lemmas.List.{length-map}
 use Rattle.std.proofs.lemmas.List.Folds.{list_any-append}

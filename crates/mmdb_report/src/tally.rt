@@ -1,5 +1,5 @@
 //! The counts so far.
-ghost use Rattle.std.specs.Prelude.{◌≡◌, ℕ, ◌≤◌, slice_index, Some, OnOk, IfErr};
+ghost use Rattle.std.specs.Prelude.{ℕ, ◌≤◌, slice_index, Some, OnOk, IfErr};
 ghost use Rattle.maxminddb.specs.File.{Database};
 ghost use Rattle.maxminddb.specs.Found.{database_asked, leaf_of, shown_as_ipv4};
 ghost use Rattle.maxminddb.specs.Items.{item_view, IsItemOf};

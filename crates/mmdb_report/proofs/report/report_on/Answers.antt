@@ -1,4 +1,4 @@
-use Rattle.std.proofs.Common.{rules, ◌≡◌, Some, sym, ap, ◌∙◌, subst, refl}
+use Rattle.std.proofs.Common.{rules, Some, ap, ◌∙◌, subst, refl}
 use Rattle.maxminddb.specs.File.{Database}
 use Rattle.maxminddb.specs.Items.{item_view, IsItemOf}
 use Rattle.maxminddb.specs.Enumeration.{items_to_come, database_walked}

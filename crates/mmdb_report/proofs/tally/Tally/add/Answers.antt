@@ -1,4 +1,4 @@
-use Rattle.std.proofs.Common.{rules, ◌≡◌, nat_eq, sym, refl, ap, ◌∙◌, subst}
+use Rattle.std.proofs.Common.{rules, nat_eq, sym, refl, ap, ◌∙◌}
 use Rattle.std.specs.Set.{is_member}
 use Rattle.maxminddb.specs.Items.{item_view}
 use Rattle.mmdb_report.proofs.AddLemmas.{adds_failure, adds_network, adds_some, adds_none, adds_ipv4, adds_ipv6}

@@ -1,4 +1,3 @@
-use Rattle.std.proofs.Common.{◌≡◌, ℕ, ◌≤◌, slice_index, arith}
 use Rattle.mmdb_report.proofs.CountLemmas.{none_above}
 use Rattle.mmdb_report.proofs.tally.Tally.new.Goals as goal
 
