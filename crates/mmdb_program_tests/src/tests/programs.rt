@@ -8,7 +8,7 @@ use std::test::Fail;
 use std::{fs, io};
 
 const USAGE: &str =
-    "usage: mmdb_tool lookup FILE ADDR | list FILE RANGE [--aliases] [--empty] [--skip-empty] | verify FILE\n";
+    "usage: mmdb_tool lookup FILE ADDR | list FILE RANGE [--aliases] [--empty] [--skip-empty] | verify FILE | report FILE RANGE [--aliases] [--empty] [--skip-empty]\n";
 
 const FOUND: [&str; 3] = ["lookup", "here.mmdb", "200.0.0.1"];
 
@@ -31,6 +31,18 @@ const RUN: &[(&[&str], u8, &str, &str)] = &[
         "invalid input: cannot iterate IPv6 network in IPv4-only database\n",
     ),
     (&["verify", "here.mmdb"], 0, "ok\n", ""),
+    (
+        &["report", "here.mmdb", "0.0.0.0/0"],
+        0,
+        "v4/1 1\nempty 0\nfaults 0\noffsets 1\n",
+        "",
+    ),
+    (
+        &["report", "here.mmdb", "::/0"],
+        1,
+        "",
+        "invalid input: cannot iterate IPv6 network in IPv4-only database\n",
+    ),
 ];
 
 /// Words that are no command: no file is opened, and that of most is missing.
@@ -76,7 +88,13 @@ const BAD: &[&[&str]] = &[
     &["list", "gone.mmdb", "0.0.0.0/0", ""],
     &["list", "gone.mmdb", "0.0.0.0/0", "1.0.0.0/8"],
     &["list", "here.mmdb", "0.0.0.0/0", "--all"],
-    &["report", "gone.mmdb", "0.0.0.0/0"],
+    &["report", "gone.mmdb"],
+    &["report", "gone.mmdb", "x"],
+    &["report", "--empty", "gone.mmdb", "0.0.0.0/0"],
+    &["report", "gone.mmdb", "--empty", "0.0.0.0/0"],
+    &["report", "gone.mmdb", "0.0.0.0/0", "--empty", "--empty"],
+    &["report", "gone.mmdb", "0.0.0.0/0", "--all"],
+    &["REPORT", "here.mmdb", "0.0.0.0/0"],
 ];
 
 #[test]
