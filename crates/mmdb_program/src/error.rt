@@ -1,0 +1,37 @@
+//! Why the program gave up.
+use maxminddb::MaxMindDbError;
+use std::alloc::{AllocError, AllocFailed};
+use std::io;
+use thiserror::Error;
+
+/// Why a command was not done.
+#[derive(Debug, Drop, Error)]
+pub enum ProgramError {
+    /// The database refused.
+    #[error("{0}")]
+    Database(MaxMindDbError),
+    /// Standard output refused.
+    #[error("write error: {0}")]
+    Write(io::Error),
+    /// There was no memory.
+    #[error("out of memory")]
+    Memory,
+}
+
+impl From<MaxMindDbError> for ProgramError {
+    fn from(error: MaxMindDbError) -> ProgramError {
+        ProgramError::Database(error)
+    }
+}
+
+impl From<AllocError> for ProgramError {
+    fn from(_error: AllocError) -> ProgramError {
+        ProgramError::Memory
+    }
+}
+
+impl<T: Drop> From<AllocFailed<T>> for ProgramError {
+    fn from(_error: AllocFailed<T>) -> ProgramError {
+        ProgramError::Memory
+    }
+}

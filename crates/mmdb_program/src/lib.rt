@@ -1,0 +1,16 @@
+//! The program `mmdb`: what people ask of databases.
+#![tactic(auto)]
+
+mod about;
+mod error;
+mod paths;
+mod program;
+mod request;
+mod show;
+mod words;
+
+pub use about::info;
+pub use error::ProgramError;
+pub use paths::path_of;
+pub use program::run;
+pub use show::show_to;

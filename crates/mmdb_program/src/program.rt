@@ -1,0 +1,195 @@
+//! What the program does with its words.
+use crate::about::info;
+use crate::error::ProgramError;
+use crate::request::{Answer, NoRequest, Request, request_of};
+use crate::show::show_to;
+use maxminddb::{MaxMindDbError, PathElement, Reader};
+use std::alloc::{AllocError, Global};
+use std::convert::AsSlice;
+use std::fs::File;
+use std::io::{self, Read, Write};
+use std::net::IpAddr;
+use std::rt::Files;
+
+/// All was done.
+const DONE: u8 = 0;
+
+/// Something was refused.
+const REFUSED: u8 = 1;
+
+/// The words are no command.
+const BAD_WORDS: u8 = 2;
+
+/// An address has no record, or a path leads nowhere in it.
+const NOT_FOUND: u8 = 6;
+
+/// The text of a refusal that there is no memory to print.
+const NO_MEMORY: &str = "mmdb: out of memory\n";
+
+// Tells a refusal, with the file or the word that it is of. What standard error refuses changes nothing. Of an
+// output that was closed nothing is told.
+fn tell<E: Write>(alloc: Global, of: &str, error: &ProgramError, err: &mut E) {
+    if let ProgramError::Write(error) = error
+        && error.kind() == io::ErrorKind::BrokenPipe
+    {
+        return;
+    }
+    let text: Result<String, AllocError> = format!(in alloc; "mmdb: {of}: {error}\n");
+    let _ = match text {
+        Ok(text) => err.write_all(text.as_bytes()),
+        Err(_) => err.write_all(NO_MEMORY.as_bytes()),
+    };
+}
+
+// Writes a text to standard output.
+fn put<O: Write>(text: &[u8], out: &mut O) -> Result<(), ProgramError> {
+    match out.write_all(text) {
+        Ok(()) => Ok(()),
+        Err(error) => Err(ProgramError::Write(error)),
+    }
+}
+
+// All bytes of a file.
+fn bytes_of<R: Files>(rt: &R, alloc: Global, file: &str) -> Result<Vec<u8>, ProgramError> {
+    let mut bytes = Vec::new(alloc);
+    let done = match File::open(rt, file) {
+        Ok(mut file) => file.read_to_end(&mut bytes),
+        Err(error) => Err(error),
+    };
+    match done {
+        Ok(_) => Ok(bytes),
+        Err(error) => Err(ProgramError::Database(MaxMindDbError::Io(error))),
+    }
+}
+
+// Writes what a database has for addresses, of which each that is refused is told.
+fn show<S: AsSlice<u8> + Drop, O: Write, E: Write>(
+    alloc: Global,
+    reader: &Reader<S>,
+    addresses: &[IpAddr],
+    paths: &[Vec<PathElement<'_>>],
+    lines: bool,
+    out: &mut O,
+    err: &mut E,
+) -> Result<u8, ProgramError> {
+    let mut status = DONE;
+    for address in addresses {
+        let mut text = Vec::new(alloc);
+        match show_to(alloc, reader, *address, paths, lines, &mut text) {
+            Ok(true) => {}
+            Ok(false) if status == DONE => status = NOT_FOUND,
+            Ok(false) => {}
+            Err(error) => {
+                let word = address.to_string(alloc)?;
+                tell(alloc, word.as_str(), &error, err);
+                status = REFUSED;
+            }
+        }
+        put(text.as_slice(), out)?;
+    }
+    Ok(status)
+}
+
+// Writes of each file whether it is whole.
+fn verify<R: Files, O: Write>(
+    rt: &R,
+    alloc: Global,
+    files: &[&str],
+    out: &mut O,
+) -> Result<u8, ProgramError> {
+    let mut status = DONE;
+    for file in files {
+        let verified = match Reader::open_readfile(rt, alloc, *file) {
+            Ok(reader) => reader.verify(alloc),
+            Err(error) => Err(error),
+        };
+        let line = match verified {
+            Ok(()) => format!(in alloc; "{file}: ok\n")?,
+            Err(error) => {
+                status = REFUSED;
+                format!(in alloc; "{file}: {error}\n")?
+            }
+        };
+        put(line.as_bytes(), out)?;
+    }
+    Ok(status)
+}
+
+// Does what the words ask for.
+fn done<R: Files, O: Write, E: Write>(
+    rt: &R,
+    alloc: Global,
+    request: &Request<'_>,
+    is_terminal: bool,
+    out: &mut O,
+    err: &mut E,
+) -> Result<u8, ProgramError> {
+    match request {
+        Request::Show {
+            file,
+            addresses,
+            paths,
+            lines,
+        } => {
+            let reader = Reader::open_readfile(rt, alloc, *file)?;
+            let lines = *lines || !is_terminal;
+            show(
+                alloc,
+                &reader,
+                addresses.as_slice(),
+                paths.as_slice(),
+                lines,
+                out,
+                err,
+            )
+        }
+        Request::Info { file, json } => {
+            let bytes = bytes_of(rt, alloc, file)?;
+            let text = info(alloc, bytes.as_slice(), *json)?;
+            put(text.as_slice(), out)?;
+            Ok(DONE)
+        }
+        Request::Verify { files } => verify(rt, alloc, files.as_slice(), out),
+    }
+}
+
+// Says what there is to say in the place of a request.
+fn answer<O: Write, E: Write>(answer: &Answer, out: &mut O, err: &mut E) -> u8 {
+    if answer.is_error {
+        let _ = err.write_all(answer.text.as_bytes());
+        return BAD_WORDS;
+    }
+    match out.write_all(answer.text.as_bytes()) {
+        Ok(()) => DONE,
+        Err(_) => REFUSED,
+    }
+}
+
+/// What the program does with its words, its own name first, and the status that it ends with.
+///
+/// 0: done. 1: a refusal, which is told on `err` with the file or the word. 2: bad words, and no file was opened.
+/// 6: an address has no record, or a path leads nowhere in it. Faults of `err` change no status.
+pub fn run<R: Files, O: Write, E: Write>(
+    rt: &R,
+    alloc: Global,
+    words: &[String],
+    is_terminal: bool,
+    out: &mut O,
+    err: &mut E,
+) -> u8 {
+    let request = match request_of(alloc, words) {
+        Ok(request) => request,
+        Err(NoRequest::Answer(text)) => return answer(&text, out, err),
+        Err(NoRequest::Memory) => {
+            let _ = err.write_all(NO_MEMORY.as_bytes());
+            return REFUSED;
+        }
+    };
+    match done(rt, alloc, &request, is_terminal, out, err) {
+        Ok(status) => status,
+        Err(error) => {
+            tell(alloc, request.file(), &error, err);
+            REFUSED
+        }
+    }
+}

@@ -1,0 +1,153 @@
+//! What the words ask for.
+use crate::paths::path_of;
+use crate::words::command;
+use clap::{ArgMatches, Error};
+use maxminddb::PathElement;
+use std::alloc::{AllocError, AllocFailed, Global};
+use std::net::IpAddr;
+
+/// A command with its words read.
+#[derive(Drop)]
+pub(crate) enum Request<'a> {
+    /// The records of addresses, or their values at some paths.
+    Show {
+        file: &'a str,
+        addresses: Vec<IpAddr>,
+        paths: Vec<Vec<PathElement<'a>>>,
+        lines: bool,
+    },
+    /// What a database says of itself.
+    Info {
+        file: &'a str,
+        json: bool,
+    },
+    /// Whether files are whole.
+    Verify {
+        files: Vec<&'a str>,
+    },
+}
+
+impl<'a> Request<'a> {
+    /// What a refusal names: the file, or nothing of several.
+    pub(crate) fn file(&self) -> &'a str {
+        match self {
+            Request::Show { file, .. } | Request::Info { file, .. } => *file,
+            Request::Verify { .. } => "verify",
+        }
+    }
+}
+
+/// A text in the place of a request: help, or why the words are none.
+#[derive(Drop)]
+pub(crate) struct Answer {
+    pub(crate) text: String,
+    pub(crate) is_error: bool,
+}
+
+/// Why there is no request.
+#[derive(Drop)]
+pub(crate) enum NoRequest {
+    Answer(Answer),
+    Memory,
+}
+
+impl From<AllocError> for NoRequest {
+    fn from(_error: AllocError) -> NoRequest {
+        NoRequest::Memory
+    }
+}
+
+impl<T: Drop> From<AllocFailed<T>> for NoRequest {
+    fn from(_error: AllocFailed<T>) -> NoRequest {
+        NoRequest::Memory
+    }
+}
+
+// A word that is not what is wanted in its place.
+fn bad_word(alloc: Global, word: &str, wanted: &str) -> NoRequest {
+    let text: Result<String, AllocError> = format!(in alloc; "mmdb: {word}: {wanted}\n");
+    match text {
+        Ok(text) => NoRequest::Answer(Answer {
+            text,
+            is_error: true,
+        }),
+        Err(_) => NoRequest::Memory,
+    }
+}
+
+// What clap answers.
+fn answer_of(alloc: Global, error: &Error) -> NoRequest {
+    let text: Result<String, AllocError> = format!(in alloc; "{error}");
+    match text {
+        Ok(text) => NoRequest::Answer(Answer {
+            text,
+            is_error: error.use_stderr(),
+        }),
+        Err(_) => NoRequest::Memory,
+    }
+}
+
+fn addresses_of(alloc: Global, words: &[&str]) -> Result<Vec<IpAddr>, NoRequest> {
+    let mut addresses = Vec::new(alloc);
+    for word in words {
+        match word.parse::<IpAddr>() {
+            Ok(address) => addresses.push(address)?,
+            Err(_) => return Err(bad_word(alloc, word, "not an IP address")),
+        }
+    }
+    Ok(addresses)
+}
+
+fn paths_of<'a>(alloc: Global, words: &[&'a str]) -> Result<Vec<Vec<PathElement<'a>>>, NoRequest> {
+    let mut paths = Vec::new(alloc);
+    for word in words {
+        match path_of(alloc, word)? {
+            Some(path) => paths.push(path)?,
+            None => return Err(bad_word(alloc, word, "not a path")),
+        }
+    }
+    Ok(paths)
+}
+
+fn files_of<'a>(alloc: Global, words: &[&'a str]) -> Result<Vec<&'a str>, AllocError> {
+    let mut files = Vec::new(alloc);
+    files.extend_from_slice(words)?;
+    Ok(files)
+}
+
+// The request of a command's own words.
+fn of_subcommand<'a>(
+    alloc: Global,
+    name: &str,
+    words: &ArgMatches<'a>,
+) -> Result<Request<'a>, NoRequest> {
+    if name == "verify" {
+        let files = files_of(alloc, words.get_strs("FILE").unwrap_or(&[]))?;
+        return Ok(Request::Verify { files });
+    }
+    let file = words.get_str("FILE").unwrap_or("");
+    if name == "info" {
+        let json = words.get_flag("json");
+        return Ok(Request::Info { file, json });
+    }
+    let addresses = addresses_of(alloc, words.get_strs("ADDR").unwrap_or(&[]))?;
+    let paths = paths_of(alloc, words.get_strs("path").unwrap_or(&[]))?;
+    Ok(Request::Show {
+        file,
+        addresses,
+        paths,
+        lines: words.get_flag("lines"),
+    })
+}
+
+/// What the words ask for, the program's name first.
+pub(crate) fn request_of<'a>(alloc: Global, words: &'a [String]) -> Result<Request<'a>, NoRequest> {
+    let matches = match command(alloc)?.try_get_matches_from(words) {
+        Ok(matches) => matches,
+        Err(error) => return Err(answer_of(alloc, &error)),
+    };
+    match matches.subcommand() {
+        Some((name, words)) => of_subcommand(alloc, name, words),
+        None => Err(bad_word(alloc, "", "no command")),
+    }
+}
