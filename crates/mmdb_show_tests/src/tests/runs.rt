@@ -1,0 +1,127 @@
+//! Runs of the program.
+use mmdb_program::run;
+use mmdb_vectors::builder::{BASE, BASE_NODE, base_file, base_with_node, file};
+use mmdb_vectors::file::OneFile;
+use mmdb_vectors::words::words_of;
+use std::alloc::Global;
+use std::io::{self, Write};
+use std::process::Abort;
+use std::test::Fail;
+
+/// A writer that refuses all.
+#[derive(Drop)]
+struct Full;
+
+impl Write for Full {
+    fn write(&mut self, _bytes: &[u8]) -> io::Result<usize> {
+        Err(io::Error::from(io::ErrorKind::StorageFull))
+    }
+
+    fn flush(&mut self) -> io::Result<()> {
+        Ok(())
+    }
+}
+
+/// Words, the status, standard output, and what standard error has to hold.
+type Row<'a> = (&'a [&'a str], u8, &'a str, &'a str);
+
+const FOUND: &str = "{\"address\":\"200.0.0.1\",\"network\":\"128.0.0.0/1\",\"record\":\"x\"}\n";
+
+const ABSENT: &str = "{\"address\":\"1.1.1.1\",\"network\":\"0.0.0.0/1\",\"record\":null}\n";
+
+#[rattlefmt::skip]
+const BASE_RUNS: &[Row<'static>] = &[
+    (&["show", "here.mmdb", "200.0.0.1"], 0, FOUND, ""),
+    (&["show", "here.mmdb", "1.1.1.1"], 6, ABSENT, ""),
+    (&["show", "here.mmdb", "200.0.0.1", "--path", ""], 0, "\"x\"\n", ""),
+    (&["show", "here.mmdb", "1.1.1.1", "--path", "a.b"], 6, "null\n", ""),
+    (&["show", "here.mmdb", "::1"], 1, "", "::1: invalid input: cannot look up IPv6"),
+    (&["show", "here.mmdb", "1.1.1.1", "::1"], 1, ABSENT, "::1: invalid input"),
+    (&["show", "here.mmdb", "::1", "200.0.0.1"], 1, FOUND, "::1: invalid input"),
+    (&["show", "gone.mmdb", "200.0.0.1"], 1, "", "gone.mmdb: i/o error: "),
+    (&["show", "gone.mmdb", "nowhere"], 2, "", "nowhere: not an IP address"),
+    (&["show", "gone.mmdb", "1.1.1.1", "--path", "a.\"b"], 2, "", "a.\"b: not a path"),
+    (&["show", "gone.mmdb", "1.1.1.1", "--path", "\"a\"b"], 2, "", "\"a\"b: not a path"),
+    (&["show", "gone.mmdb"], 2, "", "ADDR"),
+    (&["show"], 2, "", "FILE"),
+    (&["verify", "here.mmdb", "here.mmdb"], 0, "here.mmdb: ok\nhere.mmdb: ok\n", ""),
+    (&["info", "gone.mmdb"], 1, "", "gone.mmdb: i/o error: "),
+    (&["frob"], 2, "", "frob"),
+    (&["info", "here.mmdb", "extra"], 2, "", "extra"),
+    (&[], 2, "", "Usage"),
+    (
+        &["info", "here.mmdb"],
+        0,
+        "type:        T\ndescription: d (en)\nlanguages:  \nIP version:  4\nbuilt:       1970-01-01T00:00:01Z (1 s)\nformat:      2.0\nnodes:       1\nrecord size: 24 bits\ntree:        6 bytes\ndata:        2 bytes\nmetadata:    161 bytes\n",
+        "",
+    ),
+];
+
+/// A map {"a.b": [1, {"0": "y"}]}.
+const NESTED: &[u8] = b"\xE1\x43a.b\x02\x04\xA1\x01\xE1\x410\x41y";
+
+#[rattlefmt::skip]
+const NESTED_RUNS: &[Row<'static>] = &[
+    (&["show", "here.mmdb", "200.0.0.1", "--path", "\"a.b\".-1.\"0\""], 0, "\"y\"\n", ""),
+    (&["show", "here.mmdb", "200.0.0.1", "--path", "\"a.b\".0", "--path", "c"], 6, "1\nnull\n", ""),
+    (&["show", "here.mmdb", "200.0.0.1", "--path", "\"a.b\".1.0"], 1, "", "decoding error"),
+];
+
+// Asserts what the program does with its words over a file.
+fn assert_runs(rt: &impl Abort, alloc: Global, bytes: &[u8], rows: &[Row<'_>]) -> Result<(), Fail> {
+    let files = OneFile {
+        bytes,
+        step: 64,
+        fails_at: 1000,
+    };
+    for (texts, status, written, told) in rows {
+        let mut words = words_of(alloc, &["mmdb"])?;
+        words.append(&mut words_of(alloc, texts)?)?;
+        let mut out: Vec<u8> = Vec::new(alloc);
+        let mut err: Vec<u8> = Vec::new(alloc);
+        let done = run(&files, alloc, words.as_slice(), false, &mut out, &mut err);
+        assert!(rt; done == *status, "{texts:?}: {done}");
+        assert!(rt; out.as_slice() == written.as_bytes(), "{texts:?}: {out:?}");
+        let err = String::from_utf8(err)?;
+        assert!(rt;
+            err.contains(told) && err.is_empty() == told.is_empty(),
+            "{texts:?}: {err}"
+        );
+        if *status == 0 || *status == 6 {
+            let mut none: Vec<u8> = Vec::new(alloc);
+            let full = run(&files, alloc, words.as_slice(), false, &mut Full, &mut none);
+            assert!(rt; full == 1, "{texts:?}: {full}");
+        }
+    }
+    Ok(())
+}
+
+#[test]
+fn runs_over_small_files(rt: HostRuntime) -> Result<(), Fail> {
+    let alloc = rt.alloc();
+    assert_runs(&rt, alloc, base_file(alloc)?.as_slice(), BASE_RUNS)?;
+    let nested = file(alloc, BASE_NODE, NESTED, BASE)?;
+    assert_runs(&rt, alloc, nested.as_slice(), NESTED_RUNS)?;
+    let fault = base_with_node(alloc, b"\x00\x00\x10\x00\x00\x11")?;
+    let rows: [Row<'_>; 2] = [
+        (
+            &["verify", "here.mmdb"],
+            1,
+            "here.mmdb: invalid database: the MaxMind DB file's data pointer resolves to an invalid location\n",
+            "",
+        ),
+        (
+            &["show", "here.mmdb", "1.1.1.1", "200.0.0.1"],
+            1,
+            FOUND,
+            "1.1.1.1: invalid database",
+        ),
+    ];
+    assert_runs(&rt, alloc, fault.as_slice(), &rows)?;
+    assert_runs(
+        &rt,
+        alloc,
+        b"",
+        &[(&["info", "here.mmdb"], 1, "", "here.mmdb: invalid database")],
+    )
+}
