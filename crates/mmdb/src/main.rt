@@ -3,7 +3,7 @@
 
 use mmdb_program::run;
 use std::env;
-use std::io::{self, BufWriter, ErrorKind, IsTerminal, Write};
+use std::io::{self, BufReader, BufWriter, ErrorKind, IsTerminal, Write};
 use std::process::ExitCode;
 
 // The status of a refusal.
@@ -16,7 +16,7 @@ const BAD_WORDS: u8 = 2;
 const NOT_UTF8: &str =
     "mmdb: a word is not UTF-8; reach the file by a link, or as /dev/fd/3 with 3< FILE";
 
-/// How many bytes are written at once.
+/// How many bytes are read and written at once.
 const BUFFER: usize = 1 << 16;
 
 // Writes out what is still buffered. A fault that comes only here is a refusal as any other by standard output,
@@ -41,12 +41,14 @@ fn program(rt: &HostRuntime) -> io::Result<u8> {
     }
     let is_terminal = rt.stdout().is_terminal();
     let mut out = BufWriter::with_capacity(rt.alloc(), BUFFER, rt.stdout())?;
+    let mut input = BufReader::with_capacity(rt.alloc(), BUFFER, rt.stdin())?;
     let mut err = rt.stderr();
     let status = run(
         rt,
         rt.alloc(),
         words.as_slice(),
         is_terminal,
+        &mut input,
         &mut out,
         &mut err,
     );

@@ -13,9 +13,25 @@ pub enum ProgramError {
     /// Standard output refused.
     #[error("write error: {0}")]
     Write(io::Error),
+    /// Standard input or output refused.
+    #[error("{0}")]
+    Lines(io::Error),
+    /// The first line has no column of this name.
+    #[error("the first line has no such column")]
+    NoColumn,
     /// There was no memory.
     #[error("out of memory")]
     Memory,
+}
+
+impl From<io::Error> for ProgramError {
+    fn from(error: io::Error) -> ProgramError {
+        if error.kind() == io::ErrorKind::OutOfMemory {
+            ProgramError::Memory
+        } else {
+            ProgramError::Lines(error)
+        }
+    }
 }
 
 impl From<MaxMindDbError> for ProgramError {

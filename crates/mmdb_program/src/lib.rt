@@ -2,6 +2,7 @@
 #![tactic(auto)]
 
 mod about;
+mod enrich;
 mod error;
 mod paths;
 mod program;

@@ -1,13 +1,15 @@
 //! What the program does with its words.
 use crate::about::info;
+use crate::enrich::enrich;
 use crate::error::ProgramError;
 use crate::request::{Answer, NoRequest, Request, request_of};
 use crate::show::show_to;
 use maxminddb::{MaxMindDbError, PathElement, Reader};
+use mmdb_filter::Counts;
 use std::alloc::{AllocError, Global};
 use std::convert::AsSlice;
 use std::fs::File;
-use std::io::{self, Read, Write};
+use std::io::{self, BufRead, Read, Write};
 use std::net::IpAddr;
 use std::rt::Files;
 
@@ -29,7 +31,7 @@ const NO_MEMORY: &str = "mmdb: out of memory\n";
 // Tells a refusal, with the file or the word that it is of. What standard error refuses changes nothing. Of an
 // output that was closed nothing is told.
 fn tell<E: Write>(alloc: Global, of: &str, error: &ProgramError, err: &mut E) {
-    if let ProgramError::Write(error) = error
+    if let ProgramError::Write(error) | ProgramError::Lines(error) = error
         && error.kind() == io::ErrorKind::BrokenPipe
     {
         return;
@@ -115,12 +117,29 @@ fn verify<R: Files, O: Write>(
     Ok(status)
 }
 
+// Tells how lines fared.
+fn tell_counts<E: Write>(alloc: Global, counts: Counts, err: &mut E) {
+    let Counts {
+        found,
+        absent,
+        unreadable,
+        refused,
+    } = counts;
+    let text: Result<String, AllocError> = format!(in alloc;
+        "mmdb: {found} lines with a record, {absent} without, {unreadable} without an address, {refused} refused\n"
+    );
+    if let Ok(text) = text {
+        let _ = err.write_all(text.as_bytes());
+    }
+}
+
 // Does what the words ask for.
-fn done<R: Files, O: Write, E: Write>(
+fn done<R: Files, I: BufRead, O: Write, E: Write>(
     rt: &R,
     alloc: Global,
-    request: &Request<'_>,
+    request: Request<'_>,
     is_terminal: bool,
+    input: &mut I,
     out: &mut O,
     err: &mut E,
 ) -> Result<u8, ProgramError> {
@@ -131,8 +150,8 @@ fn done<R: Files, O: Write, E: Write>(
             paths,
             lines,
         } => {
-            let reader = Reader::open_readfile(rt, alloc, *file)?;
-            let lines = *lines || !is_terminal;
+            let reader = Reader::open_readfile(rt, alloc, file)?;
+            let lines = lines || !is_terminal;
             show(
                 alloc,
                 &reader,
@@ -145,8 +164,21 @@ fn done<R: Files, O: Write, E: Write>(
         }
         Request::Info { file, json } => {
             let bytes = bytes_of(rt, alloc, file)?;
-            let text = info(alloc, bytes.as_slice(), *json)?;
+            let text = info(alloc, bytes.as_slice(), json)?;
             put(text.as_slice(), out)?;
+            Ok(DONE)
+        }
+        Request::Enrich {
+            file,
+            column,
+            names,
+            paths,
+            header,
+        } => {
+            let reader = Reader::open_readfile(rt, alloc, file)?;
+            let names = names.as_slice();
+            let counts = enrich(alloc, &reader, column, names, paths, header, input, out)?;
+            tell_counts(alloc, counts, err);
             Ok(DONE)
         }
         Request::Verify { files } => verify(rt, alloc, files.as_slice(), out),
@@ -169,11 +201,12 @@ fn answer<O: Write, E: Write>(answer: &Answer, out: &mut O, err: &mut E) -> u8 {
 ///
 /// 0: done. 1: a refusal, which is told on `err` with the file or the word. 2: bad words, and no file was opened.
 /// 6: an address has no record, or a path leads nowhere in it. Faults of `err` change no status.
-pub fn run<R: Files, O: Write, E: Write>(
+pub fn run<R: Files, I: BufRead, O: Write, E: Write>(
     rt: &R,
     alloc: Global,
     words: &[String],
     is_terminal: bool,
+    input: &mut I,
     out: &mut O,
     err: &mut E,
 ) -> u8 {
@@ -185,10 +218,11 @@ pub fn run<R: Files, O: Write, E: Write>(
             return REFUSED;
         }
     };
-    match done(rt, alloc, &request, is_terminal, out, err) {
+    let file = request.file();
+    match done(rt, alloc, request, is_terminal, input, out, err) {
         Ok(status) => status,
         Err(error) => {
-            tell(alloc, request.file(), &error, err);
+            tell(alloc, file, &error, err);
             REFUSED
         }
     }

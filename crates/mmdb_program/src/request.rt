@@ -6,6 +6,15 @@ use maxminddb::PathElement;
 use std::alloc::{AllocError, AllocFailed, Global};
 use std::net::IpAddr;
 
+/// A column of lines.
+#[derive(Clone, Copy)]
+pub(crate) enum Column<'a> {
+    /// Counted from 0.
+    Number(usize),
+    /// By its name in the first line.
+    Name(&'a str),
+}
+
 /// A command with its words read.
 #[derive(Drop)]
 pub(crate) enum Request<'a> {
@@ -21,6 +30,14 @@ pub(crate) enum Request<'a> {
         file: &'a str,
         json: bool,
     },
+    /// Fields behind lines.
+    Enrich {
+        file: &'a str,
+        column: Column<'a>,
+        names: Vec<&'a str>,
+        paths: Vec<Vec<PathElement<'a>>>,
+        header: bool,
+    },
     /// Whether files are whole.
     Verify {
         files: Vec<&'a str>,
@@ -31,7 +48,9 @@ impl<'a> Request<'a> {
     /// What a refusal names: the file, or nothing of several.
     pub(crate) fn file(&self) -> &'a str {
         match self {
-            Request::Show { file, .. } | Request::Info { file, .. } => *file,
+            Request::Show { file, .. }
+            | Request::Info { file, .. }
+            | Request::Enrich { file, .. } => *file,
             Request::Verify { .. } => "verify",
         }
     }
@@ -109,10 +128,36 @@ fn paths_of<'a>(alloc: Global, words: &[&'a str]) -> Result<Vec<Vec<PathElement<
     Ok(paths)
 }
 
-fn files_of<'a>(alloc: Global, words: &[&'a str]) -> Result<Vec<&'a str>, AllocError> {
-    let mut files = Vec::new(alloc);
-    files.extend_from_slice(words)?;
-    Ok(files)
+fn texts_of<'a>(alloc: Global, words: &[&'a str]) -> Result<Vec<&'a str>, AllocError> {
+    let mut texts = Vec::new(alloc);
+    texts.extend_from_slice(words)?;
+    Ok(texts)
+}
+
+// The column that a word stands for: a name only where there is a header.
+fn column_of<'a>(alloc: Global, word: &'a str, header: bool) -> Result<Column<'a>, NoRequest> {
+    match word.parse::<usize>() {
+        Ok(number) if number > 0 => Ok(Column::Number(number - 1)),
+        Err(_) if header => Ok(Column::Name(word)),
+        _ => Err(bad_word(alloc, word, "not the number of a column")),
+    }
+}
+
+// The request to enrich lines.
+fn enrich<'a>(
+    alloc: Global,
+    file: &'a str,
+    words: &ArgMatches<'a>,
+) -> Result<Request<'a>, NoRequest> {
+    let header = words.get_flag("header");
+    let fields = words.get_strs("field").unwrap_or(&[]);
+    Ok(Request::Enrich {
+        file,
+        column: column_of(alloc, words.get_str("column").unwrap_or("1"), header)?,
+        names: texts_of(alloc, fields)?,
+        paths: paths_of(alloc, fields)?,
+        header,
+    })
 }
 
 // The request of a command's own words.
@@ -122,13 +167,16 @@ fn of_subcommand<'a>(
     words: &ArgMatches<'a>,
 ) -> Result<Request<'a>, NoRequest> {
     if name == "verify" {
-        let files = files_of(alloc, words.get_strs("FILE").unwrap_or(&[]))?;
+        let files = texts_of(alloc, words.get_strs("FILE").unwrap_or(&[]))?;
         return Ok(Request::Verify { files });
     }
     let file = words.get_str("FILE").unwrap_or("");
     if name == "info" {
         let json = words.get_flag("json");
         return Ok(Request::Info { file, json });
+    }
+    if name == "enrich" {
+        return enrich(alloc, file, words);
     }
     let addresses = addresses_of(alloc, words.get_strs("ADDR").unwrap_or(&[]))?;
     let paths = paths_of(alloc, words.get_strs("path").unwrap_or(&[]))?;

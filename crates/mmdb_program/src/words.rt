@@ -17,6 +17,13 @@ const VERIFY_EXAMPLE: &str = "Example:
 
 The status is 0 where all files are whole, else 1.";
 
+const ENRICH_EXAMPLE: &str = "Example:
+  mmdb enrich GeoLite2-City.mmdb --field country.iso_code --field city.names.en < log > log.tsv
+
+Columns stand between tabs. A line without an address, or whose address has no record, gets empty
+columns; how many lines fared so is told on standard error at the end. A text stands as it is, unless it
+has control characters; any other value is JSON.";
+
 fn file<'a>(alloc: Global) -> Arg<'a> {
     Arg::new(alloc, "FILE")
         .required(true)
@@ -69,6 +76,30 @@ fn verify<'a>(alloc: Global) -> Result<Command<'a>, AllocError> {
         .arg(files)
 }
 
+fn enrich<'a>(alloc: Global) -> Result<Command<'a>, AllocError> {
+    let column = Arg::new(alloc, "column")
+        .long("column")
+        .value_name("COLUMN")
+        .default_value("1")
+        .help("The column of the address: its number, from 1, or with --header its name");
+    let field = Arg::new(alloc, "field")
+        .long("field")
+        .value_name("PATH")
+        .action(ArgAction::Append)
+        .help("A field to add, as country.iso_code; may be repeated");
+    let header = Arg::new(alloc, "header")
+        .long("header")
+        .action(ArgAction::SetTrue)
+        .help("The first line names the columns; the paths are added to it");
+    Command::new(alloc, "enrich")
+        .about("Copy lines from standard input, with fields of the address's record behind each")
+        .after_help(ENRICH_EXAMPLE)
+        .arg(file(alloc))?
+        .arg(column)?
+        .arg(field)?
+        .arg(header)
+}
+
 /// The program's commands.
 pub(crate) fn command<'a>(alloc: Global) -> Result<Command<'a>, AllocError> {
     Command::new(alloc, "mmdb")
@@ -78,5 +109,6 @@ pub(crate) fn command<'a>(alloc: Global) -> Result<Command<'a>, AllocError> {
         .arg_required_else_help(true)
         .subcommand(show(alloc)?)?
         .subcommand(info(alloc)?)?
+        .subcommand(enrich(alloc)?)?
         .subcommand(verify(alloc)?)
 }

@@ -25,6 +25,9 @@ impl Write for Full {
 /// Words, the status, standard output, and what standard error has to hold.
 type Row<'a> = (&'a [&'a str], u8, &'a str, &'a str);
 
+/// Words, standard input, standard output, and what standard error has to hold, of a run that is done.
+type Lines<'a> = (&'a [&'a str], &'a str, &'a str, &'a str);
+
 const FOUND: &str = "{\"address\":\"200.0.0.1\",\"network\":\"128.0.0.0/1\",\"record\":\"x\"}\n";
 
 const ABSENT: &str = "{\"address\":\"1.1.1.1\",\"network\":\"0.0.0.0/1\",\"record\":null}\n";
@@ -67,6 +70,83 @@ const NESTED_RUNS: &[Row<'static>] = &[
     (&["show", "here.mmdb", "200.0.0.1", "--path", "\"a.b\".1.0"], 1, "", "decoding error"),
 ];
 
+#[rattlefmt::skip]
+const LINES: &[Lines<'static>] = &[
+    (
+        &["enrich", "here.mmdb", "--field", ""],
+        "200.0.0.1\n1.1.1.1\trest\n::1\r\nnone\n\n200.0.0.2",
+        "200.0.0.1\tx\n1.1.1.1\trest\t\n::1\t\r\nnone\t\n\t\n200.0.0.2\tx",
+        "2 lines with a record, 1 without, 2 without an address, 1 refused",
+    ),
+    (
+        &["enrich", "here.mmdb", "--column", "2", "--field", "", "--field", "a"],
+        "200.0.0.1\na\t200.0.0.1\tb\na\t200.0.0.1 \n",
+        "200.0.0.1\t\t\na\t200.0.0.1\tb\tx\t\na\t200.0.0.1 \t\t\n",
+        "0 lines with a record, 0 without, 2 without an address, 1 refused",
+    ),
+    (
+        &["enrich", "here.mmdb", "--header", "--column", "ip", "--field", ""],
+        "name\tip\r\na\t200.0.0.1\r\n",
+        "name\tip\t\r\na\t200.0.0.1\tx\r\n",
+        "1 lines with a record, 0 without, 0 without an address, 0 refused",
+    ),
+    (&["enrich", "here.mmdb", "--field", ""], "", "", "0 lines with a record, 0 without, 0 without"),
+];
+
+const NO_LINES: &[Row<'static>] = &[
+    (
+        &["enrich", "here.mmdb", "--column", "0"],
+        2,
+        "",
+        "0: not the number of a column",
+    ),
+    (
+        &["enrich", "here.mmdb", "--column", "ip"],
+        2,
+        "",
+        "ip: not the number of a column",
+    ),
+    (&["enrich", "gone.mmdb"], 1, "", "gone.mmdb: i/o error: "),
+    (
+        &["enrich", "here.mmdb", "--header", "--column", "ip"],
+        1,
+        "",
+        "no such column",
+    ),
+];
+
+#[test]
+fn lines_with_fields(rt: HostRuntime) -> Result<(), Fail> {
+    let alloc = rt.alloc();
+    let base = base_file(alloc)?;
+    let files = OneFile {
+        bytes: base.as_slice(),
+        step: 64,
+        fails_at: 1000,
+    };
+    for (texts, lines, written, told) in LINES {
+        let mut words = words_of(alloc, &["mmdb"])?;
+        words.append(&mut words_of(alloc, texts)?)?;
+        let mut input = lines.as_bytes();
+        let mut out: Vec<u8> = Vec::new(alloc);
+        let mut err: Vec<u8> = Vec::new(alloc);
+        let done = run(
+            &files,
+            alloc,
+            words.as_slice(),
+            false,
+            &mut input,
+            &mut out,
+            &mut err,
+        );
+        assert!(&rt; done == 0, "{texts:?}: {done}");
+        assert!(&rt; out.as_slice() == written.as_bytes(), "{texts:?}: {out:?}");
+        let err = String::from_utf8(err)?;
+        assert!(&rt; err.contains(told), "{texts:?}: {err}");
+    }
+    assert_runs(&rt, alloc, base.as_slice(), NO_LINES)
+}
+
 // Asserts what the program does with its words over a file.
 fn assert_runs(rt: &impl Abort, alloc: Global, bytes: &[u8], rows: &[Row<'_>]) -> Result<(), Fail> {
     let files = OneFile {
@@ -77,9 +157,18 @@ fn assert_runs(rt: &impl Abort, alloc: Global, bytes: &[u8], rows: &[Row<'_>]) -
     for (texts, status, written, told) in rows {
         let mut words = words_of(alloc, &["mmdb"])?;
         words.append(&mut words_of(alloc, texts)?)?;
+        let mut input: &[u8] = b"";
         let mut out: Vec<u8> = Vec::new(alloc);
         let mut err: Vec<u8> = Vec::new(alloc);
-        let done = run(&files, alloc, words.as_slice(), false, &mut out, &mut err);
+        let done = run(
+            &files,
+            alloc,
+            words.as_slice(),
+            false,
+            &mut input,
+            &mut out,
+            &mut err,
+        );
         assert!(rt; done == *status, "{texts:?}: {done}");
         assert!(rt; out.as_slice() == written.as_bytes(), "{texts:?}: {out:?}");
         let err = String::from_utf8(err)?;
@@ -89,7 +178,15 @@ fn assert_runs(rt: &impl Abort, alloc: Global, bytes: &[u8], rows: &[Row<'_>]) -
         );
         if *status == 0 || *status == 6 {
             let mut none: Vec<u8> = Vec::new(alloc);
-            let full = run(&files, alloc, words.as_slice(), false, &mut Full, &mut none);
+            let full = run(
+                &files,
+                alloc,
+                words.as_slice(),
+                false,
+                &mut input,
+                &mut Full,
+                &mut none,
+            );
             assert!(rt; full == 1, "{texts:?}: {full}");
         }
     }
