@@ -4,6 +4,7 @@
 mod about;
 mod enrich;
 mod error;
+mod export;
 mod paths;
 mod program;
 mod request;

@@ -2,9 +2,10 @@
 use crate::about::info;
 use crate::enrich::enrich;
 use crate::error::ProgramError;
+use crate::export::{export_one, networks};
 use crate::request::{Answer, NoRequest, Request, request_of};
 use crate::show::show_to;
-use maxminddb::{MaxMindDbError, PathElement, Reader};
+use maxminddb::{IpNetwork, MaxMindDbError, PathElement, Reader};
 use mmdb_filter::Counts;
 use std::alloc::{AllocError, Global};
 use std::convert::AsSlice;
@@ -117,6 +118,29 @@ fn verify<R: Files, O: Write>(
     Ok(status)
 }
 
+// Writes a line for each network of a range, and tells each that can't be read.
+fn export<S: AsSlice<u8> + Drop, O: Write, E: Write>(
+    alloc: Global,
+    reader: &Reader<S>,
+    range: Option<IpNetwork>,
+    out: &mut O,
+    err: &mut E,
+) -> Result<u8, ProgramError> {
+    let mut faults = 0u64;
+    for item in networks(alloc, reader, range)? {
+        if let Some(faulty) = export_one(alloc, item, out)? {
+            tell(alloc, faulty.network.as_str(), &faulty.error, err);
+            faults = faults.saturating_add(1);
+        }
+    }
+    if faults == 0 {
+        return Ok(DONE);
+    }
+    let text = format!(in alloc; "mmdb: {faults} networks could not be read\n")?;
+    let _ = err.write_all(text.as_bytes());
+    Ok(REFUSED)
+}
+
 // Tells how lines fared.
 fn tell_counts<E: Write>(alloc: Global, counts: Counts, err: &mut E) {
     let Counts {
@@ -180,6 +204,10 @@ fn done<R: Files, I: BufRead, O: Write, E: Write>(
             let counts = enrich(alloc, &reader, column, names, paths, header, input, out)?;
             tell_counts(alloc, counts, err);
             Ok(DONE)
+        }
+        Request::Export { file, range } => {
+            let reader = Reader::open_readfile(rt, alloc, file)?;
+            export(alloc, &reader, range, out, err)
         }
         Request::Verify { files } => verify(rt, alloc, files.as_slice(), out),
     }

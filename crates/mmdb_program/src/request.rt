@@ -2,7 +2,7 @@
 use crate::paths::path_of;
 use crate::words::command;
 use clap::{ArgMatches, Error};
-use maxminddb::PathElement;
+use maxminddb::{IpNetwork, PathElement};
 use std::alloc::{AllocError, AllocFailed, Global};
 use std::net::IpAddr;
 
@@ -38,6 +38,11 @@ pub(crate) enum Request<'a> {
         paths: Vec<Vec<PathElement<'a>>>,
         header: bool,
     },
+    /// Every network with its record.
+    Export {
+        file: &'a str,
+        range: Option<IpNetwork>,
+    },
     /// Whether files are whole.
     Verify {
         files: Vec<&'a str>,
@@ -50,7 +55,8 @@ impl<'a> Request<'a> {
         match self {
             Request::Show { file, .. }
             | Request::Info { file, .. }
-            | Request::Enrich { file, .. } => *file,
+            | Request::Enrich { file, .. }
+            | Request::Export { file, .. } => *file,
             Request::Verify { .. } => "verify",
         }
     }
@@ -134,6 +140,17 @@ fn texts_of<'a>(alloc: Global, words: &[&'a str]) -> Result<Vec<&'a str>, AllocE
     Ok(texts)
 }
 
+// The range that a word spells, where there is one.
+fn range_of(alloc: Global, word: Option<&str>) -> Result<Option<IpNetwork>, NoRequest> {
+    let Some(word) = word else {
+        return Ok(None);
+    };
+    match word.parse::<IpNetwork>() {
+        Ok(range) => Ok(Some(range)),
+        Err(_) => Err(bad_word(alloc, word, "not a network")),
+    }
+}
+
 // The column that a word stands for: a name only where there is a header.
 fn column_of<'a>(alloc: Global, word: &'a str, header: bool) -> Result<Column<'a>, NoRequest> {
     match word.parse::<usize>() {
@@ -177,6 +194,10 @@ fn of_subcommand<'a>(
     }
     if name == "enrich" {
         return enrich(alloc, file, words);
+    }
+    if name == "export" {
+        let range = range_of(alloc, words.get_str("RANGE"))?;
+        return Ok(Request::Export { file, range });
     }
     let addresses = addresses_of(alloc, words.get_strs("ADDR").unwrap_or(&[]))?;
     let paths = paths_of(alloc, words.get_strs("path").unwrap_or(&[]))?;

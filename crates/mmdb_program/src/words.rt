@@ -24,6 +24,12 @@ Columns stand between tabs. A line without an address, or whose address has no r
 columns; how many lines fared so is told on standard error at the end. A text stands as it is, unless it
 has control characters; any other value is JSON.";
 
+const EXPORT_EXAMPLE: &str = "Example:
+  mmdb export GeoLite2-Country.mmdb 81.2.69.0/24
+
+The networks come ascending, each as a line with its network and its record. One that can't be read is told
+on standard error, in its place, and the status is 1 then.";
+
 fn file<'a>(alloc: Global) -> Arg<'a> {
     Arg::new(alloc, "FILE")
         .required(true)
@@ -100,6 +106,17 @@ fn enrich<'a>(alloc: Global) -> Result<Command<'a>, AllocError> {
         .arg(header)
 }
 
+fn export<'a>(alloc: Global) -> Result<Command<'a>, AllocError> {
+    let range = Arg::new(alloc, "RANGE").help(
+        "Only networks inside this one, or the one around it",
+    );
+    Command::new(alloc, "export")
+        .about("Write every network that has data, with its record, as lines of JSON")
+        .after_help(EXPORT_EXAMPLE)
+        .arg(file(alloc))?
+        .arg(range)
+}
+
 /// The program's commands.
 pub(crate) fn command<'a>(alloc: Global) -> Result<Command<'a>, AllocError> {
     Command::new(alloc, "mmdb")
@@ -110,5 +127,6 @@ pub(crate) fn command<'a>(alloc: Global) -> Result<Command<'a>, AllocError> {
         .subcommand(show(alloc)?)?
         .subcommand(info(alloc)?)?
         .subcommand(enrich(alloc)?)?
+        .subcommand(export(alloc)?)?
         .subcommand(verify(alloc)?)
 }

@@ -49,6 +49,11 @@ const BASE_RUNS: &[Row<'static>] = &[
     (&["show"], 2, "", "FILE"),
     (&["verify", "here.mmdb", "here.mmdb"], 0, "here.mmdb: ok\nhere.mmdb: ok\n", ""),
     (&["info", "gone.mmdb"], 1, "", "gone.mmdb: i/o error: "),
+    (&["export", "here.mmdb"], 0, "{\"network\":\"128.0.0.0/1\",\"record\":\"x\"}\n", ""),
+    (&["export", "here.mmdb", "200.0.0.1"], 0, "{\"network\":\"128.0.0.0/1\",\"record\":\"x\"}\n", ""),
+    (&["export", "here.mmdb", "1.0.0.0/8"], 0, "", ""),
+    (&["export", "here.mmdb", "::/0"], 1, "", "here.mmdb: invalid input: cannot iterate IPv6"),
+    (&["export", "gone.mmdb", "x"], 2, "", "x: not a network"),
     (&["frob"], 2, "", "frob"),
     (&["info", "here.mmdb", "extra"], 2, "", "extra"),
     (&[], 2, "", "Usage"),
@@ -176,7 +181,7 @@ fn assert_runs(rt: &impl Abort, alloc: Global, bytes: &[u8], rows: &[Row<'_>]) -
             err.contains(told) && err.is_empty() == told.is_empty(),
             "{texts:?}: {err}"
         );
-        if *status == 0 || *status == 6 {
+        if (*status == 0 || *status == 6) && !written.is_empty() {
             let mut none: Vec<u8> = Vec::new(alloc);
             let full = run(
                 &files,
@@ -200,7 +205,13 @@ fn runs_over_small_files(rt: HostRuntime) -> Result<(), Fail> {
     let nested = file(alloc, BASE_NODE, NESTED, BASE)?;
     assert_runs(&rt, alloc, nested.as_slice(), NESTED_RUNS)?;
     let fault = base_with_node(alloc, b"\x00\x00\x10\x00\x00\x11")?;
-    let rows: [Row<'_>; 2] = [
+    let rows: [Row<'_>; 3] = [
+        (
+            &["export", "here.mmdb"],
+            1,
+            "{\"network\":\"128.0.0.0/1\",\"record\":\"x\"}\n",
+            "a network: invalid database",
+        ),
         (
             &["verify", "here.mmdb"],
             1,
