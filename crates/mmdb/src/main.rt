@@ -1,0 +1,70 @@
+//! The program `mmdb`: its words are handed on, with standard output and standard error.
+#![tactic(auto)]
+
+use mmdb_program::run;
+use std::env;
+use std::io::{self, BufReader, BufWriter, ErrorKind, IsTerminal, Write};
+use std::process::ExitCode;
+
+// The status of a refusal.
+const REFUSED: u8 = 1;
+
+// The status of words that are no command.
+const BAD_WORDS: u8 = 2;
+
+// Arguments come as text alone, and a file is opened by text.
+const NOT_UTF8: &str =
+    "mmdb: a word is not UTF-8; reach the file by a link, or as /dev/fd/3 with 3< FILE";
+
+/// How many bytes are read and written at once.
+const BUFFER: usize = 1 << 16;
+
+// Writes out what is still buffered. A fault that comes only here is a refusal as any other by standard output,
+// and nothing is told of an output that was closed.
+fn finished<W: Write + Drop>(rt: &HostRuntime, mut writer: W, status: u8) -> u8 {
+    match writer.flush() {
+        Err(error) if status == 0 => {
+            if error.kind() != ErrorKind::BrokenPipe {
+                let _ = eprintln!(rt; "mmdb: write error: {error}");
+            }
+            REFUSED
+        }
+        _ => status,
+    }
+}
+
+// Runs the program on its words, and answers its status.
+fn program(rt: &HostRuntime) -> io::Result<u8> {
+    let mut words = Vec::new(rt.alloc());
+    for word in env::args(rt)? {
+        words.push(word)?;
+    }
+    let is_terminal = rt.stdout().is_terminal();
+    let mut out = BufWriter::with_capacity(rt.alloc(), BUFFER, rt.stdout())?;
+    let mut input = BufReader::with_capacity(rt.alloc(), BUFFER, rt.stdin())?;
+    let mut err = rt.stderr();
+    let status = run(
+        rt,
+        rt.alloc(),
+        words.as_slice(),
+        is_terminal,
+        &mut input,
+        &mut out,
+        &mut err,
+    );
+    Ok(finished(rt, out, status))
+}
+
+fn main(rt: HostRuntime) -> ExitCode {
+    match program(&rt) {
+        Ok(status) => ExitCode::from(status),
+        Err(error) if error.kind() == ErrorKind::InvalidData => {
+            let _ = eprintln!(rt; "{NOT_UTF8}");
+            ExitCode::from(BAD_WORDS)
+        }
+        Err(error) => {
+            let _ = eprintln!(rt; "mmdb: {error}");
+            ExitCode::from(REFUSED)
+        }
+    }
+}

@@ -1,0 +1,4 @@
+pub mod CellLaws
+pub mod KeptLaws
+pub mod ColumnLaws
+pub mod AddedLaws

@@ -1,0 +1,5 @@
+pub mod Columns
+pub mod Cells
+pub mod Added
+pub mod Kept
+pub mod Rows

@@ -1,0 +1,114 @@
+//! What is added to a line.
+ghost use Rattle.std.specs.Prelude.{◌≡◌, ◌++◌, Some, IfOk, if◌then◌else◌};
+ghost use Rattle.mmdb_filter.specs.declared.counts.Outcome.TheVariants.{Found, Refused};
+ghost use Rattle.mmdb_enrich.specs.Added.{AddsTo};
+ghost use Rattle.mmdb_enrich.specs.Cells.{blanks};
+ghost use Rattle.mmdb_enrich.specs.Kept.{AreKept};
+ghost use Rattle.mmdb_enrich.specs.Rows.{paths_of};
+
+use crate::cache::Cache;
+use crate::cells::{put_blanks, put_cells};
+use crate::columns::address_of;
+use maxminddb::{LookupResult, PathElement, Reader};
+use mmdb_filter::{Additions, Outcome};
+use std::alloc::{AllocError, Global};
+use std::convert::AsSlice;
+use std::io;
+use std::net::IpAddr;
+
+/// Fields of the record of the address in a column, as columns behind each line.
+#[derive(Drop)]
+pub struct Enrichment<'a, 'f, S: AsSlice<u8> + Drop> {
+    pub alloc: Global,
+    /// Where addresses are looked up.
+    pub reader: &'a Reader<S>,
+    /// The column of the address, from 0. Columns stand between tabs.
+    pub column: usize,
+    /// The paths of the fields.
+    pub paths: Vec<Vec<PathElement<'f>>>,
+}
+
+// How a line fares whose record was found.
+fn outcome_of(are_read: bool) -> Outcome
+    ensures { result ≡ (if are_read then Found else Refused) }
+{
+    if are_read {
+        Outcome::Found
+    } else {
+        Outcome::Refused
+    }
+}
+
+impl<'a, 'f, S: AsSlice<u8> + Drop> Enrichment<'a, 'f, S> {
+    ghost use Rattle.maxminddb.specs.Found.{database_asked, offset_found};
+    ghost use Rattle.mmdb_enrich.specs.Rows.{AddsAtTo, AddsForTo};
+
+    // Adds the cells of a record that was not kept, and keeps them.
+    #[inline(never)]
+    fn put_record(
+        &self,
+        found: &LookupResult<'_, S>,
+        offset: usize,
+        cache: &mut Cache,
+        out: &mut Vec<u8>,
+    ) -> Result<Outcome, AllocError>
+        requires at { offset_found found.now ≡ Some offset }
+        requires asked { database_asked found.now ≡ self.now.reader.now }
+        requires kept { AreKept self.now.reader.now (paths_of self.now.paths) cache.old }
+        ensures added { IfOk result (λ outcome. AddsAtTo self.now.reader.now self.now.paths (Some offset) outcome out.old out.new) }
+        ensures kept { AreKept self.now.reader.now (paths_of self.now.paths) cache.new }
+    {
+        let mut cells = Vec::new(self.alloc);
+        let are_read = put_cells(self.alloc, found, self.paths.as_slice(), &mut cells)?;
+        let outcome = outcome_of(are_read);
+        out.extend_from_slice(cells.as_slice())?;
+        cache.keep(offset, cells, outcome);
+        Ok(outcome)
+    }
+
+    // Adds empty cells.
+    fn put_none(&self, outcome: Outcome, out: &mut Vec<u8>) -> Result<Outcome, AllocError>
+        ensures { IfOk result (λ told. (told ≡ outcome) × (out.new.items ≡ out.old.items ++ blanks (paths_of self.now.paths))) }
+    {
+        put_blanks(self.paths.as_slice(), out)?;
+        Ok(outcome)
+    }
+
+    // Adds the cells of an address.
+    fn put_address(
+        &self,
+        address: IpAddr,
+        cache: &mut Cache,
+        out: &mut Vec<u8>,
+    ) -> Result<Outcome, AllocError>
+        requires { AreKept self.now.reader.now (paths_of self.now.paths) cache.old }
+        ensures added { IfOk result (λ outcome. AddsForTo self.now.reader.now self.now.paths (Some address) outcome out.old out.new) }
+        ensures kept { AreKept self.now.reader.now (paths_of self.now.paths) cache.new }
+    {
+        let Ok(found) = self.reader.lookup(address) else {
+            return self.put_none(Outcome::Refused, out);
+        };
+        let Some(offset) = found.offset() else {
+            return self.put_none(Outcome::Absent, out);
+        };
+        match cache.put_kept(offset, out)? {
+            Some(outcome) => Ok(outcome),
+            None => self.put_record(&found, offset, cache, out),
+        }
+    }
+}
+
+impl<'a, 'f, S: AsSlice<u8> + Drop> Additions for Enrichment<'a, 'f, S> {
+    type Memory = Cache;
+
+    ghost adds = { λ e line extra outcome. AddsTo e.reader.now e.column (paths_of e.paths) line extra outcome };
+
+    ghost fits = { λ e cache. AreKept e.reader.now (paths_of e.paths) cache };
+
+    fn add(&self, cache: &mut Cache, text: &[u8], out: &mut Vec<u8>) -> io::Result<Outcome> {
+        Ok(match address_of(text, self.column) {
+            Some(address) => self.put_address(address, cache, out)?,
+            None => self.put_none(Outcome::Unreadable, out)?,
+        })
+    }
+}

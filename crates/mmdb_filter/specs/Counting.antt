@@ -1,0 +1,17 @@
+-- How many lines fared so.
+use Rattle.std.specs.Prelude.{ℕ, ◌+◌}
+use Rattle.mmdb_filter.specs.declared.counts.Counts.{Counts}
+use Rattle.mmdb_filter.specs.declared.counts.Outcome.{Outcome}
+use Rattle.mmdb_filter.specs.declared.counts.Outcome.TheVariants.{Found, Absent, Unreadable, Refused}
+
+abbrev pub nothing_counted : Counts
+nothing_counted = record { found = 0; absent = 0; unreadable = 0; refused = 0 }
+
+abbrev pub count_one : Counts → Outcome → Counts
+count_one c Found = record c { found = c.found + 1 }
+count_one c Absent = record c { absent = c.absent + 1 }
+count_one c Unreadable = record c { unreadable = c.unreadable + 1 }
+count_one c Refused = record c { refused = c.refused + 1 }
+
+abbrev pub total : Counts → ℕ
+total c = c.found + (c.absent + (c.unreadable + c.refused))

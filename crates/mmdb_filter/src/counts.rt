@@ -1,0 +1,54 @@
+//! How lines fared.
+ghost use Rattle.std.specs.Prelude.{◌≡◌, ◌+◌, ◌<◌, ◌^◌};
+
+/// How a line fared.
+#[derive(Clone, Copy, Debug, PartialEq, Eq)]
+pub enum Outcome {
+    /// Its address has a record.
+    Found,
+    /// Its address has no record.
+    Absent,
+    /// It has no address.
+    Unreadable,
+    /// The address, the record or a field was refused.
+    Refused,
+}
+
+/// How many lines fared so.
+#[derive(Clone, Copy, Debug, PartialEq, Eq)]
+pub struct Counts {
+    pub found: u64,
+    pub absent: u64,
+    pub unreadable: u64,
+    pub refused: u64,
+}
+
+impl Counts {
+    ghost use Rattle.mmdb_filter.specs.Counting.{nothing_counted, count_one, total};
+
+    /// Of no line.
+    pub(crate) fn new() -> Counts
+        ensures { result ≡ nothing_counted }
+    {
+        Counts {
+            found: 0,
+            absent: 0,
+            unreadable: 0,
+            refused: 0,
+        }
+    }
+
+    /// One line more.
+    pub(crate) fn count(&mut self, outcome: Outcome)
+        requires { total self.old + 1 < 2 ^ 64 }
+        ensures counted { self.new ≡ count_one self.old outcome }
+        ensures more { total self.new ≡ total self.old + 1 }
+    {
+        match outcome {
+            Outcome::Found => self.found += 1,
+            Outcome::Absent => self.absent += 1,
+            Outcome::Unreadable => self.unreadable += 1,
+            Outcome::Refused => self.refused += 1,
+        }
+    }
+}

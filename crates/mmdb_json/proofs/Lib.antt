@@ -1,0 +1,4 @@
+pub mod ShownLaws
+pub mod ReadingBack
+pub mod WideDecimals
+pub mod FoundLaws

@@ -1,0 +1,63 @@
+//! The JSON of what a lookup found.
+ghost use Rattle.std.specs.Prelude.{◌≡◌, true, false, IfOk, IfErr, IfSome, IfNone};
+ghost use Rattle.mmdb_format.specs.Error.{MemoryApart};
+ghost use Rattle.mmdb_value.specs.AnyValue.{value_at};
+ghost use Rattle.maxminddb.specs.Decoding.{RefusesToDecode};
+ghost use Rattle.maxminddb.specs.File.{data_section};
+ghost use Rattle.maxminddb.specs.Found.{database_asked, offset_found};
+ghost use Rattle.maxminddb.specs.Selecting.{answer_along, HasNone};
+ghost use Rattle.mmdb_json.specs.Found.{IsJsonAlong, WritesAlong};
+
+use crate::sink::TokenSink;
+use crate::text::compact;
+use crate::write::write_value;
+use json::Token;
+use maxminddb::{LookupResult, MaxMindDbError, PathElement, Value};
+use std::alloc::Global;
+use std::convert::AsSlice;
+
+/// The compact text of the value at the end of a path into the network's record, or none exactly where
+/// there is no data or the path leads nowhere. An empty path is the whole record.
+///
+/// Refused as `decode_path` of a `Value` is, memory apart.
+pub fn found_json<S: AsSlice<u8> + Drop>(
+    alloc: Global,
+    found: &LookupResult<'_, S>,
+    path: &[PathElement<'_>],
+) -> Result<Option<Vec<u8>>, MaxMindDbError>
+    ensures json { IfOk result (λ text. IfSome text (λ t. IsJsonAlong path.now (data_section (database_asked found.now)) (offset_found found.now) t.items)) }
+    ensures none { IfOk result (λ text. IfNone text (HasNone path.now (data_section (database_asked found.now)) (offset_found found.now))) }
+    ensures refused { IfErr result (λ e. MemoryApart e (RefusesToDecode false e (answer_along path.now true (value_at true) (data_section (database_asked found.now))) (offset_found found.now))) }
+{
+    let value: Option<Value<'_>> = found.decode_path(alloc, path)?;
+    match &value {
+        Some(value) => Ok(Some(compact(alloc, value)?)),
+        None => Ok(None),
+    }
+}
+
+/// Gives the tokens of that value, or `null` where there is none, and tells whether there is one.
+///
+/// Refused as `found_json` is; only where there is no memory some tokens were given.
+pub fn write_found<S: AsSlice<u8> + Drop, W: TokenSink>(
+    alloc: Global,
+    found: &LookupResult<'_, S>,
+    path: &[PathElement<'_>],
+    out: &mut W,
+) -> Result<bool, MaxMindDbError>
+    ensures written { IfOk result (λ is_found. WritesAlong path.now (data_section (database_asked found.now)) (offset_found found.now) is_found (W.tokens out.old) (W.tokens out.new)) }
+    ensures front { W.front out.new ≡ W.front out.old }
+    ensures refused { IfErr result (λ e. MemoryApart e (RefusesToDecode false e (answer_along path.now true (value_at true) (data_section (database_asked found.now))) (offset_found found.now))) }
+{
+    let value: Option<Value<'_>> = found.decode_path(alloc, path)?;
+    match &value {
+        Some(value) => {
+            write_value(alloc, value, out)?;
+            Ok(true)
+        }
+        None => {
+            out.token(Token::Null)?;
+            Ok(false)
+        }
+    }
+}

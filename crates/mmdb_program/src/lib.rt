@@ -1,0 +1,18 @@
+//! The program `mmdb`: what people ask of databases.
+#![tactic(auto)]
+
+mod about;
+mod enrich;
+mod error;
+mod export;
+mod paths;
+mod program;
+mod request;
+mod show;
+mod words;
+
+pub use about::info;
+pub use error::ProgramError;
+pub use paths::path_of;
+pub use program::run;
+pub use show::show_to;

@@ -1,0 +1,235 @@
+//! Runs of the program.
+use mmdb_program::run;
+use mmdb_vectors::builder::{BASE, BASE_NODE, base_file, base_with_node, file};
+use mmdb_vectors::file::OneFile;
+use mmdb_vectors::words::words_of;
+use std::alloc::Global;
+use std::io::{self, Write};
+use std::process::Abort;
+use std::test::Fail;
+
+/// A writer that refuses all.
+#[derive(Drop)]
+struct Full;
+
+impl Write for Full {
+    fn write(&mut self, _bytes: &[u8]) -> io::Result<usize> {
+        Err(io::Error::from(io::ErrorKind::StorageFull))
+    }
+
+    fn flush(&mut self) -> io::Result<()> {
+        Ok(())
+    }
+}
+
+/// Words, the status, standard output, and what standard error has to hold.
+type Row<'a> = (&'a [&'a str], u8, &'a str, &'a str);
+
+/// Words, standard input, standard output, and what standard error has to hold, of a run that is done.
+type Lines<'a> = (&'a [&'a str], &'a str, &'a str, &'a str);
+
+const FOUND: &str = "{\"address\":\"200.0.0.1\",\"network\":\"128.0.0.0/1\",\"record\":\"x\"}\n";
+
+const ABSENT: &str = "{\"address\":\"1.1.1.1\",\"network\":\"0.0.0.0/1\",\"record\":null}\n";
+
+#[rattlefmt::skip]
+const BASE_RUNS: &[Row<'static>] = &[
+    (&["show", "here.mmdb", "200.0.0.1"], 0, FOUND, ""),
+    (&["show", "here.mmdb", "1.1.1.1"], 6, ABSENT, ""),
+    (&["show", "here.mmdb", "200.0.0.1", "--path", ""], 0, "\"x\"\n", ""),
+    (&["show", "here.mmdb", "1.1.1.1", "--path", "a.b"], 6, "null\n", ""),
+    (&["show", "here.mmdb", "::1"], 1, "", "::1: invalid input: cannot look up IPv6"),
+    (&["show", "here.mmdb", "1.1.1.1", "::1"], 1, ABSENT, "::1: invalid input"),
+    (&["show", "here.mmdb", "::1", "200.0.0.1"], 1, FOUND, "::1: invalid input"),
+    (&["show", "gone.mmdb", "200.0.0.1"], 1, "", "gone.mmdb: i/o error: "),
+    (&["show", "gone.mmdb", "nowhere"], 2, "", "nowhere: not an IP address"),
+    (&["show", "gone.mmdb", "1.1.1.1", "--path", "a.\"b"], 2, "", "a.\"b: not a path"),
+    (&["show", "gone.mmdb", "1.1.1.1", "--path", "\"a\"b"], 2, "", "\"a\"b: not a path"),
+    (&["show", "gone.mmdb"], 2, "", "ADDR"),
+    (&["show"], 2, "", "FILE"),
+    (&["verify", "here.mmdb", "here.mmdb"], 0, "here.mmdb: ok\nhere.mmdb: ok\n", ""),
+    (&["info", "gone.mmdb"], 1, "", "gone.mmdb: i/o error: "),
+    (&["export", "here.mmdb"], 0, "{\"network\":\"128.0.0.0/1\",\"record\":\"x\"}\n", ""),
+    (&["export", "here.mmdb", "200.0.0.1"], 0, "{\"network\":\"128.0.0.0/1\",\"record\":\"x\"}\n", ""),
+    (&["export", "here.mmdb", "1.0.0.0/8"], 0, "", ""),
+    (&["export", "here.mmdb", "::/0"], 1, "", "here.mmdb: invalid input: cannot iterate IPv6"),
+    (&["export", "gone.mmdb", "x"], 2, "", "x: not a network"),
+    (&["frob"], 2, "", "frob"),
+    (&["info", "here.mmdb", "extra"], 2, "", "extra"),
+    (&[], 2, "", "Usage"),
+    (
+        &["info", "here.mmdb"],
+        0,
+        "type:        T\ndescription: d (en)\nlanguages:  \nIP version:  4\nbuilt:       1970-01-01T00:00:01Z (1 s)\nformat:      2.0\nnodes:       1\nrecord size: 24 bits\ntree:        6 bytes\ndata:        2 bytes\nmetadata:    161 bytes\n",
+        "",
+    ),
+];
+
+/// A map {"a.b": [1, {"0": "y"}]}.
+const NESTED: &[u8] = b"\xE1\x43a.b\x02\x04\xA1\x01\xE1\x410\x41y";
+
+#[rattlefmt::skip]
+const NESTED_RUNS: &[Row<'static>] = &[
+    (&["show", "here.mmdb", "200.0.0.1", "--path", "\"a.b\".-1.\"0\""], 0, "\"y\"\n", ""),
+    (&["show", "here.mmdb", "200.0.0.1", "--path", "\"a.b\".0", "--path", "c"], 6, "1\nnull\n", ""),
+    (&["show", "here.mmdb", "200.0.0.1", "--path", "\"a.b\".1.0"], 1, "", "decoding error"),
+];
+
+#[rattlefmt::skip]
+const LINES: &[Lines<'static>] = &[
+    (
+        &["enrich", "here.mmdb", "--field", ""],
+        "200.0.0.1\n1.1.1.1\trest\n::1\r\nnone\n\n200.0.0.2",
+        "200.0.0.1\tx\n1.1.1.1\trest\t\n::1\t\r\nnone\t\n\t\n200.0.0.2\tx",
+        "2 lines with a record, 1 without, 2 without an address, 1 refused",
+    ),
+    (
+        &["enrich", "here.mmdb", "--column", "2", "--field", "", "--field", "a"],
+        "200.0.0.1\na\t200.0.0.1\tb\na\t200.0.0.1 \n",
+        "200.0.0.1\t\t\na\t200.0.0.1\tb\tx\t\na\t200.0.0.1 \t\t\n",
+        "0 lines with a record, 0 without, 2 without an address, 1 refused",
+    ),
+    (
+        &["enrich", "here.mmdb", "--header", "--column", "ip", "--field", ""],
+        "name\tip\r\na\t200.0.0.1\r\n",
+        "name\tip\t\r\na\t200.0.0.1\tx\r\n",
+        "1 lines with a record, 0 without, 0 without an address, 0 refused",
+    ),
+    (&["enrich", "here.mmdb", "--field", ""], "", "", "0 lines with a record, 0 without, 0 without"),
+];
+
+const NO_LINES: &[Row<'static>] = &[
+    (
+        &["enrich", "here.mmdb", "--column", "0"],
+        2,
+        "",
+        "0: not the number of a column",
+    ),
+    (
+        &["enrich", "here.mmdb", "--column", "ip"],
+        2,
+        "",
+        "ip: not the number of a column",
+    ),
+    (&["enrich", "gone.mmdb"], 1, "", "gone.mmdb: i/o error: "),
+    (
+        &["enrich", "here.mmdb", "--header", "--column", "ip"],
+        1,
+        "",
+        "no such column",
+    ),
+];
+
+#[test]
+fn lines_with_fields(rt: HostRuntime) -> Result<(), Fail> {
+    let alloc = rt.alloc();
+    let base = base_file(alloc)?;
+    let files = OneFile {
+        bytes: base.as_slice(),
+        step: 64,
+        fails_at: 1000,
+    };
+    for (texts, lines, written, told) in LINES {
+        let mut words = words_of(alloc, &["mmdb"])?;
+        words.append(&mut words_of(alloc, texts)?)?;
+        let mut input = lines.as_bytes();
+        let mut out: Vec<u8> = Vec::new(alloc);
+        let mut err: Vec<u8> = Vec::new(alloc);
+        let done = run(
+            &files,
+            alloc,
+            words.as_slice(),
+            false,
+            &mut input,
+            &mut out,
+            &mut err,
+        );
+        assert!(&rt; done == 0, "{texts:?}: {done}");
+        assert!(&rt; out.as_slice() == written.as_bytes(), "{texts:?}: {out:?}");
+        let err = String::from_utf8(err)?;
+        assert!(&rt; err.contains(told), "{texts:?}: {err}");
+    }
+    assert_runs(&rt, alloc, base.as_slice(), NO_LINES)
+}
+
+// Asserts what the program does with its words over a file.
+fn assert_runs(rt: &impl Abort, alloc: Global, bytes: &[u8], rows: &[Row<'_>]) -> Result<(), Fail> {
+    let files = OneFile {
+        bytes,
+        step: 64,
+        fails_at: 1000,
+    };
+    for (texts, status, written, told) in rows {
+        let mut words = words_of(alloc, &["mmdb"])?;
+        words.append(&mut words_of(alloc, texts)?)?;
+        let mut input: &[u8] = b"";
+        let mut out: Vec<u8> = Vec::new(alloc);
+        let mut err: Vec<u8> = Vec::new(alloc);
+        let done = run(
+            &files,
+            alloc,
+            words.as_slice(),
+            false,
+            &mut input,
+            &mut out,
+            &mut err,
+        );
+        assert!(rt; done == *status, "{texts:?}: {done}");
+        assert!(rt; out.as_slice() == written.as_bytes(), "{texts:?}: {out:?}");
+        let err = String::from_utf8(err)?;
+        assert!(rt;
+            err.contains(told) && err.is_empty() == told.is_empty(),
+            "{texts:?}: {err}"
+        );
+        if (*status == 0 || *status == 6) && !written.is_empty() {
+            let mut none: Vec<u8> = Vec::new(alloc);
+            let full = run(
+                &files,
+                alloc,
+                words.as_slice(),
+                false,
+                &mut input,
+                &mut Full,
+                &mut none,
+            );
+            assert!(rt; full == 1, "{texts:?}: {full}");
+        }
+    }
+    Ok(())
+}
+
+#[test]
+fn runs_over_small_files(rt: HostRuntime) -> Result<(), Fail> {
+    let alloc = rt.alloc();
+    assert_runs(&rt, alloc, base_file(alloc)?.as_slice(), BASE_RUNS)?;
+    let nested = file(alloc, BASE_NODE, NESTED, BASE)?;
+    assert_runs(&rt, alloc, nested.as_slice(), NESTED_RUNS)?;
+    let fault = base_with_node(alloc, b"\x00\x00\x10\x00\x00\x11")?;
+    let rows: [Row<'_>; 3] = [
+        (
+            &["export", "here.mmdb"],
+            1,
+            "{\"network\":\"128.0.0.0/1\",\"record\":\"x\"}\n",
+            "a network: invalid database",
+        ),
+        (
+            &["verify", "here.mmdb"],
+            1,
+            "here.mmdb: invalid database: the MaxMind DB file's data pointer resolves to an invalid location\n",
+            "",
+        ),
+        (
+            &["show", "here.mmdb", "1.1.1.1", "200.0.0.1"],
+            1,
+            FOUND,
+            "1.1.1.1: invalid database",
+        ),
+    ];
+    assert_runs(&rt, alloc, fault.as_slice(), &rows)?;
+    assert_runs(
+        &rt,
+        alloc,
+        b"",
+        &[(&["info", "here.mmdb"], 1, "", "here.mmdb: invalid database")],
+    )
+}
