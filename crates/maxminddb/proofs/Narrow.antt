@@ -1,16 +1,16 @@
 -- How few positions wait while a walk is under way, and how few stops it takes.
-use Rattle.std.proofs.Common.{◌≡◌, ℕ, ◌+◌, ◌-◌, ◌*◌, ◌<◌, ◌≤◌, zero, suc, Bool, true, false, ◌||◌, nat_lt, List, [], ◌∷◌, ◌++◌, take, length, arith, sym, ap, ◌∙◌, refl, ◌⊎◌, inl, inr, if◌then◌else◌, length-append}
+use Rattle.std.proofs.Common.{◌≡◌, ℕ, ◌+◌, ◌-◌, ◌*◌, ◌<◌, ◌≤◌, zero, suc, Bool, true, false, ◌||◌, nat_lt, List, [], ◌∷◌, ◌++◌, take, length, arith, ap, ◌∙◌, refl, inl, inr, length-append}
 use Rattle.std.proofs.lemmas.Bool.{cases_Bool, cases_lt}
 use Rattle.std.proofs.lemmas.List.{take-append-le}
 use Rattle.std.proofs.Math.Seq.{take-append-add}
 use Rattle.maxminddb.specs.File.{Database, tree_of, width}
 use Rattle.maxminddb.specs.Tree.{step}
 use Rattle.maxminddb.specs.Stops.{Stop, stops, shared, cost, cut, is_fault, most_stops}
-use Rattle.maxminddb.specs.Walked.{goes_on_from, end_from}
+use Rattle.maxminddb.specs.Walked.{goes_on_from}
 use Rattle.maxminddb.specs.WholeLaws.{FewPositionsWait, FewStopsAreTaken}
 use Rattle.maxminddb.proofs.PositionLemmas.{width-le}
 use Rattle.maxminddb.proofs.Progress.{total-append}
-use Rattle.maxminddb.proofs.Visits.{Visit, visit, with_lead, total, visits_below, visits_of, visits_after, total-visits_of, length-visits_of, some_visit, some-with_lead, below-node, below-stop, visits-stops}
+use Rattle.maxminddb.proofs.Visits.{Visit, visit, with_lead, total, visits_below, visits_of, visits_after, total-visits_of, length-visits_of, some_visit, below-node, below-stop, visits-stops}
 
 -- ---- the first visits of a list
 

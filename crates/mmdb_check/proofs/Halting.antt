@@ -1,15 +1,15 @@
 -- A check that is refused, step by step.
-use Rattle.std.proofs.Common.{◌≡◌, ◌≢◌, ℕ, zero, suc, ◌+◌, ◌-◌, ◌*◌, ◌<◌, ◌≤◌, List, [], ◌∷◌, length, Some, Bool, true, false, ◌||◌, ◌==◌, set, map, leb, refl, sym, ◌∙◌, ap, subst, inl, inr, arith}
+use Rattle.std.proofs.Common.{◌≡◌, ℕ, zero, suc, ◌+◌, ◌-◌, ◌*◌, ◌<◌, ◌≤◌, List, [], ◌∷◌, length, Some, Bool, ◌==◌, set, map, leb, refl, sym, ◌∙◌, subst, inl, inr, arith}
 use Rattle.std.proofs.lemmas.Bool.{or_cases, cases_eq, eqb-true, false≢true}
 use Rattle.mmdb_check.specs.declared.inline.Inline.TheVariants.{Scalar, Parts, Pointer}
 use Rattle.mmdb_check.specs.Inline.{inline_at}
 use Rattle.mmdb_check.specs.Checking.{Costs, holds}
 use Rattle.mmdb_check.specs.Values.{Values, End, ScalarThen, PartsThen, PointerThen, Stand, count, own, work_of}
 use Rattle.mmdb_check.specs.Memory.{mark, is_good, Sound, Passed, Ready}
-use Rattle.mmdb_check.specs.Halting.{Passes, none_passed, scalar_passed, parts_passed, pointer_passed, CostOfPart, Part, is_under, Once, ArePassed, parts_cost, Halted, Halts, IsHalted}
+use Rattle.mmdb_check.specs.Halting.{Passes, none_passed, scalar_passed, parts_passed, pointer_passed, is_under, Halted, Halts, IsHalted}
 use Rattle.mmdb_check.proofs.Checks.{marked}
 use Rattle.mmdb_check.proofs.Costs.{cost_is_work, allowed_same, good_allowed}
-use Rattle.mmdb_check.proofs.Marks.{mark_same, mark_other, bad_when, under_good, under_work, not_true}
+use Rattle.mmdb_check.proofs.Marks.{mark_same, mark_other, bad_when, under_work, not_true}
 use Rattle.mmdb_check.proofs.Sums.{work_same}
 
 -- ---- parts that were passed

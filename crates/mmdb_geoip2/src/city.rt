@@ -15,7 +15,7 @@ use mmdb_format::error::DecodeResult;
 use std::alloc::Global;
 
 /// A city.
-#[derive(Clone, Debug, Default, PartialEq, Drop)]
+#[derive(Clone, Copy, Debug, Default, PartialEq)]
 pub struct City<'a> {
     /// The number of the place in GeoNames.
     pub geoname_id: Option<u32>,
@@ -54,7 +54,7 @@ impl City<'_> {
 }
 
 /// Where an address is.
-#[derive(Clone, Debug, Default, PartialEq, Drop)]
+#[derive(Clone, Copy, Debug, Default, PartialEq)]
 pub struct Location<'a> {
     /// The radius around the place, in kilometres, within which the address is likely to be.
     pub accuracy_radius: Option<u16>,
@@ -106,7 +106,7 @@ impl Location<'_> {
 }
 
 /// A postal code.
-#[derive(Clone, Debug, Default, PartialEq, Drop)]
+#[derive(Clone, Copy, Debug, Default, PartialEq)]
 pub struct Postal<'a> {
     /// The postal code, or its beginning.
     pub code: Option<&'a str>,
@@ -142,7 +142,7 @@ impl Postal<'_> {
 }
 
 /// A part of a country.
-#[derive(Clone, Debug, Default, PartialEq, Drop)]
+#[derive(Clone, Copy, Debug, Default, PartialEq)]
 pub struct Subdivision<'a> {
     /// The number of the place in GeoNames.
     pub geoname_id: Option<u32>,

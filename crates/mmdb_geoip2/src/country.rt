@@ -14,7 +14,7 @@ use mmdb_format::error::DecodeResult;
 use std::alloc::Global;
 
 /// A continent.
-#[derive(Clone, Debug, Default, PartialEq, Drop)]
+#[derive(Clone, Copy, Debug, Default, PartialEq)]
 pub struct Continent<'a> {
     /// The code of two letters, like "EU".
     pub code: Option<&'a str>,
@@ -56,7 +56,7 @@ impl Continent<'_> {
 }
 
 /// A country.
-#[derive(Clone, Debug, Default, PartialEq, Drop)]
+#[derive(Clone, Copy, Debug, Default, PartialEq)]
 pub struct Country<'a> {
     /// The number of the place in GeoNames.
     pub geoname_id: Option<u32>,
@@ -104,7 +104,7 @@ impl Country<'_> {
 }
 
 /// A country that is represented, as by an embassy or a military base.
-#[derive(Clone, Debug, Default, PartialEq, Drop)]
+#[derive(Clone, Copy, Debug, Default, PartialEq)]
 pub struct RepresentedCountry<'a> {
     /// The number of the place in GeoNames.
     pub geoname_id: Option<u32>,
@@ -156,7 +156,7 @@ impl RepresentedCountry<'_> {
 }
 
 /// Traits of an address.
-#[derive(Clone, Debug, Default, PartialEq, Drop)]
+#[derive(Clone, Copy, Debug, Default, PartialEq)]
 pub struct Traits {
     /// Whether the network is an anycast one, reached at several places.
     pub is_anycast: Option<bool>,

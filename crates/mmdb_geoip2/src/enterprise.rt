@@ -14,7 +14,7 @@ use mmdb_format::error::DecodeResult;
 use std::alloc::Global;
 
 /// A city.
-#[derive(Clone, Debug, Default, PartialEq, Drop)]
+#[derive(Clone, Copy, Debug, Default, PartialEq)]
 pub struct City<'a> {
     /// How sure the database is of it: 0 to 100, in percent (any number to 255 is read).
     pub confidence: Option<u8>,
@@ -56,7 +56,7 @@ impl City<'_> {
 }
 
 /// A country.
-#[derive(Clone, Debug, Default, PartialEq, Drop)]
+#[derive(Clone, Copy, Debug, Default, PartialEq)]
 pub struct Country<'a> {
     /// How sure the database is of it: 0 to 100, in percent (any number to 255 is read).
     pub confidence: Option<u8>,
@@ -108,7 +108,7 @@ impl Country<'_> {
 }
 
 /// A postal code.
-#[derive(Clone, Debug, Default, PartialEq, Drop)]
+#[derive(Clone, Copy, Debug, Default, PartialEq)]
 pub struct Postal<'a> {
     /// The postal code, or its beginning.
     pub code: Option<&'a str>,
@@ -147,7 +147,7 @@ impl Postal<'_> {
 }
 
 /// A part of a country.
-#[derive(Clone, Debug, Default, PartialEq, Drop)]
+#[derive(Clone, Copy, Debug, Default, PartialEq)]
 pub struct Subdivision<'a> {
     /// How sure the database is of it: 0 to 100, in percent (any number to 255 is read).
     pub confidence: Option<u8>,
@@ -195,7 +195,7 @@ impl Subdivision<'_> {
 }
 
 /// Traits of an address.
-#[derive(Clone, Debug, Default, PartialEq, Drop)]
+#[derive(Clone, Copy, Debug, Default, PartialEq)]
 pub struct Traits<'a> {
     /// The number of the autonomous system.
     pub autonomous_system_number: Option<u32>,

@@ -12,7 +12,7 @@ use mmdb_format::error::DecodeResult;
 use std::alloc::Global;
 
 /// The provider of an address.
-#[derive(Clone, Debug, Drop)]
+#[derive(Clone, Copy, Debug)]
 pub struct Isp<'a> {
     /// The number of the autonomous system.
     pub autonomous_system_number: Option<u32>,
@@ -61,7 +61,7 @@ impl<'de> Fields<'de> for Isp<'de> {
 }
 
 /// How an address is connected.
-#[derive(Clone, Debug, Drop)]
+#[derive(Clone, Copy, Debug)]
 pub struct ConnectionType<'a> {
     /// The kind of connection: "Dialup", "Cable/DSL", "Corporate", "Cellular", "Satellite".
     pub connection_type: Option<&'a str>,
@@ -90,7 +90,7 @@ impl<'de> Fields<'de> for ConnectionType<'de> {
 }
 
 /// Whether an address hides who uses it.
-#[derive(Clone, Debug, Drop)]
+#[derive(Clone, Copy, Debug)]
 pub struct AnonymousIp {
     /// Whether the address belongs to an anonymous network of any kind.
     pub is_anonymous: Option<bool>,
@@ -139,7 +139,7 @@ impl<'de> Fields<'de> for AnonymousIp {
 }
 
 /// Income and density of the population.
-#[derive(Clone, Debug, Drop)]
+#[derive(Clone, Copy, Debug)]
 pub struct DensityIncome {
     /// The average income, in US dollars a year.
     pub average_income: Option<u32>,
@@ -172,7 +172,7 @@ impl<'de> Fields<'de> for DensityIncome {
 }
 
 /// The domain of an address.
-#[derive(Clone, Debug, Drop)]
+#[derive(Clone, Copy, Debug)]
 pub struct Domain<'a> {
     /// The domain of the second level, like "example.com".
     pub domain: Option<&'a str>,
@@ -199,7 +199,7 @@ impl<'de> Fields<'de> for Domain<'de> {
 }
 
 /// The autonomous system of an address.
-#[derive(Clone, Debug, Drop)]
+#[derive(Clone, Copy, Debug)]
 pub struct Asn<'a> {
     /// The number of the autonomous system.
     pub autonomous_system_number: Option<u32>,

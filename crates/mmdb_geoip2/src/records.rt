@@ -15,7 +15,7 @@ use mmdb_format::error::DecodeResult;
 use std::alloc::Global;
 
 /// The country of an address.
-#[derive(Clone, Debug, Default, Drop)]
+#[derive(Clone, Copy, Debug, Default)]
 pub struct Country<'a> {
     /// The continent.
     pub continent: country::Continent<'a>,

@@ -2,4 +2,5 @@
 mod lines;
 mod lists;
 mod programs;
+mod reports;
 mod runs;

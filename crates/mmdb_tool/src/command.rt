@@ -4,7 +4,7 @@ use std::net::IpAddr;
 
 /// The usage line.
 pub(crate) const USAGE: &str =
-    "usage: mmdb_tool lookup FILE ADDR | list FILE RANGE [--aliases] [--empty] [--skip-empty] | verify FILE\n";
+    "usage: mmdb_tool lookup FILE ADDR | list FILE RANGE [--aliases] [--empty] [--skip-empty] | verify FILE | report FILE RANGE [--aliases] [--empty] [--skip-empty]\n";
 
 const ALIASES: &str = "--aliases";
 
@@ -30,14 +30,22 @@ pub(crate) enum Command<'a> {
     Verify {
         file: &'a str,
     },
+    /// The counts of a range.
+    Report {
+        file: &'a str,
+        range: IpNetwork,
+        options: WithinOptions,
+    },
 }
 
 impl<'a> Command<'a> {
     /// The path of the file that it reads.
     pub(crate) fn file(&self) -> &'a str {
         match *self {
-            Command::Lookup { file, .. } | Command::List { file, .. } | Command::Verify { file } =>
-                file,
+            Command::Lookup { file, .. }
+            | Command::List { file, .. }
+            | Command::Verify { file }
+            | Command::Report { file, .. } => file,
         }
     }
 }
@@ -81,15 +89,30 @@ fn options_of(words: &[String]) -> Option<WithinOptions> {
     Some(options)
 }
 
-// An option stands after the range: in the place of FILE it is a word too many before it.
-fn list_of<'a>(file: &'a str, range: &str, words: &[String]) -> Option<Command<'a>> {
+// The range and the options of a command. An option stands after the range: in the place of FILE it is a
+// word too many before it.
+fn range_of(file: &str, range: &str, words: &[String]) -> Option<(IpNetwork, WithinOptions)> {
     if is_option(file) {
         return None;
     }
+    Some((range.parse().ok()?, options_of(words)?))
+}
+
+fn list_of<'a>(file: &'a str, range: &str, words: &[String]) -> Option<Command<'a>> {
+    let (range, options) = range_of(file, range, words)?;
     Some(Command::List {
         file,
-        range: range.parse().ok()?,
-        options: options_of(words)?,
+        range,
+        options,
+    })
+}
+
+fn report_of<'a>(file: &'a str, range: &str, words: &[String]) -> Option<Command<'a>> {
+    let (range, options) = range_of(file, range, words)?;
+    Some(Command::Report {
+        file,
+        range,
+        options,
     })
 }
 
@@ -106,6 +129,9 @@ pub(crate) fn command_of(words: &[String]) -> Option<Command<'_>> {
         [command, file] if command.as_str() == "verify" => Some(Command::Verify {
             file: file.as_str(),
         }),
+        [command, file, range, options @ ..] if command.as_str() == "report" => {
+            report_of(file.as_str(), range.as_str(), options)
+        }
         _ => None,
     }
 }

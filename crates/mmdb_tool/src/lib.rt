@@ -6,6 +6,7 @@ pub mod laws;
 mod line;
 mod list;
 mod program;
+mod report_text;
 mod sink;
 
 pub use line::lookup_line;

@@ -4,11 +4,14 @@ ghost use Rattle.std.specs.Prelude.{◌≤◌, IfErr};
 use crate::command::{Command, USAGE, command_of};
 use crate::line::lookup_line;
 use crate::list::{ListError, list_to};
+use crate::report_text::report_text;
 use crate::sink::{Sink, put_all};
 use maxminddb::{MaxMindDbError, Reader};
+use mmdb_report::{ReportError, report_on};
 use std::alloc::{AllocError, Global};
 use std::convert::AsSlice;
 use std::rt::Files;
+use thiserror::Error;
 
 /// The status of a refusal.
 const REFUSED: u8 = 1;
@@ -22,8 +25,27 @@ const WHOLE: &str = "ok\n";
 /// The text of a refusal that there is no memory to print.
 const NO_MEMORY: &str = "out of memory\n";
 
+/// Why a command was not done.
+#[derive(Debug, Drop, Error)]
+enum Refusal {
+    /// The database refused, or there was no memory.
+    #[error("{0}")]
+    Database(#[from] MaxMindDbError),
+    /// A list was not written whole, or another text.
+    #[error("{0}")]
+    List(#[from] ListError),
+    /// There is no report.
+    #[error("{0}")]
+    Report(#[from] ReportError),
+}
+
+// Puts all of a text.
+fn put_text<O: Sink>(out: &mut O, text: &str) -> Result<(), ListError> {
+    Ok(put_all(out, text.as_bytes())?)
+}
+
 // The status of what was done. The text of a refusal goes to `err`, whose own faults change nothing.
-fn status_of<E: Sink>(alloc: Global, done: Result<(), ListError>, err: &mut E) -> u8
+fn status_of<E: Sink>(alloc: Global, done: Result<(), Refusal>, err: &mut E) -> u8
     ensures { result ≤ 1 }
 {
     let Err(error) = done else {
@@ -48,7 +70,7 @@ fn command_or_status<'a, O: Sink, E: Sink>(
     ensures { IfErr result (λ status. status ≤ 2) }
 {
     if words.is_empty() {
-        let done = put_all(out, USAGE.as_bytes()).map_err(ListError::from);
+        let done = put_text(out, USAGE).map_err(Refusal::from);
         return Err(status_of(alloc, done, err));
     }
     match command_of(words) {
@@ -66,12 +88,12 @@ fn answer<S: AsSlice<u8> + Drop, O: Sink>(
     opened: Result<Reader<S>, MaxMindDbError>,
     command: Command<'_>,
     out: &mut O,
-) -> Result<(), ListError> {
+) -> Result<(), Refusal> {
     let reader = opened?;
     match command {
         Command::Lookup { file: _, address } => {
             let line = lookup_line(alloc, &reader, address)?;
-            put_all(out, line.as_bytes())?;
+            put_text(out, line.as_str())?;
         }
         Command::List {
             file: _,
@@ -80,7 +102,16 @@ fn answer<S: AsSlice<u8> + Drop, O: Sink>(
         } => list_to(alloc, &reader, range, options, out)?,
         Command::Verify { file: _ } => {
             reader.verify(alloc)?;
-            put_all(out, WHOLE.as_bytes())?;
+            put_text(out, WHOLE)?;
+        }
+        Command::Report {
+            file: _,
+            range,
+            options,
+        } => {
+            let report = report_on(alloc, &reader, range, options)?;
+            let text = report_text(alloc, &report).map_err(MaxMindDbError::from)?;
+            put_text(out, text.as_str())?;
         }
     }
     Ok(())

@@ -1,7 +1,9 @@
 //! Which records are equal, and which say nothing.
 use mmdb_decode::fuzzing::decode;
+use mmdb_format::error::DecodeResult;
 use mmdb_geoip2::{City, Country, Enterprise, city, country, enterprise};
 use mmdb_vectors::equality::equality;
+use std::alloc::Global;
 use std::test::Fail;
 
 /// Countries of which the second is spelled in another way, or differs in one field.
@@ -18,21 +20,29 @@ const COUNTRIES: &[(&[u8], &[u8], bool)] = &[
     (b"\xE1\x45names\xE1\x42en\x41x", b"\xE1\x45names\xE1\x42de\x41x", false),
 ];
 
+// What equality says of two countries.
+fn countries_told(alloc: Global, a: &[u8], b: &[u8]) -> DecodeResult<Option<bool>> {
+    let left: country::Country<'_> = decode(alloc, a)?;
+    let right: country::Country<'_> = decode(alloc, b)?;
+    Ok(equality(&left, &right))
+}
+
+// Whether a country is empty exactly where it equals the default, and equals its clone.
+fn is_sound(alloc: Global, section: &[u8]) -> DecodeResult<bool> {
+    let country: country::Country<'_> = decode(alloc, section)?;
+    let none = country::Country::default();
+    let same = country.clone()?;
+    Ok(country.is_empty() == (country == none) && same == country)
+}
+
 #[test]
 fn countries_equal(rt: HostRuntime) -> Result<(), Fail> {
     let alloc = rt.alloc();
     for (a, b, is_equal) in COUNTRIES {
-        let left: country::Country<'_> = decode(alloc, a)?;
-        let right: country::Country<'_> = decode(alloc, b)?;
-        assert!(rt;
-            equality(&left, &right) == Some(*is_equal),
-            "{a:?} and {b:?}"
-        );
-        let none = country::Country::default();
-        assert!(rt; left.is_empty() == (left == none), "{a:?}");
-        assert!(rt; right.is_empty() == (right == none), "{b:?}");
-        let same = right.clone()?;
-        assert!(rt; same == right, "{b:?}");
+        let told = countries_told(alloc, a, b)?;
+        assert!(rt; told == Some(*is_equal), "{a:?} and {b:?}");
+        assert!(rt; is_sound(alloc, a)?, "{a:?}");
+        assert!(rt; is_sound(alloc, b)?, "{b:?}");
     }
     Ok(())
 }

@@ -1,5 +1,6 @@
 //! Each record over a section that has all its fields, in another order than the struct, with unknown
 //! fields of every type between them.
+use super::memory::{assert_none, section};
 use super::section::with_unknown;
 use mmdb_decode::decode::Decode;
 use mmdb_decode::fuzzing::decode;
@@ -7,7 +8,7 @@ use mmdb_geoip2::{
     AnonymousIp, Asn, City, ConnectionType, Country, DensityIncome, Domain, Enterprise, Isp, Names,
     city, country, enterprise,
 };
-use std::alloc::Global;
+use std::alloc::{AllocError, Global};
 use std::fmt::Debug;
 use std::process::Abort;
 use std::test::Fail;
@@ -20,13 +21,14 @@ pub struct Row {
     pub shown: &'static str,
 }
 
-// Asserts that a section is read as a record, as `Debug` shows it.
-fn assert_shown<'de, T: Decode<'de> + Debug>(
+// Asserts that a section is read as a record where every growth is refused, and how `Debug` shows it.
+fn assert_read<'de, T: Decode<'de> + Debug>(
     rt: &impl Abort,
     alloc: Global,
     section: &'de [u8],
     shown: &str,
 ) -> Result<(), Fail> {
+    assert_none::<T>(rt, alloc, section);
     let record: T = decode(alloc, section)?;
     let text = format!(in alloc; "{record:?}")?;
     assert!(rt; text.as_str() == shown, "{text}");
@@ -36,77 +38,121 @@ fn assert_shown<'de, T: Decode<'de> + Debug>(
 #[test]
 fn parts_of_a_country(rt: HostRuntime) -> Result<(), Fail> {
     let alloc = rt.alloc();
-    let section = with_unknown(alloc, NAMES.before, NAMES.after)?;
-    assert_shown::<Names<'_>>(&rt, alloc, section.as_slice(), NAMES.shown)?;
-    let section = with_unknown(alloc, CONTINENT.before, CONTINENT.after)?;
-    assert_shown::<country::Continent<'_>>(&rt, alloc, section.as_slice(), CONTINENT.shown)?;
-    let section = with_unknown(alloc, COUNTRY.before, COUNTRY.after)?;
-    assert_shown::<country::Country<'_>>(&rt, alloc, section.as_slice(), COUNTRY.shown)?;
-    let section = with_unknown(alloc, REPRESENTED_COUNTRY.before, REPRESENTED_COUNTRY.after)?;
-    assert_shown::<country::RepresentedCountry<'_>>(
+    assert_read::<Names<'_>>(&rt, alloc, section(alloc, &NAMES)?.as_slice(), NAMES.shown)?;
+    assert_read::<country::Continent<'_>>(
         &rt,
         alloc,
-        section.as_slice(),
+        section(alloc, &CONTINENT)?.as_slice(),
+        CONTINENT.shown,
+    )?;
+    assert_read::<country::Country<'_>>(
+        &rt,
+        alloc,
+        section(alloc, &COUNTRY)?.as_slice(),
+        COUNTRY.shown,
+    )?;
+    assert_read::<country::RepresentedCountry<'_>>(
+        &rt,
+        alloc,
+        section(alloc, &REPRESENTED_COUNTRY)?.as_slice(),
         REPRESENTED_COUNTRY.shown,
     )?;
-    let section = with_unknown(alloc, COUNTRY_TRAITS.before, COUNTRY_TRAITS.after)?;
-    assert_shown::<country::Traits>(&rt, alloc, section.as_slice(), COUNTRY_TRAITS.shown)
+    assert_read::<country::Traits>(
+        &rt,
+        alloc,
+        section(alloc, &COUNTRY_TRAITS)?.as_slice(),
+        COUNTRY_TRAITS.shown,
+    )
 }
 
 #[test]
 fn parts_of_a_city(rt: HostRuntime) -> Result<(), Fail> {
     let alloc = rt.alloc();
-    let section = with_unknown(alloc, CITY.before, CITY.after)?;
-    assert_shown::<city::City<'_>>(&rt, alloc, section.as_slice(), CITY.shown)?;
-    let section = with_unknown(alloc, LOCATION.before, LOCATION.after)?;
-    assert_shown::<city::Location<'_>>(&rt, alloc, section.as_slice(), LOCATION.shown)?;
-    let section = with_unknown(alloc, POSTAL.before, POSTAL.after)?;
-    assert_shown::<city::Postal<'_>>(&rt, alloc, section.as_slice(), POSTAL.shown)?;
-    let section = with_unknown(alloc, SUBDIVISION.before, SUBDIVISION.after)?;
-    assert_shown::<city::Subdivision<'_>>(&rt, alloc, section.as_slice(), SUBDIVISION.shown)
+    assert_read::<city::City<'_>>(&rt, alloc, section(alloc, &CITY)?.as_slice(), CITY.shown)?;
+    assert_read::<city::Location<'_>>(
+        &rt,
+        alloc,
+        section(alloc, &LOCATION)?.as_slice(),
+        LOCATION.shown,
+    )?;
+    assert_read::<city::Postal<'_>>(
+        &rt,
+        alloc,
+        section(alloc, &POSTAL)?.as_slice(),
+        POSTAL.shown,
+    )?;
+    assert_read::<city::Subdivision<'_>>(
+        &rt,
+        alloc,
+        section(alloc, &SUBDIVISION)?.as_slice(),
+        SUBDIVISION.shown,
+    )
 }
 
 #[test]
 fn parts_of_an_enterprise(rt: HostRuntime) -> Result<(), Fail> {
     let alloc = rt.alloc();
-    let section = with_unknown(alloc, ENTERPRISE_CITY.before, ENTERPRISE_CITY.after)?;
-    assert_shown::<enterprise::City<'_>>(&rt, alloc, section.as_slice(), ENTERPRISE_CITY.shown)?;
-    let section = with_unknown(alloc, ENTERPRISE_COUNTRY.before, ENTERPRISE_COUNTRY.after)?;
-    assert_shown::<enterprise::Country<'_>>(
+    assert_read::<enterprise::City<'_>>(
         &rt,
         alloc,
-        section.as_slice(),
+        section(alloc, &ENTERPRISE_CITY)?.as_slice(),
+        ENTERPRISE_CITY.shown,
+    )?;
+    assert_read::<enterprise::Country<'_>>(
+        &rt,
+        alloc,
+        section(alloc, &ENTERPRISE_COUNTRY)?.as_slice(),
         ENTERPRISE_COUNTRY.shown,
     )?;
-    let section = with_unknown(alloc, ENTERPRISE_POSTAL.before, ENTERPRISE_POSTAL.after)?;
-    assert_shown::<enterprise::Postal<'_>>(
+    assert_read::<enterprise::Postal<'_>>(
         &rt,
         alloc,
-        section.as_slice(),
+        section(alloc, &ENTERPRISE_POSTAL)?.as_slice(),
         ENTERPRISE_POSTAL.shown,
     )?;
-    let row = ENTERPRISE_SUBDIVISION;
-    let section = with_unknown(alloc, row.before, row.after)?;
-    assert_shown::<enterprise::Subdivision<'_>>(&rt, alloc, section.as_slice(), row.shown)?;
-    let section = with_unknown(alloc, ENTERPRISE_TRAITS.before, ENTERPRISE_TRAITS.after)?;
-    assert_shown::<enterprise::Traits<'_>>(&rt, alloc, section.as_slice(), ENTERPRISE_TRAITS.shown)
+    assert_read::<enterprise::Subdivision<'_>>(
+        &rt,
+        alloc,
+        section(alloc, &ENTERPRISE_SUBDIVISION)?.as_slice(),
+        ENTERPRISE_SUBDIVISION.shown,
+    )?;
+    assert_read::<enterprise::Traits<'_>>(
+        &rt,
+        alloc,
+        section(alloc, &ENTERPRISE_TRAITS)?.as_slice(),
+        ENTERPRISE_TRAITS.shown,
+    )
 }
 
 #[test]
 fn records_of_networks(rt: HostRuntime) -> Result<(), Fail> {
     let alloc = rt.alloc();
-    let section = with_unknown(alloc, ISP.before, ISP.after)?;
-    assert_shown::<Isp<'_>>(&rt, alloc, section.as_slice(), ISP.shown)?;
-    let section = with_unknown(alloc, CONNECTION_TYPE.before, CONNECTION_TYPE.after)?;
-    assert_shown::<ConnectionType<'_>>(&rt, alloc, section.as_slice(), CONNECTION_TYPE.shown)?;
-    let section = with_unknown(alloc, ANONYMOUS_IP.before, ANONYMOUS_IP.after)?;
-    assert_shown::<AnonymousIp>(&rt, alloc, section.as_slice(), ANONYMOUS_IP.shown)?;
-    let section = with_unknown(alloc, DENSITY_INCOME.before, DENSITY_INCOME.after)?;
-    assert_shown::<DensityIncome>(&rt, alloc, section.as_slice(), DENSITY_INCOME.shown)?;
-    let section = with_unknown(alloc, DOMAIN.before, DOMAIN.after)?;
-    assert_shown::<Domain<'_>>(&rt, alloc, section.as_slice(), DOMAIN.shown)?;
-    let section = with_unknown(alloc, ASN.before, ASN.after)?;
-    assert_shown::<Asn<'_>>(&rt, alloc, section.as_slice(), ASN.shown)
+    assert_read::<Isp<'_>>(&rt, alloc, section(alloc, &ISP)?.as_slice(), ISP.shown)?;
+    assert_read::<ConnectionType<'_>>(
+        &rt,
+        alloc,
+        section(alloc, &CONNECTION_TYPE)?.as_slice(),
+        CONNECTION_TYPE.shown,
+    )?;
+    assert_read::<AnonymousIp>(
+        &rt,
+        alloc,
+        section(alloc, &ANONYMOUS_IP)?.as_slice(),
+        ANONYMOUS_IP.shown,
+    )?;
+    assert_read::<DensityIncome>(
+        &rt,
+        alloc,
+        section(alloc, &DENSITY_INCOME)?.as_slice(),
+        DENSITY_INCOME.shown,
+    )?;
+    assert_read::<Domain<'_>>(
+        &rt,
+        alloc,
+        section(alloc, &DOMAIN)?.as_slice(),
+        DOMAIN.shown,
+    )?;
+    assert_read::<Asn<'_>>(&rt, alloc, section(alloc, &ASN)?.as_slice(), ASN.shown)
 }
 
 /// A country, whose parts have one field each.
@@ -133,12 +179,9 @@ pub const TOP_ENTERPRISE: Row = Row {
     shown: "1 k 2 z 3 4 r 5 6 t",
 };
 
-#[test]
-fn country_of_all_parts(rt: HostRuntime) -> Result<(), Fail> {
-    let alloc = rt.alloc();
-    let section = with_unknown(alloc, TOP_COUNTRY.before, TOP_COUNTRY.after)?;
-    let record: Country<'_> = decode(alloc, section.as_slice())?;
-    let text = format!(in alloc;
+// A field of each part of a record.
+fn country_text(alloc: Global, record: &Country<'_>) -> Result<String, AllocError> {
+    format!(in alloc;
         "{} {} {} {} {}",
         record.continent.code.unwrap_or("-"),
         record.country.iso_code.unwrap_or("-"),
@@ -148,16 +191,21 @@ fn country_of_all_parts(rt: HostRuntime) -> Result<(), Fail> {
             .representation_type
             .unwrap_or("-"),
         record.traits.is_anycast.unwrap_or(false)
-    )?;
+    )
+}
+
+#[test]
+fn country_of_all_parts(rt: HostRuntime) -> Result<(), Fail> {
+    let alloc = rt.alloc();
+    let section = with_unknown(alloc, TOP_COUNTRY.before, TOP_COUNTRY.after)?;
+    let record: Country<'_> = decode(alloc, section.as_slice())?;
+    let text = country_text(alloc, &record)?;
     assert!(rt; text.as_str() == TOP_COUNTRY.shown, "{text}");
     Ok(())
 }
 
-#[test]
-fn city_of_all_parts(rt: HostRuntime) -> Result<(), Fail> {
-    let alloc = rt.alloc();
-    let section = with_unknown(alloc, TOP_CITY.before, TOP_CITY.after)?;
-    let record: City<'_> = decode(alloc, section.as_slice())?;
+// A field of each part of a record.
+fn city_text(alloc: Global, record: &City<'_>) -> Result<String, AllocError> {
     let mut text = format!(in alloc;
         "{} {} {} {} {} {} {}",
         record.city.geoname_id.unwrap_or(0),
@@ -176,16 +224,21 @@ fn city_of_all_parts(rt: HostRuntime) -> Result<(), Fail> {
         text.push_str(part.iso_code.unwrap_or("-"))?;
     }
     let anycast = record.traits.is_anycast.unwrap_or(false);
-    let text = format!(in alloc; "{text} {anycast}")?;
+    format!(in alloc; "{text} {anycast}")
+}
+
+#[test]
+fn city_of_all_parts(rt: HostRuntime) -> Result<(), Fail> {
+    let alloc = rt.alloc();
+    let section = with_unknown(alloc, TOP_CITY.before, TOP_CITY.after)?;
+    let record: City<'_> = decode(alloc, section.as_slice())?;
+    let text = city_text(alloc, &record)?;
     assert!(rt; text.as_str() == TOP_CITY.shown, "{text}");
     Ok(())
 }
 
-#[test]
-fn enterprise_of_all_parts(rt: HostRuntime) -> Result<(), Fail> {
-    let alloc = rt.alloc();
-    let section = with_unknown(alloc, TOP_ENTERPRISE.before, TOP_ENTERPRISE.after)?;
-    let record: Enterprise<'_> = decode(alloc, section.as_slice())?;
+// A field of each part of a record.
+fn enterprise_text(alloc: Global, record: &Enterprise<'_>) -> Result<String, AllocError> {
     let mut text = format!(in alloc;
         "{} {} {} {} {} {} {}",
         record.city.confidence.unwrap_or(0),
@@ -203,7 +256,15 @@ fn enterprise_of_all_parts(rt: HostRuntime) -> Result<(), Fail> {
         text = format!(in alloc; "{text} {}", part.confidence.unwrap_or(0))?;
     }
     let user = record.traits.user_type.unwrap_or("-");
-    let text = format!(in alloc; "{text} {user}")?;
+    format!(in alloc; "{text} {user}")
+}
+
+#[test]
+fn enterprise_of_all_parts(rt: HostRuntime) -> Result<(), Fail> {
+    let alloc = rt.alloc();
+    let section = with_unknown(alloc, TOP_ENTERPRISE.before, TOP_ENTERPRISE.after)?;
+    let record: Enterprise<'_> = decode(alloc, section.as_slice())?;
+    let text = enterprise_text(alloc, &record)?;
     assert!(rt; text.as_str() == TOP_ENTERPRISE.shown, "{text}");
     Ok(())
 }

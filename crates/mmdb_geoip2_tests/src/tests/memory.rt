@@ -1,20 +1,12 @@
 //! Reads and clones where memory is refused.
 ghost use Rattle.std.specs.Prelude.{◌<◌};
 
-use super::fields::{
-    ANONYMOUS_IP, ASN, CITY, CONNECTION_TYPE, CONTINENT, COUNTRY, COUNTRY_TRAITS, DENSITY_INCOME,
-    DOMAIN, ENTERPRISE_CITY, ENTERPRISE_COUNTRY, ENTERPRISE_POSTAL, ENTERPRISE_SUBDIVISION,
-    ENTERPRISE_TRAITS, ISP, LOCATION, NAMES, POSTAL, REPRESENTED_COUNTRY, Row, SUBDIVISION,
-    TOP_CITY, TOP_COUNTRY, TOP_ENTERPRISE,
-};
+use super::fields::{Row, TOP_CITY, TOP_COUNTRY, TOP_ENTERPRISE};
 use super::section::with_unknown;
 use mmdb_decode::decode::Decode;
 use mmdb_decode::fuzzing::decode;
 use mmdb_format::error::MaxMindDbError;
-use mmdb_geoip2::{
-    AnonymousIp, Asn, City, ConnectionType, Country, DensityIncome, Domain, Enterprise, Isp, Names,
-    city, country, enterprise,
-};
+use mmdb_geoip2::{City, Country, Domain, Enterprise};
 use mmdb_vectors::hoard::Hoard;
 use std::alloc::Global;
 use std::process::Abort;
@@ -73,59 +65,23 @@ fn assert_turns<'de, T: Decode<'de>>(
     );
 }
 
-// Asserts that a record is read where every growth is refused.
-fn assert_none<'de, T: Decode<'de>>(rt: &impl Abort, alloc: Global, section: &'de [u8]) {
+/// Asserts that a record is read where every growth is refused.
+pub fn assert_none<'de, T: Decode<'de>>(rt: &impl Abort, alloc: Global, section: &'de [u8]) {
     let large = Hoard::of_large_blocks(alloc);
     let then = read_met::<T>(alloc, section, 0);
     drop(large);
     assert!(rt; then == Met::Value, "{then:?} at {section:?}");
 }
 
-fn section(alloc: Global, row: &Row) -> Result<Vec<u8>, Fail> {
+/// The section of a row.
+pub fn section(alloc: Global, row: &Row) -> Result<Vec<u8>, Fail> {
     Ok(with_unknown(alloc, row.before, row.after)?)
 }
 
 #[test]
-fn parts_take_no_memory(rt: HostRuntime) -> Result<(), Fail> {
-    let alloc = rt.alloc();
-    assert_none::<Names<'_>>(&rt, alloc, section(alloc, &NAMES)?.as_slice());
-    assert_none::<country::Continent<'_>>(&rt, alloc, section(alloc, &CONTINENT)?.as_slice());
-    assert_none::<country::Country<'_>>(&rt, alloc, section(alloc, &COUNTRY)?.as_slice());
-    let represented = section(alloc, &REPRESENTED_COUNTRY)?;
-    assert_none::<country::RepresentedCountry<'_>>(&rt, alloc, represented.as_slice());
-    assert_none::<country::Traits>(&rt, alloc, section(alloc, &COUNTRY_TRAITS)?.as_slice());
-    assert_none::<city::City<'_>>(&rt, alloc, section(alloc, &CITY)?.as_slice());
-    assert_none::<city::Location<'_>>(&rt, alloc, section(alloc, &LOCATION)?.as_slice());
-    assert_none::<city::Postal<'_>>(&rt, alloc, section(alloc, &POSTAL)?.as_slice());
-    assert_none::<city::Subdivision<'_>>(&rt, alloc, section(alloc, &SUBDIVISION)?.as_slice());
-    Ok(())
-}
-
-#[test]
-fn parts_of_enterprises_take_no_memory(rt: HostRuntime) -> Result<(), Fail> {
-    let alloc = rt.alloc();
-    assert_none::<enterprise::City<'_>>(&rt, alloc, section(alloc, &ENTERPRISE_CITY)?.as_slice());
-    let country = section(alloc, &ENTERPRISE_COUNTRY)?;
-    assert_none::<enterprise::Country<'_>>(&rt, alloc, country.as_slice());
-    let postal = section(alloc, &ENTERPRISE_POSTAL)?;
-    assert_none::<enterprise::Postal<'_>>(&rt, alloc, postal.as_slice());
-    let part = section(alloc, &ENTERPRISE_SUBDIVISION)?;
-    assert_none::<enterprise::Subdivision<'_>>(&rt, alloc, part.as_slice());
-    let traits = section(alloc, &ENTERPRISE_TRAITS)?;
-    assert_none::<enterprise::Traits<'_>>(&rt, alloc, traits.as_slice());
-    Ok(())
-}
-
-#[test]
-fn records_without_a_list_take_no_memory(rt: HostRuntime) -> Result<(), Fail> {
+fn records_without_a_list(rt: HostRuntime) -> Result<(), Fail> {
     let alloc = rt.alloc();
     assert_none::<Country<'_>>(&rt, alloc, section(alloc, &TOP_COUNTRY)?.as_slice());
-    assert_none::<Isp<'_>>(&rt, alloc, section(alloc, &ISP)?.as_slice());
-    assert_none::<ConnectionType<'_>>(&rt, alloc, section(alloc, &CONNECTION_TYPE)?.as_slice());
-    assert_none::<AnonymousIp>(&rt, alloc, section(alloc, &ANONYMOUS_IP)?.as_slice());
-    assert_none::<DensityIncome>(&rt, alloc, section(alloc, &DENSITY_INCOME)?.as_slice());
-    assert_none::<Domain<'_>>(&rt, alloc, section(alloc, &DOMAIN)?.as_slice());
-    assert_none::<Asn<'_>>(&rt, alloc, section(alloc, &ASN)?.as_slice());
     // A refusal that names a field takes memory for its text.
     assert_turns::<Domain<'_>>(
         &rt,
@@ -144,49 +100,73 @@ fn lists_refused_in_turn(rt: HostRuntime) -> Result<(), Fail> {
     assert_turns::<City<'_>>(&rt, alloc, city.as_slice(), 1, Met::Value);
     let found = section(alloc, &TOP_ENTERPRISE)?;
     assert_turns::<Enterprise<'_>>(&rt, alloc, found.as_slice(), 1, Met::Value);
+    Ok(())
+}
+
+#[test]
+fn records_with_a_list(rt: HostRuntime) {
+    let alloc = rt.alloc();
     assert_turns::<City<'_>>(&rt, alloc, b"\xE1\x44city\x41x", 1, Met::Refusal);
     assert_turns::<Enterprise<'_>>(&rt, alloc, b"\xE1\x44city\x41x", 1, Met::Refusal);
     // Where no list stands, none is made.
     assert_none::<City<'_>>(&rt, alloc, b"\xE1\x44city\xE0");
     assert_none::<Enterprise<'_>>(&rt, alloc, b"\xE1\x44city\xE0");
-    Ok(())
 }
 
-fn city_clone_met(city: &City<'_>, alloc: Global, budget: usize) -> Met
+fn clone_met<T: Clone + Drop>(record: &T, alloc: Global, budget: usize) -> Met
     requires { budget < 1000000 }
 {
     let small = Hoard::of_all_but(alloc, budget);
-    let cloned = city.clone().map_err(MaxMindDbError::from);
+    let cloned = record.clone().map_err(MaxMindDbError::from);
     let met = outcome(&cloned);
     drop(small);
     met
 }
 
-fn enterprise_clone_met(found: &Enterprise<'_>, alloc: Global, budget: usize) -> Met
-    requires { budget < 1000000 }
-{
-    let small = Hoard::of_all_but(alloc, budget);
-    let cloned = found.clone().map_err(MaxMindDbError::from);
-    let met = outcome(&cloned);
-    drop(small);
-    met
+// How often a clone is refused for memory, with more of it each time, and what it meets then.
+fn cloned_in_turn<T: Clone + Drop>(record: &T, alloc: Global) -> (u32, Met) {
+    let large = Hoard::of_large_blocks(alloc);
+    let mut refused = 0u32;
+    let mut then = Met::Memory;
+    for step in 0..256usize {
+        then = clone_met(record, alloc, step * 64);
+        if then != Met::Memory {
+            break;
+        }
+        refused = refused.saturating_add(1);
+    }
+    drop(large);
+    (refused, then)
+}
+
+// How often a clone of a city is refused so, and what it meets then.
+fn city_clones_met(alloc: Global, section: &[u8]) -> Result<(u32, Met), MaxMindDbError> {
+    let city: City<'_> = decode(alloc, section)?;
+    Ok(cloned_in_turn(&city, alloc))
+}
+
+// The same of an enterprise.
+fn enterprise_clones_met(alloc: Global, section: &[u8]) -> Result<(u32, Met), MaxMindDbError> {
+    let found: Enterprise<'_> = decode(alloc, section)?;
+    Ok(cloned_in_turn(&found, alloc))
 }
 
 #[test]
 fn clones_refused_in_turn(rt: HostRuntime) -> Result<(), Fail> {
     let alloc = rt.alloc();
-    let section_of_city = section(alloc, &TOP_CITY)?;
-    let city: City<'_> = decode(alloc, section_of_city.as_slice())?;
-    let section_of_enterprise = section(alloc, &TOP_ENTERPRISE)?;
-    let found: Enterprise<'_> = decode(alloc, section_of_enterprise.as_slice())?;
-    let large = Hoard::of_large_blocks(alloc);
-    let city_refused = city_clone_met(&city, alloc, 0);
-    let city_cloned = city_clone_met(&city, alloc, 16_384);
-    let refused = enterprise_clone_met(&found, alloc, 0);
-    let cloned = enterprise_clone_met(&found, alloc, 16_384);
-    drop(large);
-    assert!(rt; city_refused == Met::Memory && city_cloned == Met::Value);
-    assert!(rt; refused == Met::Memory && cloned == Met::Value);
+    let (refused, then) = city_clones_met(alloc, section(alloc, &TOP_CITY)?.as_slice())?;
+    assert!(rt; refused > 0 && then == Met::Value);
+    let section = section(alloc, &TOP_ENTERPRISE)?;
+    let (refused, then) = enterprise_clones_met(alloc, section.as_slice())?;
+    assert!(rt; refused > 0 && then == Met::Value);
+    Ok(())
+}
+
+#[test]
+fn clone_of_a_city(rt: HostRuntime) -> Result<(), Fail> {
+    let alloc = rt.alloc();
+    let section = section(alloc, &TOP_CITY)?;
+    let city: City<'_> = decode(alloc, section.as_slice())?;
     let same = city.clone()?;
     assert!(rt; same.subdivisions.len() == 2 && same.postal == city.postal);
     Ok(())

@@ -130,10 +130,9 @@ fn subdivisions_at_the_limit(rt: HostRuntime) -> Result<(), Fail> {
     let alloc = rt.alloc();
     for (start, times, text) in SUBDIVISIONS {
         let section = repeated(alloc, start, 0xE0, *times)?;
-        let city = told(alloc, decode::<City<'_>>(alloc, section.as_slice()))?;
-        assert!(rt; city.as_str() == *text, "{times}: {city}");
-        let other = told(alloc, decode::<Enterprise<'_>>(alloc, section.as_slice()))?;
-        assert!(rt; other.as_str() == *text, "{times}: {other}");
+        let rows = [(section.as_slice(), *text)];
+        assert_told::<City<'_>>(&rt, alloc, &rows)?;
+        assert_told::<Enterprise<'_>>(&rt, alloc, &rows)?;
     }
     Ok(())
 }

@@ -1,19 +1,10 @@
 //! What paths into small records find, and how they are refused.
-use super::vectors::{RECORD, high, low, printed};
+use super::vectors::{RECORD, Wanted, high, low, told_at};
 use maxminddb::PathElement::{Index, IndexFromEnd, Key};
-use maxminddb::{LookupResult, PathElement, Reader, Value, path};
+use maxminddb::{LookupResult, MaxMindDbError, PathElement, Reader, Value, path};
 use mmdb_vectors::builder::{BASE, BASE_NODE, file};
-use std::alloc::{AllocError, Global};
+use std::alloc::Global;
 use std::test::Fail;
-
-/// What is asked for at a path's end.
-#[derive(Clone, Copy)]
-enum Wanted {
-    U16,
-    SmallNumber,
-    Text,
-    List,
-}
 
 /// Data, a path, what is asked for at its end, and the answer. The data begin at 22 in the file: there an
 /// offset of `InvalidDatabase` counts from the start of the file, any other from that of the data.
@@ -120,27 +111,11 @@ const ROWS: &[(&[u8], &[PathElement<'static>], Wanted, &str)] = &[
     (b"\xE1\x41a\x42x", &[Key("a")], Wanted::Text, "invalid database at offset 25: string of size 2"),
 ];
 
-fn answer(
-    alloc: Global,
-    found: LookupResult<'_, &[u8]>,
-    path: &[PathElement<'_>],
-    wanted: Wanted,
-) -> Result<String, AllocError> {
-    match wanted {
-        Wanted::U16 => printed(alloc, found.decode_path::<u16>(alloc, path)),
-        Wanted::SmallNumber => printed(alloc, found.decode_path::<u8>(alloc, path)),
-        Wanted::Text => printed(alloc, found.decode_path::<&str>(alloc, path)),
-        Wanted::List => printed(alloc, found.decode_path::<Vec<u16>>(alloc, path)),
-    }
-}
-
 #[test]
 fn paths(rt: HostRuntime) -> Result<(), Fail> {
     let alloc = rt.alloc();
     for (data, path, wanted, text) in ROWS {
-        let file = file(alloc, BASE_NODE, data, BASE)?;
-        let reader = Reader::from_source(alloc, file.as_slice())?;
-        let told = answer(alloc, reader.lookup(high())?, path, *wanted)?;
+        let told = told_at(alloc, data, path, *wanted)?;
         assert!(rt;
             told.as_str() == *text,
             "{data:?} at {path:?}: {told}, not {text}"
@@ -149,17 +124,25 @@ fn paths(rt: HostRuntime) -> Result<(), Fail> {
     Ok(())
 }
 
+// Whether the empty path reads a value, and the one that stands there.
+fn is_whole_by_empty_path(
+    alloc: Global,
+    found: LookupResult<'_, &[u8]>,
+) -> Result<bool, MaxMindDbError> {
+    let by_path: Option<Value<'_>> = found.decode_path(alloc, &[])?;
+    let whole: Option<Value<'_>> = found.decode(alloc)?;
+    Ok(by_path.is_some() && by_path == whole)
+}
+
 #[test]
 fn paths_of_whole_records(rt: HostRuntime) -> Result<(), Fail> {
     let alloc = rt.alloc();
     let file = file(alloc, BASE_NODE, RECORD, BASE)?;
     let reader = Reader::from_source(alloc, file.as_slice())?;
-    let found = reader.lookup(high())?;
-    let whole = found.decode_path::<Value<'_>>(alloc, &[])?;
-    assert!(rt; whole.is_some());
-    assert!(rt; whole == found.decode::<Value<'_>>(alloc)?);
+    assert!(rt; is_whole_by_empty_path(alloc, reader.lookup(high())?)?);
     let without = reader.lookup(low())?;
-    assert!(rt; without.decode_path::<u16>(alloc, &path!["a"])? == None);
-    assert!(rt; without.decode_path::<u16>(alloc, &[])? == None);
+    let by_key = without.decode_path::<u16>(alloc, &path!["a"])?;
+    let by_none = without.decode_path::<u16>(alloc, &[])?;
+    assert!(rt; (by_key, by_none) == (None, None));
     Ok(())
 }

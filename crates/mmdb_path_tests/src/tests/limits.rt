@@ -1,26 +1,50 @@
 //! Paths at the limits of values and bytes.
-use super::vectors::{high, printed};
+use super::vectors::{Wanted, told_at};
+use maxminddb::PathElement;
 use maxminddb::PathElement::{Index, Key};
-use maxminddb::{MaxMindDbError, Reader};
-use mmdb_vectors::builder::{BASE, BASE_NODE, file};
 use std::alloc::{AllocError, Global};
 use std::test::Fail;
 
-/// What an array of falses begins with, how many falses follow, and what is told of a path to its first
-/// element and of one to a key.
+/// What an array begins with, how many falses follow, a path into it, what is asked for at its end, and the
+/// answer.
 #[rattlefmt::skip]
-const ARRAYS: &[(&[u8], u32, &str, &str)] = &[
+const ARRAYS: &[(&[u8], u32, &[PathElement<'static>], Wanted, &str)] = &[
+    (b"\x1E\x04\xFE\xE2", 65_535, &[Index(0)], Wanted::Bool, "Some(false)"),
     (
         b"\x1E\x04\xFE\xE2",
         65_535,
-        "Some(false)",
+        &[Key("k")],
+        Wanted::Bool,
         "decoding error at offset 0 (path: /k): expected map for Key(\"k\"), got type 11",
     ),
     (
         b"\x1E\x04\xFE\xE3",
         65_536,
+        &[Index(0)],
+        Wanted::Bool,
         "resource limit exceeded at offset 0 (path: /0): exceeded maximum number of data structure values",
+    ),
+    (
+        b"\x1E\x04\xFE\xE3",
+        65_536,
+        &[Key("k")],
+        Wanted::Bool,
         "resource limit exceeded at offset 0 (path: /k): exceeded maximum number of data structure values",
+    ),
+    // 65,534 elements, of which the first is an array of one false or of two
+    (
+        b"\x1E\x04\xFE\xE1\x01\x04\x00\x07",
+        65_533,
+        &[Index(0)],
+        Wanted::Bools,
+        "Some([false])",
+    ),
+    (
+        b"\x1E\x04\xFE\xE1\x02\x04\x00\x07\x00\x07",
+        65_533,
+        &[Index(0)],
+        Wanted::Bools,
+        "resource limit exceeded at offset 4 (path: /0): exceeded maximum number of data structure values",
     ),
 ];
 
@@ -35,41 +59,12 @@ fn with_falses(alloc: Global, head: &[u8], count: u32) -> Result<Vec<u8>, AllocE
 }
 
 #[test]
-fn values_on_the_way(rt: HostRuntime) -> Result<(), Fail> {
+fn values_on_the_way_and_at_its_end(rt: HostRuntime) -> Result<(), Fail> {
     let alloc = rt.alloc();
-    for (head, count, first, of_key) in ARRAYS {
+    for (head, count, path, wanted, text) in ARRAYS {
         let data = with_falses(alloc, head, *count)?;
-        let file = file(alloc, BASE_NODE, data.as_slice(), BASE)?;
-        let reader = Reader::from_source(alloc, file.as_slice())?;
-        let found = reader.lookup(high())?;
-        let told = printed(alloc, found.decode_path::<bool>(alloc, &[Index(0)]))?;
-        assert!(rt; told.as_str() == *first, "{head:?}: {told}");
-        let told = printed(alloc, found.decode_path::<bool>(alloc, &[Key("k")]))?;
-        assert!(rt; told.as_str() == *of_key, "{head:?}: {told}");
-    }
-    Ok(())
-}
-
-/// What an array of 65,534 elements begins with: its header, and an array of one false or of two.
-#[rattlefmt::skip]
-const LISTS: &[(&[u8], &str)] = &[
-    (b"\x1E\x04\xFE\xE1\x01\x04\x00\x07", "Some([false])"),
-    (
-        b"\x1E\x04\xFE\xE1\x02\x04\x00\x07\x00\x07",
-        "resource limit exceeded at offset 4 (path: /0): exceeded maximum number of data structure values",
-    ),
-];
-
-#[test]
-fn values_of_way_and_value(rt: HostRuntime) -> Result<(), Fail> {
-    let alloc = rt.alloc();
-    for (head, text) in LISTS {
-        let data = with_falses(alloc, head, 65_533)?;
-        let file = file(alloc, BASE_NODE, data.as_slice(), BASE)?;
-        let reader = Reader::from_source(alloc, file.as_slice())?;
-        let found = reader.lookup(high())?;
-        let told = printed(alloc, found.decode_path::<Vec<bool>>(alloc, &[Index(0)]))?;
-        assert!(rt; told.as_str() == *text, "{head:?}: {told}");
+        let told = told_at(alloc, data.as_slice(), path, *wanted)?;
+        assert!(rt; told.as_str() == *text, "{head:?} at {path:?}: {told}");
     }
     Ok(())
 }
@@ -89,24 +84,25 @@ fn with_long_keys(alloc: Global, head: &[u8], pairs: u8) -> Result<Vec<u8>, Allo
     Ok(data)
 }
 
-// What is told of a path to a key that the map lacks.
-fn told_of_lacking_key(alloc: Global, data: &[u8]) -> Result<String, MaxMindDbError> {
-    let file = file(alloc, BASE_NODE, data, BASE)?;
-    let reader = Reader::from_source(alloc, file.as_slice())?;
-    let found = reader.lookup(high())?;
-    Ok(printed(alloc, found.decode_path::<bool>(alloc, &[Key("k")]))?)
-}
+/// What a map with long keys begins with, how many pairs it has, and what is told of a path to a key that
+/// it lacks.
+#[rattlefmt::skip]
+const MAPS: &[(&[u8], u8, &str)] = &[
+    (b"\xFD\x03", 32, "None"),
+    (
+        b"\xFD\x04",
+        33,
+        "resource limit exceeded at offset 130 (path: /k): exceeded maximum size of data structure string and bytes values",
+    ),
+];
 
 #[test]
 fn bytes_of_keys(rt: HostRuntime) -> Result<(), Fail> {
     let alloc = rt.alloc();
-    let most = with_long_keys(alloc, b"\xFD\x03", 32)?;
-    let told = told_of_lacking_key(alloc, most.as_slice())?;
-    assert!(rt; told.as_str() == "None", "{told}");
-    let more = with_long_keys(alloc, b"\xFD\x04", 33)?;
-    let told = told_of_lacking_key(alloc, more.as_slice())?;
-    let text =
-        "resource limit exceeded at offset 130 (path: /k): exceeded maximum size of data structure string and bytes values";
-    assert!(rt; told.as_str() == text, "{told}");
+    for (head, pairs, text) in MAPS {
+        let data = with_long_keys(alloc, head, *pairs)?;
+        let told = told_at(alloc, data.as_slice(), &[Key("k")], Wanted::Bool)?;
+        assert!(rt; told.as_str() == *text, "{pairs} pairs: {told}");
+    }
     Ok(())
 }

@@ -3,7 +3,7 @@ ghost use Rattle.std.specs.Prelude.{◌<◌};
 
 use super::vectors::{RECORD, high, low};
 use maxminddb::PathElement::{Index, IndexFromEnd, Key};
-use maxminddb::{Decode, LookupResult, MaxMindDbError, PathElement, Reader, Value, render_path};
+use maxminddb::{LookupResult, MaxMindDbError, PathElement, Reader, Value, render_path};
 use mmdb_vectors::builder::{BASE, BASE_NODE, file};
 use mmdb_vectors::hoard::Hoard;
 use std::alloc::Global;
@@ -67,20 +67,29 @@ fn refused_in_turn(alloc: Global, call: Call, found: LookupResult<'_, &[u8]>) ->
     (refused, Met::Memory)
 }
 
-#[test]
-fn growths_refused_in_turn(rt: HostRuntime) -> Result<(), Fail> {
-    let alloc = rt.alloc();
+// What a call met in turn on the record, with the large blocks held.
+fn met_in_turn(alloc: Global, call: Call) -> Result<(u32, Met), MaxMindDbError> {
     let file = file(alloc, BASE_NODE, RECORD, BASE)?;
     let reader = Reader::from_source(alloc, file.as_slice())?;
-    for (call, last, least) in [
-        (Call::ReadList, Met::Answer, 1),
-        (Call::RefusedStep, Met::Decoding, 2),
-        (Call::RefusedValue, Met::Decoding, 2),
-        (Call::RenderPath, Met::Answer, 1),
-    ] {
-        let large = Hoard::of_large_blocks(alloc);
-        let (refused, met) = refused_in_turn(alloc, call, reader.lookup(high())?);
-        drop(large);
+    let found = reader.lookup(high())?;
+    let large = Hoard::of_large_blocks(alloc);
+    let met = refused_in_turn(alloc, call, found);
+    drop(large);
+    Ok(met)
+}
+
+/// A call, what it meets once nothing is refused, and how many growths it has at least.
+const CALLS: [(Call, Met, u32); 4] = [
+    (Call::ReadList, Met::Answer, 1),
+    (Call::RefusedStep, Met::Decoding, 2),
+    (Call::RefusedValue, Met::Decoding, 2),
+    (Call::RenderPath, Met::Answer, 1),
+];
+
+#[test]
+fn growths_refused_in_turn(rt: HostRuntime) -> Result<(), Fail> {
+    for (call, last, least) in CALLS {
+        let (refused, met) = met_in_turn(rt.alloc(), call)?;
         println!(rt; "{call:?}: {refused} runs met a refusal")?;
         assert!(rt; met == last, "{call:?}: {met:?}");
         assert!(rt; refused >= least, "{call:?}: {refused}");
@@ -88,39 +97,117 @@ fn growths_refused_in_turn(rt: HostRuntime) -> Result<(), Fail> {
     Ok(())
 }
 
-fn read<'a, T: Decode<'a>>(
+/// What is asked for where every growth is refused.
+#[derive(Clone, Copy)]
+enum Wanted {
+    U16,
+    Text,
+    Any,
+    /// The path itself, as a text.
+    Path,
+}
+
+/// What is told then.
+#[derive(Clone, Copy, Debug, PartialEq, Eq)]
+enum Told {
+    Number(u16),
+    LetterX,
+    Nothing,
+    Memory,
+    Wrong,
+}
+
+fn refusal_told(error: &MaxMindDbError) -> Told {
+    match error {
+        MaxMindDbError::Memory => Told::Memory,
+        _ => Told::Wrong,
+    }
+}
+
+fn number_told(read: Result<Option<u16>, MaxMindDbError>) -> Told {
+    match read {
+        Ok(Some(number)) => Told::Number(number),
+        Ok(None) => Told::Nothing,
+        Err(error) => refusal_told(&error),
+    }
+}
+
+fn text_told(read: Result<Option<&str>, MaxMindDbError>) -> Told {
+    match read {
+        Ok(Some(text)) if text == "x" => Told::LetterX,
+        Ok(Some(_)) => Told::Wrong,
+        Ok(None) => Told::Nothing,
+        Err(error) => refusal_told(&error),
+    }
+}
+
+// What is told of a call that takes memory.
+fn call_told<T: Drop>(called: &Result<T, MaxMindDbError>) -> Told {
+    match called {
+        Ok(_) => Told::Wrong,
+        Err(error) => refusal_told(error),
+    }
+}
+
+fn read_told(
     alloc: Global,
-    reader: &'a Reader<&'a [u8]>,
+    found: LookupResult<'_, &[u8]>,
+    path: &[PathElement<'_>],
+    wanted: Wanted,
+) -> Told {
+    match wanted {
+        Wanted::U16 => number_told(found.decode_path(alloc, path)),
+        Wanted::Text => text_told(found.decode_path(alloc, path)),
+        Wanted::Any => call_told(&found.decode_path::<Value<'_>>(alloc, path)),
+        Wanted::Path => call_told(&render_path(alloc, path)),
+    }
+}
+
+// What is told behind an address where every growth is refused.
+fn told_without_memory(
+    alloc: Global,
+    reader: &Reader<&[u8]>,
     address: IpAddr,
     path: &[PathElement<'_>],
-) -> Result<Option<T>, MaxMindDbError> {
-    reader.lookup(address)?.decode_path(alloc, path)
+    wanted: Wanted,
+) -> Told {
+    let large = Hoard::of_large_blocks(alloc);
+    let small = Hoard::of_all_left(alloc);
+    let told = match reader.lookup(address) {
+        Ok(found) => read_told(alloc, found, path, wanted),
+        Err(_) => Told::Wrong,
+    };
+    drop(small);
+    drop(large);
+    told
 }
+
+/// Whether the address has data, a path, what is asked for at its end, and what is told.
+const ROWS: &[(bool, &[PathElement<'static>], Wanted, Told)] = &[
+    (
+        true,
+        &[Key("a"), IndexFromEnd(0)],
+        Wanted::U16,
+        Told::Number(6),
+    ),
+    (true, &[Key("b"), Key("c")], Wanted::Text, Told::LetterX),
+    (true, &[Key("a"), Index(2)], Wanted::U16, Told::Nothing),
+    (false, &[Key("a")], Wanted::U16, Told::Nothing),
+    (true, &[Key("b"), Index(0)], Wanted::U16, Told::Memory),
+    (true, &[Key("b"), Key("c")], Wanted::U16, Told::Memory),
+    (true, &[Key("b")], Wanted::Any, Told::Memory),
+    (true, &[Key("a")], Wanted::Path, Told::Memory),
+];
 
 #[test]
 fn every_growth_refused(rt: HostRuntime) -> Result<(), Fail> {
     let alloc = rt.alloc();
     let file = file(alloc, BASE_NODE, RECORD, BASE)?;
     let reader = Reader::from_source(alloc, file.as_slice())?;
-    let large = Hoard::of_large_blocks(alloc);
-    let small = Hoard::of_all_left(alloc);
-    let number = read::<u16>(alloc, &reader, high(), &[Key("a"), IndexFromEnd(0)]);
-    let text = read::<&str>(alloc, &reader, high(), &[Key("b"), Key("c")]);
-    let nowhere = read::<u16>(alloc, &reader, high(), &[Key("a"), Index(2)]);
-    let without = read::<u16>(alloc, &reader, low(), &[Key("a")]);
-    let step = read::<u16>(alloc, &reader, high(), &[Key("b"), Index(0)]);
-    let value = read::<u16>(alloc, &reader, high(), &[Key("b"), Key("c")]);
-    let any = read::<Value<'_>>(alloc, &reader, high(), &[Key("b")]);
-    let rendered = render_path(alloc, &[Key("a")]);
-    drop(small);
-    drop(large);
-    assert!(rt; number? == Some(6));
-    assert!(rt; text? == Some("x"));
-    assert!(rt; nowhere? == None);
-    assert!(rt; without? == None);
-    assert!(rt; matches!(&step, Err(MaxMindDbError::Memory)));
-    assert!(rt; matches!(&value, Err(MaxMindDbError::Memory)));
-    assert!(rt; matches!(&any, Err(MaxMindDbError::Memory)));
-    assert!(rt; matches!(&rendered, Err(MaxMindDbError::Memory)));
+    for (has_data, path, wanted, told) in ROWS {
+        let address = if *has_data { high() } else { low() };
+        let met = told_without_memory(alloc, &reader, address, path, *wanted);
+        assert!(rt; met == *told, "{path:?}: {met:?}");
+    }
     Ok(())
 }

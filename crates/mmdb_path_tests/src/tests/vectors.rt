@@ -1,5 +1,6 @@
 //! What the tests of paths share.
-use maxminddb::MaxMindDbError;
+use maxminddb::{LookupResult, MaxMindDbError, PathElement, Reader};
+use mmdb_vectors::builder::{BASE, BASE_NODE, file};
 use std::alloc::{AllocError, Global};
 use std::fmt::Debug;
 use std::net::{IpAddr, Ipv4Addr};
@@ -18,7 +19,7 @@ pub fn high() -> IpAddr {
 }
 
 /// A value or a refusal, as it is printed.
-pub fn printed<T: Debug + Drop>(
+fn printed<T: Debug + Drop>(
     alloc: Global,
     read: Result<Option<T>, MaxMindDbError>,
 ) -> Result<String, AllocError> {
@@ -26,4 +27,43 @@ pub fn printed<T: Debug + Drop>(
         Ok(value) => format!(in alloc; "{value:?}"),
         Err(error) => format!(in alloc; "{error}"),
     }
+}
+
+/// What is asked for at a path's end.
+#[derive(Clone, Copy)]
+pub enum Wanted {
+    U16,
+    SmallNumber,
+    Bool,
+    Text,
+    List,
+    Bools,
+}
+
+fn answer(
+    alloc: Global,
+    found: LookupResult<'_, &[u8]>,
+    path: &[PathElement<'_>],
+    wanted: Wanted,
+) -> Result<String, AllocError> {
+    match wanted {
+        Wanted::U16 => printed(alloc, found.decode_path::<u16>(alloc, path)),
+        Wanted::SmallNumber => printed(alloc, found.decode_path::<u8>(alloc, path)),
+        Wanted::Bool => printed(alloc, found.decode_path::<bool>(alloc, path)),
+        Wanted::Text => printed(alloc, found.decode_path::<&str>(alloc, path)),
+        Wanted::List => printed(alloc, found.decode_path::<Vec<u16>>(alloc, path)),
+        Wanted::Bools => printed(alloc, found.decode_path::<Vec<bool>>(alloc, path)),
+    }
+}
+
+/// What is told of a path into these data.
+pub fn told_at(
+    alloc: Global,
+    data: &[u8],
+    path: &[PathElement<'_>],
+    wanted: Wanted,
+) -> Result<String, MaxMindDbError> {
+    let file = file(alloc, BASE_NODE, data, BASE)?;
+    let reader = Reader::from_source(alloc, file.as_slice())?;
+    Ok(answer(alloc, reader.lookup(high())?, path, wanted)?)
 }

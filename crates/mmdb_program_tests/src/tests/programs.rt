@@ -1,12 +1,14 @@
 //! The program's words, and the files that it opens.
-use super::runs::{assert_done, assert_done_with};
-use mmdb_vectors::builder::{BASE, BASE_NODE, base_file, base_with_node, file};
+use super::runs::{assert_done, assert_done_both, assert_done_with};
+use mmdb_vectors::builder::{BASE, BASE_DATA, BASE_NODE, base_file, file};
 use mmdb_vectors::file::OneFile;
+use std::alloc::Global;
+use std::process::Abort;
 use std::test::Fail;
 use std::{fs, io};
 
 const USAGE: &str =
-    "usage: mmdb_tool lookup FILE ADDR | list FILE RANGE [--aliases] [--empty] [--skip-empty] | verify FILE\n";
+    "usage: mmdb_tool lookup FILE ADDR | list FILE RANGE [--aliases] [--empty] [--skip-empty] | verify FILE | report FILE RANGE [--aliases] [--empty] [--skip-empty]\n";
 
 const FOUND: [&str; 3] = ["lookup", "here.mmdb", "200.0.0.1"];
 
@@ -29,6 +31,18 @@ const RUN: &[(&[&str], u8, &str, &str)] = &[
         "invalid input: cannot iterate IPv6 network in IPv4-only database\n",
     ),
     (&["verify", "here.mmdb"], 0, "ok\n", ""),
+    (
+        &["report", "here.mmdb", "0.0.0.0/0"],
+        0,
+        "v4/1 1\nempty 0\nfaults 0\noffsets 1\n",
+        "",
+    ),
+    (
+        &["report", "here.mmdb", "::/0"],
+        1,
+        "",
+        "invalid input: cannot iterate IPv6 network in IPv4-only database\n",
+    ),
 ];
 
 /// Words that are no command: no file is opened, and that of most is missing.
@@ -74,22 +88,22 @@ const BAD: &[&[&str]] = &[
     &["list", "gone.mmdb", "0.0.0.0/0", ""],
     &["list", "gone.mmdb", "0.0.0.0/0", "1.0.0.0/8"],
     &["list", "here.mmdb", "0.0.0.0/0", "--all"],
-    &["report", "gone.mmdb", "0.0.0.0/0"],
+    &["report", "gone.mmdb"],
+    &["report", "gone.mmdb", "x"],
+    &["report", "--empty", "gone.mmdb", "0.0.0.0/0"],
+    &["report", "gone.mmdb", "--empty", "0.0.0.0/0"],
+    &["report", "gone.mmdb", "0.0.0.0/0", "--empty", "--empty"],
+    &["report", "gone.mmdb", "0.0.0.0/0", "--all"],
+    &["REPORT", "here.mmdb", "0.0.0.0/0"],
 ];
 
 #[test]
 fn words_of_the_program(rt: HostRuntime) -> Result<(), Fail> {
     let alloc = rt.alloc();
     let base = base_file(alloc)?;
-    let files = OneFile {
-        bytes: base.as_slice(),
-        step: 64,
-        fails_at: 1000,
-    };
     for (texts, status, out, err) in RUN {
         let done = (*status, *out, *err);
-        assert_done(&rt, alloc, &files, texts, done)?;
-        assert_done_with(&rt, alloc, base.as_slice(), texts, done)?;
+        assert_done_both(&rt, alloc, base.as_slice(), 1000, texts, done)?;
     }
     Ok(())
 }
@@ -98,75 +112,85 @@ fn words_of_the_program(rt: HostRuntime) -> Result<(), Fail> {
 fn bad_words(rt: HostRuntime) -> Result<(), Fail> {
     let alloc = rt.alloc();
     let base = base_file(alloc)?;
-    let files = OneFile {
-        bytes: base.as_slice(),
-        step: 64,
-        fails_at: 1000,
-    };
     // No file, and one that can't be read: neither is told of.
-    let unread = OneFile {
-        bytes: b"",
-        step: 64,
-        fails_at: 0,
-    };
-    for texts in BAD {
-        assert_done(&rt, alloc, &files, texts, (2, "", USAGE))?;
-        assert_done(&rt, alloc, &unread, texts, (2, "", USAGE))?;
-        assert_done_with(&rt, alloc, base.as_slice(), texts, (2, "", USAGE))?;
-        assert_done_with(&rt, alloc, b"", texts, (2, "", USAGE))?;
+    for (bytes, fails_at) in [(base.as_slice(), 1000), (b"".as_slice(), 0)] {
+        for texts in BAD {
+            assert_done_both(&rt, alloc, bytes, fails_at, texts, (2, "", USAGE))?;
+        }
     }
     Ok(())
+}
+
+// Asserts that a file which can't be opened, or is no database, is told of by `lookup` and by `verify`.
+fn assert_refused(
+    rt: &impl Abort,
+    alloc: Global,
+    files: &OneFile<'_>,
+    path: &str,
+    text: &str,
+) -> Result<(), Fail> {
+    let lookup = ["lookup", path, "1.1.1.1"];
+    assert_done(rt, alloc, files, &lookup, (1, "", text))?;
+    assert_done(rt, alloc, files, &["verify", path], (1, "", text))
 }
 
 #[test]
 fn refused_files(rt: HostRuntime) -> Result<(), Fail> {
     let alloc = rt.alloc();
-    let base = base_file(alloc)?;
     let no_marker = "invalid database: could not find MaxMind DB metadata in file\n";
-    let gone = format!(in alloc; "i/o error: {}\n", io::Error::from(io::ErrorKind::NotFound))?;
-    let failed = format!(in alloc;
-        "i/o error: {}\n",
-        io::Error::from(io::ErrorKind::InvalidData)
-    )?;
-    for (path, bytes, fails_at, text) in [
-        ("here.mmdb", b"".as_slice(), 1000, no_marker),
-        ("gone.mmdb", base.as_slice(), 1000, gone.as_str()),
-        ("here.mmdb", base.as_slice(), 2, failed.as_str()),
-    ] {
+    let empty = OneFile {
+        bytes: b"",
+        step: 64,
+        fails_at: 1000,
+    };
+    assert_refused(&rt, alloc, &empty, "here.mmdb", no_marker)?;
+    assert_done_with(&rt, alloc, b"", &FOUND, (1, "", no_marker))
+}
+
+/// A path, the read of the base file that is refused, and why the file can't be read.
+const UNREAD: [(&str, u32, io::ErrorKind); 2] = [
+    ("gone.mmdb", 1000, io::ErrorKind::NotFound),
+    ("here.mmdb", 2, io::ErrorKind::InvalidData),
+];
+
+#[test]
+fn unread_files(rt: HostRuntime) -> Result<(), Fail> {
+    let alloc = rt.alloc();
+    let base = base_file(alloc)?;
+    for (path, fails_at, kind) in UNREAD {
+        let text = format!(in alloc; "i/o error: {}\n", io::Error::from(kind))?;
         let files = OneFile {
-            bytes,
+            bytes: base.as_slice(),
             step: 64,
             fails_at,
         };
-        assert_done(
-            &rt,
-            alloc,
-            &files,
-            &["lookup", path, "1.1.1.1"],
-            (1, "", text),
-        )?;
-        assert_done(&rt, alloc, &files, &["verify", path], (1, "", text))?;
+        assert_refused(&rt, alloc, &files, path, text.as_str())?;
     }
-    assert_done_with(&rt, alloc, b"", &FOUND, (1, "", no_marker))
+    Ok(())
 }
+
+/// A node, data, and what is told of their file.
+#[rattlefmt::skip]
+const DAMAGED: &[(&[u8], &[u8], &str)] = &[
+    (
+        b"\x00\x00\x10\x00\x00\x11",
+        BASE_DATA,
+        "invalid database: the MaxMind DB file's data pointer resolves to an invalid location\n",
+    ),
+    (
+        BASE_NODE,
+        b"\x20\x00",
+        "invalid database at offset 22: cyclic data pointer references offset 0\n",
+    ),
+];
 
 #[test]
 fn damaged_files(rt: HostRuntime) -> Result<(), Fail> {
     let alloc = rt.alloc();
-    let nowhere = base_with_node(alloc, b"\x00\x00\x10\x00\x00\x11")?;
-    let cyclic = file(alloc, BASE_NODE, b"\x20\x00", BASE)?;
-    for (bytes, text) in [
-        (
-            &nowhere,
-            "invalid database: the MaxMind DB file's data pointer resolves to an invalid location\n",
-        ),
-        (
-            &cyclic,
-            "invalid database at offset 22: cyclic data pointer references offset 0\n",
-        ),
-    ] {
+    for (node, data, text) in DAMAGED {
+        let bytes = file(alloc, node, data, BASE)?;
         let words = ["verify", "here.mmdb"];
-        assert_done_with(&rt, alloc, bytes.as_slice(), &words, (1, "", text))?;
+        assert_done_with(&rt, alloc, bytes.as_slice(), &words, (1, "", *text))?;
     }
     Ok(())
 }

@@ -1,5 +1,6 @@
 //! Runs of the program.
 use mmdb_tool::{Out, run, run_bytes};
+use mmdb_vectors::file::OneFile;
 use mmdb_vectors::words::words_of;
 use std::alloc::Global;
 use std::process::Abort;
@@ -52,4 +53,23 @@ pub fn assert_done_with(
     assert_written(rt, out, done.1, texts);
     assert_written(rt, err, done.2, texts);
     Ok(())
+}
+
+/// Asserts what the program does with its words over a file of these bytes, whose read number `fails_at` is
+/// refused, and over the bytes alone.
+pub fn assert_done_both(
+    rt: &impl Abort,
+    alloc: Global,
+    bytes: &[u8],
+    fails_at: u32,
+    texts: &[&str],
+    done: Done<'_>,
+) -> Result<(), Fail> {
+    let files = OneFile {
+        bytes,
+        step: 64,
+        fails_at,
+    };
+    assert_done(rt, alloc, &files, texts, done)?;
+    assert_done_with(rt, alloc, bytes, texts, done)
 }

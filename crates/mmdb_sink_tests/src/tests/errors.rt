@@ -1,5 +1,7 @@
-//! What errors of lists print.
+//! What errors of lists and of reports print.
 use maxminddb::{IpNetworkError, MaxMindDbError, invalid_database_at, resource_limit_at};
+use mmdb_report::ReportError;
+use mmdb_report::laws::counts_are_of_networks;
 use mmdb_tool::ListError;
 use std::io;
 use std::test::Fail;
@@ -36,4 +38,26 @@ fn errors_of_lists(rt: HostRuntime) -> Result<(), Fail> {
         assert!(rt; printed.as_str() == text, "{printed}");
     }
     Ok(())
+}
+
+#[test]
+fn errors_of_reports(rt: HostRuntime) -> Result<(), Fail> {
+    let alloc = rt.alloc();
+    for (error, text) in [
+        (
+            ReportError::from(MaxMindDbError::from(IpNetworkError::InvalidPrefix)),
+            "invalid network: invalid prefix",
+        ),
+        (ReportError::from(MaxMindDbError::Memory), "out of memory"),
+        (ReportError::TooMany, "too many networks"),
+    ] {
+        let printed = format!(in alloc; "{error}")?;
+        assert!(rt; printed.as_str() == text, "{printed}");
+    }
+    Ok(())
+}
+
+#[test]
+fn laws_of_reports_are_called() {
+    counts_are_of_networks();
 }

@@ -1,12 +1,13 @@
-//! Lines and lists where memory is refused.
+//! Lines, lists and reports where memory is refused.
 ghost use Rattle.std.specs.Prelude.{◌<◌};
 
 use super::sink::{End, OneByte};
 use maxminddb::{IpNetwork, MaxMindDbError, Reader, WithinOptions};
+use mmdb_report::{Report, ReportError, report_on};
 use mmdb_tool::{ListError, list_to, lookup_line};
-use mmdb_vectors::builder::base_file;
+use mmdb_vectors::builder::{Field, base_file, changed_file, push_node_24};
 use mmdb_vectors::hoard::Hoard;
-use std::alloc::Global;
+use std::alloc::{AllocError, Global};
 use std::net::{IpAddr, Ipv4Addr};
 use std::test::Fail;
 
@@ -105,5 +106,74 @@ fn line_without_memory(rt: HostRuntime) -> Result<(), Fail> {
     drop(small);
     drop(large);
     assert!(rt; matches!(&line, Err(MaxMindDbError::Memory)));
+    Ok(())
+}
+
+// An IPv4 file of twenty nodes: each leads to the next on the left, the last one to no data, and each to an
+// offset of its own on the right.
+fn file_of_twenty_offsets(alloc: Global) -> Result<Vec<u8>, AllocError> {
+    let mut nodes = Vec::new(alloc);
+    for node in 0..20u32 {
+        push_node_24(&mut nodes, node + 1, node + 36)?;
+    }
+    changed_file(
+        alloc,
+        nodes.as_slice(),
+        &[0x40; 20],
+        &[(Field::NodeCount, b"\xC1\x14".as_slice())],
+    )
+}
+
+// The report of a range with so much memory, or none where that was refused.
+fn report_met(
+    alloc: Global,
+    reader: &Reader<&[u8]>,
+    range: IpNetwork,
+    budget: usize,
+) -> Result<Option<Report>, ReportError>
+    requires { budget < 1000000 }
+{
+    let small = Hoard::of_all_but(alloc, budget);
+    let report = report_on(alloc, reader, range, WithinOptions::default());
+    drop(small);
+    match report {
+        Ok(report) => Ok(Some(report)),
+        Err(ReportError::Database(MaxMindDbError::Memory)) => Ok(None),
+        Err(error) => Err(error),
+    }
+}
+
+#[test]
+fn growths_of_reports_refused_in_turn(rt: HostRuntime) -> Result<(), Fail> {
+    let alloc = rt.alloc();
+    let bytes = file_of_twenty_offsets(alloc)?;
+    let reader = Reader::from_source(alloc, bytes.as_slice())?;
+    let range: IpNetwork = "0.0.0.0/0".parse()?;
+    let mut refused = 0u32;
+    for step in 0..512usize {
+        let large = Hoard::of_large_blocks(alloc);
+        let met = report_met(alloc, &reader, range, step * 16);
+        drop(large);
+        if let Some(report) = met? {
+            assert_eq!(rt; report.distinct_offsets, 20);
+            break;
+        }
+        refused = refused.saturating_add(1);
+    }
+    assert!(rt; refused >= 2 && refused < 512, "{refused}");
+    Ok(())
+}
+
+#[test]
+fn report_of_a_range_of_another_kind(rt: HostRuntime) -> Result<(), Fail> {
+    let alloc = rt.alloc();
+    let bytes = base_file(alloc)?;
+    let reader = Reader::from_source(alloc, bytes.as_slice())?;
+    let refused = report_on(alloc, &reader, "::/0".parse()?, WithinOptions::default());
+    let of_range = matches!(
+        &refused,
+        Err(ReportError::Database(MaxMindDbError::InvalidInput { .. }))
+    );
+    assert!(rt; of_range);
     Ok(())
 }

@@ -83,7 +83,12 @@ fn reads_refused_in_turn(rt: HostRuntime) -> Result<(), Fail> {
     assert_turns::<BTreeMap<String, u16>>(&rt, alloc, b"\xE1\x41k\xA1\x05", 1, Met::Value);
     assert_turns::<Value<'_>>(&rt, alloc, PAIR, 1, Met::Value);
     assert_turns::<RawValue<'_>>(&rt, alloc, PAIR, 1, Met::Value);
+    assert_turns::<String>(&rt, alloc, b"\xA1\x07", 1, Met::Refusal);
+    assert_turns::<OwnedBytes>(&rt, alloc, b"\xA1\x07", 1, Met::Refusal);
+    assert_turns::<Vec<u16>>(&rt, alloc, b"\xA1\x07", 1, Met::Refusal);
+    assert_turns::<BTreeMap<String, u16>>(&rt, alloc, b"\xA1\x07", 1, Met::Refusal);
     assert_turns::<Value<'_>>(&rt, alloc, b"\x00\x06", 1, Met::Refusal);
+    assert_turns::<RawValue<'_>>(&rt, alloc, b"\x00\x06", 1, Met::Refusal);
     assert_turns::<Probe<'_>>(&rt, alloc, b"\xE1\x41a\x41x", 1, Met::Refusal);
     Ok(())
 }

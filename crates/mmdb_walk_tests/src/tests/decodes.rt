@@ -80,7 +80,7 @@ const ROWS: &[(&[u8], Wanted, &str)] = &[
     (b"\x42x", Wanted::Raw, "invalid database at offset 22: string of size 2"),
 ];
 
-// The text of the refusal of what stands behind the upper half of a file, or `read`.
+// The text of the refusal of what stands behind the upper half of a reader's file, or `read`.
 fn decoded<'a, T: Decode<'a>>(
     alloc: Global,
     reader: &'a Reader<&'a [u8]>,
@@ -113,21 +113,6 @@ fn decoded_as(
     }
 }
 
-#[test]
-fn values_refused(rt: HostRuntime) -> Result<(), Fail> {
-    let alloc = rt.alloc();
-    for (data, wanted, text) in ROWS {
-        let file = file(alloc, BASE_NODE, data, BASE)?;
-        let reader = Reader::from_source(alloc, file.as_slice())?;
-        let refusal = decoded_as(alloc, &reader, *wanted)?;
-        assert!(rt;
-            refusal.as_str() == *text,
-            "{data:?}: {refusal}, not {text}"
-        );
-    }
-    Ok(())
-}
-
 /// Rows for a value at offset 1.
 #[rattlefmt::skip]
 const SECOND_ROWS: &[(&[u8], Wanted, &str)] = &[
@@ -142,17 +127,29 @@ const SECOND_ROWS: &[(&[u8], Wanted, &str)] = &[
     ),
 ];
 
+// The text of the refusal of what stands behind the upper half of a file of a node and data, or `read`.
+fn refusal(
+    alloc: Global,
+    node: &[u8],
+    data: &[u8],
+    wanted: Wanted,
+) -> Result<String, MaxMindDbError> {
+    let file = file(alloc, node, data, BASE)?;
+    let reader = Reader::from_source(alloc, file.as_slice())?;
+    decoded_as(alloc, &reader, wanted)
+}
+
 #[test]
-fn later_values_refused(rt: HostRuntime) -> Result<(), Fail> {
+fn values_refused(rt: HostRuntime) -> Result<(), Fail> {
     let alloc = rt.alloc();
-    for (data, wanted, text) in SECOND_ROWS {
-        let file = file(alloc, SECOND_NODE, data, BASE)?;
-        let reader = Reader::from_source(alloc, file.as_slice())?;
-        let refusal = decoded_as(alloc, &reader, *wanted)?;
-        assert!(rt;
-            refusal.as_str() == *text,
-            "{data:?}: {refusal}, not {text}"
-        );
+    for (node, rows) in [(BASE_NODE, ROWS), (SECOND_NODE, SECOND_ROWS)] {
+        for (data, wanted, text) in rows {
+            let refusal = refusal(alloc, node, data, *wanted)?;
+            assert!(rt;
+                refusal.as_str() == *text,
+                "{data:?}: {refusal}, not {text}"
+            );
+        }
     }
     Ok(())
 }

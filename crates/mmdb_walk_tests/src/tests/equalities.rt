@@ -1,7 +1,8 @@
 //! Which options and metadata are equal, and which are not.
-use maxminddb::{Metadata, Reader, WithinOptions};
+use maxminddb::{MaxMindDbError, Metadata, Reader, WithinOptions};
 use mmdb_vectors::builder::{BASE_DATA, Field, base_file, changed_file};
 use mmdb_vectors::equality::equality;
+use std::alloc::{AllocError, Global};
 use std::test::Fail;
 
 // The options that the bits of a number switch on.
@@ -40,42 +41,71 @@ const OTHERS: &[(Field, &[u8])] = &[
     (Field::RecordSize, b"\xA1\x1C"),
 ];
 
+// What equality says of the metadata of the base file and of another one.
+fn equality_to_base(alloc: Global, file: &[u8]) -> Result<Option<bool>, MaxMindDbError> {
+    let base = base_file(alloc)?;
+    let base = Reader::from_source(alloc, base.as_slice())?;
+    let other = Reader::from_source(alloc, file)?;
+    Ok(equality(base.metadata(), other.metadata()))
+}
+
 #[test]
 fn metadata_of_files(rt: HostRuntime) -> Result<(), Fail> {
     let alloc = rt.alloc();
-    let base = Reader::from_source(alloc, base_file(alloc)?)?;
-    let again = Reader::from_source(alloc, base_file(alloc)?)?;
-    assert!(rt; equality(base.metadata(), again.metadata()) == Some(true));
-    assert!(rt; equality(base.metadata(), &base.metadata().clone()?) == Some(true));
+    let again = equality_to_base(alloc, base_file(alloc)?.as_slice())?;
+    assert!(rt; again == Some(true));
     // Fourteen bytes of nodes have room for each of the trees.
     let nodes = b"\x00\x00\x01\x00\x00\x11\0\0\0\0\0\0\0\0";
     for change in OTHERS {
-        let other = Reader::from_source(alloc, changed_file(alloc, nodes, BASE_DATA, &[*change])?)?;
-        let (field, _) = change;
-        assert!(rt;
-            equality(base.metadata(), other.metadata()) == Some(false),
-            "{field:?}"
-        );
+        let file = changed_file(alloc, nodes, BASE_DATA, &[*change])?;
+        let told = equality_to_base(alloc, file.as_slice())?;
+        assert!(rt; told == Some(false), "{change:?}");
     }
     Ok(())
 }
 
+/// What is changed by hand in a clone.
+#[derive(Clone, Copy, Debug)]
+enum Change {
+    Nothing,
+    MajorVersion,
+    Languages,
+    Description,
+}
+
+fn apply(metadata: &mut Metadata, alloc: Global, change: Change) -> Result<(), AllocError> {
+    match change {
+        Change::Nothing => {}
+        Change::MajorVersion => metadata.binary_format_major_version = 3,
+        Change::Languages => metadata.languages.push(String::from_str(alloc, "en")?)?,
+        Change::Description => {
+            let language = String::from_str(alloc, "de")?;
+            let text = String::from_str(alloc, "d")?;
+            metadata.description.insert(language, text)?;
+        }
+    }
+    Ok(())
+}
+
+// What equality says of the metadata of the base file and of a clone that is changed so.
+fn equality_to_changed(alloc: Global, by_hand: Change) -> Result<Option<bool>, MaxMindDbError> {
+    let base = base_file(alloc)?;
+    let base = Reader::from_source(alloc, base.as_slice())?;
+    let mut other: Metadata = base.metadata().clone()?;
+    apply(&mut other, alloc, by_hand)?;
+    Ok(equality(base.metadata(), &other))
+}
+
 #[test]
 fn metadata_made_by_hand(rt: HostRuntime) -> Result<(), Fail> {
-    let alloc = rt.alloc();
-    let base = Reader::from_source(alloc, base_file(alloc)?)?;
-    let metadata = base.metadata();
-    let mut other: Metadata = metadata.clone()?;
-    other.binary_format_major_version = 3;
-    assert!(rt; equality(metadata, &other) == Some(false), "major version");
-    let mut other: Metadata = metadata.clone()?;
-    other.languages.push(String::from_str(alloc, "en")?)?;
-    assert!(rt; equality(metadata, &other) == Some(false), "languages");
-    let mut other: Metadata = metadata.clone()?;
-    let language = String::from_str(alloc, "de")?;
-    other
-        .description
-        .insert(language, String::from_str(alloc, "d")?)?;
-    assert!(rt; equality(metadata, &other) == Some(false), "description");
+    for (by_hand, is_equal) in [
+        (Change::Nothing, true),
+        (Change::MajorVersion, false),
+        (Change::Languages, false),
+        (Change::Description, false),
+    ] {
+        let told = equality_to_changed(rt.alloc(), by_hand)?;
+        assert!(rt; told == Some(is_equal), "{by_hand:?}");
+    }
     Ok(())
 }

@@ -2,11 +2,12 @@
 ghost use Rattle.std.specs.Prelude.{◌<◌};
 
 use super::found::{high, low, told};
-use maxminddb::{Decode, IpNetwork, MaxMindDbError, Metadata, Reader, fuzzing};
+use maxminddb::{IpNetwork, MaxMindDbError, Metadata, Reader, fuzzing};
 use mmdb_vectors::builder::{BASE_DATA, BASE_NODE, Field, base_file, changed_file};
 use mmdb_vectors::hoard::Hoard;
 use std::alloc::{AllocError, Global};
 use std::net::{IpAddr, Ipv6Addr};
+use std::process::Abort;
 use std::test::Fail;
 
 /// Where the metadata of the base file begin.
@@ -101,19 +102,24 @@ fn refused_in_turn(alloc: Global, call: Call, reader: &Reader<&[u8]>, file: &[u8
     (refused, Met::Refusal)
 }
 
-#[test]
-fn growths_refused_in_turn(rt: HostRuntime) -> Result<(), Fail> {
-    let alloc = rt.alloc();
+// What a call met in turn on the base file, with the large blocks held.
+fn met_in_turn(alloc: Global, call: Call) -> Result<(u32, Met), MaxMindDbError> {
     let file = base_file(alloc)?;
     let reader = Reader::from_source(alloc, file.as_slice())?;
+    let large = Hoard::of_large_blocks(alloc);
+    let met = refused_in_turn(alloc, call, &reader, file.as_slice());
+    drop(large);
+    Ok(met)
+}
+
+#[test]
+fn growths_refused_in_turn(rt: HostRuntime) -> Result<(), Fail> {
     for (call, least) in [
         (Call::ReadMetadata, 4),
         (Call::CloneOfMetadata, 4),
         (Call::RefusedMetadata, 1),
     ] {
-        let large = Hoard::of_large_blocks(alloc);
-        let (refused, met) = refused_in_turn(alloc, call, &reader, file.as_slice());
-        drop(large);
+        let (refused, met) = met_in_turn(rt.alloc(), call)?;
         println!(rt; "{call:?}: {refused} runs met a refusal")?;
         assert!(rt; met == Met::Answer, "{call:?}");
         assert!(rt; refused >= least, "{call:?}: {refused}");
@@ -121,46 +127,113 @@ fn growths_refused_in_turn(rt: HostRuntime) -> Result<(), Fail> {
     Ok(())
 }
 
-// What an address is told, without a growth.
-fn found(
+// What an address is told where every growth is refused.
+fn found_without_memory(
+    alloc: Global,
     reader: &Reader<&[u8]>,
     address: IpAddr,
 ) -> Result<(bool, Option<usize>, IpNetwork), MaxMindDbError> {
-    told(reader.lookup(address)?)
+    let large = Hoard::of_large_blocks(alloc);
+    let small = Hoard::of_all_left(alloc);
+    let found = reader.lookup(address);
+    let told = found.and_then(told);
+    drop(small);
+    drop(large);
+    told
 }
 
-fn decoded<'a, T: Decode<'a>>(
+// The text of what an address is told where every growth is refused.
+fn found_text(
     alloc: Global,
-    reader: &'a Reader<&'a [u8]>,
+    reader: &Reader<&[u8]>,
     address: IpAddr,
-) -> Result<Option<T>, MaxMindDbError> {
-    reader.lookup(address)?.decode(alloc)
+) -> Result<String, AllocError> {
+    match found_without_memory(alloc, reader, address) {
+        Ok((has_data, offset, network)) => format!(in alloc; "{has_data} {offset:?} {network}"),
+        Err(error) => format!(in alloc; "{error}"),
+    }
+}
+
+// Asserts what an address of the base file is told where every growth is refused.
+fn assert_found(
+    rt: &impl Abort,
+    alloc: Global,
+    address: IpAddr,
+    text: &str,
+) -> Result<(), MaxMindDbError> {
+    let file = base_file(alloc)?;
+    let reader = Reader::from_source(alloc, file.as_slice())?;
+    let found = found_text(alloc, &reader, address)?;
+    assert!(rt; found.as_str() == text, "{found}, not {text}");
+    Ok(())
 }
 
 #[test]
-fn every_growth_refused(rt: HostRuntime) -> Result<(), Fail> {
+fn lookups_without_memory(rt: HostRuntime) -> Result<(), MaxMindDbError> {
+    let alloc = rt.alloc();
+    assert_found(&rt, alloc, low(), "false None 0.0.0.0/1")?;
+    assert_found(&rt, alloc, high(), "true Some(0) 128.0.0.0/1")?;
+    let ipv6 = IpAddr::V6(Ipv6Addr::LOCALHOST);
+    let refusal = "invalid input: cannot look up IPv6 address in IPv4-only database";
+    assert_found(&rt, alloc, ipv6, refusal)
+}
+
+/// What is read where every growth is refused.
+#[derive(Clone, Copy, Debug, PartialEq, Eq)]
+enum Read {
+    LetterX,
+    Nothing,
+    Memory,
+    Wrong,
+}
+
+fn text_read(read: Result<Option<&str>, MaxMindDbError>) -> Read {
+    match read {
+        Ok(Some(text)) if text == "x" => Read::LetterX,
+        Ok(None) => Read::Nothing,
+        Err(MaxMindDbError::Memory) => Read::Memory,
+        _ => Read::Wrong,
+    }
+}
+
+fn number_read(read: Result<Option<u16>, MaxMindDbError>) -> Read {
+    match read {
+        Err(MaxMindDbError::Memory) => Read::Memory,
+        _ => Read::Wrong,
+    }
+}
+
+fn read_without_memory(
+    alloc: Global,
+    reader: &Reader<&[u8]>,
+    address: IpAddr,
+    is_number: bool,
+) -> Read {
+    let large = Hoard::of_large_blocks(alloc);
+    let small = Hoard::of_all_left(alloc);
+    let read = match reader.lookup(address) {
+        Ok(found) if is_number => number_read(found.decode(alloc)),
+        Ok(found) => text_read(found.decode(alloc)),
+        Err(_) => Read::Wrong,
+    };
+    drop(small);
+    drop(large);
+    read
+}
+
+#[test]
+fn reads_without_memory(rt: HostRuntime) -> Result<(), Fail> {
     let alloc = rt.alloc();
     let file = base_file(alloc)?;
     let reader = Reader::from_source(alloc, file.as_slice())?;
-    let large = Hoard::of_large_blocks(alloc);
-    let small = Hoard::of_all_left(alloc);
-    let opened = Reader::from_source(alloc, file.as_slice());
-    let without = found(&reader, low());
-    let behind = found(&reader, high());
-    let refused = found(&reader, IpAddr::V6(Ipv6Addr::LOCALHOST));
-    let text = decoded::<&str>(alloc, &reader, high());
-    let no_text = decoded::<&str>(alloc, &reader, low());
-    let number = decoded::<u16>(alloc, &reader, high());
-    drop(small);
-    drop(large);
-    assert!(rt; matches!(&opened, Err(MaxMindDbError::Memory)));
-    assert!(rt; without? == (false, None, "0.0.0.0/1".parse()?));
-    assert!(rt; behind? == (true, Some(0), "128.0.0.0/1".parse()?));
-    assert!(rt; matches!(&refused, Err(MaxMindDbError::InvalidInput { .. })));
-    assert!(rt; text? == Some("x"));
-    assert!(rt; no_text?.is_none());
-    assert!(rt; matches!(&number, Err(MaxMindDbError::Memory)));
-    assert!(rt; Reader::from_source(alloc, file.as_slice()).is_ok());
+    for (address, is_number, wanted) in [
+        (high(), false, Read::LetterX),
+        (low(), false, Read::Nothing),
+        (high(), true, Read::Memory),
+    ] {
+        let read = read_without_memory(alloc, &reader, address, is_number);
+        assert!(rt; read == wanted, "{address}: {read:?}");
+    }
     Ok(())
 }
 
@@ -179,22 +252,44 @@ fn verdict_within(alloc: Global, file: &[u8], budget: usize) -> Result<String, A
     }
 }
 
+// The same of the base file with this record size.
+fn verdict_of_size(alloc: Global, size: &[u8], budget: usize) -> Result<String, AllocError>
+    requires { budget < 1000000 }
+{
+    let file = changed_file(alloc, BASE_NODE, BASE_DATA, &[(Field::RecordSize, size)])?;
+    verdict_within(alloc, file.as_slice(), budget)
+}
+
 #[test]
 fn table_refused(rt: HostRuntime) -> Result<(), Fail> {
-    let alloc = rt.alloc();
-    let base = base_file(alloc)?;
-    let record_size = [(Field::RecordSize, b"\xA1\x10".as_slice())];
-    let refused = changed_file(alloc, BASE_NODE, BASE_DATA, &record_size)?;
     let wrong_size = "invalid database: record_size - Expected: 24, 28, or 32 Actual: 16";
     // What else refuses a file does so before the table is reserved.
-    for (file, budget, text) in [
-        (&base, NO_TABLE, "out of memory"),
-        (&base, 0, "out of memory"),
-        (&refused, NO_TABLE, wrong_size),
+    for (size, budget, text) in [
+        (b"\xA1\x18".as_slice(), NO_TABLE, "out of memory"),
+        (b"\xA1\x18".as_slice(), 0, "out of memory"),
+        (b"\xA1\x10".as_slice(), NO_TABLE, wrong_size),
     ] {
-        let met = verdict_within(alloc, file.as_slice(), budget)?;
-        assert!(rt; met.as_str() == text, "with {budget}: {met}");
+        let met = verdict_of_size(rt.alloc(), size, budget)?;
+        assert!(rt; met.as_str() == text, "{size:?} with {budget}: {met}");
     }
-    assert!(rt; Reader::from_source(alloc, base.as_slice()).is_ok());
+    Ok(())
+}
+
+// Whether a file is refused for want of memory where every growth is refused.
+fn is_refused_without_memory(alloc: Global, file: &[u8]) -> bool {
+    let large = Hoard::of_large_blocks(alloc);
+    let small = Hoard::of_all_left(alloc);
+    let opened = Reader::from_source(alloc, file);
+    drop(small);
+    drop(large);
+    matches!(&opened, Err(MaxMindDbError::Memory))
+}
+
+#[test]
+fn files_without_memory(rt: HostRuntime) -> Result<(), Fail> {
+    let alloc = rt.alloc();
+    let file = base_file(alloc)?;
+    assert!(rt; is_refused_without_memory(alloc, file.as_slice()));
+    assert!(rt; Reader::from_source(alloc, file.as_slice()).is_ok());
     Ok(())
 }

@@ -1,4 +1,4 @@
-use Rattle.std.proofs.Common.{◌≡◌, ℕ, ◌+◌, ◌*◌, ap, sym, ◌∙◌}
+use Rattle.std.proofs.Common.{ℕ, ◌+◌, ◌*◌, ap, sym, ◌∙◌}
 use Rattle.maxminddb.proofs.WalkLemmas.{step-child}
 use Rattle.maxminddb.proofs.RecordLemmas.{record-24, record-28-right, record-28-left, record-32, child-24, child-28, child-32}
 use Rattle.maxminddb.specs.Tree.{search_tree}

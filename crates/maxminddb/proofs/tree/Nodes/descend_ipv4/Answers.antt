@@ -1,4 +1,4 @@
-use Rattle.std.proofs.Common.{◌≡◌, ◌+◌, ◌/◌, ◌<◌, ap, sym, ◌∙◌, arith, refl}
+use Rattle.std.proofs.Common.{◌/◌, ◌<◌, ap, arith, refl}
 use Rattle.mmdb_net.specs.Bits.{bits_of}
 use Rattle.maxminddb.specs.Tree.{search_tree}
 use Rattle.maxminddb.proofs.LeafLemmas.{Descends-same}

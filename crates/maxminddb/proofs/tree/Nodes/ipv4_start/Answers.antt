@@ -1,6 +1,6 @@
-use Rattle.std.proofs.Common.{◌≡◌, ◌++◌, true, false, eqb, ap, sym, ◌∙◌, refl}
+use Rattle.std.proofs.Common.{◌≡◌, true, false, eqb, refl}
 use Rattle.std.proofs.lemmas.Bool.{eq-eqb, ne_eqb}
-use Rattle.mmdb_net.specs.Bits.{bits_of, zero_bits}
+use Rattle.mmdb_net.specs.Bits.{bits_of}
 use Rattle.mmdb_net.proofs.BitLaws.{bits_of-zero, bits_of-split}
 use Rattle.maxminddb.specs.Tree.{search_tree}
 use Rattle.maxminddb.proofs.DescentLemmas.{Descends-append}

@@ -1,0 +1,3 @@
+pub mod CountLemmas
+pub mod AddLemmas
+pub mod TallyLemmas

@@ -1,0 +1,368 @@
+//! Each public call that can be refused, once with enough memory. The others answer a plain value.
+use maxminddb::geoip2::{
+    AnonymousIp, Asn, City, ConnectionType, Country, DensityIncome, Domain, Enterprise, Isp, Names,
+    city, country, enterprise,
+};
+use maxminddb::{
+    Checked, Decode, Decoder, Double, Float, IpNetwork, Ipv4Network, Ipv6Network, MaxMindDbError,
+    Metadata, OwnedBytes, PathElement, RawValue, Reader, Steps, Value, WithinOptions, check_value,
+    decoding, decoding_at, decoding_at_path, empty_container, fuzzing, invalid_database,
+    invalid_database_at, invalid_input, render_path, resource_limit_at,
+};
+use mmdb_report::report_on;
+use mmdb_tool::{Out, Sink, list_to, lookup_line, run, run_bytes};
+use mmdb_vectors::builder::base_file;
+use mmdb_vectors::file::OneFile;
+use mmdb_vectors::words::words_of;
+use std::alloc::Global;
+use std::collections::BTreeMap;
+use std::net::{IpAddr, Ipv4Addr, Ipv6Addr};
+use std::test::Fail;
+
+/// A call, and whether it succeeded.
+type Row = (&'static str, bool);
+
+// An address that has a value in the base file.
+fn high() -> IpAddr {
+    IpAddr::V4(Ipv4Addr::new(200, 0, 0, 1))
+}
+
+/// A map of k to 5, with an array of two numbers after it.
+const PAIRS: &[u8] = b"\xE1\x41k\xA1\x05\x02\x04\xA1\x05\xA1\x06";
+
+/// Where the array stands.
+const ARRAY_AT: usize = 5;
+
+fn of_networks(alloc: Global, rows: &mut Vec<Row>) -> Result<(), Fail> {
+    let ipv4 = Ipv4Network::new(Ipv4Addr::LOCALHOST, 8)?;
+    let ipv6 = Ipv6Network::new(Ipv6Addr::LOCALHOST, 8)?;
+    let parsed: IpNetwork = "10.0.0.0/8".parse()?;
+    Ok(rows.extend_from_slice(&[
+        ("Ipv4Network::new", ipv4.prefix() == 8),
+        ("Ipv6Network::new", ipv6.prefix() == 8),
+        ("IpNetwork::new", IpNetwork::new(high(), 8).is_ok()),
+        ("IpNetwork::from_str", parsed.prefix() == 8),
+        ("Ipv4Network::full_text", ipv4.full_text(alloc).is_ok()),
+        ("Ipv6Network::full_text", ipv6.full_text(alloc).is_ok()),
+        ("IpNetwork::full_text", parsed.full_text(alloc).is_ok()),
+    ])?)
+}
+
+// Whether an error was made, and not one of memory.
+fn is_made(error: MaxMindDbError) -> bool {
+    !matches!(&error, MaxMindDbError::Memory)
+}
+
+fn of_errors(alloc: Global) -> [Row; 7] {
+    [
+        ("invalid_database", is_made(invalid_database(alloc, "text"))),
+        (
+            "invalid_database_at",
+            is_made(invalid_database_at(alloc, "text", 1)),
+        ),
+        ("decoding", is_made(decoding(alloc, "text"))),
+        ("decoding_at", is_made(decoding_at(alloc, "text", 1))),
+        (
+            "decoding_at_path",
+            is_made(decoding_at_path(alloc, "text", 1, "/path")),
+        ),
+        (
+            "resource_limit_at",
+            is_made(resource_limit_at(alloc, "text", 1)),
+        ),
+        ("invalid_input", is_made(invalid_input(alloc, "text"))),
+    ]
+}
+
+fn of_scalars(alloc: Global) -> [Row; 13] {
+    let double = b"\x68\x00\x00\x00\x00\x00\x00\x00\x00".as_slice();
+    let float = b"\x04\x08\x00\x00\x00\x00".as_slice();
+    [
+        (
+            "read_bool",
+            Decoder::new(b"\x01\x07", 0).read_bool(alloc).is_ok(),
+        ),
+        (
+            "read_u16",
+            Decoder::new(b"\xA1\x07", 0).read_u16(alloc).is_ok(),
+        ),
+        (
+            "read_u32",
+            Decoder::new(b"\xC1\x07", 0).read_u32(alloc).is_ok(),
+        ),
+        (
+            "read_u64",
+            Decoder::new(b"\x01\x02\x07", 0).read_u64(alloc).is_ok(),
+        ),
+        (
+            "read_u128",
+            Decoder::new(b"\x01\x03\x07", 0).read_u128(alloc).is_ok(),
+        ),
+        (
+            "read_i32",
+            Decoder::new(b"\x01\x01\x07", 0).read_i32(alloc).is_ok(),
+        ),
+        (
+            "read_small",
+            Decoder::new(b"\xA1\x07", 0).read_small(alloc).is_ok(),
+        ),
+        (
+            "read_str",
+            Decoder::new(b"\x41x", 0).read_str(alloc).is_ok(),
+        ),
+        (
+            "read_bytes",
+            Decoder::new(b"\x81x", 0).read_bytes(alloc).is_ok(),
+        ),
+        (
+            "read_double",
+            Decoder::new(double, 0).read_double(alloc).is_ok(),
+        ),
+        (
+            "read_float",
+            Decoder::new(float, 0).read_float(alloc).is_ok(),
+        ),
+        ("peek_kind", Decoder::new(PAIRS, 0).peek_kind(alloc).is_ok()),
+        (
+            "skip_value",
+            Decoder::new(PAIRS, 0).skip_value(alloc).is_ok(),
+        ),
+    ]
+}
+
+// Enters a map and an array, and gives both up.
+fn enter(alloc: Global, rows: &mut Vec<Row>) -> Result<(), MaxMindDbError> {
+    let mut d = Decoder::new(PAIRS, 0);
+    let mut fields = d.begin_map(alloc)?;
+    let field = d.next_field(alloc, &mut fields);
+    fields.give_up(&mut d);
+    let mut d = Decoder::new(PAIRS, 0);
+    let mut keys = d.begin_map(alloc)?;
+    let key = d.next_key(alloc, &mut keys);
+    keys.give_up(&mut d);
+    let mut d = Decoder::new(PAIRS, 0);
+    let mut raw_keys = d.begin_map(alloc)?;
+    let raw_key = d.next_raw_key(alloc, &mut raw_keys);
+    raw_keys.give_up(&mut d);
+    let mut d = Decoder::new(PAIRS, ARRAY_AT);
+    let mut items = d.begin_array(alloc)?;
+    let item = d.next_item(&mut items);
+    items.give_up(&mut d);
+    let mut d = Decoder::new(PAIRS, ARRAY_AT);
+    let of_two = d.begin_array_of(alloc, 2)?;
+    let left = d.remaining(&of_two);
+    of_two.give_up(&mut d);
+    Ok(rows.extend_from_slice(&[
+        ("begin_map, next_field", field?.is_some()),
+        ("next_key", key?.is_some()),
+        ("next_raw_key", raw_key?.is_some()),
+        ("begin_array, next_item", item),
+        ("begin_array_of", left == 2),
+        ("empty_container", empty_container(PAIRS, 0).is_ok()),
+    ])?)
+}
+
+fn reads<'de, T: Decode<'de>>(alloc: Global, section: &'de [u8]) -> bool {
+    fuzzing::decode::<T>(alloc, section).is_ok()
+}
+
+fn of_types(alloc: Global) -> [Row; 21] {
+    let double = b"\x68\x00\x00\x00\x00\x00\x00\x00\x00".as_slice();
+    let float = b"\x04\x08\x00\x00\x00\x00".as_slice();
+    [
+        ("bool", reads::<bool>(alloc, b"\x01\x07")),
+        ("u8", reads::<u8>(alloc, b"\xA1\x07")),
+        ("u16", reads::<u16>(alloc, b"\xA1\x07")),
+        ("u32", reads::<u32>(alloc, b"\xC1\x07")),
+        ("u64", reads::<u64>(alloc, b"\x01\x02\x07")),
+        ("u128", reads::<u128>(alloc, b"\x01\x03\x07")),
+        ("i8", reads::<i8>(alloc, b"\xA1\x07")),
+        ("i16", reads::<i16>(alloc, b"\xA1\x07")),
+        ("i32", reads::<i32>(alloc, b"\x01\x01\x07")),
+        ("i64", reads::<i64>(alloc, b"\xA1\x07")),
+        ("&str", reads::<&str>(alloc, b"\x41x")),
+        ("String", reads::<String>(alloc, b"\x41x")),
+        ("&[u8]", reads::<&[u8]>(alloc, b"\x81x")),
+        ("OwnedBytes", reads::<OwnedBytes>(alloc, b"\x81x")),
+        ("Double", reads::<Double>(alloc, double)),
+        ("Float", reads::<Float>(alloc, float)),
+        ("Option", reads::<Option<u16>>(alloc, b"\xA1\x07")),
+        ("Vec", reads::<Vec<u16>>(alloc, b"\x01\x04\xA1\x05")),
+        ("BTreeMap", reads::<BTreeMap<String, u16>>(alloc, PAIRS)),
+        ("Value", reads::<Value<'_>>(alloc, PAIRS)),
+        ("RawValue", reads::<RawValue<'_>>(alloc, PAIRS)),
+    ]
+}
+
+/// A map without a pair.
+const EMPTY: &[u8] = b"\xE0";
+
+fn of_records(alloc: Global) -> [Row; 10] {
+    [
+        ("Names", reads::<Names<'_>>(alloc, EMPTY)),
+        ("Country", reads::<Country<'_>>(alloc, EMPTY)),
+        ("City", reads::<City<'_>>(alloc, EMPTY)),
+        ("Enterprise", reads::<Enterprise<'_>>(alloc, EMPTY)),
+        ("Isp", reads::<Isp<'_>>(alloc, EMPTY)),
+        ("ConnectionType", reads::<ConnectionType<'_>>(alloc, EMPTY)),
+        ("AnonymousIp", reads::<AnonymousIp>(alloc, EMPTY)),
+        ("DensityIncome", reads::<DensityIncome>(alloc, EMPTY)),
+        ("Domain", reads::<Domain<'_>>(alloc, EMPTY)),
+        ("Asn", reads::<Asn<'_>>(alloc, EMPTY)),
+    ]
+}
+
+fn of_parts(alloc: Global) -> [Row; 13] {
+    [
+        (
+            "country::Continent",
+            reads::<country::Continent<'_>>(alloc, EMPTY),
+        ),
+        (
+            "country::Country",
+            reads::<country::Country<'_>>(alloc, EMPTY),
+        ),
+        (
+            "country::RepresentedCountry",
+            reads::<country::RepresentedCountry<'_>>(alloc, EMPTY),
+        ),
+        ("country::Traits", reads::<country::Traits>(alloc, EMPTY)),
+        ("city::City", reads::<city::City<'_>>(alloc, EMPTY)),
+        ("city::Location", reads::<city::Location<'_>>(alloc, EMPTY)),
+        ("city::Postal", reads::<city::Postal<'_>>(alloc, EMPTY)),
+        (
+            "city::Subdivision",
+            reads::<city::Subdivision<'_>>(alloc, EMPTY),
+        ),
+        (
+            "enterprise::City",
+            reads::<enterprise::City<'_>>(alloc, EMPTY),
+        ),
+        (
+            "enterprise::Country",
+            reads::<enterprise::Country<'_>>(alloc, EMPTY),
+        ),
+        (
+            "enterprise::Postal",
+            reads::<enterprise::Postal<'_>>(alloc, EMPTY),
+        ),
+        (
+            "enterprise::Subdivision",
+            reads::<enterprise::Subdivision<'_>>(alloc, EMPTY),
+        ),
+        (
+            "enterprise::Traits",
+            reads::<enterprise::Traits<'_>>(alloc, EMPTY),
+        ),
+    ]
+}
+
+fn of_checks(alloc: Global, rows: &mut Vec<Row>) -> Result<(), Fail> {
+    let mut checked = Checked::new(alloc, PAIRS)?;
+    let city = fuzzing::decode::<City<'_>>(alloc, EMPTY)?;
+    let found = fuzzing::decode::<Enterprise<'_>>(alloc, EMPTY)?;
+    Ok(rows.extend_from_slice(&[
+        ("Checked::new", true),
+        ("check_value", check_value(alloc, &mut checked, 0).is_ok()),
+        ("fuzzing::verify", fuzzing::verify(alloc, PAIRS).is_ok()),
+        ("City::clone", city.clone().is_ok()),
+        ("Enterprise::clone", found.clone().is_ok()),
+    ])?)
+}
+
+fn of_readers(alloc: Global, reader: &Reader<&[u8]>, rows: &mut Vec<Row>) -> Result<(), Fail> {
+    let options = WithinOptions::default();
+    let range: IpNetwork = "0.0.0.0/0".parse()?;
+    let found = reader.lookup(high())?;
+    let cloned: Metadata = reader.metadata().clone()?;
+    if cloned.node_count > 1000 || reader.metadata().node_count > 1000 {
+        return Err(Fail::from("too many nodes"));
+    }
+    let path = [PathElement::from("k")];
+    let (mut looked, mut verified) = (Steps::new(), Steps::new());
+    Ok(rows.extend_from_slice(&[
+        ("lookup", found.has_data()),
+        (
+            "lookup_counted",
+            reader.lookup_counted(high(), &mut looked).is_ok(),
+        ),
+        ("network", found.network().is_ok()),
+        ("decode", found.decode::<&str>(alloc).is_ok()),
+        ("decode_path", found.decode_path::<&str>(alloc, &[]).is_ok()),
+        ("render_path", render_path(alloc, &path).is_ok()),
+        ("Metadata::clone", cloned == *reader.metadata()),
+        ("build_time", cloned.build_time(alloc).is_ok()),
+        ("within", reader.within(alloc, range, options).is_ok()),
+        ("networks", reader.networks(alloc, options).is_ok()),
+        ("verify", reader.verify(alloc).is_ok()),
+        (
+            "verify_counted",
+            reader.verify_counted(alloc, &mut verified).is_ok(),
+        ),
+    ])?)
+}
+
+fn of_lists(alloc: Global, reader: &Reader<&[u8]>, rows: &mut Vec<Row>) -> Result<(), Fail> {
+    let options = WithinOptions::default();
+    let range: IpNetwork = "0.0.0.0/0".parse()?;
+    let mut out = Out::new(Vec::new(alloc));
+    Ok(rows.extend_from_slice(&[
+        ("Out::put", out.put(b"x").is_ok()),
+        ("lookup_line", lookup_line(alloc, reader, high()).is_ok()),
+        (
+            "list_to",
+            list_to(alloc, reader, range, options, &mut out).is_ok(),
+        ),
+        (
+            "report_on",
+            report_on(alloc, reader, range, options).is_ok(),
+        ),
+    ])?)
+}
+
+fn of_programs(alloc: Global, file: &[u8], rows: &mut Vec<Row>) -> Result<(), Fail> {
+    let files = OneFile {
+        bytes: file,
+        step: 64,
+        fails_at: 1000,
+    };
+    let words = words_of(alloc, &["verify", "here.mmdb"])?;
+    let words = words.as_slice();
+    let mut out = Out::new(Vec::new(alloc));
+    let mut err = Out::new(Vec::new(alloc));
+    Ok(rows.extend_from_slice(&[
+        ("from_source", Reader::from_source(alloc, file).is_ok()),
+        (
+            "open_readfile",
+            Reader::open_readfile(&files, alloc, "here.mmdb").is_ok(),
+        ),
+        ("run", run(&files, alloc, words, &mut out, &mut err) == 0),
+        (
+            "run_bytes",
+            run_bytes(alloc, file, words, &mut out, &mut err) == 0,
+        ),
+    ])?)
+}
+
+#[test]
+fn calls_succeed(rt: HostRuntime) -> Result<(), Fail> {
+    let alloc = rt.alloc();
+    let file = base_file(alloc)?;
+    let reader = Reader::from_source(alloc, file.as_slice())?;
+    let mut rows = Vec::new(alloc);
+    of_networks(alloc, &mut rows)?;
+    rows.extend_from_slice(&of_errors(alloc))?;
+    rows.extend_from_slice(&of_scalars(alloc))?;
+    enter(alloc, &mut rows)?;
+    rows.extend_from_slice(&of_types(alloc))?;
+    rows.extend_from_slice(&of_records(alloc))?;
+    rows.extend_from_slice(&of_parts(alloc))?;
+    of_checks(alloc, &mut rows)?;
+    of_readers(alloc, &reader, &mut rows)?;
+    of_lists(alloc, &reader, &mut rows)?;
+    of_programs(alloc, file.as_slice(), &mut rows)?;
+    for (call, succeeded) in &rows {
+        assert!(rt; *succeeded, "{call}");
+    }
+    Ok(())
+}
