@@ -1,3 +1,4 @@
+pub mod NumberedLemmas
 pub mod WalkLemmas
 pub mod DescentLemmas
 pub mod TableLemmas

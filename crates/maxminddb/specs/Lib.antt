@@ -8,6 +8,7 @@ pub mod Table
 pub mod Shown
 pub mod Counting
 pub mod Kept
+pub mod Numbered
 pub mod Found
 pub mod Laws
 pub mod MetadataShape

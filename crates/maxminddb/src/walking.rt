@@ -8,7 +8,7 @@ ghost use Rattle.mmdb_net.specs.Network.{ip_of, prefix_of};
 ghost use Rattle.maxminddb.specs.File.{width};
 ghost use Rattle.maxminddb.specs.Positions.{IsStack};
 
-use crate::lookup_result::LookupResult;
+use crate::lookup_result::{LookupResult, NumberedAddress};
 use crate::offsets::counted_from_start;
 use crate::options::WithinOptions;
 use crate::positions::{Position, ROOT};
@@ -144,15 +144,21 @@ impl<S: AsSlice<u8> + Drop> Reader<S> {
             return LookupResult {
                 reader: self,
                 offset,
-                address: IpAddr::V4(Ipv4Addr::from_bits(position.address as u32)),
-                prefix: position.prefix as u8 - (self.width() - 32),
+                address: NumberedAddress {
+                    bits: position.address,
+                    width: 32,
+                },
+                prefix: position.prefix - (usize::from(self.width()) - 32),
             };
         }
         LookupResult {
             reader: self,
             offset,
-            address: IpAddr::V6(Ipv6Addr::from_bits(position.address)),
-            prefix: position.prefix as u8,
+            address: NumberedAddress {
+                bits: position.address,
+                width: 128,
+            },
+            prefix: position.prefix,
         }
     }
 
