@@ -149,6 +149,7 @@ impl<S: AsSlice<u8> + Drop> Reader<S> {
         ensures refused { IfErr result (λ e. MemoryApart e (¬ IsWhole self.now)) }
     {
         let mut steps = Steps::new();
+        // So it is known that there are few enough nodes for the room that is asked for.
         let _nodes = self.nodes();
         self.verify_counted(alloc, &mut steps)
     }

@@ -101,6 +101,7 @@ impl Checked<'_> {
         requires { self.now.failed ≡ false }
         ensures { IsAllowed self.now.section (holds self.now.good) }
     {
+        // It does nothing: a proof knows the invariant where a field is read.
         let _failed = self.failed;
     }
 }
