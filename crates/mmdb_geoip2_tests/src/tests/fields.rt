@@ -1,6 +1,6 @@
 //! Each record over a section that has all its fields, in another order than the struct, with unknown
 //! fields of every type between them.
-use super::memory::{assert_none, section};
+use super::memory::{assert_no_record, assert_none, section};
 use super::section::with_unknown;
 use mmdb_decode::decode::Decode;
 use mmdb_decode::fuzzing::decode;
@@ -21,7 +21,8 @@ pub struct Row {
     pub shown: &'static str,
 }
 
-// Asserts that a section is read as a record where every growth is refused, and how `Debug` shows it.
+// Asserts that a section is read as a record where every growth is refused, how `Debug` shows it, and that a
+// text is read as none.
 fn assert_read<'de, T: Decode<'de> + Debug>(
     rt: &impl Abort,
     alloc: Global,
@@ -29,6 +30,7 @@ fn assert_read<'de, T: Decode<'de> + Debug>(
     shown: &str,
 ) -> Result<(), Fail> {
     assert_none::<T>(rt, alloc, section);
+    assert_no_record::<T>(rt, alloc);
     let record: T = decode(alloc, section)?;
     let text = format!(in alloc; "{record:?}")?;
     assert!(rt; text.as_str() == shown, "{text}");

@@ -73,6 +73,12 @@ pub fn assert_none<'de, T: Decode<'de>>(rt: &impl Abort, alloc: Global, section:
     assert!(rt; then == Met::Value, "{then:?} at {section:?}");
 }
 
+/// Asserts that a text where a record is asked for is refused for memory as long as there is none for what is
+/// told of it, and then as a text.
+pub fn assert_no_record<'de, T: Decode<'de>>(rt: &impl Abort, alloc: Global) {
+    assert_turns::<T>(rt, alloc, b"\x41x", 1, Met::Refusal);
+}
+
 /// The section of a row.
 pub fn section(alloc: Global, row: &Row) -> Result<Vec<u8>, Fail> {
     Ok(with_unknown(alloc, row.before, row.after)?)
@@ -82,6 +88,7 @@ pub fn section(alloc: Global, row: &Row) -> Result<Vec<u8>, Fail> {
 fn records_without_a_list(rt: HostRuntime) -> Result<(), Fail> {
     let alloc = rt.alloc();
     assert_none::<Country<'_>>(&rt, alloc, section(alloc, &TOP_COUNTRY)?.as_slice());
+    assert_no_record::<Country<'_>>(&rt, alloc);
     // A refusal that names a field takes memory for its text.
     assert_turns::<Domain<'_>>(
         &rt,

@@ -272,6 +272,10 @@ fn table_refused(rt: HostRuntime) -> Result<(), Fail> {
         let met = verdict_of_size(rt.alloc(), size, budget)?;
         assert!(rt; met.as_str() == text, "{size:?} with {budget}: {met}");
     }
+    for page in 0..16usize {
+        let met = verdict_of_size(rt.alloc(), b"\xA1\x18", page * 4_096)?;
+        assert!(rt; met.as_str() == "out of memory", "{page} pages: {met}");
+    }
     Ok(())
 }
 
