@@ -1,3 +1,3 @@
 //! What no clause says of the program `mmdb`: worked texts, words, statuses and refusals.
-mod json;
 mod runs;
+mod texts;
