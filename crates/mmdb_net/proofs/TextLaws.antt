@@ -1,13 +1,13 @@
 -- The texts of networks.
-use Rattle.std.proofs.Common.{◌≡◌, ℕ, ◌-◌, ◌*◌, ◌/◌, ◌%◌, ◌^◌, ◌<◌, ◌≤◌, false, List, [], ◌∷◌, ◌++◌, length, get_or, take, refl, ap, arith, sym, ◌∙◌}
-use Rattle.std.specs.Prelude.{codes}
+use Rattle.std.proofs.Common.{◌≡◌, ℕ, ◌+◌, ◌-◌, ◌*◌, ◌/◌, ◌%◌, ◌^◌, ◌<◌, ◌≤◌, false, List, [], ◌∷◌, ◌++◌, length, get_or, take, refl, ap, append_assoc, arith, sym, ◌∙◌}
+use Rattle.std.specs.Prelude.{codes, decimal}
 use Rattle.std.specs.Int.{w32, w128, to_be_bytes}
 use Rattle.std.specs.Fmt.{digits, padded_integral, format_spec}
 use Rattle.std.specs.Net.Addr.{ipv4_bits, ipv6_bits, ipv4_octets, ipv6_segments, IsIpv4OfBits, IsIpv6OfBits, segments_of}
 use Rattle.std.specs.Net.Text.{ipv4_text}
 use Rattle.std.specs.declared.net.ipv4_addr.Ipv4Addr.{Ipv4Addr}
 use Rattle.std.specs.declared.net.ipv6_addr.Ipv6Addr.{Ipv6Addr}
-use Rattle.std.proofs.lemmas.Fmt.{hex_byte}
+use Rattle.std.proofs.lemmas.Fmt.{hex_byte, decimal_digit, decimal_step}
 use Rattle.std.proofs.lemmas.List.{length-take-le}
 use Rattle.std.proofs.Math.Nat.{mod-eq_of_lt}
 use Rattle.std.specs.Prelude.{Option, None, Some, MatchOption, Result, Ok, Err, IfOk, MatchResult, IsErrAnd}
@@ -34,6 +34,22 @@ hex_octets n high low small high_is low_is =
     let third : low / 16 ≡ n / 16 % 16 = omega arith in
     let fourth : low % 16 ≡ n % 16 = omega arith in
     rw (hex_byte false high (omega arith), hex_byte false low (omega arith), first, second, third, fourth) refl
+
+-- ---- decimal digits
+
+pub decimal_one : (n : ℕ) → n < 10 → decimal n ≡ (48 + n % 10) ∷ []
+decimal_one n small = let same : n % 10 ≡ n = omega arith in rw same (decimal_digit n small)
+
+pub decimal_two : (n : ℕ) → 10 ≤ n → n < 100 → decimal n ≡ (48 + n / 10 % 10) ∷ (48 + n % 10) ∷ []
+decimal_two n large small =
+    let first : decimal (n / 10) ≡ (48 + n / 10 % 10) ∷ [] = decimal_one (n / 10) (omega arith) in
+    decimal_step n large (omega arith) ∙ ap (λ (ds : List ℕ). ds ++ ((48 + n % 10) ∷ [])) first
+
+pub decimal_three : (n : ℕ) → 100 ≤ n → n < 1000 → decimal n ≡ (48 + n / 100) ∷ (48 + n / 10 % 10) ∷ (48 + n % 10) ∷ []
+decimal_three n large small =
+    let hundreds : n / 10 / 10 % 10 ≡ n / 100 = omega arith in
+    let first : decimal (n / 10) ≡ (48 + n / 10 / 10 % 10) ∷ (48 + n / 10 % 10) ∷ [] = decimal_two (n / 10) (omega arith) (omega arith) in
+    decimal_step n (omega arith) (omega arith) ∙ ap (λ (ds : List ℕ). ds ++ ((48 + n % 10) ∷ [])) (first ∙ ap (λ (d : ℕ). (48 + d) ∷ (48 + n / 10 % 10) ∷ []) hundreds)
 
 -- ---- the full text
 
@@ -78,6 +94,20 @@ eight_groups (a ∷ b ∷ c ∷ d ∷ e ∷ f ∷ []) tail eight = absurd (omega
 eight_groups (a ∷ b ∷ c ∷ d ∷ e ∷ f ∷ g ∷ []) tail eight = absurd (omega arith)
 eight_groups (a ∷ b ∷ c ∷ d ∷ e ∷ f ∷ g ∷ h ∷ []) tail eight = refl
 eight_groups (a ∷ b ∷ c ∷ d ∷ e ∷ f ∷ g ∷ h ∷ i ∷ xs) tail eight = absurd (omega arith)
+
+-- eight groups, appended one after another
+pub eight_put : (old xs : List ℕ) → length xs ≡ 8 → (((((((old ++ hex_group (get_or xs 0 0)) ++ (codes ":" ++ hex_group (get_or xs 1 0))) ++ (codes ":" ++ hex_group (get_or xs 2 0))) ++ (codes ":" ++ hex_group (get_or xs 3 0))) ++ (codes ":" ++ hex_group (get_or xs 4 0))) ++ (codes ":" ++ hex_group (get_or xs 5 0))) ++ (codes ":" ++ hex_group (get_or xs 6 0))) ++ (codes ":" ++ hex_group (get_or xs 7 0)) ≡ old ++ groups_text xs
+unfolding groups_text
+eight_put old [] eight = absurd (omega arith)
+eight_put old (a ∷ []) eight = absurd (omega arith)
+eight_put old (a ∷ b ∷ []) eight = absurd (omega arith)
+eight_put old (a ∷ b ∷ c ∷ []) eight = absurd (omega arith)
+eight_put old (a ∷ b ∷ c ∷ d ∷ []) eight = absurd (omega arith)
+eight_put old (a ∷ b ∷ c ∷ d ∷ e ∷ []) eight = absurd (omega arith)
+eight_put old (a ∷ b ∷ c ∷ d ∷ e ∷ f ∷ []) eight = absurd (omega arith)
+eight_put old (a ∷ b ∷ c ∷ d ∷ e ∷ f ∷ g ∷ []) eight = absurd (omega arith)
+eight_put old (a ∷ b ∷ c ∷ d ∷ e ∷ f ∷ g ∷ h ∷ []) eight = simp append_assoc refl
+eight_put old (a ∷ b ∷ c ∷ d ∷ e ∷ f ∷ g ∷ h ∷ i ∷ xs) eight = absurd (omega arith)
 
 -- ---- reading
 

@@ -1,4 +1,4 @@
-ghost use Rattle.std.specs.Prelude.{◌≡◌, ◌≤◌, ◌↔◌, IsTrue, IsOk, IfOk, IfErr, Some};
+ghost use Rattle.std.specs.Prelude.{◌≡◌, ◌≤◌, ◌↔◌, ◌++◌, IsTrue, IsOk, IfOk, IfErr, OnOk, Some};
 ghost use Rattle.std.specs.String.{string_bytes};
 ghost use Rattle.mmdb_net.specs.NetworkText.{IsNetworkText};
 ghost use Rattle.mmdb_net.specs.FullText.{ipv4_full_text, ipv6_full_text};
@@ -82,6 +82,14 @@ impl Ipv4Network {
         let address = mask::mask_ipv4(self.address, self.prefix);
         let prefix = self.prefix;
         format!(in alloc; "{address}/{prefix}")
+    }
+
+    /// Appends the full text. Refused only where memory is.
+    pub fn push_full_text(&self, out: &mut Vec<u8>) -> Result<(), AllocError>
+        ensures { OnOk result (out.new.items ≡ out.old.items ++ ipv4_full_text (ipv4_block_of self.now)) }
+    {
+        text::put_octets(mask::mask_ipv4(self.address, self.prefix).octets(), out)?;
+        text::put_prefix(self.prefix, out)
     }
 }
 
@@ -190,6 +198,15 @@ impl Ipv6Network {
             HexGroup(h)
         )
     }
+
+    /// Appends the full text. Refused only where memory is.
+    pub fn push_full_text(&self, out: &mut Vec<u8>) -> Result<(), AllocError>
+        ensures { OnOk result (out.new.items ≡ out.old.items ++ ipv6_full_text (ipv6_block_of self.now)) }
+    {
+        let masked = mask::mask_ipv6(self.address, self.prefix);
+        text::put_segments(masked.segments(), out)?;
+        text::put_prefix(self.prefix, out)
+    }
 }
 
 impl Display for Ipv6Network {
@@ -296,6 +313,16 @@ impl IpNetwork {
         match self {
             IpNetwork::V4(network) => network.full_text(alloc),
             IpNetwork::V6(network) => network.full_text(alloc),
+        }
+    }
+
+    /// Appends the full text, as `full_text` gives it. Refused only where memory is.
+    pub fn push_full_text(&self, out: &mut Vec<u8>) -> Result<(), AllocError>
+        ensures { OnOk result (out.new.items ≡ out.old.items ++ full_text_of self.now) }
+    {
+        match self {
+            IpNetwork::V4(network) => network.push_full_text(out),
+            IpNetwork::V6(network) => network.push_full_text(out),
         }
     }
 }

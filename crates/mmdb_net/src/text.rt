@@ -1,10 +1,13 @@
 // The texts of networks: their parts in writing and in reading.
-ghost use Rattle.std.specs.Prelude.{◌≡◌, ◌++◌, Some, IfOk, MatchOption, codes};
+ghost use Rattle.std.specs.Prelude.{◌≡◌, ◌++◌, ◌<◌, ◌∷◌, Some, IfOk, OnOk, MatchOption, codes, decimal};
+ghost use Rattle.std.specs.Char.{digit_char};
 ghost use Rattle.mmdb_net.specs.Address.{address_width};
-ghost use Rattle.mmdb_net.specs.FullText.{hex_group};
+ghost use Rattle.std.specs.Net.Text.{ipv4_text};
+ghost use Rattle.mmdb_net.specs.FullText.{hex_group, groups_text, prefix_text};
 ghost use Rattle.mmdb_net.specs.NetworkText.{IsPrefixText};
 
 use super::error::IpNetworkError;
+use std::alloc::AllocError;
 use std::fmt;
 use std::fmt::Display;
 use std::net::IpAddr;
@@ -20,6 +23,109 @@ impl Display for HexGroup {
         let [high, low] = self.0.to_be_bytes();
         write!(f, "{high:02x}{low:02x}")
     }
+}
+
+// The digit of a number below sixteen.
+#[inline(always)]
+fn hex_digit(number: u16) -> u8
+    requires { number < 16 }
+    ensures { result ≡ digit_char number }
+{
+    let digit = number as u8;
+    if digit < 10 {
+        b'0' + digit
+    } else {
+        b'a' + (digit - 10)
+    }
+}
+
+// The four digits of a segment.
+#[inline(always)]
+fn hex_digits(segment: u16) -> [u8; 4]
+    ensures { result ≡ hex_group segment }
+{
+    [
+        hex_digit(segment >> 12),
+        hex_digit(segment >> 8 & 15),
+        hex_digit(segment >> 4 & 15),
+        hex_digit(segment & 15),
+    ]
+}
+
+// Appends a colon and the four digits of a segment.
+#[inline(always)]
+fn put_next_group(segment: u16, out: &mut Vec<u8>) -> Result<(), AllocError>
+    ensures { OnOk result (out.new.items ≡ out.old.items ++ (codes ":" ++ hex_group segment)) }
+{
+    let [a, b, c, d] = hex_digits(segment);
+    out.extend_from_slice(&[b':', a, b, c, d])
+}
+
+// Appends the four digits of a segment.
+#[inline(always)]
+fn put_group(segment: u16, out: &mut Vec<u8>) -> Result<(), AllocError>
+    ensures { OnOk result (out.new.items ≡ out.old.items ++ hex_group segment) }
+{
+    out.extend_from_slice(&hex_digits(segment))
+}
+
+// Appends a number below 256 in decimal.
+#[inline(always)]
+#[tactic(auto, using(crate::proofs::TextLaws::decimal_one, crate::proofs::TextLaws::decimal_two, crate::proofs::TextLaws::decimal_three))]
+fn put_octet(octet: u8, out: &mut Vec<u8>) -> Result<(), AllocError>
+    ensures { OnOk result (out.new.items ≡ out.old.items ++ decimal octet) }
+{
+    let (hundreds, tens, ones) = (octet / 100, octet / 10 % 10, octet % 10);
+    if octet >= 100 {
+        out.extend_from_slice(&[b'0' + hundreds, b'0' + tens, b'0' + ones])
+    } else if octet >= 10 {
+        out.extend_from_slice(&[b'0' + tens, b'0' + ones])
+    } else {
+        out.extend_from_slice(&[b'0' + ones])
+    }
+}
+
+// Appends a dot and a number below 256.
+#[inline(always)]
+fn put_next_octet(octet: u8, out: &mut Vec<u8>) -> Result<(), AllocError>
+    ensures { OnOk result (out.new.items ≡ out.old.items ++ (codes "." ++ decimal octet)) }
+{
+    out.push(b'.')?;
+    put_octet(octet, out)
+}
+
+// Appends four octets with dots between them.
+pub(crate) fn put_octets(octets: [u8; 4], out: &mut Vec<u8>) -> Result<(), AllocError>
+    ensures { OnOk result (out.new.items ≡ out.old.items ++ ipv4_text octets) }
+{
+    let [a, b, c, d] = octets;
+    put_octet(a, out)?;
+    put_next_octet(b, out)?;
+    put_next_octet(c, out)?;
+    put_next_octet(d, out)
+}
+
+// Appends eight segments in full, with colons between them.
+pub(crate) fn put_segments(segments: [u16; 8], out: &mut Vec<u8>) -> Result<(), AllocError>
+    ensures { OnOk result (out.new.items ≡ out.old.items ++ groups_text segments) }
+{
+    let [a, b, c, d, e, f, g, h] = segments;
+    put_group(a, out)?;
+    put_next_group(b, out)?;
+    put_next_group(c, out)?;
+    put_next_group(d, out)?;
+    put_next_group(e, out)?;
+    put_next_group(f, out)?;
+    put_next_group(g, out)?;
+    put_next_group(h, out)
+}
+
+// Appends `/` and a prefix.
+pub(crate) fn put_prefix(prefix: u8, out: &mut Vec<u8>) -> Result<(), AllocError>
+    ensures { OnOk result (out.new.items ≡ out.old.items ++ prefix_text prefix) }
+{
+    out.push(b'/')?;
+    put_octet(prefix, out)
 }
 
 // The most digits that the text of a prefix may have.

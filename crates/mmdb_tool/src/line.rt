@@ -1,11 +1,12 @@
 //! The lines of networks.
-ghost use Rattle.std.specs.Prelude.{◌≡◌, ◌⊎◌, ◌↔◌, Some, IfOk, IfErr, string_bytes};
+ghost use Rattle.std.specs.Prelude.{◌≡◌, ◌⊎◌, ◌↔◌, ◌++◌, Some, IfOk, IfErr, OnOk, string_bytes};
 ghost use Rattle.mmdb_format.specs.Error.{OfInput, OfDatabase, OfMemory, kind_of, IsRefusedAs};
 ghost use Rattle.maxminddb.specs.Lookup.{CanAsk, IsRefusedAt};
 ghost use Rattle.maxminddb.specs.File.{Database};
 ghost use Rattle.maxminddb.specs.Items.{item_view, IsItemOf};
 ghost use Rattle.mmdb_tool.specs.Lines.{network_line, line_of, IsLookupLine};
 
+use itoa::Buffer;
 use maxminddb::{IpNetwork, LookupResult, MaxMindDbError, Reader};
 use std::alloc::{AllocError, Global};
 use std::convert::AsSlice;
@@ -44,19 +45,33 @@ pub fn lookup_line<S: AsSlice<u8> + Drop>(
     Ok(line(alloc, network, found.offset())?)
 }
 
-/// The line of an item of a list.
+// Appends the line of a network.
+fn put_line(network: IpNetwork, offset: Option<usize>, out: &mut Vec<u8>) -> Result<(), AllocError>
+    ensures { OnOk result (out.new.items ≡ out.old.items ++ network_line network offset) }
+{
+    network.push_full_text(out)?;
+    out.push(b' ')?;
+    match offset {
+        Some(offset) => out.extend_from_slice(Buffer::new().format(offset).as_bytes())?,
+        None => out.push(b'-')?,
+    }
+    out.push(b'\n')?;
+    Ok(())
+}
+
+/// Appends the line of an item of a list.
 #[tactic(auto, unfolding(crate::specs::Lines::line_of), using(crate::proofs::LineLemmas::line_of_shown))]
-pub(crate) fn item_line<S: AsSlice<u8> + Drop>(
-    alloc: Global,
+pub(crate) fn put_item_line<S: AsSlice<u8> + Drop>(
     item: Result<LookupResult<'_, S>, MaxMindDbError>,
-) -> Result<String, AllocError>
-    ensures { (db : Database) → IsItemOf db (Some item.entry) → IfOk result (λ text. string_bytes text ≡ line_of db (item_view item.entry)) }
+    out: &mut Vec<u8>,
+) -> Result<(), AllocError>
+    ensures { (db : Database) → IsItemOf db (Some item.entry) → OnOk result (out.new.items ≡ out.old.items ++ line_of db (item_view item.entry)) }
 {
     let Ok(found) = item else {
-        return String::from_str(alloc, FAULT);
+        return out.extend_from_slice(FAULT.as_bytes());
     };
     match found.network() {
-        Ok(network) => line(alloc, network, found.offset()),
+        Ok(network) => put_line(network, found.offset(), out),
         Err(_) => unreachable!(),
     }
 }

@@ -4,13 +4,16 @@ ghost use Rattle.mmdb_net.specs.Network.{ip_of};
 ghost use Rattle.maxminddb.specs.Lookup.{CanAsk};
 ghost use Rattle.mmdb_tool.specs.ListText.{WritesList, BeginsList, IsOfRange, NamesRangeOrMemory, TellsListFault};
 
-use crate::line::item_line;
+use crate::line::put_item_line;
 use crate::sink::{PutError, Sink, put_all};
 use maxminddb::{IpNetwork, MaxMindDbError, Reader, WithinOptions};
-use std::alloc::Global;
+use std::alloc::{AllocError, Global};
 use std::convert::AsSlice;
 use std::io;
 use thiserror::Error;
+
+/// No line is longer: an IPv6 network of 43 bytes, a space, 20 digits and a newline.
+const MOST_BYTES: usize = 65;
 
 /// Why the lines of a database were not written whole.
 #[derive(Debug, Drop, Error)]
@@ -33,6 +36,17 @@ impl From<MaxMindDbError> for ListError {
 
     fn from(error: MaxMindDbError) -> ListError {
         ListError::Database(error)
+    }
+}
+
+impl From<AllocError> for ListError {
+    ghost use Rattle.mmdb_format.specs.declared.error.MaxMindDbError.TheVariants.{Memory};
+    ghost use Rattle.mmdb_tool.specs.declared.list.ListError.TheVariants.{Database};
+
+    ghost from_gives = { λ _ e. e ≡ Database Memory };
+
+    fn from(_error: AllocError) -> ListError {
+        ListError::Database(MaxMindDbError::Memory)
     }
 }
 
@@ -68,12 +82,12 @@ pub fn list_to<S: AsSlice<u8> + Drop, W: Sink>(
     ensures untouched { ¬ (CanAsk reader.now (ip_of range)) → sink.new ≡ sink.old }
     ensures fault { TellsListFault (W.fault sink.old) (W.fault sink.new) result }
 {
-    for item in reader.within(alloc, range, options)? {
-        let line = match item_line(alloc, item) {
-            Ok(line) => line,
-            Err(_) => return Err(ListError::Database(MaxMindDbError::Memory)),
-        };
-        put_all(sink, line.as_bytes())?;
+    let items = reader.within(alloc, range, options)?;
+    let mut line = Vec::with_capacity(alloc, MOST_BYTES)?;
+    for item in items {
+        line.clear();
+        put_item_line(item, &mut line)?;
+        put_all(sink, line.as_slice())?;
     }
     Ok(())
 }
