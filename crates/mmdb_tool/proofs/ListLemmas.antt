@@ -21,12 +21,32 @@ lines_of-nil : (db : Database) → lines_of db [] ≡ []
 unfolding lines_of
 lines_of-nil db = refl
 
+regroup_four : (a b c d : List ℕ) → (a ++ b) ++ (c ++ d) ≡ a ++ ((b ++ c) ++ d)
+regroup_four a b c d = simp append_assoc
+
 -- one more line of the text
 pub one_more : (db : Database) (all done line : List ℕ) (here : List Item) (i : Item) (rest : List Item)
     → all ≡ done ++ lines_of db here → here ≡ i ∷ rest → line ≡ line_of db i → all ≡ (done ++ line) ++ lines_of db rest
 one_more db all done line here i rest split step is_line =
     split ∙ ap (λ (h : List Item). done ++ lines_of db h) step ∙ ap (λ (t : List ℕ). done ++ t) (lines_of-cons db i rest)
     ∙ ap (λ (t : List ℕ). done ++ (t ++ lines_of db rest)) (sym is_line) ∙ sym (append_assoc done line (lines_of db rest))
+
+-- what is put of the lines that are held leaves the rest of them
+pub some_put : (all done front left lines rest : List ℕ) → all ≡ done ++ (lines ++ rest) → lines ≡ front ++ left → all ≡ (done ++ front) ++ (left ++ rest)
+some_put all done front left lines rest split is_front =
+    split ∙ ap (λ (t : List ℕ). done ++ (t ++ rest)) is_front ∙ sym (regroup_four done front left rest)
+
+-- a line more is held
+pub one_held : (db : Database) (all done held line : List ℕ) (here : List Item) (i : Item) (rest : List Item)
+    → all ≡ done ++ (held ++ lines_of db here) → here ≡ i ∷ rest → line ≡ line_of db i → all ≡ done ++ ((held ++ line) ++ lines_of db rest)
+one_held db all done held line here i rest split step is_line =
+    split ∙ ap (λ (h : List Item). done ++ (held ++ lines_of db h)) step ∙ ap (λ (t : List ℕ). done ++ (held ++ t)) (lines_of-cons db i rest)
+    ∙ ap (λ (t : List ℕ). done ++ (held ++ (t ++ lines_of db rest))) (sym is_line) ∙ ap (λ (t : List ℕ). done ++ t) (sym (append_assoc held line (lines_of db rest)))
+
+-- the whole text, where nothing is left but what is held
+pub all_held : (db : Database) (all done held : List ℕ) (here : List Item) → all ≡ done ++ (held ++ lines_of db here) → here ≡ [] → all ≡ done ++ held
+all_held db all done held here split none =
+    split ∙ ap (λ (h : List Item). done ++ (held ++ lines_of db h)) none ∙ ap (λ (t : List ℕ). done ++ (held ++ t)) (lines_of-nil db) ∙ ap (λ (t : List ℕ). done ++ t) (append-nil held)
 
 -- the whole text, where nothing is left
 pub none_left : (db : Database) (all done : List ℕ) (here : List Item) → all ≡ done ++ lines_of db here → here ≡ [] → all ≡ done
@@ -45,7 +65,7 @@ part_more a b c all done line rest split before part = record {
   appended = Appends-trans a b c done part.front before part.appended;
 }
 
-Appends-none : (held : Option (List ℕ)) → Appends held held []
+pub Appends-none : (held : Option (List ℕ)) → Appends held held []
 Appends-none None = tt
 Appends-none (Some bytes) = sym (append-nil bytes)
 

@@ -2,6 +2,7 @@
 ghost use Rattle.std.specs.Prelude.{◌≡◌, ◌↔◌, OnOk, OnErr};
 ghost use Rattle.mmdb_net.specs.Network.{ip_of};
 ghost use Rattle.maxminddb.specs.Lookup.{CanAsk};
+ghost use Rattle.mmdb_tool.specs.Putting.{AppendsFront, PutsFront, TellsFault};
 ghost use Rattle.mmdb_tool.specs.ListText.{WritesList, BeginsList, IsOfRange, NamesRangeOrMemory, TellsListFault};
 
 use crate::line::put_item_line;
@@ -14,6 +15,9 @@ use thiserror::Error;
 
 /// No line is longer: an IPv6 network of 43 bytes, a space, 20 digits and a newline.
 const MOST_BYTES: usize = 65;
+
+/// How many bytes of lines are put at once.
+const ROOM: usize = 1 << 16;
 
 /// Why the lines of a database were not written whole.
 #[derive(Debug, Drop, Error)]
@@ -63,6 +67,21 @@ impl From<PutError> for ListError {
     }
 }
 
+// Puts the lines that are held, where one more might not fit.
+#[inline(always)]
+fn make_room<W: Sink>(sink: &mut W, lines: &mut Vec<u8>) -> Result<(), PutError>
+    ensures put { OnOk result (PutsFront (W.held sink.old) (W.held sink.new) lines.old.items lines.new.items) }
+    ensures begun { OnErr result (AppendsFront (W.held sink.old) (W.held sink.new) lines.old.items) }
+    ensures fault { TellsFault (W.fault sink.old) (W.fault sink.new) result }
+{
+    if lines.len() <= ROOM - MOST_BYTES {
+        return Ok(());
+    }
+    put_all(sink, lines.as_slice())?;
+    lines.clear();
+    Ok(())
+}
+
 /// Writes a line for each network of a range that `within` hands out, and `fault` for an error item.
 ///
 /// `Database` is `InvalidInput` exactly where `within` refuses the range so, and then nothing is written;
@@ -83,11 +102,11 @@ pub fn list_to<S: AsSlice<u8> + Drop, W: Sink>(
     ensures fault { TellsListFault (W.fault sink.old) (W.fault sink.new) result }
 {
     let items = reader.within(alloc, range, options)?;
-    let mut line = Vec::with_capacity(alloc, MOST_BYTES)?;
+    let mut lines = Vec::with_capacity(alloc, ROOM)?;
     for item in items {
-        line.clear();
-        put_item_line(item, &mut line)?;
-        put_all(sink, line.as_slice())?;
+        make_room(sink, &mut lines)?;
+        put_item_line(item, &mut lines)?;
     }
+    put_all(sink, lines.as_slice())?;
     Ok(())
 }

@@ -10,6 +10,6 @@ invariant-loop-item g l = record {
   can : (goal.iterator-loop-item g).can_next l.item-iterator;
   ends : (goal.iterator-loop-item g).is_finite l.item-iterator;
   walked : database_walked l.item-iterator ≡ database_walked l.initial.item-iterator;
-  written : (done : List ℕ) × (lines_of (database_walked l.initial.item-iterator) (items_to_come l.initial.item-iterator) ≡ done ++ lines_of (database_walked l.initial.item-iterator) (items_to_come l.item-iterator)) × Appends (g.W.Sink.held l.initial.sink) (g.W.Sink.held l.sink) done;
+  written : (done : List ℕ) × (lines_of (database_walked l.initial.item-iterator) (items_to_come l.initial.item-iterator) ≡ done ++ (l.lines.items ++ lines_of (database_walked l.initial.item-iterator) (items_to_come l.item-iterator))) × Appends (g.W.Sink.held l.initial.sink) (g.W.Sink.held l.sink) done;
   fault : g.W.Sink.fault l.initial.sink ≡ Free → g.W.Sink.fault l.sink ≡ Free;
 }
