@@ -98,6 +98,9 @@ fn assert_network(
         "{}: {texts:?}",
         row.text
     );
+    let mut pushed = Vec::new(alloc);
+    network.push_full_text(&mut pushed)?;
+    assert_eq!(rt; pushed.as_slice(), row.full.as_bytes());
     Ok(())
 }
 
@@ -128,6 +131,9 @@ fn assert_ipv4(rt: &impl Abort, alloc: Global, row: Row) -> Result<(), Fail> {
         "{}: {texts:?}",
         row.text
     );
+    let mut pushed = Vec::new(alloc);
+    network.push_full_text(&mut pushed)?;
+    assert_eq!(rt; pushed.as_slice(), row.full.as_bytes());
     Ok(())
 }
 
@@ -150,6 +156,9 @@ fn assert_ipv6(rt: &impl Abort, alloc: Global, row: Row) -> Result<(), Fail> {
         "{}: {texts:?}",
         row.text
     );
+    let mut pushed = Vec::new(alloc);
+    network.push_full_text(&mut pushed)?;
+    assert_eq!(rt; pushed.as_slice(), row.full.as_bytes());
     Ok(())
 }
 

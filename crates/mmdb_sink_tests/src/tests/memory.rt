@@ -33,6 +33,19 @@ fn list_met(
     }
 }
 
+// How much memory a list is left with: steps of 16 bytes, of which its positions take some, then of 2 KiB, of
+// which its lines take 32.
+fn list_budget(step: usize) -> usize
+    requires { step < 256 }
+    ensures { result < 1000000 }
+{
+    if step < 128 {
+        step * 16
+    } else {
+        (step - 127) * 2048
+    }
+}
+
 #[test]
 fn growths_of_lists_refused_in_turn(rt: HostRuntime) -> Result<(), Fail> {
     let alloc = rt.alloc();
@@ -43,7 +56,7 @@ fn growths_of_lists_refused_in_turn(rt: HostRuntime) -> Result<(), Fail> {
     for step in 0..256usize {
         let mut sink = OneByte::new(Vec::with_capacity(alloc, 16)?, 100, End::Refuses);
         let large = Hoard::of_large_blocks(alloc);
-        let met = list_met(alloc, &reader, range, &mut sink, step * 16);
+        let met = list_met(alloc, &reader, range, &mut sink, list_budget(step));
         drop(large);
         let wants_more = met == Some(true);
         assert!(rt; wants_more || met == Some(false), "with {step}");
@@ -53,7 +66,7 @@ fn growths_of_lists_refused_in_turn(rt: HostRuntime) -> Result<(), Fail> {
         }
         refused = refused.saturating_add(1);
     }
-    assert!(rt; refused >= 2 && refused < 256, "{refused}");
+    assert!(rt; refused >= 128 && refused < 256, "{refused}");
     Ok(())
 }
 
