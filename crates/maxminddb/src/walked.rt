@@ -281,24 +281,26 @@ impl<S: AsSlice<u8> + Drop> Walker<'_, S> {
         }
     }
 
-    // What the walk stops at.
+    // What the walk stops at. An alias is a node, so of the others nothing is asked.
     #[tactic(auto, unfolding(crate::specs::Stops::end_of_leaf, crate::specs::Lookup::outcome_of))]
     #[inline(always)]
     fn end_from(&self, point: Point) -> End
         ensures { result ≡ end_from self.now.reader.now point.number point.high }
     {
-        if self.is_alias(point) {
-            return End::Alias;
-        }
         if point.number < self.nodes.node_count {
-            return End::Fault;
+            return if self.is_alias(point) {
+                End::Alias
+            } else {
+                End::Fault
+            };
         }
-        if point.number == self.nodes.node_count {
-            return End::Absent;
-        }
-        match (point.number - self.nodes.node_count).checked_sub(SEPARATOR) {
-            Some(offset) if offset < self.data_len => End::Found(offset),
-            _ => End::Fault,
+        let past = point.number - self.nodes.node_count;
+        if past == 0 {
+            End::Absent
+        } else if past < SEPARATOR || past - SEPARATOR >= self.data_len {
+            End::Fault
+        } else {
+            End::Found(past - SEPARATOR)
         }
     }
 
