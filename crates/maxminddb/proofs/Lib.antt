@@ -32,3 +32,4 @@ pub mod AliasedLookups
 pub mod Narrow
 pub mod PathLemmas
 pub mod PartLemmas
+pub mod Sweeps

@@ -11,7 +11,7 @@ ghost use Rattle.maxminddb.specs.WholeLaws.{AnswersAll};
 use crate::offsets::counted_from_start;
 use crate::reader::Reader;
 use crate::steps::Steps;
-use crate::walked::WalkEnd;
+use crate::walked::{WalkEnd, Walked};
 use crate::walking::invalid;
 use mmdb_check::checked::Checked;
 use mmdb_check::fuzzing;
@@ -76,7 +76,17 @@ impl<S: AsSlice<u8> + Drop> Reader<S> {
     {
         let mut stack = Vec::with_capacity(alloc, usize::from(self.width()))?;
         let mut places = Places::new(alloc, self.data_len())?;
-        let walked = self.walk(&mut stack, &mut places);
+        let walked = match self.sweep(&mut stack, &mut places) {
+            Some(taken) => Walked {
+                taken,
+                end: WalkEnd::Whole,
+            },
+            None => {
+                stack.clear();
+                places = Places::new(alloc, self.data_len())?;
+                self.walk(&mut stack, &mut places)
+            }
+        };
         steps.add(walked.taken);
         match walked.end {
             WalkEnd::Whole => Ok(places),

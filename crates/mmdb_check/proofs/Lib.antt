@@ -13,3 +13,4 @@ pub mod Several
 pub mod Members
 pub mod LawLemmas
 pub mod Halting
+pub mod Words

@@ -1,11 +1,11 @@
 -- Whether values can be added depends on their places alone, and not on their order or how often they stand.
-use Rattle.std.proofs.Common.{◌≡◌, ℕ, zero, suc, ◌+◌, ◌<◌, ◌≤◌, List, [], ◌∷◌, length, drop, get_or, set, Bool, true, false, ◌||◌, ◌==◌, ◌⊎◌, ◌↔◌, refl, sym, ◌∙◌, ap, subst, inl, inr, arith, add-one, drop-cons, get_or-set_other, get_or-set_same, replicate}
+use Rattle.std.proofs.Common.{◌≡◌, ℕ, zero, suc, ◌+◌, ◌-◌, ◌<◌, ◌≤◌, List, [], ◌∷◌, length, drop, get_or, set, Bool, true, false, ◌||◌, ◌==◌, ◌⊎◌, ◌↔◌, refl, sym, ◌∙◌, ap, subst, inl, inr, arith, add-one, drop-cons}
 use Rattle.std.specs.List.{Contains, list_any}
-use Rattle.std.proofs.lemmas.Bool.{cases_eq, or_cases, or_left, or_right, eqb-true, eq-eqb, ne_eqb}
+use Rattle.std.proofs.lemmas.Bool.{or_cases, or_left, or_right, eqb-true, eq-eqb}
 use Rattle.std.proofs.lemmas.List.{drop_all}
 use Rattle.mmdb_format.specs.Unfolding.{Tree}
 use Rattle.mmdb_check.specs.Checking.{holds, either, reached, IsGood, IsAllowed, AreGood, all_reached, CanAdd, Added, CanAddAll}
-use Rattle.mmdb_check.specs.Places.{places_from, places_of}
+use Rattle.mmdb_check.specs.Places.{places_from, places_of, HasNoneFrom, IsNext}
 use Rattle.mmdb_check.proofs.Costs.{allowed_same}
 use Rattle.mmdb_check.proofs.Several.{allowed_less, first_added, first_can_add, none_to_add}
 
@@ -98,58 +98,38 @@ next-marked set i l h = rw (add-one, drop-cons set i false l, h) refl
 next-unmarked : (set : List Bool) (i : ℕ) → i < length set → get_or set i false ≡ false → places_from i (drop i set) ≡ places_from (i + 1) (drop (i + 1) set)
 next-unmarked set i l h = rw (add-one, drop-cons set i false l, h) refl
 
+-- none stand between
+past-unmarked : (set : List Bool) (i n : ℕ) → i + n ≤ length set → ((q : ℕ) → i ≤ q → q < i + n → holds set q ≡ false) → places_from i (drop i set) ≡ places_from (i + n) (drop (i + n) set)
+past-unmarked set i zero l none = ap (λ j. places_from j (drop j set)) (omega arith)
+past-unmarked set i (suc n) l none =
+    next-unmarked set i (omega arith) (none i (omega arith) (omega arith)) ∙ past-unmarked set (i + 1) n (omega arith) (λ q from below. none q (omega arith) (omega arith))
+    ∙ ap (λ j. places_from j (drop j set)) (omega arith)
+
 module _ (s s' : List ℕ) (good good' : ℕ → Bool) (set : List Bool) (i : ℕ) (same : s' ≡ s) (inv : CanAddAll s good (places_of set) ↔ CanAddAll s good' (places_from i (drop i set))) where
-  pub marked_more : (new : ℕ → Bool) → i < length set → get_or set i false ≡ true → Added s' good' new i → CanAddAll s good (places_of set) ↔ CanAddAll s new (places_from (i + 1) (drop (i + 1) set))
-  marked_more new l h w =
-      let rest : List ℕ = places_from (i + 1) (drop (i + 1) set) in
-      let here = next-marked set i l h in
-      let step : CanAddAll s good' (i ∷ rest) ↔ CanAddAll s new rest = first_added s good' new i rest (subst (λ z. Added z good' new i) same w) in
-      ((λ x. step.0 (subst (λ z. CanAddAll s good' z) here (inv.0 x))), (λ x. inv.1 (subst (λ z. CanAddAll s good' z) (sym here) (step.1 x))))
+  module _ (p : ℕ) (l : p < length set) (next : IsNext set i p) where
+    here : places_from i (drop i set) ≡ p ∷ places_from (p + 1) (drop (p + 1) set)
+    here =
+        let after = next.after in
+        let e : i + (p - i) ≡ p = omega (arith, after) in
+        past-unmarked set i (p - i) (omega (arith, l, e)) (λ q from below. next.least q from (omega (arith, below, e)))
+        ∙ ap (λ j. places_from j (drop j set)) e ∙ next-marked set p l next.is
 
-  pub unmarked_more : i < length set → get_or set i false ≡ false → CanAddAll s good (places_of set) ↔ CanAddAll s good' (places_from (i + 1) (drop (i + 1) set))
-  unmarked_more l h = subst (λ z. CanAddAll s good (places_of set) ↔ CanAddAll s good' z) (next-unmarked set i l h) inv
+    pub marked_more : (new : ℕ → Bool) → Added s' good' new p → CanAddAll s good (places_of set) ↔ CanAddAll s new (places_from (p + 1) (drop (p + 1) set))
+    marked_more new w =
+        let rest : List ℕ = places_from (p + 1) (drop (p + 1) set) in
+        let step : CanAddAll s good' (p ∷ rest) ↔ CanAddAll s new rest = first_added s good' new p rest (subst (λ z. Added z good' new p) same w) in
+        ((λ x. step.0 (subst (λ z. CanAddAll s good' z) here (inv.0 x))), (λ x. inv.1 (subst (λ z. CanAddAll s good' z) (sym here) (step.1 x))))
 
-  pub marked_fails : i < length set → get_or set i false ≡ true → (CanAdd s' good' i → ⊥) → CanAddAll s good (places_of set) → ⊥
-  marked_fails l h fails x =
-      fails (subst (λ z. CanAdd z good' i) (sym same) (first_can_add s good' good' i (places_from (i + 1) (drop (i + 1) set)) (subst (λ z. CanAddAll s good' z) (next-marked set i l h) (inv.0 x))))
+    pub marked_fails : (CanAdd s' good' p → ⊥) → CanAddAll s good (places_of set) → ⊥
+    marked_fails fails x =
+        fails (subst (λ z. CanAdd z good' p) (sym same) (first_can_add s good' good' p (places_from (p + 1) (drop (p + 1) set)) (subst (λ z. CanAddAll s good' z) here (inv.0 x))))
 
-  pub marked_done : length set ≤ i → IsAllowed s' good' → CanAddAll s good (places_of set)
-  marked_done l a =
-      let none : places_from i (drop i set) ≡ [] = ap (places_from i) (drop_all i set l) in
-      inv.1 (subst (λ z. CanAddAll s good' z) (sym none) (none_to_add s good' (subst (λ z. IsAllowed z good') same a)))
-
--- ---- one place more in a set
-
-or_same : (x : Bool) → (x || true) ≡ true
-or_same true = refl
-or_same false = refl
-
-or_not : (x : Bool) → x ≡ (x || false)
-or_not true = refl
-or_not false = refl
-
-pub insert_place : (set_ : List Bool) (place q : ℕ) → place < length set_ → holds (set set_ place true) q ≡ (holds set_ q || (place == q))
-insert_place marks place q l = elim (cases_eq q place) [
-  | inl e ↦ let t : (place == q) ≡ true = eq-eqb place q (sym e) in rw t (ap (holds (set marks place true)) e ∙ (rw get_or-set_same refl) ∙ sym (or_same (holds marks q)))
-  | inr ne ↦ let t : (place == q) ≡ false = ne_eqb place q (λ e. ne (sym e)) in rw t ((rw get_or-set_other refl) ∙ or_not (holds marks q))
-]
-
--- what is read at a place, whatever stands after the end
-pub mark_at : (marks set_ : List Bool) (i : ℕ) (v : Bool) → set_ ≡ marks → i < length marks → v ≡ get_or marks i v → get_or set_ i false ≡ v
-mark_at marks set_ i v e l is = ap (λ (m : List Bool). get_or m i false) e ∙ read marks i l ∙ sym is
-  where
-    read : (marks : List Bool) (i : ℕ) → i < length marks → get_or marks i false ≡ get_or marks i v
-    read [] i l = absurd (omega arith)
-    read (x ∷ marks) zero l = refl
-    read (x ∷ marks) (suc i) l = read marks i (omega arith)
-
-pub none_in : (set_ : List Bool) (n q : ℕ) → set_ ≡ replicate n false → holds set_ q ≡ false
-none_in set_ n q e = ap (λ (m : List Bool). get_or m q false) e ∙ none n q
-  where
-    none : (n q : ℕ) → get_or (replicate n false) q false ≡ false
-    none zero q = refl
-    none (suc n) zero = refl
-    none (suc n) (suc q) = none n q
+  pub marked_done : i ≤ length set → HasNoneFrom set i → IsAllowed s' good' → CanAddAll s good (places_of set)
+  marked_done l none a =
+      let n : ℕ = length set - i in
+      let past = past-unmarked set i n (omega arith) (λ q from below. none q from) in
+      let nothing : places_from (i + n) (drop (i + n) set) ≡ [] = ap (places_from (i + n)) (drop_all (i + n) set (omega arith)) in
+      inv.1 (subst (λ z. CanAddAll s good' z) (sym (past ∙ nothing)) (none_to_add s good' (subst (λ z. IsAllowed z good') same a)))
 
 -- ---- from no good places
 
