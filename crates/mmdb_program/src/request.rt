@@ -2,6 +2,7 @@
 use crate::layout::{Fields, Layout};
 use crate::paths::path_of;
 use crate::words::command;
+use clap::error::ErrorKind;
 use clap::{ArgMatches, Error};
 use maxminddb::{IpNetwork, PathElement};
 use std::alloc::{AllocError, AllocFailed, Global};
@@ -109,8 +110,11 @@ fn bad_word(alloc: Global, word: &str, wanted: &str) -> NoRequest {
     }
 }
 
-// What clap answers.
+// What clap answers, unless it had no memory.
 fn answer_of(alloc: Global, error: &Error) -> NoRequest {
+    if error.kind() == ErrorKind::OutOfMemory {
+        return NoRequest::Memory;
+    }
     let text: Result<String, AllocError> = format!(in alloc; "{error}");
     match text {
         Ok(text) => NoRequest::Answer(Answer {

@@ -1,7 +1,7 @@
 //! Runs where memory is refused.
 ghost use Rattle.std.specs.Prelude.{◌<◌};
 
-use super::program::{Narrow, file_of, run_of, words_with};
+use super::program::{Narrow, file_of, words_with};
 use mmdb_program::run;
 use mmdb_vectors::builder::base_file;
 use mmdb_vectors::hoard::Hoard;
@@ -12,11 +12,11 @@ use std::test::Fail;
 /// How many bytes a run may write or tell.
 const ROOM: usize = 2048;
 
-/// How many bytes budgets differ by at first.
-const COARSE: usize = 32768;
+/// How many bytes budgets differ by.
+const STEP: usize = 2048;
 
-/// How many bytes budgets differ by once one of them was enough.
-const FINE: usize = 512;
+/// How many budgets there are. The largest has no room for the table of a reader.
+const STEPS: usize = 32;
 
 /// What a run did with so much memory.
 #[derive(Drop)]
@@ -45,7 +45,6 @@ fn with_budget(
 {
     let (mut out, mut err) = (narrow(alloc)?, narrow(alloc)?);
     let mut input: &[u8] = b"";
-    let large = Hoard::of_large_blocks(alloc);
     let small = Hoard::of_all_but(alloc, budget);
     let status = run(
         &file_of(bytes),
@@ -57,35 +56,7 @@ fn with_budget(
         &mut err,
     );
     drop(small);
-    drop(large);
     Ok(Met { status, out, err })
-}
-
-// Whether a run with so much memory did all, or none where it did something else than giving up for want of memory
-// after a beginning of its text.
-fn is_done(
-    alloc: Global,
-    bytes: &[u8],
-    texts: &[&str],
-    whole: &str,
-    budget: usize,
-) -> Result<Option<bool>, Fail>
-    requires { budget < 1000000 }
-{
-    let words = words_with(alloc, texts)?;
-    let Met { status, out, err } = with_budget(alloc, bytes, words.as_slice(), budget)?;
-    let told = String::from_utf8(err.bytes)?;
-    if status == 0 {
-        let is_whole = out.bytes.as_slice() == whole.as_bytes() && told.is_empty();
-        return Ok(if is_whole { Some(true) } else { None });
-    }
-    let is_refused = status == 1 && told.ends_with("out of memory\n");
-    let is_begun = whole.as_bytes().starts_with(out.bytes.as_slice());
-    Ok(if is_refused && is_begun {
-        Some(false)
-    } else {
-        None
-    })
 }
 
 const COMMANDS: &[&[&str]] = &[
@@ -93,6 +64,7 @@ const COMMANDS: &[&[&str]] = &[
     &["info", "here.mmdb", "--json"],
     &["export", "here.mmdb", "--field", "", "--format", "csv"],
     &["export", "here.mmdb"],
+    &["enrich", "here.mmdb", "--field", ""],
 ];
 
 #[test]
@@ -100,30 +72,19 @@ fn runs_without_memory(rt: HostRuntime) -> Result<(), Fail> {
     let alloc = rt.alloc();
     let bytes = base_file(alloc)?;
     for texts in COMMANDS {
-        let whole = run_of(alloc, bytes.as_slice(), texts, "")?.out;
-        let (mut enough, mut refused) = (0usize, 0u32);
-        for step in 0..30usize {
-            let done = is_done(
-                alloc,
-                bytes.as_slice(),
-                texts,
-                whole.as_str(),
-                step * COARSE,
-            )?;
-            assert!(&rt; done.is_some(), "{texts:?} with {step} coarse steps");
-            if done == Some(true) {
-                enough = step;
-                break;
-            }
+        let words = words_with(alloc, texts)?;
+        let large = Hoard::of_large_blocks(alloc);
+        for step in 0..STEPS {
+            let met = with_budget(alloc, bytes.as_slice(), words.as_slice(), step * STEP)?;
+            let told = String::from_utf8(met.err.bytes)?;
+            assert!(&rt; met.status == 1, "{texts:?} with {step} steps: {told}");
+            assert!(&rt; met.out.bytes.is_empty(), "{texts:?} with {step} steps");
+            assert!(&rt;
+                told.ends_with("out of memory\n"),
+                "{texts:?} with {step} steps: {told}"
+            );
         }
-        assert!(&rt; enough > 0, "{texts:?}");
-        for step in 0..COARSE / FINE {
-            let budget = enough.saturating_sub(1) * COARSE + step * FINE;
-            let done = is_done(alloc, bytes.as_slice(), texts, whole.as_str(), budget)?;
-            assert!(&rt; done.is_some(), "{texts:?} with {budget}");
-            refused = refused.saturating_add(u32::from(done == Some(false)));
-        }
-        assert!(&rt; refused > 0, "{texts:?}");
+        drop(large);
     }
     Ok(())
 }
