@@ -51,6 +51,14 @@ fn put<O: Write>(text: &[u8], out: &mut O) -> Result<(), ProgramError> {
     }
 }
 
+// Writes out what is buffered, so that what is told next comes behind it.
+fn flush<O: Write>(out: &mut O) -> Result<(), ProgramError> {
+    match out.flush() {
+        Ok(()) => Ok(()),
+        Err(error) => Err(ProgramError::Write(error)),
+    }
+}
+
 // All bytes of a file.
 fn bytes_of<R: Files>(rt: &R, alloc: Global, file: &str) -> Result<Vec<u8>, ProgramError> {
     let mut bytes = Vec::new(alloc);
@@ -92,17 +100,19 @@ fn show<R: Files, O: Write, E: Write>(
     let mut status = DONE;
     for address in &wanted.addresses {
         let mut text = Vec::new(alloc);
-        match show_to(alloc, &reader, *address, paths, lines, &mut text) {
+        let shown = show_to(alloc, &reader, *address, paths, lines, &mut text);
+        put(text.as_slice(), out)?;
+        match shown {
             Ok(true) => {}
             Ok(false) if status == DONE => status = NOT_FOUND,
             Ok(false) => {}
             Err(error) => {
+                flush(out)?;
                 let word = address.to_string(alloc)?;
                 tell(alloc, word.as_str(), &error, err);
                 status = REFUSED;
             }
         }
-        put(text.as_slice(), out)?;
     }
     Ok(status)
 }
@@ -164,6 +174,7 @@ fn export<R: Files, O: Write, E: Write>(
     let mut faults = 0u64;
     for item in networks {
         if let Some(faulty) = rows.write(item, out)? {
+            flush(out)?;
             tell_faulty(alloc, faulty, err)?;
             faults = faults.saturating_add(1);
         }
