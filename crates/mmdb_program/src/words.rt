@@ -5,9 +5,10 @@ use std::alloc::{AllocError, Global};
 const SHOW_EXAMPLE: &str = "Example:
   mmdb show GeoLite2-City.mmdb 1.1.1.1 2001:db8::1 --path country.iso_code
 
-With --path each value stands alone, as JSON. A path has dots between its steps; a whole number
-is an index, negative from the end; a key in double quotes may hold dots or digits.
-The status is 0 where all were found, 6 where one was not, 1 for a refusal, 2 for bad words.";
+With --path each value stands alone, as JSON. A path has dots between its
+steps; a whole number is an index, negative from the end; a key in double
+quotes may hold dots or digits. The status is 0 where all were found, 6 where
+one was not, 1 for a refusal, 2 for bad words.";
 
 const INFO_EXAMPLE: &str = "Example:
   mmdb info GeoLite2-City.mmdb --json";
@@ -25,10 +26,17 @@ columns; how many lines fared so is told on standard error at the end. A text st
 has control characters; any other value is JSON.";
 
 const EXPORT_EXAMPLE: &str = "Example:
-  mmdb export GeoLite2-Country.mmdb 81.2.69.0/24
+  mmdb export GeoLite2-Country.mmdb 81.2.69.0/24 --field country.iso_code
 
-The networks come ascending, each as a line with its network and its record. One that can't be read is told
-on standard error, in its place, and the status is 1 then.";
+The networks come ascending, one a line: an object with the network and its
+record, or with the network and the value at each path; or, as csv, rows of
+cells below a header row. In a cell a text stands as it is, and any other value
+as JSON. Where a path leads nowhere a cell is empty, and a value null. A network
+whose record or field can't be read has no line, but is told on standard error,
+in its place, and the status is 1 then.";
+
+/// The formats of an export.
+const FORMATS: &[&str] = &["jsonl", "csv"];
 
 fn file<'a>(alloc: Global) -> Arg<'a> {
     Arg::new(alloc, "FILE")
@@ -110,11 +118,24 @@ fn export<'a>(alloc: Global) -> Result<Command<'a>, AllocError> {
     let range = Arg::new(alloc, "RANGE").help(
         "Only networks inside this one, or the one around it",
     );
+    let field = Arg::new(alloc, "field")
+        .long("field")
+        .value_name("PATH")
+        .action(ArgAction::Append)
+        .help("Only the value at a path, as country.iso_code; may be repeated");
+    let format = Arg::new(alloc, "format")
+        .long("format")
+        .value_name("FORMAT")
+        .value_parser(FORMATS)
+        .default_value("jsonl")
+        .help("csv needs a --field");
     Command::new(alloc, "export")
-        .about("Write every network that has data, with its record, as lines of JSON")
+        .about("Write every network that has data, with its record or fields of it")
         .after_help(EXPORT_EXAMPLE)
         .arg(file(alloc))?
-        .arg(range)
+        .arg(range)?
+        .arg(field)?
+        .arg(format)
 }
 
 /// The program's commands.
