@@ -1,75 +1,169 @@
-//! Every network of a range with its record.
+//! Every network of a range with what its record has.
 use crate::error::ProgramError;
-use json::{Token, Writer};
+use crate::layout::Layout;
 use maxminddb::{IpNetwork, LookupResult, MaxMindDbError, Reader, Within, WithinOptions};
-use mmdb_json::{TokenSink, write_found};
 use std::alloc::Global;
 use std::convert::AsSlice;
 use std::io::Write;
 
+/// How many rows are kept.
+const PLACES: usize = 8192;
+
+/// The most bytes of a row that is kept among them.
+const MOST_BYTES: usize = 4096;
+
 /// What could not be written of a database, and of which network, where that is known.
 #[derive(Drop)]
 pub(crate) struct Faulty {
-    pub(crate) network: String,
-    pub(crate) error: ProgramError,
+    pub(crate) network: Option<IpNetwork>,
+    pub(crate) error: MaxMindDbError,
 }
 
-// The tokens of a network and its record.
-fn write_network<S: AsSlice<u8> + Drop, W: TokenSink>(
+/// The row of a record, with an empty network.
+#[derive(Drop)]
+struct Row {
+    /// Where the record stands, if the row is of one.
+    offset: Option<usize>,
+    text: Vec<u8>,
+}
+
+impl Row {
+    fn empty(alloc: Global) -> Row {
+        Row {
+            offset: None,
+            text: Vec::new(alloc),
+        }
+    }
+
+    // Whether the row is of the record at an offset.
+    fn is_of(&self, offset: Option<usize>) -> bool {
+        offset.is_some() && self.offset == offset
+    }
+}
+
+/// The rows of an export. Many networks share a record, so the last rows are kept.
+#[derive(Drop)]
+pub(crate) struct Rows<'a> {
     alloc: Global,
-    found: &LookupResult<'_, S>,
-    network: &str,
-    out: &mut W,
-) -> Result<(), MaxMindDbError> {
-    out.token(Token::BeginObject)?;
-    out.token(Token::Key("network"))?;
-    out.token(Token::String(network))?;
-    out.token(Token::Key("record"))?;
-    write_found(alloc, found, &[], out)?;
-    out.token(Token::EndObject)?;
+    layout: &'a Layout<'a>,
+    /// Each at the place that its record's offset gives.
+    kept: Vec<Row>,
+    /// The last one that was too long to be kept there.
+    long: Row,
+}
+
+// Writes a row with its network.
+fn write_row<O: Write>(
+    alloc: Global,
+    row: &[u8],
+    place: usize,
+    network: IpNetwork,
+    out: &mut O,
+) -> Result<(), ProgramError> {
+    let network = network.to_string(alloc)?;
+    let (before, after) = row.split_at(place.min(row.len()));
+    for part in [before, network.as_bytes(), after] {
+        if let Err(error) = out.write_all(part) {
+            return Err(ProgramError::Write(error));
+        }
+    }
     Ok(())
 }
 
-// The line of a network.
-fn line<S: AsSlice<u8> + Drop>(
-    alloc: Global,
-    found: &LookupResult<'_, S>,
-    network: &str,
-) -> Result<Vec<u8>, MaxMindDbError> {
-    let mut out = Writer::new(Vec::with_capacity(alloc, 256)?);
-    write_network(alloc, found, network, &mut out)?;
-    let mut text = out.into_inner();
-    text.push(b'\n')?;
-    Ok(text)
-}
-
-// What there is to write of an item of the list, or why there is nothing.
-fn text_of<S: AsSlice<u8> + Drop>(
-    alloc: Global,
-    item: Result<LookupResult<'_, S>, MaxMindDbError>,
-) -> Result<Result<Vec<u8>, Faulty>, ProgramError> {
-    let found = match item {
-        Ok(found) => found,
-        Err(error) => {
-            return Ok(Err(Faulty {
-                network: String::from_str(alloc, "a network")?,
-                error: ProgramError::Database(error),
-            }));
+impl<'a> Rows<'a> {
+    /// Of no record yet.
+    pub(crate) fn new(alloc: Global, layout: &'a Layout<'a>) -> Result<Rows<'a>, MaxMindDbError> {
+        let mut kept = Vec::with_capacity(alloc, PLACES)?;
+        for _ in 0..PLACES {
+            kept.push(Row::empty(alloc))?;
         }
-    };
-    let network = found.network()?.to_string(alloc)?;
-    match line(alloc, &found, network.as_str()) {
-        Ok(text) => Ok(Ok(text)),
-        Err(MaxMindDbError::Memory) => Err(ProgramError::Memory),
-        Err(error) => Ok(Err(Faulty {
-            network,
-            error: ProgramError::Database(error),
-        })),
+        Ok(Rows {
+            alloc,
+            layout,
+            kept,
+            long: Row::empty(alloc),
+        })
+    }
+
+    // Whether the row of a record is kept at a place.
+    fn keeps(&self, place: usize, offset: Option<usize>) -> bool {
+        match self.kept.get(place) {
+            Some(row) => row.is_of(offset),
+            None => false,
+        }
+    }
+
+    // Makes the row of an answer.
+    #[inline(never)]
+    fn make<S: AsSlice<u8> + Drop>(
+        &mut self,
+        place: usize,
+        found: &LookupResult<'_, S>,
+    ) -> Result<(), MaxMindDbError> {
+        let row = Row {
+            offset: found.offset(),
+            text: self.layout.row(self.alloc, found)?,
+        };
+        let is_short = row.offset.is_some() && row.text.len() <= MOST_BYTES;
+        match self.kept.get_mut(place) {
+            Some(kept) if is_short => *kept = row,
+            _ => self.long = row,
+        }
+        Ok(())
+    }
+
+    // The row of an answer.
+    fn row<S: AsSlice<u8> + Drop>(
+        &mut self,
+        found: &LookupResult<'_, S>,
+    ) -> Result<&[u8], MaxMindDbError> {
+        let offset = found.offset();
+        let place = offset.unwrap_or(0) % PLACES;
+        if !self.keeps(place, offset) && !self.long.is_of(offset) {
+            self.make(place, found)?;
+        }
+        match self.kept.get(place) {
+            Some(row) if row.is_of(offset) => Ok(row.text.as_slice()),
+            _ => Ok(self.long.text.as_slice()),
+        }
+    }
+
+    /// Writes the row of an item of a list, or gives why there is none. Where a field is refused there is none.
+    pub(crate) fn write<S: AsSlice<u8> + Drop, O: Write>(
+        &mut self,
+        item: Result<LookupResult<'_, S>, MaxMindDbError>,
+        out: &mut O,
+    ) -> Result<Option<Faulty>, ProgramError> {
+        let found = match item {
+            Ok(found) => found,
+            Err(error) => {
+                return Ok(Some(Faulty {
+                    network: None,
+                    error,
+                }));
+            }
+        };
+        let (alloc, place, network) = (
+            self.alloc,
+            self.layout.place_of_network(),
+            found.network()?,
+        );
+        match self.row(&found) {
+            Ok(row) => {
+                write_row(alloc, row, place, network, out)?;
+                Ok(None)
+            }
+            Err(MaxMindDbError::Memory) => Err(ProgramError::Memory),
+            Err(error) => Ok(Some(Faulty {
+                network: Some(network),
+                error,
+            })),
+        }
     }
 }
 
 /// The networks of a range, or all.
-pub(crate) fn networks<S: AsSlice<u8> + Drop>(
+pub(crate) fn networks_in<S: AsSlice<u8> + Drop>(
     alloc: Global,
     reader: &Reader<S>,
     range: Option<IpNetwork>,
@@ -77,20 +171,5 @@ pub(crate) fn networks<S: AsSlice<u8> + Drop>(
     match range {
         Some(range) => reader.within(alloc, range, WithinOptions::default()),
         None => reader.networks(alloc, WithinOptions::default()),
-    }
-}
-
-/// Writes the line of an item of the list, or gives why there is none.
-pub(crate) fn export_one<S: AsSlice<u8> + Drop, O: Write>(
-    alloc: Global,
-    item: Result<LookupResult<'_, S>, MaxMindDbError>,
-    out: &mut O,
-) -> Result<Option<Faulty>, ProgramError> {
-    match text_of(alloc, item)? {
-        Ok(text) => match out.write_all(text.as_slice()) {
-            Ok(()) => Ok(None),
-            Err(error) => Err(ProgramError::Write(error)),
-        },
-        Err(faulty) => Ok(Some(faulty)),
     }
 }

@@ -5,6 +5,7 @@ mod about;
 mod enrich;
 mod error;
 mod export;
+mod layout;
 mod paths;
 mod program;
 mod request;

@@ -2,16 +2,15 @@
 use crate::about::info;
 use crate::enrich::enrich;
 use crate::error::ProgramError;
-use crate::export::{export_one, networks};
-use crate::request::{Answer, NoRequest, Request, request_of};
+use crate::export::{Faulty, Rows, networks_in};
+use crate::request::{Answer, ExportWords, NoRequest, Request, ShowWords, request_of};
 use crate::show::show_to;
-use maxminddb::{IpNetwork, MaxMindDbError, PathElement, Reader};
+use maxminddb::{MaxMindDbError, Reader};
 use mmdb_filter::Counts;
 use std::alloc::{AllocError, Global};
 use std::convert::AsSlice;
 use std::fs::File;
 use std::io::{self, BufRead, Read, Write};
-use std::net::IpAddr;
 use std::rt::Files;
 
 /// All was done.
@@ -65,20 +64,35 @@ fn bytes_of<R: Files>(rt: &R, alloc: Global, file: &str) -> Result<Vec<u8>, Prog
     }
 }
 
-// Writes what a database has for addresses, of which each that is refused is told.
-fn show<S: AsSlice<u8> + Drop, O: Write, E: Write>(
+// Writes what a database says of itself.
+fn about<R: Files, O: Write>(
+    rt: &R,
     alloc: Global,
-    reader: &Reader<S>,
-    addresses: &[IpAddr],
-    paths: &[Vec<PathElement<'_>>],
-    lines: bool,
+    file: &str,
+    json: bool,
+    out: &mut O,
+) -> Result<u8, ProgramError> {
+    let bytes = bytes_of(rt, alloc, file)?;
+    let text = info(alloc, bytes.as_slice(), json)?;
+    put(text.as_slice(), out)?;
+    Ok(DONE)
+}
+
+// Writes what a database has for addresses, of which each that is refused is told.
+fn show<R: Files, O: Write, E: Write>(
+    rt: &R,
+    alloc: Global,
+    wanted: &ShowWords<'_>,
+    is_terminal: bool,
     out: &mut O,
     err: &mut E,
 ) -> Result<u8, ProgramError> {
+    let reader = Reader::open_readfile(rt, alloc, wanted.file)?;
+    let (paths, lines) = (wanted.paths.as_slice(), wanted.lines || !is_terminal);
     let mut status = DONE;
-    for address in addresses {
+    for address in &wanted.addresses {
         let mut text = Vec::new(alloc);
-        match show_to(alloc, reader, *address, paths, lines, &mut text) {
+        match show_to(alloc, &reader, *address, paths, lines, &mut text) {
             Ok(true) => {}
             Ok(false) if status == DONE => status = NOT_FOUND,
             Ok(false) => {}
@@ -118,18 +132,39 @@ fn verify<R: Files, O: Write>(
     Ok(status)
 }
 
+// Tells what could not be written of a database.
+fn tell_faulty<E: Write>(alloc: Global, faulty: Faulty, err: &mut E) -> Result<(), AllocError> {
+    let network = match faulty.network {
+        Some(network) => network.to_string(alloc)?,
+        None => String::from_str(alloc, "a network")?,
+    };
+    tell(
+        alloc,
+        network.as_str(),
+        &ProgramError::Database(faulty.error),
+        err,
+    );
+    Ok(())
+}
+
 // Writes a line for each network of a range, and tells each that can't be read.
-fn export<S: AsSlice<u8> + Drop, O: Write, E: Write>(
+fn export<R: Files, O: Write, E: Write>(
+    rt: &R,
     alloc: Global,
-    reader: &Reader<S>,
-    range: Option<IpNetwork>,
+    wanted: &ExportWords<'_>,
     out: &mut O,
     err: &mut E,
 ) -> Result<u8, ProgramError> {
+    let reader = Reader::open_readfile(rt, alloc, wanted.file)?;
+    let networks = networks_in(alloc, &reader, wanted.range)?;
+    let mut rows = Rows::new(alloc, &wanted.layout)?;
+    if let Some(header) = wanted.layout.header(alloc)? {
+        put(header.as_slice(), out)?;
+    }
     let mut faults = 0u64;
-    for item in networks(alloc, reader, range)? {
-        if let Some(faulty) = export_one(alloc, item, out)? {
-            tell(alloc, faulty.network.as_str(), &faulty.error, err);
+    for item in networks {
+        if let Some(faulty) = rows.write(item, out)? {
+            tell_faulty(alloc, faulty, err)?;
             faults = faults.saturating_add(1);
         }
     }
@@ -168,30 +203,8 @@ fn done<R: Files, I: BufRead, O: Write, E: Write>(
     err: &mut E,
 ) -> Result<u8, ProgramError> {
     match request {
-        Request::Show {
-            file,
-            addresses,
-            paths,
-            lines,
-        } => {
-            let reader = Reader::open_readfile(rt, alloc, file)?;
-            let lines = lines || !is_terminal;
-            show(
-                alloc,
-                &reader,
-                addresses.as_slice(),
-                paths.as_slice(),
-                lines,
-                out,
-                err,
-            )
-        }
-        Request::Info { file, json } => {
-            let bytes = bytes_of(rt, alloc, file)?;
-            let text = info(alloc, bytes.as_slice(), json)?;
-            put(text.as_slice(), out)?;
-            Ok(DONE)
-        }
+        Request::Show(wanted) => show(rt, alloc, &wanted, is_terminal, out, err),
+        Request::Info { file, json } => about(rt, alloc, file, json, out),
         Request::Enrich {
             file,
             column,
@@ -205,10 +218,7 @@ fn done<R: Files, I: BufRead, O: Write, E: Write>(
             tell_counts(alloc, counts, err);
             Ok(DONE)
         }
-        Request::Export { file, range } => {
-            let reader = Reader::open_readfile(rt, alloc, file)?;
-            export(alloc, &reader, range, out, err)
-        }
+        Request::Export(wanted) => export(rt, alloc, &wanted, out, err),
         Request::Verify { files } => verify(rt, alloc, files.as_slice(), out),
     }
 }

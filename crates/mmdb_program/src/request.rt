@@ -1,4 +1,5 @@
 //! What the words ask for.
+use crate::layout::{Fields, Layout};
 use crate::paths::path_of;
 use crate::words::command;
 use clap::{ArgMatches, Error};
@@ -15,16 +16,28 @@ pub(crate) enum Column<'a> {
     Name(&'a str),
 }
 
+/// The words of `show`.
+#[derive(Drop)]
+pub(crate) struct ShowWords<'a> {
+    pub(crate) file: &'a str,
+    pub(crate) addresses: Vec<IpAddr>,
+    pub(crate) paths: Vec<Vec<PathElement<'a>>>,
+    pub(crate) lines: bool,
+}
+
+/// The words of `export`.
+#[derive(Drop)]
+pub(crate) struct ExportWords<'a> {
+    pub(crate) file: &'a str,
+    pub(crate) range: Option<IpNetwork>,
+    pub(crate) layout: Layout<'a>,
+}
+
 /// A command with its words read.
 #[derive(Drop)]
 pub(crate) enum Request<'a> {
     /// The records of addresses, or their values at some paths.
-    Show {
-        file: &'a str,
-        addresses: Vec<IpAddr>,
-        paths: Vec<Vec<PathElement<'a>>>,
-        lines: bool,
-    },
+    Show(ShowWords<'a>),
     /// What a database says of itself.
     Info {
         file: &'a str,
@@ -39,10 +52,7 @@ pub(crate) enum Request<'a> {
         header: bool,
     },
     /// Every network with its record.
-    Export {
-        file: &'a str,
-        range: Option<IpNetwork>,
-    },
+    Export(ExportWords<'a>),
     /// Whether files are whole.
     Verify {
         files: Vec<&'a str>,
@@ -53,10 +63,9 @@ impl<'a> Request<'a> {
     /// What a refusal names: the file, or nothing of several.
     pub(crate) fn file(&self) -> &'a str {
         match self {
-            Request::Show { file, .. }
-            | Request::Info { file, .. }
-            | Request::Enrich { file, .. }
-            | Request::Export { file, .. } => *file,
+            Request::Show(show) => show.file,
+            Request::Info { file, .. } | Request::Enrich { file, .. } => *file,
+            Request::Export(export) => export.file,
             Request::Verify { .. } => "verify",
         }
     }
@@ -177,6 +186,30 @@ fn enrich<'a>(
     })
 }
 
+// The request to write networks.
+fn export<'a>(
+    alloc: Global,
+    file: &'a str,
+    words: &ArgMatches<'a>,
+) -> Result<Request<'a>, NoRequest> {
+    let names = words.get_strs("field").unwrap_or(&[]);
+    let fields = Fields {
+        names: texts_of(alloc, names)?,
+        paths: paths_of(alloc, names)?,
+    };
+    let layout = match (words.get_str("format"), names.is_empty()) {
+        (Some("csv"), true) => return Err(bad_word(alloc, "--format csv", "needs a --field")),
+        (Some("csv"), false) => Layout::Cells(fields),
+        (_, true) => Layout::Records,
+        (_, false) => Layout::Values(fields),
+    };
+    Ok(Request::Export(ExportWords {
+        file,
+        range: range_of(alloc, words.get_str("RANGE"))?,
+        layout,
+    }))
+}
+
 // The request of a command's own words.
 fn of_subcommand<'a>(
     alloc: Global,
@@ -196,17 +229,16 @@ fn of_subcommand<'a>(
         return enrich(alloc, file, words);
     }
     if name == "export" {
-        let range = range_of(alloc, words.get_str("RANGE"))?;
-        return Ok(Request::Export { file, range });
+        return export(alloc, file, words);
     }
     let addresses = addresses_of(alloc, words.get_strs("ADDR").unwrap_or(&[]))?;
     let paths = paths_of(alloc, words.get_strs("path").unwrap_or(&[]))?;
-    Ok(Request::Show {
+    Ok(Request::Show(ShowWords {
         file,
         addresses,
         paths,
         lines: words.get_flag("lines"),
-    })
+    }))
 }
 
 /// What the words ask for, the program's name first.

@@ -25,10 +25,15 @@ columns; how many lines fared so is told on standard error at the end. A text st
 has control characters; any other value is JSON.";
 
 const EXPORT_EXAMPLE: &str = "Example:
-  mmdb export GeoLite2-Country.mmdb 81.2.69.0/24
+  mmdb export GeoLite2-Country.mmdb 81.2.69.0/24 --field country.iso_code --format csv
 
-The networks come ascending, each as a line with its network and its record. One that can't be read is told
-on standard error, in its place, and the status is 1 then.";
+The networks come ascending, one a line: an object with the network and its record, or with the network and
+the value at each path; or, as csv, rows of cells below a header row. In a cell a text stands as it is, and any
+other value as JSON; a cell is empty, and a value null, where a path leads nowhere. A network whose record or
+field can't be read has no line, but is told on standard error, in its place, and the status is 1 then.";
+
+/// The formats of an export.
+const FORMATS: &[&str] = &["jsonl", "csv"];
 
 fn file<'a>(alloc: Global) -> Arg<'a> {
     Arg::new(alloc, "FILE")
@@ -110,11 +115,24 @@ fn export<'a>(alloc: Global) -> Result<Command<'a>, AllocError> {
     let range = Arg::new(alloc, "RANGE").help(
         "Only networks inside this one, or the one around it",
     );
+    let field = Arg::new(alloc, "field")
+        .long("field")
+        .value_name("PATH")
+        .action(ArgAction::Append)
+        .help("Only the value at a path, as country.iso_code; may be repeated");
+    let format = Arg::new(alloc, "format")
+        .long("format")
+        .value_name("FORMAT")
+        .value_parser(FORMATS)
+        .default_value("jsonl")
+        .help("An object a line, or comma-separated cells, which need a --field");
     Command::new(alloc, "export")
-        .about("Write every network that has data, with its record, as lines of JSON")
+        .about("Write every network that has data, with its record or fields of it")
         .after_help(EXPORT_EXAMPLE)
         .arg(file(alloc))?
-        .arg(range)
+        .arg(range)?
+        .arg(field)?
+        .arg(format)
 }
 
 /// The program's commands.

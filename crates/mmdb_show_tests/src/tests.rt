@@ -1,3 +1,8 @@
 //! What no clause says of the program `mmdb`: worked texts, words, statuses and refusals.
+mod exports;
+mod failures;
+mod helps;
+mod memory;
+mod program;
 mod runs;
 mod texts;

@@ -1,26 +1,9 @@
 //! Runs of the program.
-use mmdb_program::run;
+use super::program::run_of;
 use mmdb_vectors::builder::{BASE, BASE_NODE, base_file, base_with_node, file};
-use mmdb_vectors::file::OneFile;
-use mmdb_vectors::words::words_of;
 use std::alloc::Global;
-use std::io::{self, Write};
 use std::process::Abort;
 use std::test::Fail;
-
-/// A writer that refuses all.
-#[derive(Drop)]
-struct Full;
-
-impl Write for Full {
-    fn write(&mut self, _bytes: &[u8]) -> io::Result<usize> {
-        Err(io::Error::from(io::ErrorKind::StorageFull))
-    }
-
-    fn flush(&mut self) -> io::Result<()> {
-        Ok(())
-    }
-}
 
 /// Words, the status, standard output, and what standard error has to hold.
 type Row<'a> = (&'a [&'a str], u8, &'a str, &'a str);
@@ -54,6 +37,13 @@ const BASE_RUNS: &[Row<'static>] = &[
     (&["export", "here.mmdb", "1.0.0.0/8"], 0, "", ""),
     (&["export", "here.mmdb", "::/0"], 1, "", "here.mmdb: invalid input: cannot iterate IPv6"),
     (&["export", "gone.mmdb", "x"], 2, "", "x: not a network"),
+    (&["export", "here.mmdb", "--format", "csv"], 2, "", "--format csv: needs a --field"),
+    (&["export", "here.mmdb", "--format", "xml"], 2, "", "xml"),
+    (&["export", "here.mmdb", "--field", "a.\"b"], 2, "", "a.\"b: not a path"),
+    (&["export", "gone.mmdb"], 1, "", "gone.mmdb: i/o error: "),
+    (&["export", "here.mmdb", "::/0", "--field", "", "--format", "csv"], 1, "", "here.mmdb: invalid input"),
+    (&["verify", "gone.mmdb", "here.mmdb"], 1, "gone.mmdb: i/o error: entity not found\nhere.mmdb: ok\n", ""),
+    (&["verify"], 2, "", "FILE"),
     (&["frob"], 2, "", "frob"),
     (&["info", "here.mmdb", "extra"], 2, "", "extra"),
     (&[], 2, "", "Usage"),
@@ -73,6 +63,15 @@ const NESTED_RUNS: &[Row<'static>] = &[
     (&["show", "here.mmdb", "200.0.0.1", "--path", "\"a.b\".-1.\"0\""], 0, "\"y\"\n", ""),
     (&["show", "here.mmdb", "200.0.0.1", "--path", "\"a.b\".0", "--path", "c"], 6, "1\nnull\n", ""),
     (&["show", "here.mmdb", "200.0.0.1", "--path", "\"a.b\".1.0"], 1, "", "decoding error"),
+];
+
+/// Runs over a file of no bytes.
+#[rattlefmt::skip]
+const EMPTY_RUNS: &[Row<'static>] = &[
+    (&["info", "here.mmdb"], 1, "", "here.mmdb: invalid database"),
+    (&["show", "here.mmdb", "1.1.1.1"], 1, "", "here.mmdb: invalid database"),
+    (&["export", "here.mmdb", "--field", "a", "--format", "csv"], 1, "", "here.mmdb: invalid database"),
+    (&["enrich", "here.mmdb"], 1, "", "here.mmdb: invalid database"),
 ];
 
 #[rattlefmt::skip]
@@ -124,76 +123,25 @@ const NO_LINES: &[Row<'static>] = &[
 fn lines_with_fields(rt: HostRuntime) -> Result<(), Fail> {
     let alloc = rt.alloc();
     let base = base_file(alloc)?;
-    let files = OneFile {
-        bytes: base.as_slice(),
-        step: 64,
-        fails_at: 1000,
-    };
-    for (texts, lines, written, told) in LINES {
-        let mut words = words_of(alloc, &["mmdb"])?;
-        words.append(&mut words_of(alloc, texts)?)?;
-        let mut input = lines.as_bytes();
-        let mut out: Vec<u8> = Vec::new(alloc);
-        let mut err: Vec<u8> = Vec::new(alloc);
-        let done = run(
-            &files,
-            alloc,
-            words.as_slice(),
-            false,
-            &mut input,
-            &mut out,
-            &mut err,
-        );
-        assert!(&rt; done == 0, "{texts:?}: {done}");
-        assert!(&rt; out.as_slice() == written.as_bytes(), "{texts:?}: {out:?}");
-        let err = String::from_utf8(err)?;
-        assert!(&rt; err.contains(told), "{texts:?}: {err}");
+    for (words, lines, written, told) in LINES {
+        let run = run_of(alloc, base.as_slice(), words, lines)?;
+        assert!(&rt; run.status == 0, "{words:?}: {run:?}");
+        assert!(&rt; run.out.as_str() == *written, "{words:?}: {run:?}");
+        assert!(&rt; run.err.contains(told), "{words:?}: {run:?}");
     }
     assert_runs(&rt, alloc, base.as_slice(), NO_LINES)
 }
 
 // Asserts what the program does with its words over a file.
 fn assert_runs(rt: &impl Abort, alloc: Global, bytes: &[u8], rows: &[Row<'_>]) -> Result<(), Fail> {
-    let files = OneFile {
-        bytes,
-        step: 64,
-        fails_at: 1000,
-    };
-    for (texts, status, written, told) in rows {
-        let mut words = words_of(alloc, &["mmdb"])?;
-        words.append(&mut words_of(alloc, texts)?)?;
-        let mut input: &[u8] = b"";
-        let mut out: Vec<u8> = Vec::new(alloc);
-        let mut err: Vec<u8> = Vec::new(alloc);
-        let done = run(
-            &files,
-            alloc,
-            words.as_slice(),
-            false,
-            &mut input,
-            &mut out,
-            &mut err,
-        );
-        assert!(rt; done == *status, "{texts:?}: {done}");
-        assert!(rt; out.as_slice() == written.as_bytes(), "{texts:?}: {out:?}");
-        let err = String::from_utf8(err)?;
+    for (words, status, written, told) in rows {
+        let run = run_of(alloc, bytes, words, "")?;
+        assert!(rt; run.status == *status, "{words:?}: {run:?}");
+        assert!(rt; run.out.as_str() == *written, "{words:?}: {run:?}");
         assert!(rt;
-            err.contains(told) && err.is_empty() == told.is_empty(),
-            "{texts:?}: {err}"
+            run.err.contains(told) && run.err.is_empty() == told.is_empty(),
+            "{words:?}: {run:?}"
         );
-        if (*status == 0 || *status == 6) && !written.is_empty() {
-            let mut none: Vec<u8> = Vec::new(alloc);
-            let full = run(
-                &files,
-                alloc,
-                words.as_slice(),
-                false,
-                &mut input,
-                &mut Full,
-                &mut none,
-            );
-            assert!(rt; full == 1, "{texts:?}: {full}");
-        }
     }
     Ok(())
 }
@@ -226,10 +174,5 @@ fn runs_over_small_files(rt: HostRuntime) -> Result<(), Fail> {
         ),
     ];
     assert_runs(&rt, alloc, fault.as_slice(), &rows)?;
-    assert_runs(
-        &rt,
-        alloc,
-        b"",
-        &[(&["info", "here.mmdb"], 1, "", "here.mmdb: invalid database")],
-    )
+    assert_runs(&rt, alloc, b"", EMPTY_RUNS)
 }
