@@ -9,7 +9,7 @@ use std::net::IpAddr;
 
 /// What stands between cells: tabs between those of a line.
 #[inline(always)]
-pub(crate) fn delimiter_of(rows: Rows) -> u8
+pub fn delimiter_of(rows: Rows) -> u8
     ensures { result ≡ spec_delimiter_of rows }
 {
     match rows {

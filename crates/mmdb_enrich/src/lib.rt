@@ -8,4 +8,6 @@ mod enrichment;
 mod quotes;
 
 pub use cache::Cache;
+pub use columns::delimiter_of;
 pub use enrichment::Enrichment;
+pub use quotes::put_csv_cell;

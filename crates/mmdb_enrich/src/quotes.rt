@@ -33,7 +33,7 @@ fn put_doubled(value: &[u8], out: &mut Vec<u8>) -> Result<(), AllocError>
 }
 
 /// Adds a cell, in quotes where it needs them.
-pub(crate) fn put_csv_cell(delimiter: u8, value: &[u8], out: &mut Vec<u8>) -> Result<(), AllocError>
+pub fn put_csv_cell(delimiter: u8, value: &[u8], out: &mut Vec<u8>) -> Result<(), AllocError>
     ensures { OnOk result (out.new.items ≡ out.old.items ++ csv_cell delimiter value.now) }
 {
     if !is_special(delimiter, value) {

@@ -11,5 +11,6 @@ mod text;
 
 pub use counts::{Counts, Outcome};
 pub use filter::{Additions, Progress, filter_rows};
+pub use piece::read_piece;
 pub use rows::{Place, Rows};
 pub use text::MOST_SEEN;

@@ -40,8 +40,8 @@ fn read_some<R: BufRead>(
     Ok(Some(next))
 }
 
-/// Appends bytes of a row up to its end, as far as a piece goes, and tells the place behind them.
-pub(crate) fn read_piece<R: BufRead>(
+/// Appends bytes of a row from a place in it, up to its end or until there are 65,539, and tells the place behind them.
+pub fn read_piece<R: BufRead>(
     input: &mut R,
     rows: Rows,
     place: Place,
