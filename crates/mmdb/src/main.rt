@@ -1,7 +1,7 @@
 //! The program `mmdb`: its words are handed on, with standard output and standard error.
 #![tactic(auto)]
 
-use mmdb_program::run;
+use mmdb_program::{Terminals, run_on};
 use std::env;
 use std::io::{self, BufReader, BufWriter, ErrorKind, IsTerminal, Write};
 use std::process::ExitCode;
@@ -39,15 +39,18 @@ fn program(rt: &HostRuntime) -> io::Result<u8> {
     for word in env::args(rt)? {
         words.push(word)?;
     }
-    let is_terminal = rt.stdout().is_terminal();
+    let terminals = Terminals {
+        output: rt.stdout().is_terminal(),
+        errors: rt.stderr().is_terminal(),
+    };
     let mut out = BufWriter::with_capacity(rt.alloc(), BUFFER, rt.stdout())?;
     let mut input = BufReader::with_capacity(rt.alloc(), BUFFER, rt.stdin())?;
     let mut err = rt.stderr();
-    let status = run(
+    let status = run_on(
         rt,
         rt.alloc(),
         words.as_slice(),
-        is_terminal,
+        terminals,
         &mut input,
         &mut out,
         &mut err,

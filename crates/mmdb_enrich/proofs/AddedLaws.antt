@@ -7,21 +7,22 @@ use Rattle.maxminddb.specs.Lookup.{Answers, outcome_at}
 use Rattle.maxminddb.specs.declared.path.PathElement.{PathElement}
 use Rattle.mmdb_filter.specs.declared.counts.Outcome.{Outcome}
 use Rattle.mmdb_filter.specs.declared.counts.Outcome.TheVariants.{Absent, Found, Refused}
+use Rattle.mmdb_filter.specs.declared.rows.Rows.{Rows}
 use Rattle.mmdb_enrich.specs.Added.{AddsAt}
 use Rattle.mmdb_enrich.specs.Cells.{blanks, AreCells, are_read}
 use Rattle.mmdb_enrich.specs.Rows.{paths_of, AddsAtTo, AddsForTo}
 
-pub found_added : (db : Database) (fields : Vec (Vec PathElement)) (address : IpAddr) (leaf : List Bool) (offset o : Option ℕ) (outcome : Outcome) (old new : Vec ℕ)
-    → Answers db address leaf (outcome_at o) → o ≡ offset → AddsAtTo db fields offset outcome old new → AddsForTo db fields (Some address) outcome old new
-found_added db fields address leaf offset o outcome old new answers at (extra, adds, put) = (extra, inr (leaf, offset, subst (λ x. Answers db address leaf (outcome_at x)) at answers, adds), put)
+pub found_added : (db : Database) (rows : Rows) (fields : Vec (Vec PathElement)) (address : IpAddr) (leaf : List Bool) (offset o : Option ℕ) (outcome : Outcome) (old new : Vec ℕ)
+    → Answers db address leaf (outcome_at o) → o ≡ offset → AddsAtTo db rows fields offset outcome old new → AddsForTo db rows fields (Some address) outcome old new
+found_added db rows fields address leaf offset o outcome old new answers at (extra, adds, put) = (extra, inr (leaf, offset, subst (λ x. Answers db address leaf (outcome_at x)) at answers, adds), put)
 
-pub absent_added : (db : Database) (fields : Vec (Vec PathElement)) (outcome : Outcome) (old new : Vec ℕ) → outcome ≡ Absent → new.items ≡ old.items ++ blanks (paths_of fields) → AddsAtTo db fields None outcome old new
-absent_added db fields outcome old new e put = (blanks (paths_of fields), (refl, e), put)
+pub absent_added : (db : Database) (rows : Rows) (fields : Vec (Vec PathElement)) (outcome : Outcome) (old new : Vec ℕ) → outcome ≡ Absent → new.items ≡ old.items ++ blanks rows (paths_of fields) → AddsAtTo db rows fields None outcome old new
+absent_added db rows fields outcome old new e put = (blanks rows (paths_of fields), (refl, e), put)
 
-pub read_added : (db asked : Database) (paths : List (List PathElement)) (offset : ℕ) (old new cells : List ℕ) (read : Bool) (outcome : Outcome)
-    → asked ≡ db → old ≡ [] → new ≡ old ++ cells → AreCells paths (data_section asked) offset cells → read ≡ are_read paths (data_section asked) offset → outcome ≡ (if read then Found else Refused) → AddsAt db paths (Some offset) new outcome
-read_added db asked paths offset old new cells read outcome same empty put are r told =
-    subst (λ d. AddsAt d paths (Some offset) new outcome) same (subst (λ x. AreCells paths (data_section asked) offset x) (sym (put ∙ ap (λ o. o ++ cells) empty)) are, told ∙ ap (λ b. if b then Found else Refused) r)
+pub read_added : (db asked : Database) (rows : Rows) (paths : List (List PathElement)) (offset : ℕ) (old new cells : List ℕ) (read : Bool) (outcome : Outcome)
+    → asked ≡ db → old ≡ [] → new ≡ old ++ cells → AreCells rows paths (data_section asked) offset cells → read ≡ are_read paths (data_section asked) offset → outcome ≡ (if read then Found else Refused) → AddsAt db rows paths (Some offset) new outcome
+read_added db asked rows paths offset old new cells read outcome same empty put are r told =
+    subst (λ d. AddsAt d rows paths (Some offset) new outcome) same (subst (λ x. AreCells rows paths (data_section asked) offset x) (sym (put ∙ ap (λ o. o ++ cells) empty)) are, told ∙ ap (λ b. if b then Found else Refused) r)
 
 pub held : {A : Type 0} (o : Option A) (x : A) (P : A → Type 0) → o ≡ Some x → IfSome o P → P x
 held None x P e h = absurd (cc)

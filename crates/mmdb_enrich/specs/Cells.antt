@@ -1,5 +1,5 @@
 -- The cells of a record: for each path the text of the value to which it leads.
-use Rattle.std.specs.Prelude.{◌≡◌, ℕ, List, [], ◌∷◌, ◌++◌, Option, Some, None, Bool, true, false, ◌&&◌, nat_lt, is_some}
+use Rattle.std.specs.Prelude.{◌≡◌, ℕ, List, [], ◌∷◌, ◌++◌, Option, Some, None, Bool, true, false, ◌&&◌, ◌||◌, ◌==◌, nat_lt, is_some, if◌then◌else◌}
 use Rattle.std.specs.Bool.{MatchBool}
 use Rattle.mmdb_format.specs.Contents.{text}
 use Rattle.mmdb_format.specs.Unfolding.{Tree, scalar}
@@ -7,6 +7,9 @@ use Rattle.mmdb_value.specs.AnyValue.{value_at}
 use Rattle.maxminddb.specs.Selecting.{answer_along}
 use Rattle.maxminddb.specs.declared.path.PathElement.{PathElement}
 use Rattle.mmdb_json.specs.Texts.{IsCompact}
+use Rattle.mmdb_filter.specs.declared.rows.Rows.{Rows}
+use Rattle.mmdb_filter.specs.declared.rows.Rows.TheVariants.{Lines, Csv}
+use Rattle.mmdb_enrich.specs.Columns.{delimiter_of}
 
 -- no byte is a control character
 abbrev pub is_plain : List ℕ → Bool
@@ -21,29 +24,48 @@ abbrev pub text_bytes : Tree → List ℕ
 text_bytes (scalar (text x)) = x
 text_bytes _ = []
 
--- a text without control characters is its own cell, and any other value the JSON that shows it
-abbrev pub ShowsCell : Tree → List ℕ → Type 0
-ShowsCell v cell = MatchBool (is_plain_text v) (cell ≡ text_bytes v) (IsCompact v cell)
+abbrev pub is_any_text : Tree → Bool
+is_any_text (scalar (text x)) = true
+is_any_text _ = false
+
+-- a cell of CSV is quoted where it has the delimiter, a quote or a line break
+unfoldable pub is_special : ℕ → List ℕ → Bool
+is_special delimiter [] = false
+is_special delimiter (x ∷ xs) = (x == delimiter) || (x == 34) || (x == 10) || (x == 13) || is_special delimiter xs
+
+-- each quote twice
+unfoldable pub doubled : List ℕ → List ℕ
+doubled [] = []
+doubled (x ∷ xs) = if x == 34 then 34 ∷ (34 ∷ doubled xs) else x ∷ doubled xs
+
+abbrev pub csv_cell : ℕ → List ℕ → List ℕ
+csv_cell delimiter value = if is_special delimiter value then 34 ∷ (doubled value ++ (34 ∷ [])) else value
+
+-- In a line a text without control characters is its own cell, and any other value the JSON that shows it. In CSV a
+-- cell is any text, or the JSON.
+abbrev pub ShowsCell : Rows → Tree → List ℕ → Type 0
+ShowsCell Lines v cell = MatchBool (is_plain_text v) (cell ≡ text_bytes v) (IsCompact v cell)
+ShowsCell (Csv delimiter) v cell = (value : List ℕ) × MatchBool (is_any_text v) (value ≡ text_bytes v) (IsCompact v value) × (cell ≡ csv_cell delimiter value)
 
 -- what is read along a path from the offset of a record
 abbrev pub read_at : List PathElement → List ℕ → ℕ → Option (Option Tree)
 read_at path s offset = answer_along path true (value_at true) s offset
 
 -- the cell of what was read: empty where nothing is there, or the way or the value was refused
-abbrev pub IsCell : Option (Option Tree) → List ℕ → Type 0
-IsCell None cell = cell ≡ []
-IsCell (Some None) cell = cell ≡ []
-IsCell (Some (Some v)) cell = ShowsCell v cell
+abbrev pub IsCell : Rows → Option (Option Tree) → List ℕ → Type 0
+IsCell rows None cell = cell ≡ []
+IsCell rows (Some None) cell = cell ≡ []
+IsCell rows (Some (Some v)) cell = ShowsCell rows v cell
 
--- a tab and a cell for each path
-abbrev pub AreCells : List (List PathElement) → List ℕ → ℕ → List ℕ → Type 0
-AreCells [] s offset cells = cells ≡ []
-AreCells (path ∷ paths) s offset cells = (cell rest : List ℕ) × (cells ≡ 9 ∷ (cell ++ rest)) × IsCell (read_at path s offset) cell × AreCells paths s offset rest
+-- a delimiter and a cell for each path
+abbrev pub AreCells : Rows → List (List PathElement) → List ℕ → ℕ → List ℕ → Type 0
+AreCells rows [] s offset cells = cells ≡ []
+AreCells rows (path ∷ paths) s offset cells = (cell rest : List ℕ) × (cells ≡ delimiter_of rows ∷ (cell ++ rest)) × IsCell rows (read_at path s offset) cell × AreCells rows paths s offset rest
 
--- a tab for each path
-abbrev pub blanks : List (List PathElement) → List ℕ
-blanks [] = []
-blanks (path ∷ paths) = 9 ∷ blanks paths
+-- a delimiter for each path
+abbrev pub blanks : Rows → List (List PathElement) → List ℕ
+blanks rows [] = []
+blanks rows (path ∷ paths) = delimiter_of rows ∷ blanks rows paths
 
 -- no path and no value was refused
 abbrev pub are_read : List (List PathElement) → List ℕ → ℕ → Bool

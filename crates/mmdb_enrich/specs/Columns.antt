@@ -1,19 +1,44 @@
--- The columns of a line, and the address that one spells.
-use Rattle.std.specs.Prelude.{◌≡◌, ℕ, zero, suc, ◌+◌, List, [], ◌∷◌, length, take, drop, Option, Some, None, ◌==◌, nat_lt, if◌then◌else◌}
+-- The columns of a row, and the address that one spells.
+use Rattle.std.specs.Prelude.{◌≡◌, ℕ, zero, suc, ◌+◌, ◌-◌, List, [], ◌∷◌, length, take, drop, get_or, Option, Some, None, Bool, true, false, not, ◌&&◌, ◌==◌, nat_lt, if◌then◌else◌}
 use Rattle.std.specs.Net.Grammar.{IsIpText}
 use Rattle.std.specs.declared.net.ip_addr.IpAddr.{IpAddr}
+use Rattle.mmdb_filter.specs.Rows.{place_after}
+use Rattle.mmdb_filter.specs.declared.rows.Rows.{Rows}
+use Rattle.mmdb_filter.specs.declared.rows.Rows.TheVariants.{Lines, Csv}
+use Rattle.mmdb_filter.specs.declared.rows.Place.{Place}
+use Rattle.mmdb_filter.specs.declared.rows.Place.TheVariants.{Cell, Quoted}
 
--- where the first tab stands, or the length
-abbrev pub tab_place : List ℕ → ℕ
-tab_place [] = 0
-tab_place (x ∷ xs) = if x == 9 then 0 else suc (tab_place xs)
+-- what stands between cells: tabs between those of a line
+abbrev pub delimiter_of : Rows → ℕ
+delimiter_of Lines = 9
+delimiter_of (Csv delimiter) = delimiter
 
--- what stands between tabs, after so many of them
-abbrev pub column_of : ℕ → List ℕ → Option (List ℕ)
-column_of zero xs = Some (take (tab_place xs) xs)
-column_of (suc n) xs = if nat_lt (tab_place xs) (length xs) then column_of n (drop (tab_place xs + 1) xs) else None
+abbrev pub is_quoted : Place → Bool
+is_quoted Quoted = true
+is_quoted _ = false
 
--- the address that a column spells, or none where it spells none
+-- how many bytes stand before the first delimiter that is not between quotes, or all
+unfoldable pub cell_length : Rows → Place → List ℕ → ℕ
+cell_length rows place [] = 0
+cell_length rows place (x ∷ xs) = if x == delimiter_of rows && not (is_quoted place) then 0 else suc (cell_length rows (place_after rows place x) xs)
+
+-- the cell behind so many delimiters; none where the text ends before, or goes on where the cell does not end
+abbrev pub column_of : Rows → Bool → ℕ → List ℕ → Option (List ℕ)
+column_of rows goes_on zero xs =
+    if nat_lt (cell_length rows Cell xs) (length xs) then Some (take (cell_length rows Cell xs) xs) else (if goes_on then None else Some (take (cell_length rows Cell xs) xs))
+column_of rows goes_on (suc n) xs =
+    if nat_lt (cell_length rows Cell xs) (length xs) then column_of rows goes_on n (drop (cell_length rows Cell xs + 1) xs) else None
+
+-- what a cell of CSV has between its quotes, or what it is where it has none
+abbrev pub unquoted : List ℕ → List ℕ
+unquoted cell =
+    if nat_lt 1 (length cell) && (get_or cell 0 0 == 34) && (get_or cell (length cell - 1) 0 == 34) then take (length cell - 2) (drop 1 cell) else cell
+
+abbrev pub value_of : Rows → List ℕ → List ℕ
+value_of Lines cell = cell
+value_of (Csv delimiter) cell = unquoted cell
+
+-- the address that a cell spells, or none where it spells none
 abbrev pub ReadsAddress : Option (List ℕ) → Option IpAddr → Type 0
-ReadsAddress column (Some address) = (cell : List ℕ) × (column ≡ Some cell) × IsIpText cell address
-ReadsAddress column None = (cell : List ℕ) (address : IpAddr) → column ≡ Some cell → ¬ IsIpText cell address
+ReadsAddress cell (Some address) = (text : List ℕ) × (cell ≡ Some text) × IsIpText text address
+ReadsAddress cell None = (text : List ℕ) (address : IpAddr) → cell ≡ Some text → ¬ IsIpText text address

@@ -5,14 +5,15 @@ use Rattle.std.specs.declared.net.ip_addr.IpAddr.{IpAddr}
 use Rattle.maxminddb.specs.File.{Database}
 use Rattle.maxminddb.specs.declared.path.PathElement.{PathElement}
 use Rattle.mmdb_filter.specs.declared.counts.Outcome.{Outcome}
+use Rattle.mmdb_filter.specs.declared.rows.Rows.{Rows}
 use Rattle.mmdb_enrich.specs.Added.{AddsAt, AddsFor}
 
 -- the paths of the fields
 abbrev pub paths_of : Vec (Vec PathElement) → List (List PathElement)
 paths_of fields = map (λ field. field.items) fields.items
 
-abbrev pub AddsAtTo : Database → Vec (Vec PathElement) → Option ℕ → Outcome → Vec ℕ → Vec ℕ → Type 0
-AddsAtTo db fields offset outcome old new = (extra : List ℕ) × AddsAt db (paths_of fields) offset extra outcome × (new.items ≡ old.items ++ extra)
+abbrev pub AddsAtTo : Database → Rows → Vec (Vec PathElement) → Option ℕ → Outcome → Vec ℕ → Vec ℕ → Type 0
+AddsAtTo db rows fields offset outcome old new = (extra : List ℕ) × AddsAt db rows (paths_of fields) offset extra outcome × (new.items ≡ old.items ++ extra)
 
-abbrev pub AddsForTo : Database → Vec (Vec PathElement) → Option IpAddr → Outcome → Vec ℕ → Vec ℕ → Type 0
-AddsForTo db fields address outcome old new = (extra : List ℕ) × AddsFor db (paths_of fields) address extra outcome × (new.items ≡ old.items ++ extra)
+abbrev pub AddsForTo : Database → Rows → Vec (Vec PathElement) → Option IpAddr → Outcome → Vec ℕ → Vec ℕ → Type 0
+AddsForTo db rows fields address outcome old new = (extra : List ℕ) × AddsFor db rows (paths_of fields) address extra outcome × (new.items ≡ old.items ++ extra)

@@ -3,6 +3,7 @@ ghost use Rattle.std.specs.Prelude.{◌≡◌, ◌++◌, List, ℕ, Some, None, 
 ghost use Rattle.std.specs.List.{All};
 ghost use Rattle.maxminddb.specs.File.{Database};
 ghost use Rattle.maxminddb.specs.declared.path.PathElement.{PathElement as SpecPathElement};
+ghost use Rattle.mmdb_filter.specs.declared.rows.Rows.{Rows as SpecRows};
 ghost use Rattle.mmdb_enrich.specs.Added.{AddsAt};
 ghost use Rattle.mmdb_enrich.specs.Kept.{IsKept, AreKept};
 
@@ -33,7 +34,7 @@ pub struct Cache {
 impl Cache {
     /// Of no record. It takes memory for each place at once.
     pub fn new(alloc: Global) -> Result<Cache, AllocError>
-        ensures { IfOk result (λ cache. (db : Database) (paths : List (List SpecPathElement)) → AreKept db paths cache) }
+        ensures { IfOk result (λ cache. (db : Database) (rows : SpecRows) (paths : List (List SpecPathElement)) → AreKept db rows paths cache) }
     {
         let mut slots = Vec::with_capacity(alloc, SLOTS)?;
         for _ in 0..SLOTS {
@@ -49,7 +50,7 @@ impl Cache {
     // The cells that are kept of a record.
     #[inline(always)]
     fn kept(&self, offset: usize) -> Option<&Slot>
-        ensures { IfSome result (λ slot. (slot.now.offset ≡ Some offset) × ((db : Database) (paths : List (List SpecPathElement)) → AreKept db paths self.now → IsKept db paths slot.now)) }
+        ensures { IfSome result (λ slot. (slot.now.offset ≡ Some offset) × ((db : Database) (rows : SpecRows) (paths : List (List SpecPathElement)) → AreKept db rows paths self.now → IsKept db rows paths slot.now)) }
     {
         let place = offset % SLOTS;
         if place < self.slots.len() {
@@ -70,7 +71,7 @@ impl Cache {
         offset: usize,
         out: &mut Vec<u8>,
     ) -> Result<Option<Outcome>, AllocError>
-        ensures kept { IfOk result (λ found. IfSome found (λ outcome. (db : Database) (paths : List (List SpecPathElement)) → AreKept db paths self.now → (cells : List ℕ) × AddsAt db paths (Some offset) cells outcome × (out.new.items ≡ out.old.items ++ cells))) }
+        ensures kept { IfOk result (λ found. IfSome found (λ outcome. (db : Database) (rows : SpecRows) (paths : List (List SpecPathElement)) → AreKept db rows paths self.now → (cells : List ℕ) × AddsAt db rows paths (Some offset) cells outcome × (out.new.items ≡ out.old.items ++ cells))) }
         ensures none { IfOk result (λ found. found ≡ None → out.new ≡ out.old) }
     {
         match self.kept(offset) {
@@ -84,7 +85,7 @@ impl Cache {
 
     /// Keeps the cells of a record, unless they are many.
     pub(crate) fn keep(&mut self, offset: usize, cells: Vec<u8>, outcome: Outcome)
-        ensures { (db : Database) (paths : List (List SpecPathElement)) → AreKept db paths self.old → AddsAt db paths (Some offset) cells.items outcome → AreKept db paths self.new }
+        ensures { (db : Database) (rows : SpecRows) (paths : List (List SpecPathElement)) → AreKept db rows paths self.old → AddsAt db rows paths (Some offset) cells.items outcome → AreKept db rows paths self.new }
     {
         let place = offset % SLOTS;
         if cells.len() <= MOST_BYTES && place < self.slots.len() {

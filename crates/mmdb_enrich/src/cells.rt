@@ -1,17 +1,19 @@
 //! The cells of a record.
 ghost use Rattle.std.specs.Prelude.{◌≡◌, ◌∷◌, ◌++◌, ℕ, List, Some, IfOk, OnOk, map, is_some};
+ghost use Rattle.mmdb_filter.specs.declared.rows.Rows.TheVariants.{Lines, Csv};
 ghost use Rattle.mmdb_value.specs.Values.{value_tree};
 ghost use Rattle.maxminddb.specs.File.{data_section};
 ghost use Rattle.maxminddb.specs.Found.{database_asked, offset_found};
+ghost use Rattle.mmdb_enrich.specs.Columns.{delimiter_of as spec_delimiter_of};
 ghost use Rattle.mmdb_enrich.specs.Cells.{is_plain as spec_is_plain, ShowsCell, IsCell, AreCells, blanks, are_read, read_at};
 
+use crate::columns::delimiter_of;
+use crate::quotes::put_csv_cell;
 use maxminddb::{LookupResult, MaxMindDbError, PathElement, Value};
+use mmdb_filter::Rows;
 use mmdb_json::compact;
 use std::alloc::{AllocError, Global};
 use std::convert::AsSlice;
-
-/// What stands before each cell.
-const SEPARATOR: u8 = b'\t';
 
 // Whether no byte is a control character.
 fn is_plain(text: &[u8]) -> bool
@@ -25,9 +27,9 @@ fn is_plain(text: &[u8]) -> bool
     true
 }
 
-// Adds the cell of a value: a text without control characters itself, any other value as JSON.
-fn put_value(alloc: Global, value: &Value<'_>, out: &mut Vec<u8>) -> Result<(), AllocError>
-    ensures { OnOk result ((cell : List ℕ) × ShowsCell (value_tree value.now) cell × (out.new.items ≡ out.old.items ++ cell)) }
+// Adds the cell of a value in a line: a text without control characters itself, any other value as JSON.
+fn put_line_value(alloc: Global, value: &Value<'_>, out: &mut Vec<u8>) -> Result<(), AllocError>
+    ensures { OnOk result ((cell : List ℕ) × ShowsCell Lines (value_tree value.now) cell × (out.new.items ≡ out.old.items ++ cell)) }
 {
     if let Value::String(text) = value
         && is_plain(text.as_bytes())
@@ -38,20 +40,52 @@ fn put_value(alloc: Global, value: &Value<'_>, out: &mut Vec<u8>) -> Result<(), 
     out.extend_from_slice(text.as_slice())
 }
 
-// Adds a tab and the cell at the end of a path, and tells whether nothing was refused.
+// Adds the cell of a value in CSV: a text itself, any other value as JSON, in quotes where it needs them.
+fn put_csv_value(
+    alloc: Global,
+    delimiter: u8,
+    value: &Value<'_>,
+    out: &mut Vec<u8>,
+) -> Result<(), AllocError>
+    ensures { OnOk result ((cell : List ℕ) × ShowsCell (Csv delimiter) (value_tree value.now) cell × (out.new.items ≡ out.old.items ++ cell)) }
+{
+    if let Value::String(text) = value {
+        return put_csv_cell(delimiter, text.as_bytes(), out);
+    }
+    let text = compact(alloc, value)?;
+    put_csv_cell(delimiter, text.as_slice(), out)
+}
+
+// Adds the cell of a value.
+fn put_value(
+    alloc: Global,
+    rows: Rows,
+    value: &Value<'_>,
+    out: &mut Vec<u8>,
+) -> Result<(), AllocError>
+    ensures { OnOk result ((cell : List ℕ) × ShowsCell rows (value_tree value.now) cell × (out.new.items ≡ out.old.items ++ cell)) }
+{
+    match rows {
+        Rows::Lines => put_line_value(alloc, value, out),
+        Rows::Csv { delimiter } => put_csv_value(alloc, delimiter, value, out),
+    }
+}
+
+// Adds a delimiter and the cell at the end of a path, and tells whether nothing was refused.
 fn put_cell<S: AsSlice<u8> + Drop>(
     alloc: Global,
+    rows: Rows,
     found: &LookupResult<'_, S>,
     path: &[PathElement<'_>],
     out: &mut Vec<u8>,
 ) -> Result<bool, AllocError>
-    ensures { IfOk result (λ read. (offset : ℕ) → offset_found found.now ≡ Some offset → (cell : List ℕ) × IsCell (read_at path.now (data_section (database_asked found.now)) offset) cell × (out.new.items ≡ out.old.items ++ (9 ∷ cell)) × (read ≡ is_some (read_at path.now (data_section (database_asked found.now)) offset))) }
+    ensures { IfOk result (λ read. (offset : ℕ) → offset_found found.now ≡ Some offset → (cell : List ℕ) × IsCell rows (read_at path.now (data_section (database_asked found.now)) offset) cell × (out.new.items ≡ out.old.items ++ (spec_delimiter_of rows ∷ cell)) × (read ≡ is_some (read_at path.now (data_section (database_asked found.now)) offset))) }
 {
     let value: Result<Option<Value<'_>>, MaxMindDbError> = found.decode_path(alloc, path);
-    out.push(SEPARATOR)?;
+    out.push(delimiter_of(rows))?;
     match &value {
         Ok(Some(value)) => {
-            put_value(alloc, value, out)?;
+            put_value(alloc, rows, value, out)?;
             Ok(true)
         }
         Ok(None) => Ok(true),
@@ -60,32 +94,34 @@ fn put_cell<S: AsSlice<u8> + Drop>(
     }
 }
 
-/// Adds a tab and a cell for each path, and tells whether nothing was refused.
+/// Adds a delimiter and a cell for each path, and tells whether nothing was refused.
 pub(crate) fn put_cells<S: AsSlice<u8> + Drop>(
     alloc: Global,
+    rows: Rows,
     found: &LookupResult<'_, S>,
     paths: &[Vec<PathElement<'_>>],
     out: &mut Vec<u8>,
 ) -> Result<bool, AllocError>
-    ensures { IfOk result (λ read. (offset : ℕ) → offset_found found.now ≡ Some offset → (cells : List ℕ) × AreCells (map (λ path. path.items) paths.now) (data_section (database_asked found.now)) offset cells × (out.new.items ≡ out.old.items ++ cells) × (read ≡ are_read (map (λ path. path.items) paths.now) (data_section (database_asked found.now)) offset)) }
+    ensures { IfOk result (λ read. (offset : ℕ) → offset_found found.now ≡ Some offset → (cells : List ℕ) × AreCells rows (map (λ path. path.items) paths.now) (data_section (database_asked found.now)) offset cells × (out.new.items ≡ out.old.items ++ cells) × (read ≡ are_read (map (λ path. path.items) paths.now) (data_section (database_asked found.now)) offset)) }
 {
     let mut are_read = true;
     for path in paths {
-        let is_read = put_cell(alloc, found, path.as_slice(), out)?;
+        let is_read = put_cell(alloc, rows, found, path.as_slice(), out)?;
         are_read &= is_read;
     }
     Ok(are_read)
 }
 
-/// Adds a tab for each path.
+/// Adds a delimiter for each path.
 pub(crate) fn put_blanks(
+    rows: Rows,
     paths: &[Vec<PathElement<'_>>],
     out: &mut Vec<u8>,
 ) -> Result<(), AllocError>
-    ensures { OnOk result (out.new.items ≡ out.old.items ++ blanks (map (λ path. path.items) paths.now)) }
+    ensures { OnOk result (out.new.items ≡ out.old.items ++ blanks rows (map (λ path. path.items) paths.now)) }
 {
     for _ in paths {
-        out.push(SEPARATOR)?;
+        out.push(delimiter_of(rows))?;
     }
     Ok(())
 }

@@ -1,43 +1,91 @@
-//! The address in a line.
+//! The address in a row.
 ghost use Rattle.std.specs.Prelude.{◌≡◌, ◌≤◌, length, option_map};
-ghost use Rattle.mmdb_enrich.specs.Columns.{tab_place as spec_tab_place, column_of as spec_column_of, ReadsAddress};
+ghost use Rattle.mmdb_filter.specs.declared.rows.Place.TheVariants.{Cell};
+ghost use Rattle.mmdb_enrich.specs.Columns.{delimiter_of as spec_delimiter_of, cell_length as spec_cell_length, column_of as spec_column_of, value_of as spec_value_of, ReadsAddress};
 
+use memchr::memchr;
+use mmdb_filter::{Place, Rows};
 use std::net::IpAddr;
 
-// Where the first tab stands, or the length where there is none.
-fn tab_place(text: &[u8]) -> usize
-    ensures place { result ≡ spec_tab_place text.now }
+/// What stands between cells: tabs between those of a line.
+#[inline(always)]
+pub fn delimiter_of(rows: Rows) -> u8
+    ensures { result ≡ spec_delimiter_of rows }
+{
+    match rows {
+        Rows::Lines => b'\t',
+        Rows::Csv { delimiter } => delimiter,
+    }
+}
+
+// How many bytes stand before the first delimiter that is not between quotes, or all.
+fn quoted_cell_length(rows: Rows, text: &[u8]) -> usize
+    ensures length { result ≡ spec_cell_length rows Cell text.now }
     ensures within { result ≤ length text.now }
 {
+    let delimiter = delimiter_of(rows);
+    let mut place = Place::Cell;
     for at in 0..text.len() {
-        if text[at] == b'\t' {
+        if text[at] == delimiter && place != Place::Quoted {
             return at;
         }
+        place = place.after(rows, text[at]);
     }
     text.len()
 }
 
-// What stands between tabs, after so many of them.
-fn column_of(text: &[u8], column: usize) -> Option<&[u8]>
-    ensures { option_map (λ s. s.now) result ≡ spec_column_of column text.now }
+// How many bytes stand before the first delimiter of a cell, or all.
+#[inline(always)]
+fn cell_length(rows: Rows, text: &[u8]) -> usize
+    ensures length { result ≡ spec_cell_length rows Cell text.now }
+    ensures within { result ≤ length text.now }
+{
+    match rows {
+        Rows::Lines => match memchr(b'\t', text) {
+            Some(at) => at,
+            None => text.len(),
+        },
+        Rows::Csv { .. } => quoted_cell_length(rows, text),
+    }
+}
+
+// The cell behind so many delimiters. A cell that the text's end cuts off is none.
+fn column_of(rows: Rows, text: &[u8], goes_on: bool, column: usize) -> Option<&[u8]>
+    ensures { option_map (λ s. s.now) result ≡ spec_column_of rows goes_on column text.now }
 {
     let mut rest = text;
     for _ in 0..column {
-        let place = tab_place(rest);
-        if place >= rest.len() {
+        let len = cell_length(rows, rest);
+        if len >= rest.len() {
             return None;
         }
-        rest = &rest[place..][1..];
+        rest = &rest[len..][1..];
     }
-    Some(&rest[..tab_place(rest)])
+    let len = cell_length(rows, rest);
+    if len >= rest.len() && goes_on {
+        return None;
+    }
+    Some(&rest[..len])
+}
+
+// What a cell holds: in CSV what stands between its quotes, where it has them.
+fn value_of(rows: Rows, cell: &[u8]) -> &[u8]
+    ensures { result.now ≡ spec_value_of rows cell.now }
+{
+    let len = cell.len();
+    if rows != Rows::Lines && len > 1 && cell[0] == b'"' && cell[len - 1] == b'"' {
+        &cell[1..][..len - 2]
+    } else {
+        cell
+    }
 }
 
 /// The address that a column spells.
-pub(crate) fn address_of(text: &[u8], column: usize) -> Option<IpAddr>
-    ensures { ReadsAddress (spec_column_of column text.now) result }
+pub(crate) fn address_of(rows: Rows, text: &[u8], goes_on: bool, column: usize) -> Option<IpAddr>
+    ensures { ReadsAddress (option_map (spec_value_of rows) (spec_column_of rows goes_on column text.now)) result }
 {
-    match column_of(text, column) {
-        Some(cell) => match IpAddr::parse_ascii(cell) {
+    match column_of(rows, text, goes_on, column) {
+        Some(cell) => match IpAddr::parse_ascii(value_of(rows, cell)) {
             Ok(address) => Some(address),
             Err(_) => None,
         },

@@ -1,4 +1,4 @@
-//! What is added to a line.
+//! What is added to a row.
 ghost use Rattle.std.specs.Prelude.{◌≡◌, ◌++◌, Some, IfOk, if◌then◌else◌};
 ghost use Rattle.mmdb_filter.specs.declared.counts.Outcome.TheVariants.{Found, Refused};
 ghost use Rattle.mmdb_enrich.specs.Added.{AddsTo};
@@ -10,25 +10,27 @@ use crate::cache::Cache;
 use crate::cells::{put_blanks, put_cells};
 use crate::columns::address_of;
 use maxminddb::{LookupResult, PathElement, Reader};
-use mmdb_filter::{Additions, Outcome};
+use mmdb_filter::{Additions, Outcome, Rows};
 use std::alloc::{AllocError, Global};
 use std::convert::AsSlice;
 use std::io;
 use std::net::IpAddr;
 
-/// Fields of the record of the address in a column, as columns behind each line.
+/// Fields of the record of the address in a column, as columns behind each row.
 #[derive(Drop)]
 pub struct Enrichment<'a, 'f, S: AsSlice<u8> + Drop> {
     pub alloc: Global,
     /// Where addresses are looked up.
     pub reader: &'a Reader<S>,
-    /// The column of the address, from 0. Columns stand between tabs.
+    /// What is enriched: lines, of which tabs stand between the columns, or rows of CSV.
+    pub rows: Rows,
+    /// The column of the address, from 0.
     pub column: usize,
     /// The paths of the fields.
     pub paths: Vec<Vec<PathElement<'f>>>,
 }
 
-// How a line fares whose record was found.
+// How a row fares whose record was found.
 fn outcome_of(are_read: bool) -> Outcome
     ensures { result ≡ (if are_read then Found else Refused) }
 {
@@ -54,12 +56,18 @@ impl<'a, 'f, S: AsSlice<u8> + Drop> Enrichment<'a, 'f, S> {
     ) -> Result<Outcome, AllocError>
         requires at { offset_found found.now ≡ Some offset }
         requires asked { database_asked found.now ≡ self.now.reader.now }
-        requires kept { AreKept self.now.reader.now (paths_of self.now.paths) cache.old }
-        ensures added { IfOk result (λ outcome. AddsAtTo self.now.reader.now self.now.paths (Some offset) outcome out.old out.new) }
-        ensures kept { AreKept self.now.reader.now (paths_of self.now.paths) cache.new }
+        requires kept { AreKept self.now.reader.now self.now.rows (paths_of self.now.paths) cache.old }
+        ensures added { IfOk result (λ outcome. AddsAtTo self.now.reader.now self.now.rows self.now.paths (Some offset) outcome out.old out.new) }
+        ensures kept { AreKept self.now.reader.now self.now.rows (paths_of self.now.paths) cache.new }
     {
         let mut cells = Vec::new(self.alloc);
-        let are_read = put_cells(self.alloc, found, self.paths.as_slice(), &mut cells)?;
+        let are_read = put_cells(
+            self.alloc,
+            self.rows,
+            found,
+            self.paths.as_slice(),
+            &mut cells,
+        )?;
         let outcome = outcome_of(are_read);
         out.extend_from_slice(cells.as_slice())?;
         cache.keep(offset, cells, outcome);
@@ -68,9 +76,9 @@ impl<'a, 'f, S: AsSlice<u8> + Drop> Enrichment<'a, 'f, S> {
 
     // Adds empty cells.
     fn put_none(&self, outcome: Outcome, out: &mut Vec<u8>) -> Result<Outcome, AllocError>
-        ensures { IfOk result (λ told. (told ≡ outcome) × (out.new.items ≡ out.old.items ++ blanks (paths_of self.now.paths))) }
+        ensures { IfOk result (λ told. (told ≡ outcome) × (out.new.items ≡ out.old.items ++ blanks self.now.rows (paths_of self.now.paths))) }
     {
-        put_blanks(self.paths.as_slice(), out)?;
+        put_blanks(self.rows, self.paths.as_slice(), out)?;
         Ok(outcome)
     }
 
@@ -81,9 +89,9 @@ impl<'a, 'f, S: AsSlice<u8> + Drop> Enrichment<'a, 'f, S> {
         cache: &mut Cache,
         out: &mut Vec<u8>,
     ) -> Result<Outcome, AllocError>
-        requires { AreKept self.now.reader.now (paths_of self.now.paths) cache.old }
-        ensures added { IfOk result (λ outcome. AddsForTo self.now.reader.now self.now.paths (Some address) outcome out.old out.new) }
-        ensures kept { AreKept self.now.reader.now (paths_of self.now.paths) cache.new }
+        requires { AreKept self.now.reader.now self.now.rows (paths_of self.now.paths) cache.old }
+        ensures added { IfOk result (λ outcome. AddsForTo self.now.reader.now self.now.rows self.now.paths (Some address) outcome out.old out.new) }
+        ensures kept { AreKept self.now.reader.now self.now.rows (paths_of self.now.paths) cache.new }
     {
         let Ok(found) = self.reader.lookup(address) else {
             return self.put_none(Outcome::Refused, out);
@@ -101,12 +109,18 @@ impl<'a, 'f, S: AsSlice<u8> + Drop> Enrichment<'a, 'f, S> {
 impl<'a, 'f, S: AsSlice<u8> + Drop> Additions for Enrichment<'a, 'f, S> {
     type Memory = Cache;
 
-    ghost adds = { λ e line extra outcome. AddsTo e.reader.now e.column (paths_of e.paths) line extra outcome };
+    ghost adds = { λ e text goes_on extra outcome. AddsTo e.reader.now e.rows e.column (paths_of e.paths) text goes_on extra outcome };
 
-    ghost fits = { λ e cache. AreKept e.reader.now (paths_of e.paths) cache };
+    ghost fits = { λ e cache. AreKept e.reader.now e.rows (paths_of e.paths) cache };
 
-    fn add(&self, cache: &mut Cache, text: &[u8], out: &mut Vec<u8>) -> io::Result<Outcome> {
-        Ok(match address_of(text, self.column) {
+    fn add(
+        &self,
+        cache: &mut Cache,
+        text: &[u8],
+        is_long: bool,
+        out: &mut Vec<u8>,
+    ) -> io::Result<Outcome> {
+        Ok(match address_of(self.rows, text, is_long, self.column) {
             Some(address) => self.put_address(address, cache, out)?,
             None => self.put_none(Outcome::Unreadable, out)?,
         })

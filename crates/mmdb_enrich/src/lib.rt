@@ -1,10 +1,13 @@
-//! Fields of records behind lines that have addresses.
+//! Fields of records behind rows that have addresses.
 #![tactic(auto)]
 
 mod cache;
 mod cells;
 mod columns;
 mod enrichment;
+mod quotes;
 
 pub use cache::Cache;
+pub use columns::delimiter_of;
 pub use enrichment::Enrichment;
+pub use quotes::put_csv_cell;

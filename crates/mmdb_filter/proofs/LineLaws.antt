@@ -1,91 +1,111 @@
--- How the lines that are left complete the whole.
-use Rattle.std.proofs.Common.{◌≡◌, ℕ, ◌<◌, List, [], ◌∷◌, ◌++◌, length, Option, Some, None, IfSome, Result, Ok, Err, OnErr, Bool, true, false, refl, sym, ap, ◌∙◌, subst, append_assoc, append-nil, arith}
-use Rattle.std.specs.Io.BufRead.{take_through, drop_through, DropsThrough}
+-- How the rows that are left complete the whole.
+use Rattle.std.proofs.Common.{◌≡◌, ◌≢◌, ℕ, ◌<◌, ◌≤◌, List, [], ◌∷◌, ◌++◌, length, Option, Some, None, OnSome, Bool, true, false, refl, sym, ap, ◌∙◌, subst, append_assoc, append-nil, arith, length-append, ◌⊎◌, inl, inr}
 use Rattle.std.specs.Io.KnownBytes.{Appends, IsAtEnd}
 use Rattle.std.proofs.KnownBytes.{Appends-nil, Appends-trans}
 use Rattle.mmdb_filter.specs.Counting.{nothing_counted, count_one}
-use Rattle.mmdb_filter.specs.Lines.{MayAdd, Line, AreLines, text_of, row_of, written, counted, AppendsFront, IsFiltered, IsBegun}
+use Rattle.mmdb_filter.specs.Rows.{row_from, rows_after, Leads}
+use Rattle.mmdb_filter.specs.Lines.{MayAdd, Line, AreLines, seen_of, is_long, row_with, written, counted, IsFiltered, IsBegun}
+use Rattle.mmdb_filter.specs.Passing.{Passes, PassesFront}
 use Rattle.mmdb_filter.specs.declared.counts.Counts.{Counts}
+use Rattle.mmdb_filter.specs.declared.counts.Outcome.{Outcome}
+use Rattle.mmdb_filter.specs.declared.rows.Rows.{Rows}
+use Rattle.mmdb_filter.specs.declared.rows.Place.{Place}
+use Rattle.mmdb_filter.specs.declared.rows.Place.TheVariants.{Cell, Ended}
+use Rattle.mmdb_filter.proofs.PassLaws.{nothing_left}
+use Rattle.mmdb_filter.proofs.RowLaws.{row_from_some, row_from_empty}
+use Rattle.mmdb_filter.proofs.TextLaws.{or_less, seen_same}
 
--- what was written, and that whatever lines are left complete those of the whole
-abbrev pub UnderWay : MayAdd → Option (List ℕ) → Option (List ℕ) → Option (List ℕ) → Option (List ℕ) → Counts → Type 0
-UnderWay Adds None left old now c = Unit {0}
-UnderWay Adds (Some all) None old now c = ⊥
-UnderWay Adds (Some all) (Some left) old now c =
+-- what was written, and that whatever rows are left complete those of the whole
+abbrev pub UnderWay : Rows → MayAdd → Option (List ℕ) → Option (List ℕ) → Option (List ℕ) → Option (List ℕ) → Counts → Type 0
+UnderWay rows Adds None left old now c = Unit {0}
+UnderWay rows Adds (Some all) None old now c = ⊥
+UnderWay rows Adds (Some all) (Some left) old now c =
     (done : List ℕ) × Appends old now done
-    × ((to_end : Bool) (lines : List Line) → AreLines Adds to_end lines left → (whole : List Line) × AreLines Adds to_end whole all × (written whole ≡ done ++ written lines) × (counted nothing_counted whole ≡ counted c lines))
+    × ((to_end : Bool) (lines : List Line) → AreLines rows Adds to_end lines left → (whole : List Line) × AreLines rows Adds to_end whole all × (written whole ≡ done ++ written lines) × (counted nothing_counted whole ≡ counted c lines))
 
-pub started : (Adds : MayAdd) (input old : Option (List ℕ)) → UnderWay Adds input input old old nothing_counted
-started Adds None old = tt
-started Adds (Some all) old = ([], Appends-nil old, λ to_end lines are. (lines, are, refl, refl))
+pub started : (rows : Rows) (Adds : MayAdd) (input old : Option (List ℕ)) → UnderWay rows Adds input input old old nothing_counted
+started rows Adds None old = tt
+started rows Adds (Some all) old = ([], Appends-nil old, λ to_end lines are. (lines, are, refl, refl))
 
-some_left : (xs line : List ℕ) → line ≡ take_through 10 xs → 0 < length line → 0 < length xs
-some_left [] line is some = absurd (omega (arith, some, ap length is))
-some_left (x ∷ xs) line is some = omega arith
+-- what is seen of a piece is seen of the row
+pub seen_whole : (rows : Rows) (place : Place) (piece ys : List ℕ) → (place ≢ Ended → length piece < 65539 → ys ≡ [])
+    → (seen_of (piece ++ row_from rows place ys) ≡ seen_of piece) × (is_long (piece ++ row_from rows place ys) ≡ is_long piece)
+seen_whole rows place piece ys ready = at (or_less (length piece) 65539)
+  where
+    at : (length piece < 65539) ⊎ (65539 ≤ length piece) → (seen_of (piece ++ row_from rows place ys) ≡ seen_of piece) × (is_long (piece ++ row_from rows place ys) ≡ is_long piece)
+    at (inr h) = seen_same piece (row_from rows place ys) h
+    at (inl h) =
+        let same : piece ++ row_from rows place ys ≡ piece = ap (λ r. piece ++ r) (nothing_left rows place ys (λ e. ready e h)).0 ∙ append-nil piece in
+        (ap seen_of same, ap is_long same)
 
--- what was read into an empty buffer
-pub read_afresh : (left : Option (List ℕ)) (line front : List ℕ) → front ≡ [] → IfSome left (λ xs. line ≡ front ++ take_through 10 xs) → IfSome left (λ xs. line ≡ take_through 10 xs)
-read_afresh None line front e p = tt
-read_afresh (Some xs) line front e p = p ∙ ap (λ f. f ++ take_through 10 xs) e
+more_are : (rows : Rows) (Adds : MayAdd) (to_end : Bool) (line : Line) (lines : List Line) (xs : List ℕ) → 0 < length xs → line.bytes ≡ row_from rows Cell xs → Adds (seen_of line.bytes) (is_long line.bytes) line.extra line.outcome → AreLines rows Adds to_end lines (rows_after rows Cell xs) → AreLines rows Adds to_end (line ∷ lines) xs
+more_are rows Adds true line lines xs s is a are = (s, is, a, are)
+more_are rows Adds false line lines xs s is a are = (s, is, a, are)
 
-more_are : (Adds : MayAdd) (to_end : Bool) (line : Line) (lines : List Line) (xs : List ℕ) → 0 < length xs → line.bytes ≡ take_through 10 xs → Adds (text_of line.bytes) line.extra line.outcome → AreLines Adds to_end lines (drop_through 10 xs) → AreLines Adds to_end (line ∷ lines) xs
-more_are Adds true line lines xs s is a are = (s, is, a, are)
-more_are Adds false line lines xs s is a are = (s, is, a, are)
+-- a row of which a piece was read
+begins : (rows : Rows) (Adds : MayAdd) (to_end : Bool) (lines : List Line) (place : Place) (piece extra xs ys : List ℕ) (outcome : Outcome)
+    → (row_from rows Cell xs ≡ piece ++ row_from rows place ys) × (rows_after rows Cell xs ≡ rows_after rows place ys) → (place ≢ Ended → length piece < 65539 → ys ≡ []) → 0 < length piece
+    → Adds (seen_of piece) (is_long piece) extra outcome → AreLines rows Adds to_end lines (rows_after rows place ys)
+    → AreLines rows Adds to_end (record { bytes = piece ++ row_from rows place ys; extra = extra; outcome = outcome } ∷ lines) xs
+begins rows Adds to_end lines place piece extra xs ys outcome leads ready some added are =
+    let line : Line = record { bytes = piece ++ row_from rows place ys; extra = extra; outcome = outcome } in
+    let more : 0 < length (row_from rows Cell xs) = omega (arith, ap length leads.0, length-append piece (row_from rows place ys)) in
+    let seen = seen_whole rows place piece ys ready in
+    more_are rows Adds to_end line lines xs (row_from_some rows Cell xs more) (sym leads.0)
+    (subst (λ t. Adds t (is_long line.bytes) extra outcome) (sym seen.0) (subst (λ b. Adds (seen_of piece) b extra outcome) (sym seen.1) added))
+    (subst (AreLines rows Adds to_end lines) (sym leads.1) are)
 
-pub next_line : (Adds : MayAdd) (input left next old now new : Option (List ℕ)) (c : Counts) (line : Line)
-    → IfSome left (λ xs. line.bytes ≡ take_through 10 xs) → DropsThrough left next 10 → 0 < length line.bytes → Adds (text_of line.bytes) line.extra line.outcome
-    → Appends now new (row_of line)
-    → UnderWay Adds input left old now c → UnderWay Adds input next old new (count_one c line.outcome)
-next_line Adds None left next old now new c line is drops some added put way = tt
-next_line Adds (Some all) None next old now new c line is drops some added put way = absurd way
-next_line Adds (Some all) (Some xs) next old now new c line is drops some added put way =
+pub next_row : (rows : Rows) (Adds : MayAdd) (input left mid next old now new : Option (List ℕ)) (c : Counts) (place : Place) (piece extra : List ℕ) (outcome : Outcome)
+    → Leads rows Cell left piece place mid → (place ≢ Ended → length piece < 65539 → OnSome left (IsAtEnd mid)) → 0 < length piece → Adds (seen_of piece) (is_long piece) extra outcome
+    → ((place ≢ Ended → length piece < 65539 → IsAtEnd mid) → Passes rows place piece extra mid next now new)
+    → UnderWay rows Adds input left old now c → UnderWay rows Adds input next old new (count_one c outcome)
+next_row rows Adds None left mid next old now new c place piece extra outcome leads ready some added passes way = tt
+next_row rows Adds (Some all) None mid next old now new c place piece extra outcome leads ready some added passes way = absurd way
+next_row rows Adds (Some all) (Some xs) None next old now new c place piece extra outcome leads ready some added passes way = absurd leads
+next_row rows Adds (Some all) (Some xs) (Some ys) next old now new c place piece extra outcome leads ready some added passes way =
     let (done, appended, goes_on) = way in
-    subst (λ n. UnderWay Adds (Some all) n old new (count_one c line.outcome)) (sym drops) (
-      done ++ row_of line,
-      Appends-trans old now new done (row_of line) appended put,
+    let (after, put) = passes ready in
+    let line : Line = record { bytes = piece ++ row_from rows place ys; extra = extra; outcome = outcome } in
+    subst (λ n. UnderWay rows Adds (Some all) n old new (count_one c outcome)) (sym after) (
+      done ++ row_with line.bytes extra,
+      Appends-trans old now new done (row_with line.bytes extra) appended put,
       λ to_end lines are.
-          let (whole, wholes, text, counts) = goes_on to_end (line ∷ lines) (more_are Adds to_end line lines xs (some_left xs line.bytes is some) is added are) in
-          (whole, wholes, text ∙ sym (append_assoc done (row_of line) (written lines)), counts),
+          let (whole, wholes, text, counts) = goes_on to_end (line ∷ lines) (begins rows Adds to_end lines place piece extra xs ys outcome leads ready some added are) in
+          (whole, wholes, text ∙ sym (append_assoc done (row_with line.bytes extra) (written lines)), counts),
     )
 
-pub finished : (Adds : MayAdd) (input left old now : Option (List ℕ)) (c : Counts) → IsAtEnd left → UnderWay Adds input left old now c → IsFiltered Adds input old now c
-finished Adds None left old now c e way = tt
-finished Adds (Some all) None old now c e way = absurd way
-finished Adds (Some all) (Some xs) old now c e way =
+pub finished : (rows : Rows) (Adds : MayAdd) (input left mid old now : Option (List ℕ)) (c : Counts) (place : Place) (piece : List ℕ)
+    → Leads rows Cell left piece place mid → (place ≢ Ended → length piece < 65539 → OnSome left (IsAtEnd mid)) → piece ≡ [] → UnderWay rows Adds input left old now c → IsFiltered rows Adds input old now c
+finished rows Adds None left mid old now c place piece leads ready none way = tt
+finished rows Adds (Some all) None mid old now c place piece leads ready none way = absurd way
+finished rows Adds (Some all) (Some xs) None old now c place piece leads ready none way = absurd leads
+finished rows Adds (Some all) (Some xs) (Some ys) old now c place piece leads ready none way =
     let (done, appended, goes_on) = way in
+    let left : row_from rows Cell xs ≡ [] =
+    leads.0 ∙ ap (λ p. p ++ row_from rows place ys) none ∙ (nothing_left rows place ys (λ e. ready e (omega (arith, ap length none)))).0 in
+    let e : xs ≡ [] = row_from_empty rows xs left in
     let (whole, wholes, text, counts) = goes_on true [] e in
     (whole, wholes, subst (λ t. Appends old now t) (sym (text ∙ append-nil done)) appended, sym counts)
 
--- given up between two lines, and in a line
-pub given_up : (Adds : MayAdd) (input left old now : Option (List ℕ)) (c : Counts) → UnderWay Adds input left old now c → IsBegun Adds input old now
-given_up Adds None left old now c way = tt
-given_up Adds (Some all) None old now c way = absurd way
-given_up Adds (Some all) (Some xs) old now c way =
+-- given up between two rows, and in a row
+pub given_up : (rows : Rows) (Adds : MayAdd) (input left old now : Option (List ℕ)) (c : Counts) → UnderWay rows Adds input left old now c → IsBegun rows Adds input old now
+given_up rows Adds None left old now c way = tt
+given_up rows Adds (Some all) None old now c way = absurd way
+given_up rows Adds (Some all) (Some xs) old now c way =
     let (done, appended, goes_on) = way in
     let (whole, wholes, text, counts) = goes_on false [] tt in
     (whole, wholes, (done, [], text, appended))
 
-pub given_up_in : (Adds : MayAdd) (input left old now new : Option (List ℕ)) (c : Counts) (line : Line)
-    → IfSome left (λ xs. line.bytes ≡ take_through 10 xs) → 0 < length line.bytes → Adds (text_of line.bytes) line.extra line.outcome
-    → AppendsFront now new (row_of line)
-    → UnderWay Adds input left old now c → IsBegun Adds input old new
-given_up_in Adds None left old now new c line is some added put way = tt
-given_up_in Adds (Some all) None old now new c line is some added put way = absurd way
-given_up_in Adds (Some all) (Some xs) old now new c line is some added put way =
+pub given_up_in : (rows : Rows) (Adds : MayAdd) (input left mid old now new : Option (List ℕ)) (c : Counts) (place : Place) (piece extra : List ℕ) (outcome : Outcome)
+    → Leads rows Cell left piece place mid → (place ≢ Ended → length piece < 65539 → OnSome left (IsAtEnd mid)) → 0 < length piece → Adds (seen_of piece) (is_long piece) extra outcome
+    → ((place ≢ Ended → length piece < 65539 → IsAtEnd mid) → PassesFront rows place piece extra mid now new)
+    → UnderWay rows Adds input left old now c → IsBegun rows Adds input old new
+given_up_in rows Adds None left mid old now new c place piece extra outcome leads ready some added passes way = tt
+given_up_in rows Adds (Some all) None mid old now new c place piece extra outcome leads ready some added passes way = absurd way
+given_up_in rows Adds (Some all) (Some xs) None old now new c place piece extra outcome leads ready some added passes way = absurd leads
+given_up_in rows Adds (Some all) (Some xs) (Some ys) old now new c place piece extra outcome leads ready some added passes way =
     let (done, appended, goes_on) = way in
-    let (front, rest, split, more) = put in
-    let (whole, wholes, text, counts) = goes_on false (line ∷ []) (more_are Adds false line [] xs (some_left xs line.bytes is some) is added tt) in
-    (whole, wholes, (done ++ front, rest, text ∙ ap (λ t. done ++ t) (append-nil (row_of line) ∙ split) ∙ sym (append_assoc done front rest), Appends-trans old now new done front appended more))
-
--- the text of a row
-pub row_is : (cleared text_put extra_put row all text extra end : List ℕ) → cleared ≡ [] → text_put ≡ cleared ++ text → extra_put ≡ text_put ++ extra → row ≡ extra_put ++ end → all ≡ row → all ≡ text ++ (extra ++ end)
-row_is cleared text_put extra_put row all text extra end a b c d e =
-    e ∙ d ∙ ap (λ l. l ++ end) (c ∙ ap (λ l. l ++ extra) (b ∙ ap (λ l. l ++ text) a)) ∙ append_assoc text extra end
-
-pub on_any_err : {T E A : Type 0} (r : Result T E) → A → OnErr r A
-on_any_err (Ok x) a = tt
-on_any_err (Err e) a = a
-
-pub on_err : {T E A B : Type 0} (r : Result T E) → (A → B) → OnErr r A → OnErr r B
-on_err (Ok x) f a = a
-on_err (Err e) f a = f a
+    let (front, rest, split, more) = passes ready in
+    let line : Line = record { bytes = piece ++ row_from rows place ys; extra = extra; outcome = outcome } in
+    let (whole, wholes, text, counts) = goes_on false (line ∷ []) (begins rows Adds false [] place piece extra xs ys outcome leads ready some added tt) in
+    (whole, wholes, (done ++ front, rest, text ∙ ap (λ t. done ++ t) (append-nil (row_with line.bytes extra) ∙ split) ∙ sym (append_assoc done front rest), Appends-trans old now new done front appended more))

@@ -1,50 +1,64 @@
--- What a filter over lines writes: each line whole, and before its end what is added to it.
+-- What a filter over rows writes: each row whole, and before its end what is added to it.
 use Rattle.std.specs.Prelude.{◌≡◌, ℕ, ◌-◌, ◌<◌, List, [], ◌∷◌, ◌++◌, length, take, drop, get_or, Option, IfSome, ◌&&◌, ◌==◌, nat_lt, if◌then◌else◌, Bool, true, false}
-use Rattle.std.specs.Io.BufRead.{take_through, drop_through}
 use Rattle.std.specs.Io.KnownBytes.{Appends}
 use Rattle.mmdb_filter.specs.Counting.{nothing_counted, count_one}
+use Rattle.mmdb_filter.specs.Rows.{row_from, rows_after}
 use Rattle.mmdb_filter.specs.declared.counts.Counts.{Counts}
 use Rattle.mmdb_filter.specs.declared.counts.Outcome.{Outcome}
+use Rattle.mmdb_filter.specs.declared.rows.Rows.{Rows}
+use Rattle.mmdb_filter.specs.declared.rows.Place.TheVariants.{Cell}
 
--- the length of a line without its end, `\n` or `\r\n`
+-- the length of a row without its end, `\n` or `\r\n`
 unfoldable pub text_length : List ℕ → ℕ
-text_length line =
-    if nat_lt 0 (length line) && (get_or line (length line - 1) 0 == 10)
-    then (if nat_lt 1 (length line) && (get_or line (length line - 2) 0 == 13) then length line - 2 else length line - 1)
-    else length line
+text_length row =
+    if nat_lt 0 (length row) && (get_or row (length row - 1) 0 == 10)
+    then (if nat_lt 1 (length row) && (get_or row (length row - 2) 0 == 13) then length row - 2 else length row - 1)
+    else length row
 
 abbrev pub text_of : List ℕ → List ℕ
-text_of line = take (text_length line) line
+text_of row = take (text_length row) row
 
 abbrev pub end_of : List ℕ → List ℕ
-end_of line = drop (text_length line) line
+end_of row = drop (text_length row) row
 
--- a line with its end, what is added to it, and how it fared
+-- how many bytes of a text additions see
+unfoldable pub most_seen : ℕ
+most_seen = 65536
+
+abbrev pub seen_of : List ℕ → List ℕ
+seen_of row = take most_seen (text_of row)
+
+abbrev pub is_long : List ℕ → Bool
+is_long row = nat_lt most_seen (length (text_of row))
+
+-- a row with its end, what is added to it, and how it fared
 pub record Line : Type 0 where
   pub bytes : List ℕ
   pub extra : List ℕ
   pub outcome : Outcome
 
--- What additions may do: to a line without its end they add such bytes, with that outcome.
+-- What additions may do: to a row of which they see such a text, and whether it is longer, they add such bytes, with
+-- that outcome.
 abbrev pub MayAdd : Type 1
-MayAdd = List ℕ → List ℕ → Outcome → Type 0
+MayAdd = List ℕ → Bool → List ℕ → Outcome → Type 0
 
--- These are the lines of the bytes, in order, each with what is added: all of them, or the first ones.
-abbrev pub AreLines : MayAdd → Bool → List Line → List ℕ → Type 0
-AreLines Adds true [] xs = xs ≡ []
-AreLines Adds false [] xs = Unit {0}
-AreLines Adds all (line ∷ lines) xs =
-    (0 < length xs) × (line.bytes ≡ take_through 10 xs) × Adds (text_of line.bytes) line.extra line.outcome × AreLines Adds all lines (drop_through 10 xs)
+-- These are the rows of the bytes, in order, each with what is added: all of them, or the first ones.
+abbrev pub AreLines : Rows → MayAdd → Bool → List Line → List ℕ → Type 0
+AreLines rows Adds true [] xs = xs ≡ []
+AreLines rows Adds false [] xs = Unit {0}
+AreLines rows Adds all (line ∷ lines) xs =
+    (0 < length xs) × (line.bytes ≡ row_from rows Cell xs) × Adds (seen_of line.bytes) (is_long line.bytes) line.extra line.outcome
+    × AreLines rows Adds all lines (rows_after rows Cell xs)
 
--- a line as it is written
-abbrev pub row_of : Line → List ℕ
-row_of line = text_of line.bytes ++ (line.extra ++ end_of line.bytes)
+-- a row as it is written
+abbrev pub row_with : List ℕ → List ℕ → List ℕ
+row_with bytes extra = text_of bytes ++ (extra ++ end_of bytes)
 
 abbrev pub written : List Line → List ℕ
 written [] = []
-written (line ∷ lines) = row_of line ++ written lines
+written (line ∷ lines) = row_with line.bytes line.extra ++ written lines
 
--- the counts with these lines
+-- the counts with these rows
 abbrev pub counted : Counts → List Line → Counts
 counted counts [] = counts
 counted counts (line ∷ lines) = counted (count_one counts line.outcome) lines
@@ -53,13 +67,13 @@ counted counts (line ∷ lines) = counted (count_one counts line.outcome) lines
 abbrev pub AppendsFront : Option (List ℕ) → Option (List ℕ) → List ℕ → Type 0
 AppendsFront old new text = (front rest : List ℕ) × (text ≡ front ++ rest) × Appends old new front
 
--- Where the bytes of the input are known, known output grew by all of its lines, each with what is added, and the
+-- Where the bytes of the input are known, known output grew by all of its rows, each with what is added, and the
 -- counts are theirs.
-abbrev pub IsFiltered : MayAdd → Option (List ℕ) → Option (List ℕ) → Option (List ℕ) → Counts → Type 0
-IsFiltered Adds input old new counts =
-    IfSome input (λ xs. (lines : List Line) × AreLines Adds true lines xs × Appends old new (written lines) × (counts ≡ counted nothing_counted lines))
+abbrev pub IsFiltered : Rows → MayAdd → Option (List ℕ) → Option (List ℕ) → Option (List ℕ) → Counts → Type 0
+IsFiltered rows Adds input old new counts =
+    IfSome input (λ xs. (lines : List Line) × AreLines rows Adds true lines xs × Appends old new (written lines) × (counts ≡ counted nothing_counted lines))
 
--- There known output grew by a beginning of its first lines, each with what is added.
-abbrev pub IsBegun : MayAdd → Option (List ℕ) → Option (List ℕ) → Option (List ℕ) → Type 0
-IsBegun Adds input old new =
-    IfSome input (λ xs. (lines : List Line) × AreLines Adds false lines xs × AppendsFront old new (written lines))
+-- There known output grew by a beginning of its first rows, each with what is added.
+abbrev pub IsBegun : Rows → MayAdd → Option (List ℕ) → Option (List ℕ) → Option (List ℕ) → Type 0
+IsBegun rows Adds input old new =
+    IfSome input (λ xs. (lines : List Line) × AreLines rows Adds false lines xs × AppendsFront old new (written lines))

@@ -1,79 +1,85 @@
 //! The filter.
-ghost use Rattle.std.specs.Prelude.{◌≡◌, ◌++◌, ◌≤◌, List, ℕ, IfOk, OnErr, length};
-ghost use Rattle.mmdb_filter.specs.Lines.{text_length as spec_text_length, IsFiltered, IsBegun};
+ghost use Rattle.std.specs.Prelude.{◌≡◌, ◌++◌, List, ℕ, Bool, IfOk, OnErr};
+ghost use Rattle.mmdb_filter.specs.Lines.{IsFiltered, IsBegun};
 ghost use Rattle.mmdb_filter.specs.declared.counts.Outcome.{Outcome as SpecOutcome};
 
 use crate::counts::{Counts, Outcome};
-use crate::put::put_all;
+use crate::pass::pass_on;
+use crate::piece::read_piece;
+use crate::rows::{Place, Rows};
+use crate::text::seen;
 use std::alloc::Global;
 use std::io::{self, BufRead, ErrorKind, Write};
 
-/// What is added to lines.
+/// What is added to rows.
 pub trait Additions {
-    /// What it remembers from line to line.
+    /// What it remembers from row to row.
     type Memory: Drop;
 
-    /// What may be added to a line without its end, and how that line fares then.
-    ghost adds: { Self → List ℕ → List ℕ → SpecOutcome → Type 0 };
+    /// What may be added to a row of which such a text is seen, without the row's end, where it may be that the
+    /// text is longer; and how that row fares then.
+    ghost adds: { Self → List ℕ → Bool → List ℕ → SpecOutcome → Type 0 };
 
     /// What is remembered is right.
     ghost fits: { Self → Self.Memory → Type 0 };
 
-    /// Appends to `out` what is added to a line, which comes without its end.
-    fn add(&self, memory: &mut Self::Memory, text: &[u8], out: &mut Vec<u8>) -> io::Result<Outcome>
+    /// Appends to `out` what is added to a row. Its text comes without its end. Of a long text only the first
+    /// [`MOST_SEEN`](crate::MOST_SEEN) bytes come, and `is_long` tells so.
+    fn add(
+        &self,
+        memory: &mut Self::Memory,
+        text: &[u8],
+        is_long: bool,
+        out: &mut Vec<u8>,
+    ) -> io::Result<Outcome>
         requires { fits self.now memory.old }
-        ensures added { IfOk result (λ outcome. (extra : List ℕ) × adds self.now text.now extra outcome × (out.new.items ≡ out.old.items ++ extra)) }
+        ensures added { IfOk result (λ outcome. (extra : List ℕ) × adds self.now text.now is_long extra outcome × (out.new.items ≡ out.old.items ++ extra)) }
         ensures fits { fits self.now memory.new };
 }
 
-// How long a line is without its end, `\n` or `\r\n`.
-#[tactic(auto, unfolding(crate::specs::Lines::text_length))]
-fn text_length(line: &[u8]) -> usize
-    ensures length { result ≡ spec_text_length line.now }
-    ensures within { result ≤ length line.now }
-{
-    let len = line.len();
-    if len > 0 && line[len - 1] == b'\n' {
-        if len > 1 && line[len - 2] == b'\r' {
-            len - 2
-        } else {
-            len - 1
-        }
-    } else {
-        len
-    }
+/// Who is told how far the filter is.
+pub trait Progress {
+    /// So many rows passed.
+    fn passed(&mut self, rows: u64);
 }
 
-/// Copies all lines, with what is added to each before its end, and counts how they fared. A last line without
-/// an end stays without. `out` is not flushed.
+/// After so many rows it is told how many passed.
+const STEP: u64 = 65_536;
+
+/// Copies all rows, with what is added to each before its end, and counts how they fared. A last row without
+/// an end stays without. A long row passes in pieces. `out` is not flushed.
 ///
 /// An `Err` is of the input, the output or memory; a beginning of that was written then.
-pub fn filter_lines<A: Additions, R: BufRead, W: Write>(
+pub fn filter_rows<A: Additions, R: BufRead, W: Write, P: Progress>(
     alloc: Global,
+    rows: Rows,
     additions: &A,
     memory: &mut A::Memory,
     input: &mut R,
     out: &mut W,
+    progress: &mut P,
 ) -> io::Result<Counts>
     requires { A.fits additions.now memory.old }
-    ensures whole { IfOk result (IsFiltered (A.adds additions.now) (R.remaining input.old) (W.contents out.old) (W.contents out.new)) }
-    ensures begun { OnErr result (IsBegun (A.adds additions.now) (R.remaining input.old) (W.contents out.old) (W.contents out.new)) }
+    ensures whole { IfOk result (IsFiltered rows (A.adds additions.now) (R.remaining input.old) (W.contents out.old) (W.contents out.new)) }
+    ensures begun { OnErr result (IsBegun rows (A.adds additions.now) (R.remaining input.old) (W.contents out.old) (W.contents out.new)) }
     ensures fits { A.fits additions.now memory.new }
 {
     let mut counts = Counts::new();
-    let mut line = Vec::new(alloc);
-    let mut row = Vec::new(alloc);
-    for _ in 0..u64::MAX {
-        line.clear();
-        if input.read_until(b'\n', &mut line)? == 0 {
+    let mut piece = Vec::new(alloc);
+    let mut added = Vec::new(alloc);
+    for passed in 0..u64::MAX {
+        if passed % STEP == 0 && passed > 0 {
+            progress.passed(passed);
+        }
+        piece.clear();
+        let place = read_piece(input, rows, Place::Cell, &mut piece)?;
+        if piece.is_empty() {
             return Ok(counts);
         }
-        let (text, end) = line.as_slice().split_at(text_length(line.as_slice()));
-        row.clear();
-        row.extend_from_slice(text)?;
-        let outcome = additions.add(memory, text, &mut row)?;
-        row.extend_from_slice(end)?;
-        put_all(out, row.as_slice())?;
+        added.clear();
+        let (text, is_long) = seen(piece.as_slice());
+        let outcome = additions.add(memory, text, is_long, &mut added)?;
+        pass_on(input, rows, place, &mut piece, added.as_slice(), out)?;
         counts.count(outcome);
     }
     Err(io::Error::from(ErrorKind::FileTooLarge))

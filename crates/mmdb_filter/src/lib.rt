@@ -1,9 +1,16 @@
-//! A filter over lines: each is written whole, with something added before its end.
+//! A filter over rows, lines or rows of CSV: each is written whole, with something added before its end.
 #![tactic(auto)]
 
 mod counts;
 mod filter;
+mod pass;
+mod piece;
 mod put;
+mod rows;
+mod text;
 
 pub use counts::{Counts, Outcome};
-pub use filter::{Additions, filter_lines};
+pub use filter::{Additions, Progress, filter_rows};
+pub use piece::read_piece;
+pub use rows::{Place, Rows};
+pub use text::MOST_SEEN;

@@ -17,8 +17,11 @@ pub enum ProgramError {
     #[error("{0}")]
     Lines(io::Error),
     /// The first line has no column of this name.
-    #[error("the first line has no such column")]
-    NoColumn,
+    #[error("the first line has no column {0}")]
+    NoColumn(String),
+    /// The first line, of which the names are wanted, is too long.
+    #[error("the first line has more than 65536 bytes")]
+    LongHeader,
     /// There was no memory.
     #[error("out of memory")]
     Memory,

@@ -208,24 +208,17 @@ fn done<R: Files, I: BufRead, O: Write, E: Write>(
     rt: &R,
     alloc: Global,
     request: Request<'_>,
-    is_terminal: bool,
+    terminals: Terminals,
     input: &mut I,
     out: &mut O,
     err: &mut E,
 ) -> Result<u8, ProgramError> {
     match request {
-        Request::Show(wanted) => show(rt, alloc, &wanted, is_terminal, out, err),
+        Request::Show(wanted) => show(rt, alloc, &wanted, terminals.output, out, err),
         Request::Info { file, json } => about(rt, alloc, file, json, out),
-        Request::Enrich {
-            file,
-            column,
-            names,
-            paths,
-            header,
-        } => {
-            let reader = Reader::open_readfile(rt, alloc, file)?;
-            let names = names.as_slice();
-            let counts = enrich(alloc, &reader, column, names, paths, header, input, out)?;
+        Request::Enrich(wanted) => {
+            let reader = Reader::open_readfile(rt, alloc, wanted.file)?;
+            let counts = enrich(alloc, &reader, wanted, terminals.errors, input, out, err)?;
             tell_counts(alloc, counts, err);
             Ok(DONE)
         }
@@ -246,15 +239,50 @@ fn answer<O: Write, E: Write>(answer: &Answer, out: &mut O, err: &mut E) -> u8 {
     }
 }
 
-/// What the program does with its words, its own name first, and the status that it ends with.
+/// Which of the standard streams are terminals.
+#[derive(Clone, Copy)]
+pub struct Terminals {
+    pub output: bool,
+    pub errors: bool,
+}
+
+// The status of a refusal.
+fn status_of(error: &ProgramError) -> u8 {
+    match error {
+        ProgramError::NoColumn(_) => BAD_WORDS,
+        _ => REFUSED,
+    }
+}
+
+/// What the program does with its words, its own name first, and the status that it ends with, where standard
+/// error is no terminal.
 ///
-/// 0: done. 1: a refusal, which is told on `err` with the file or the word. 2: bad words, and no file was opened.
-/// 6: an address has no record, or a path leads nowhere in it. Faults of `err` change no status.
+/// As [`run_on`] otherwise.
 pub fn run<R: Files, I: BufRead, O: Write, E: Write>(
     rt: &R,
     alloc: Global,
     words: &[String],
     is_terminal: bool,
+    input: &mut I,
+    out: &mut O,
+    err: &mut E,
+) -> u8 {
+    let terminals = Terminals {
+        output: is_terminal,
+        errors: false,
+    };
+    run_on(rt, alloc, words, terminals, input, out, err)
+}
+
+/// What the program does with its words, its own name first, and the status that it ends with.
+///
+/// 0: done. 1: a refusal, which is told on `err` with the file or the word. 2: bad words; only for a column that the first line has not was a file opened.
+/// 6: an address has no record, or a path leads nowhere in it. Faults of `err` change no status.
+pub fn run_on<R: Files, I: BufRead, O: Write, E: Write>(
+    rt: &R,
+    alloc: Global,
+    words: &[String],
+    terminals: Terminals,
     input: &mut I,
     out: &mut O,
     err: &mut E,
@@ -268,11 +296,11 @@ pub fn run<R: Files, I: BufRead, O: Write, E: Write>(
         }
     };
     let file = request.file();
-    match done(rt, alloc, request, is_terminal, input, out, err) {
+    match done(rt, alloc, request, terminals, input, out, err) {
         Ok(status) => status,
         Err(error) => {
             tell(alloc, file, &error, err);
-            REFUSED
+            status_of(&error)
         }
     }
 }

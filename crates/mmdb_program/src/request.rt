@@ -5,6 +5,7 @@ use crate::words::command;
 use clap::error::ErrorKind;
 use clap::{ArgMatches, Error};
 use maxminddb::{IpNetwork, PathElement};
+use mmdb_filter::Rows;
 use std::alloc::{AllocError, AllocFailed, Global};
 use std::net::IpAddr;
 
@@ -34,30 +35,30 @@ pub(crate) struct ExportWords<'a> {
     pub(crate) layout: Layout<'a>,
 }
 
+/// The words of `enrich`.
+#[derive(Drop)]
+pub(crate) struct EnrichWords<'a> {
+    pub(crate) file: &'a str,
+    pub(crate) rows: Rows,
+    pub(crate) column: Column<'a>,
+    pub(crate) names: Vec<&'a str>,
+    pub(crate) paths: Vec<Vec<PathElement<'a>>>,
+    pub(crate) header: bool,
+}
+
 /// A command with its words read.
 #[derive(Drop)]
 pub(crate) enum Request<'a> {
     /// The records of addresses, or their values at some paths.
     Show(ShowWords<'a>),
     /// What a database says of itself.
-    Info {
-        file: &'a str,
-        json: bool,
-    },
+    Info { file: &'a str, json: bool },
     /// Fields behind lines.
-    Enrich {
-        file: &'a str,
-        column: Column<'a>,
-        names: Vec<&'a str>,
-        paths: Vec<Vec<PathElement<'a>>>,
-        header: bool,
-    },
+    Enrich(EnrichWords<'a>),
     /// Every network with its record.
     Export(ExportWords<'a>),
     /// Whether files are whole.
-    Verify {
-        files: Vec<&'a str>,
-    },
+    Verify { files: Vec<&'a str> },
 }
 
 impl<'a> Request<'a> {
@@ -65,7 +66,8 @@ impl<'a> Request<'a> {
     pub(crate) fn file(&self) -> &'a str {
         match self {
             Request::Show(show) => show.file,
-            Request::Info { file, .. } | Request::Enrich { file, .. } => *file,
+            Request::Info { file, .. } => *file,
+            Request::Enrich(enrich) => enrich.file,
             Request::Export(export) => export.file,
             Request::Verify { .. } => "verify",
         }
@@ -173,7 +175,26 @@ fn column_of<'a>(alloc: Global, word: &'a str, header: bool) -> Result<Column<'a
     }
 }
 
-// The request to enrich lines.
+// What rows are, by the word for what stands between their cells: between those of a line tabs, else they are CSV.
+fn rows_of(alloc: Global, word: Option<&str>) -> Result<Rows, NoRequest> {
+    let Some(word) = word else {
+        return Ok(Rows::Lines);
+    };
+    match word.as_bytes() {
+        b"\t" | b"\\t" => Ok(Rows::Lines),
+        [b'"' | b'\n' | b'\r'] => Err(bad_word(
+            alloc,
+            "--delimiter",
+            "neither a quote nor a line break",
+        )),
+        [delimiter] => Ok(Rows::Csv {
+            delimiter: *delimiter,
+        }),
+        _ => Err(bad_word(alloc, word, "not one ASCII character")),
+    }
+}
+
+// The request to enrich rows.
 fn enrich<'a>(
     alloc: Global,
     file: &'a str,
@@ -181,13 +202,14 @@ fn enrich<'a>(
 ) -> Result<Request<'a>, NoRequest> {
     let header = words.get_flag("header");
     let fields = words.get_strs("field").unwrap_or(&[]);
-    Ok(Request::Enrich {
+    Ok(Request::Enrich(EnrichWords {
         file,
+        rows: rows_of(alloc, words.get_str("delimiter"))?,
         column: column_of(alloc, words.get_str("column").unwrap_or("1"), header)?,
         names: texts_of(alloc, fields)?,
         paths: paths_of(alloc, fields)?,
         header,
-    })
+    }))
 }
 
 // The request to write networks.

@@ -23,7 +23,9 @@ const ENRICH_EXAMPLE: &str = "Example:
 
 Columns stand between tabs. A line without an address, or whose address has no record, gets empty
 columns; how many lines fared so is told on standard error at the end. A text stands as it is, unless it
-has control characters; any other value is JSON.";
+has control characters; any other value is JSON. With --delimiter , the input is CSV: cells may be in
+quotes, and added cells are where they need them. The address is looked for in the first 65,536 bytes
+of a line.";
 
 const EXPORT_EXAMPLE: &str = "Example:
   mmdb export GeoLite2-Country.mmdb 81.2.69.0/24 --field country.iso_code
@@ -96,6 +98,10 @@ fn enrich<'a>(alloc: Global) -> Result<Command<'a>, AllocError> {
         .value_name("COLUMN")
         .default_value("1")
         .help("The column of the address: its number, from 1, or with --header its name");
+    let delimiter = Arg::new(alloc, "delimiter")
+        .long("delimiter")
+        .value_name("CHARACTER")
+        .help("What stands between columns, a tab if not given; any other means CSV");
     let field = Arg::new(alloc, "field")
         .long("field")
         .value_name("PATH")
@@ -110,6 +116,7 @@ fn enrich<'a>(alloc: Global) -> Result<Command<'a>, AllocError> {
         .after_help(ENRICH_EXAMPLE)
         .arg(file(alloc))?
         .arg(column)?
+        .arg(delimiter)?
         .arg(field)?
         .arg(header)
 }

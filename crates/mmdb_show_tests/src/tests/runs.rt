@@ -113,9 +113,9 @@ const NO_LINES: &[Row<'static>] = &[
     (&["enrich", "gone.mmdb"], 1, "", "gone.mmdb: i/o error: "),
     (
         &["enrich", "here.mmdb", "--header", "--column", "ip"],
-        1,
+        2,
         "",
-        "no such column",
+        "the first line has no column ip",
     ),
 ];
 

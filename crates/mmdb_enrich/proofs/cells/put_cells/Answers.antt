@@ -15,9 +15,9 @@ loop-path-preserved g c = λ offset at.
     let left = map (λ path. path.items) (drop (i + 1) paths) in
     let here : drop i paths ≡ c.path-item.result ∷ drop (i + 1) paths = drop_more paths i c.path-item.result (omega arith) ∙ ap (λ y. y ∷ drop (i + 1) paths) (sym c.path-item.is) in
     let (cell, is, put, one) = c.in_ok-is_read.ensures offset at in
-    let way = subst (λ l. CellsWay all (map (λ path. path.items) l) s offset c.args.out.now.items c.loop-path.out.items c.loop-path.are_read) here (c.loop-path.invariant offset at) in
+    let way = subst (λ l. CellsWay c.args.rows all (map (λ path. path.items) l) s offset c.args.out.now.items c.loop-path.out.items c.loop-path.are_read) here (c.loop-path.invariant offset at) in
     let path = c.as_slice.ensures.value in
-    one_cell all left c.path-item.result.items s offset c.args.out.now.items c.loop-path.out.items c.put_cell.new.out.items cell c.loop-path.are_read c.in_ok-is_read.is_read way (subst (λ p. IsCell (read_at p s offset) cell) path is) put (one ∙ ap (λ p. is_some (read_at p s offset)) path)
+    one_cell c.args.rows all left c.path-item.result.items s offset c.args.out.now.items c.loop-path.out.items c.put_cell.new.out.items cell c.loop-path.are_read c.in_ok-is_read.is_read way (subst (λ p. IsCell c.args.rows (read_at p s offset) cell) path is) put (one ∙ ap (λ p. is_some (read_at p s offset)) path)
 
 pub returns : goal.returns
 returns g c = λ offset at.
@@ -25,4 +25,4 @@ returns g c = λ offset at.
     let s = data_section (database_asked c.args.found.now) in
     let all = map (λ path. path.items) paths in
     let none = drop_all c.loop-path.path-index paths (omega arith) in
-    cells_done all s offset c.args.out.now.items c.loop-path.out.items c.loop-path.are_read (subst (λ l. CellsWay all (map (λ path. path.items) l) s offset c.args.out.now.items c.loop-path.out.items c.loop-path.are_read) none (c.loop-path.invariant offset at))
+    cells_done c.args.rows all s offset c.args.out.now.items c.loop-path.out.items c.loop-path.are_read (subst (λ l. CellsWay c.args.rows all (map (λ path. path.items) l) s offset c.args.out.now.items c.loop-path.out.items c.loop-path.are_read) none (c.loop-path.invariant offset at))

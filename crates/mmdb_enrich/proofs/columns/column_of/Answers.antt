@@ -4,6 +4,6 @@ use Rattle.mmdb_enrich.proofs.columns.column_of.Goals as goal
 
 pub loop-preserved : goal.loop-preserved
 loop-preserved c =
-    let some : c.tab_place-place.result < length c.loop.rest.now = search rules in
+    let some : c.cell_length-len.result < length c.loop.rest.now = search rules in
     let below : c.loop.counter < c.args.column = search rules in
-    c.loop.invariant ∙ column_step c.args.column c.loop.counter c.tab_place-place.result c.loop.rest.now _ below c.tab_place-place.ensures.place some (cut_twice c.loop.rest.now c.tab_place-place.result)
+    c.loop.invariant ∙ column_step c.args.rows c.args.goes_on c.args.column c.loop.counter c.cell_length-len.result c.loop.rest.now _ below c.cell_length-len.ensures.length some (cut_twice c.loop.rest.now c.cell_length-len.result)

@@ -9,4 +9,4 @@ returns-then-place-len c =
     let within : c.args.offset % 4096 < length slots = search rules in
     let there : slice_index_or slots (c.args.offset % 4096) slot ≡ slot = search rules in
     let same : slot.offset ≡ Some c.args.offset = search rules in
-    (same, λ db paths kept. subst (IsKept db paths) there (kept (c.args.offset % 4096) slot within))
+    (same, λ db rows paths kept. subst (IsKept db rows paths) there (kept (c.args.offset % 4096) slot within))

@@ -1,0 +1,89 @@
+-- The end of a row and what is seen of its text, where the row goes on before or behind some bytes.
+use Rattle.std.proofs.Common.{◌≡◌, ℕ, min, ◌+◌, ◌-◌, ◌<◌, ◌≤◌, List, [], ◌++◌, length, take, drop, get_or, Bool, true, false, ◌&&◌, ◌==◌, nat_lt, if◌then◌else◌, refl, sym, ap, ◌∙◌, subst, append_assoc, arith, length-append, take-take, get_or-append-add, length-take-le, take_all, inl, inr, ◌⊎◌}
+use Rattle.std.proofs.lemmas.List.{take-append-le}
+use Rattle.std.proofs.lemmas.Bool.Decides.{nat_tests}
+use Rattle.std.proofs.Math.Seq.{drop-append-add, take-append-add}
+use Rattle.mmdb_filter.specs.Lines.{text_length, text_of, end_of, most_seen, seen_of, is_long, row_with}
+
+pub text_within : (row : List ℕ) → (text_length row ≤ length row) × (length row ≤ text_length row + 2)
+unfolding text_length
+text_within row = at (nat_lt 0 (length row) && (get_or row (length row - 1) 0 == 10)) (nat_lt 1 (length row) && (get_or row (length row - 2) 0 == 13))
+  where
+    at : (b c : Bool) → ((if b then (if c then length row - 2 else length row - 1) else length row) ≤ length row) × (length row ≤ (if b then (if c then length row - 2 else length row - 1) else length row) + 2)
+    at true true = (omega arith, omega arith)
+    at true false = (omega arith, omega arith)
+    at false c = (omega arith, omega arith)
+
+byte_behind : (d l : List ℕ) (n : ℕ) → n ≤ length l → get_or (d ++ l) (length (d ++ l) - n) 0 ≡ get_or l (length l - n) 0
+byte_behind d l n h =
+    let e : length (d ++ l) - n ≡ length d + (length l - n) = omega (arith, length-append d l) in
+    ap (λ k. get_or (d ++ l) k 0) e ∙ get_or-append-add d l (length l - n) 0
+
+lt_true : (m n : ℕ) → m < n → nat_lt m n ≡ true
+lt_true m n h = grind (arith, nat_tests)
+
+text_length_behind : (d l : List ℕ) → 2 ≤ length l → text_length (d ++ l) ≡ length d + text_length l
+unfolding text_length
+text_length_behind d l h =
+    let long = length-append d l in
+    at (nat_lt 0 (length (d ++ l))) (nat_lt 0 (length l)) (nat_lt 1 (length (d ++ l))) (nat_lt 1 (length l)) (get_or (d ++ l) (length (d ++ l) - 1) 0) (get_or l (length l - 1) 0) (get_or (d ++ l) (length (d ++ l) - 2) 0) (get_or l (length l - 2) 0)
+    (lt_true 0 (length (d ++ l)) (omega arith)) (lt_true 0 (length l) (omega arith)) (lt_true 1 (length (d ++ l)) (omega arith)) (lt_true 1 (length l) (omega arith))
+    (byte_behind d l 1 (omega arith)) (byte_behind d l 2 h)
+  where
+    choose : (b c : Bool) → (if b then (if c then length (d ++ l) - 2 else length (d ++ l) - 1) else length (d ++ l)) ≡ length d + (if b then (if c then length l - 2 else length l - 1) else length l)
+    choose true true = omega (arith, length-append d l, h)
+    choose true false = omega (arith, length-append d l, h)
+    choose false c = length-append d l
+
+    at : (a a' b b' : Bool) (x x' y y' : ℕ) → a ≡ true → a' ≡ true → b ≡ true → b' ≡ true → x ≡ x' → y ≡ y'
+        → (if a && (x == 10) then (if b && (y == 13) then length (d ++ l) - 2 else length (d ++ l) - 1) else length (d ++ l))
+        ≡ length d + (if a' && (x' == 10) then (if b' && (y' == 13) then length l - 2 else length l - 1) else length l)
+    at a a' b b' x x' y y' e e' f f' g k = rw (e, e', f, f', g, k) (choose (x' == 10) (y' == 13))
+
+pub text_behind : (d l : List ℕ) → 2 ≤ length l → text_of (d ++ l) ≡ d ++ text_of l
+text_behind d l h = ap (λ n. take n (d ++ l)) (text_length_behind d l h) ∙ take-append-add d l (text_length l)
+
+pub end_behind : (d l : List ℕ) → 2 ≤ length l → end_of (d ++ l) ≡ end_of l
+end_behind d l h = ap (λ n. drop n (d ++ l)) (text_length_behind d l h) ∙ drop-append-add d l (text_length l)
+
+pub row_behind : (d l extra : List ℕ) → (d ≡ []) ⊎ (2 ≤ length l) → row_with (d ++ l) extra ≡ d ++ row_with l extra
+row_behind d l extra (inl e) = subst (λ d. row_with (d ++ l) extra ≡ d ++ row_with l extra) (sym e) refl
+row_behind d l extra (inr h) = ap (λ t. t ++ (extra ++ end_of (d ++ l))) (text_behind d l h) ∙ ap (λ t. (d ++ text_of l) ++ (extra ++ t)) (end_behind d l h) ∙ append_assoc d (text_of l) (extra ++ end_of l)
+
+-- what is seen of a row that has more bytes than are seen, and three
+pub most : most_seen ≡ 65536
+unfolding most_seen
+most = refl
+
+seen_front : (row : List ℕ) → most_seen + 3 ≤ length row → seen_of row ≡ take most_seen row
+seen_front row h = take-take most_seen (text_length row) row (omega (arith, (text_within row).1))
+
+long : (row : List ℕ) → most_seen + 3 ≤ length row → is_long row ≡ true
+long row h = lt_true most_seen (length (text_of row)) (omega (arith, (text_within row).0, (text_within row).1, length-take-le (text_length row) row (text_within row).0))
+
+pub seen_same : (piece rest : List ℕ) → 65539 ≤ length piece → (seen_of (piece ++ rest) ≡ seen_of piece) × (is_long (piece ++ rest) ≡ is_long piece)
+seen_same piece rest h =
+    let enough : most_seen + 3 ≤ length piece = omega (arith, most) in
+    let more : most_seen + 3 ≤ length (piece ++ rest) = omega (arith, most, length-append piece rest) in
+    (seen_front (piece ++ rest) more ∙ take-append-le most_seen piece rest (omega arith) ∙ sym (seen_front piece enough), long (piece ++ rest) more ∙ sym (long piece enough))
+
+pub or_less : (m n : ℕ) → (m < n) ⊎ (n ≤ m)
+or_less m n = at (nat_lt m n) refl
+  where
+    at : (b : Bool) → nat_lt m n ≡ b → (m < n) ⊎ (n ≤ m)
+    at true e = inl (grind (arith, nat_tests))
+    at false e = inr (grind (arith, nat_tests))
+
+pub seen_cut : (row : List ℕ) (n : ℕ) → n ≡ min (text_length row) 65536 → take n row ≡ seen_of row
+seen_cut row n e = at (or_less most_seen (text_length row))
+  where
+    at : (most_seen < text_length row) ⊎ (text_length row ≤ most_seen) → take n row ≡ seen_of row
+    at (inl h) =
+        let same : n ≡ most_seen = omega (arith, most) in
+        ap (λ k. take k row) same ∙ sym (take-take most_seen (text_length row) row (omega arith))
+    at (inr h) =
+        let same : n ≡ text_length row = omega (arith, most) in
+        ap (λ k. take k row) same ∙ sym (take_all most_seen (take (text_length row) row) (omega (arith, length-take-le (text_length row) row (text_within row).0)))
+
+pub long_is : (row : List ℕ) → nat_lt 65536 (text_length row) ≡ is_long row
+long_is row = ap (λ n. nat_lt n (text_length row)) (sym most) ∙ ap (λ n. nat_lt most_seen n) (sym (length-take-le (text_length row) row (text_within row).0))

@@ -1,0 +1,12 @@
+use Rattle.std.proofs.Common.{◌≡◌, min, ◌∙◌, ap, nat_lt, arith}
+use Rattle.mmdb_filter.specs.Lines.{text_length}
+use Rattle.mmdb_filter.proofs.TextLaws.{seen_cut, long_is}
+use Rattle.mmdb_filter.proofs.text.seen.Goals as goal
+
+pub returns-clause-text : goal.returns-clause-text
+returns-clause-text c =
+    let least : c.min-most.result ≡ min (text_length c.args.row.now) 65536 = omega (arith, c.text_length-len.ensures.length) in
+    seen_cut c.args.row.now c.min-most.result least
+
+pub returns-clause-long : goal.returns-clause-long
+returns-clause-long c = ap (λ n. nat_lt 65536 n) c.text_length-len.ensures.length ∙ long_is c.args.row.now

@@ -1,0 +1,127 @@
+//! Inputs and outputs that a test makes.
+ghost use Rattle.std.specs.Prelude.{⊤};
+
+use mmdb_filter::{Additions, Counts, Outcome, Progress, Rows, filter_rows};
+use std::alloc::Global;
+use std::io::{self, BufReader, ErrorKind, Read, Write};
+
+/// An input that gives so many bytes a read, of which every third is interrupted, and fails at a read.
+#[derive(Drop)]
+pub(crate) struct Chopped<'a> {
+    pub(crate) bytes: &'a [u8],
+    pub(crate) step: usize,
+    pub(crate) reads: u32,
+    pub(crate) fails_at: u32,
+}
+
+impl Read for Chopped<'_> {
+    fn read(&mut self, buf: &mut [u8]) -> io::Result<usize> {
+        if self.reads == self.fails_at {
+            return Err(io::Error::from(ErrorKind::InvalidData));
+        }
+        self.reads = self.reads.saturating_add(1);
+        if self.reads % 3 == 0 {
+            return Err(io::Error::from(ErrorKind::Interrupted));
+        }
+        let count = self.step.min(buf.len()).min(self.bytes.len());
+        let (now, later) = self.bytes.split_at(count);
+        buf[..count].copy_from_slice(now);
+        self.bytes = later;
+        Ok(count)
+    }
+}
+
+/// An output with room for so many bytes, which takes so many a write, and of which every second is interrupted.
+#[derive(Drop)]
+pub(crate) struct Narrow {
+    pub(crate) bytes: Vec<u8>,
+    pub(crate) room: usize,
+    pub(crate) step: usize,
+    pub(crate) writes: u32,
+}
+
+impl Write for Narrow {
+    fn write(&mut self, bytes: &[u8]) -> io::Result<usize> {
+        self.writes = self.writes.wrapping_add(1);
+        if self.writes % 2 == 0 {
+            return Err(io::Error::from(ErrorKind::Interrupted));
+        }
+        let room = self.room.saturating_sub(self.bytes.len());
+        let count = bytes.len().min(self.step).min(room);
+        if count == 0 && !bytes.is_empty() {
+            return Err(io::Error::from(ErrorKind::StorageFull));
+        }
+        self.bytes.extend_from_slice(&bytes[..count])?;
+        Ok(count)
+    }
+
+    fn flush(&mut self) -> io::Result<()> {
+        Ok(())
+    }
+}
+
+/// Adds how many bytes are seen, and `+` where the text is longer.
+#[derive(Drop)]
+pub(crate) struct Lengths;
+
+impl Additions for Lengths {
+    type Memory = ();
+
+    ghost adds = { λ _ _ _ _ _. ⊤ };
+
+    ghost fits = { λ _ _. ⊤ };
+
+    fn add(
+        &self,
+        _memory: &mut (),
+        text: &[u8],
+        is_long: bool,
+        out: &mut Vec<u8>,
+    ) -> io::Result<Outcome> {
+        let len = text.len();
+        let mut mark = [b'+'; 7];
+        mark[0] = b'|';
+        mark[1] = b'0' + (len / 10_000 % 10) as u8;
+        mark[2] = b'0' + (len / 1_000 % 10) as u8;
+        mark[3] = b'0' + (len / 100 % 10) as u8;
+        mark[4] = b'0' + (len / 10 % 10) as u8;
+        mark[5] = b'0' + (len % 10) as u8;
+        let (count, outcome) = if is_long {
+            (7, Outcome::Refused)
+        } else {
+            (6, Outcome::Found)
+        };
+        out.extend_from_slice(&mark[..count])?;
+        Ok(outcome)
+    }
+}
+
+/// The last number of rows that was told.
+#[derive(Drop)]
+pub(crate) struct Told(pub(crate) u64);
+
+impl Progress for Told {
+    fn passed(&mut self, rows: u64) {
+        self.0 = rows;
+    }
+}
+
+/// The filter over an input in pieces of one size.
+pub(crate) fn filtered<W: Write>(
+    alloc: Global,
+    rows: Rows,
+    input: Chopped<'_>,
+    capacity: usize,
+    out: &mut W,
+) -> io::Result<Counts> {
+    let mut reader = BufReader::with_capacity(alloc, capacity, input)?;
+    filter_rows(
+        alloc,
+        rows,
+        &Lengths,
+        &mut (),
+        &mut reader,
+        out,
+        &mut Told(0),
+    )
+}
