@@ -108,3 +108,32 @@ fn networks_with_fields(rt: HostRuntime) -> Result<(), Fail> {
     }
     Ok(())
 }
+
+/// The beginnings and the lengths of lines whose records are a text of 5,000 bytes and one of one byte, in turn.
+const LONG_AND_SHORT: &[(&str, usize)] = &[
+    ("{\"network\":\"0.0.0.0/2\",\"record\":\"lll", 5035),
+    ("{\"network\":\"64.0.0.0/2\",\"record\":\"s\"}", 37),
+    ("{\"network\":\"128.0.0.0/2\",\"record\":\"lll", 5037),
+    ("{\"network\":\"192.0.0.0/2\",\"record\":\"s\"}", 38),
+];
+
+#[test]
+fn rows_too_long_to_be_kept(rt: HostRuntime) -> Result<(), Fail> {
+    let alloc = rt.alloc();
+    let mut data = Vec::new(alloc);
+    data.extend_from_slice(b"\x5E\x12\x6B")?;
+    data.resize(5003, b'l')?;
+    data.extend_from_slice(b"\x41s")?;
+    let mut nodes = Vec::new(alloc);
+    push_node_24(&mut nodes, 1, 2)?;
+    push_node_24(&mut nodes, 19, 5022)?;
+    push_node_24(&mut nodes, 19, 5022)?;
+    let count = [(Field::NodeCount, b"\xC1\x03".as_slice())];
+    let bytes = changed_file(alloc, nodes.as_slice(), data.as_slice(), &count)?;
+    let run = run_of(alloc, bytes.as_slice(), &["export", "here.mmdb"], "")?;
+    assert!(&rt; run.status == 0 && run.out.lines().count() == 4, "{run:?}");
+    for (line, (begins, length)) in run.out.lines().zip(LONG_AND_SHORT.iter()) {
+        assert!(&rt; line.starts_with(begins) && line.len() == *length, "{line}");
+    }
+    Ok(())
+}
