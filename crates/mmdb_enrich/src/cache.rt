@@ -11,10 +11,10 @@ use mmdb_filter::Outcome;
 use std::alloc::{AllocError, Global};
 
 /// How many records are kept.
-const SLOTS: usize = 4096;
+const SLOTS: usize = 32_768;
 
 /// The most bytes of the cells of a record that is kept.
-const MOST_BYTES: usize = 1024;
+const MOST_BYTES: usize = 512;
 
 /// The cells of a record.
 #[derive(Drop)]

@@ -6,7 +6,7 @@ pub returns-then-place-len : goal.returns-then-place-len
 returns-then-place-len c =
     let slots = c.args.self.now.slots.items in
     let slot = c.index-slot.result.now in
-    let within : c.args.offset % 4096 < length slots = search rules in
-    let there : slice_index_or slots (c.args.offset % 4096) slot ≡ slot = search rules in
+    let within : c.args.offset % 32768 < length slots = search rules in
+    let there : slice_index_or slots (c.args.offset % 32768) slot ≡ slot = search rules in
     let same : slot.offset ≡ Some c.args.offset = search rules in
-    (same, λ db rows paths kept. subst (IsKept db rows paths) there (kept (c.args.offset % 4096) slot within))
+    (same, λ db rows paths kept. subst (IsKept db rows paths) there (kept (c.args.offset % 32768) slot within))
