@@ -5,13 +5,14 @@ use Rattle.mmdb_format.specs.declared.error.MaxMindDbError.{MaxMindDbError}
 use Rattle.mmdb_format.specs.Contents.{passed_end}
 use Rattle.mmdb_format.specs.Header.{◌>>=◌, header_at}
 use Rattle.mmdb_decode.specs.Reading.{Reading, Meaning, given}
+use Rattle.mmdb_decode.specs.Scalars.{free_of_charge}
 use Rattle.mmdb_decode.specs.Records.{FieldRead, skipped}
 use Rattle.mmdb_decode.specs.Refusal.{Reads, Takes, Kept}
 use Rattle.mmdb_decode.specs.Skipping.{skip_at, parts_of, passes, counted, skip_within, scalar_passed, entered_inline}
 use Rattle.mmdb_decode.specs.State.{State, charged, spent_of, begun, settled, after, decoded, Within, NoneBack, GivenUp}
 use Rattle.mmdb_decode.proofs.StepLaws.{refuses, decoded_begun}
 use Rattle.mmdb_decode.proofs.ReadingLaws.{decoded-mapped, seen}
-use Rattle.std.proofs.Common.{◌≡◌, ℕ, suc, zero, Option, Some, None, Bool, true, false, option_map, refl, sym, ap, ◌∙◌, subst}
+use Rattle.std.proofs.Common.{◌≡◌, ℕ, suc, zero, List, Option, Some, None, Bool, true, false, option_map, refl, sym, ap, ◌∙◌, subst}
 use Rattle.mmdb_decode.specs.declared.budget.Charges.{Charges}
 use Rattle.mmdb_format.specs.declared.header.Header.{Header}
 use Rattle.mmdb_decode.proofs.StepLaws.{state, read_free, some_back, none_back, given_up_trans}
@@ -158,3 +159,12 @@ skipped_as p σ s = decoded-mapped false (λ (x : Unit {0}). p) skip_at σ ∙ a
 pub skipped_read : {P : Type 0} (free : Bool) (p : P) (σ τ : State) (r : Result (Unit {0}) MaxMindDbError) → IsSome σ.budget → Reads (λ x. tt) true (decoded true skip_at σ) σ τ r → FieldRead free (decoded false (skipped p) σ) p σ τ r
 skipped_read free p σ τ (Ok x) s h = record { ok = skipped_as p σ s ∙ rw h refl; err = tt; given_up = tt }
 skipped_read free p σ τ (Err e) s h = record { ok = tt; err = refuses free e (decoded false (skipped p) σ) (skipped_as p σ s ∙ rw h.1 refl); given_up = h.0 }
+
+-- a scalar is passed, however deep containers may nest
+pub scalar_skipped : (n : ℕ) (s : List ℕ) (p levels next : ℕ) (header : Header) → header_at s p ≡ Some header → parts_of header ≡ None → passed_end s header ≡ Some next → skip_within n s p levels ≡ Some (free_of_charge (tt, next))
+unfolding skip_within
+scalar_skipped zero s p levels next header h k e = rw (h, k, e) refl
+scalar_skipped (suc n) s p levels next header h k e = rw (h, k, e) refl
+
+pub scalar_left : (σ : State) (next : ℕ) → Within σ.budget → IsSome σ.budget → skip_at σ.section σ.place σ.levels ≡ Some (free_of_charge (tt, next)) → decoded true skip_at σ ≡ Some (tt, record { section = σ.section; place = next; levels = σ.levels; budget = σ.budget })
+scalar_left σ next w s h = decoded_begun true skip_at σ s ∙ read_free skip_at σ tt next w h

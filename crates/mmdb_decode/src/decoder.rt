@@ -5,6 +5,7 @@ ghost use Rattle.mmdb_format.specs.Header.{header_at as spec_header_at};
 ghost use Rattle.mmdb_decode.specs.State.{State, begun as spec_begun, Within};
 ghost use Rattle.mmdb_decode.specs.Peeking.{kind_at};
 
+mod attempts;
 mod containers;
 mod keys;
 mod scalars;

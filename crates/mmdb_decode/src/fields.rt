@@ -50,6 +50,73 @@ pub trait Fields<'de>: Sized + Drop {
     ) -> DecodeResult<()>
         requires { IsSome d.old.budget }
         ensures { FieldRead free (decoded false (fields_of table (parts_met table (flags met.old) self.old) name.now) d.old) (parts_met table (flags met.new) self.new) d.old d.new result };
+
+    /// Reads or skips the value after a name as `read_field` does, and says whether it did. After a refusal the
+    /// record and the decoder are given up.
+    fn attempt_field(
+        &mut self,
+        met: &mut Met,
+        alloc: Global,
+        name: &'de [u8],
+        d: &mut Decoder<'de>,
+    ) -> bool
+        requires { IsSome d.old.budget }
+        ensures { result ≡ true → decoded false (fields_of table (parts_met table (flags met.old) self.old) name.now) d.old ≡ Some (parts_met table (flags met.new) self.new, d.new) };
+}
+
+// Reads the fields that are left of a map, and says whether it did.
+#[inline(always)]
+fn attempt_rest<'de, R: Fields<'de>>(
+    alloc: Global,
+    d: &mut Decoder<'de>,
+    entries: &mut Entries,
+    fields: &mut R,
+    met: &mut Met,
+) -> bool
+    requires { IsSome d.old.budget }
+    ensures ok { result ≡ true → decoded false (pairs_from name_at (fields_of R.table) (parts_met R.table (flags met.old) fields.old) (pairs_left entries.old)) d.old ≡ Some (parts_met R.table (flags met.new) fields.new, d.new) }
+    ensures rest { entries.new ≡ with_pairs_left (pairs_left entries.new) entries.old }
+    ensures spent { result ≡ true → pairs_left entries.new ≡ 0 }
+{
+    d.stays_within();
+    while entries.remaining != 0 {
+        let Some(name) = d.attempt_name() else {
+            return false;
+        };
+        entries.remaining -= 1;
+        if !fields.attempt_field(met, alloc, name, d) {
+            return false;
+        }
+    }
+    d.stays_within();
+    true
+}
+
+// Reads a map into a record of which no field was met, and says whether it did; else the decoder stays. It
+// reads by a decoder of its own, of which no other call knows where the record's fields are read in line.
+fn attempt_into<'de, R: Fields<'de>>(
+    alloc: Global,
+    d: &mut Decoder<'de>,
+    fields: &mut R,
+) -> bool
+    requires { data_of R.table fields.old ≡ no_data R.table }
+    ensures ok { result ≡ true → decoded true (record_of R.table) d.old ≡ Some (data_of R.table fields.new, d.new) }
+    ensures same { result ≡ false → d.new ≡ d.old }
+{
+    let mut here = d.again();
+    let mut met = Met(
+        false, false, false, false, false, false, false, false, false,
+    );
+    let Some(mut entries) = here.attempt_map() else {
+        return false;
+    };
+    if !attempt_rest(alloc, &mut here, &mut entries, fields, &mut met) {
+        entries.give_up(&mut here);
+        return false;
+    }
+    here.end_map(entries);
+    *d = here;
+    true
 }
 
 // Reads the fields that are left of a map.
@@ -115,6 +182,10 @@ impl<'de, R: Fields<'de>> Decode<'de> for R {
 
     fn decode(alloc: Global, d: &mut Decoder<'de>) -> DecodeResult<R> {
         let mut fields = R::empty(alloc);
+        if attempt_into(alloc, d, &mut fields) {
+            return Ok(fields);
+        }
+        fields = R::empty(alloc);
         read_into(alloc, d, &mut fields)?;
         Ok(fields)
     }
@@ -138,4 +209,25 @@ pub fn read_part<'de, R: Fields<'de>>(
     read_into(alloc, d, part)?;
     *met = true;
     Ok(())
+}
+
+/// Reads a part that stands at most once as `read_part` does, and says whether it did.
+pub fn attempt_part<'de, R: Fields<'de>>(
+    alloc: Global,
+    d: &mut Decoder<'de>,
+    met: &mut bool,
+    part: &mut R,
+) -> bool
+    requires { IsSome d.old.budget }
+    ensures { result ≡ true → decoded false (part_once (record_of R.table) (met.old, data_of R.table part.old)) d.old ≡ Some ((met.new, data_of R.table part.new), d.new) }
+{
+    if *met {
+        return false;
+    }
+    *part = R::empty(alloc);
+    if !attempt_into(alloc, d, part) {
+        return false;
+    }
+    *met = true;
+    true
 }

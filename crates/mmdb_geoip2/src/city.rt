@@ -5,10 +5,11 @@ ghost use Rattle.std.specs.Prelude.{◌≡◌};
 ghost use Rattle.mmdb_decode.specs.Tables.{absent};
 ghost use Rattle.mmdb_geoip2.specs.CityTables.{city_table, location_table, postal_table, subdivision_table};
 
-use crate::fields::read_by_name;
+use crate::fields::{attempt_by_name, read_by_name};
 use crate::names::Names;
+use mmdb_decode::attempt::attempt_once;
 use mmdb_decode::decoder::Decoder;
-use mmdb_decode::fields::{Fields, Met, read_part};
+use mmdb_decode::fields::{Fields, Met, attempt_part, read_part};
 use mmdb_decode::record::{named, read_once};
 use mmdb_format::content::Double;
 use mmdb_format::error::DecodeResult;
@@ -40,6 +41,21 @@ impl<'de> Fields<'de> for City<'de> {
         read_by_name!(alloc, name, d;
             "geoname_id" => read_once(&mut self.geoname_id),
             "names" => read_part(&mut met.0, &mut self.names),
+        )
+    }
+
+    #[inline(always)]
+    fn attempt_field(
+        &mut self,
+        met: &mut Met,
+        alloc: Global,
+        name: &'de [u8],
+        d: &mut Decoder<'de>,
+    ) -> bool {
+        attempt_by_name!(alloc, name, d;
+            "geoname_id" => attempt_once(&mut self.geoname_id),
+            "names" => attempt_part(&mut met.0, &mut self.names),
+            _ => attempt_skip(),
         )
     }
 }
@@ -90,6 +106,24 @@ impl<'de> Fields<'de> for Location<'de> {
             "time_zone" => read_once(&mut self.time_zone),
         )
     }
+
+    #[inline(always)]
+    fn attempt_field(
+        &mut self,
+        _met: &mut Met,
+        alloc: Global,
+        name: &'de [u8],
+        d: &mut Decoder<'de>,
+    ) -> bool {
+        attempt_by_name!(alloc, name, d;
+            "accuracy_radius" => attempt_once(&mut self.accuracy_radius),
+            "latitude" => attempt_once(&mut self.latitude),
+            "longitude" => attempt_once(&mut self.longitude),
+            "metro_code" => attempt_once(&mut self.metro_code),
+            "time_zone" => attempt_once(&mut self.time_zone),
+            _ => attempt_skip_scalar(),
+        )
+    }
 }
 
 impl Location<'_> {
@@ -128,6 +162,20 @@ impl<'de> Fields<'de> for Postal<'de> {
     ) -> DecodeResult<()> {
         read_by_name!(alloc, name, d;
             "code" => read_once(&mut self.code),
+        )
+    }
+
+    #[inline(always)]
+    fn attempt_field(
+        &mut self,
+        _met: &mut Met,
+        alloc: Global,
+        name: &'de [u8],
+        d: &mut Decoder<'de>,
+    ) -> bool {
+        attempt_by_name!(alloc, name, d;
+            "code" => attempt_once(&mut self.code),
+            _ => attempt_skip_scalar(),
         )
     }
 }
@@ -170,6 +218,22 @@ impl<'de> Fields<'de> for Subdivision<'de> {
             "geoname_id" => read_once(&mut self.geoname_id),
             "iso_code" => read_once(&mut self.iso_code),
             "names" => read_part(&mut met.0, &mut self.names),
+        )
+    }
+
+    #[inline(always)]
+    fn attempt_field(
+        &mut self,
+        met: &mut Met,
+        alloc: Global,
+        name: &'de [u8],
+        d: &mut Decoder<'de>,
+    ) -> bool {
+        attempt_by_name!(alloc, name, d;
+            "geoname_id" => attempt_once(&mut self.geoname_id),
+            "iso_code" => attempt_once(&mut self.iso_code),
+            "names" => attempt_part(&mut met.0, &mut self.names),
+            _ => attempt_skip(),
         )
     }
 }

@@ -25,6 +25,17 @@ macro_rules! read_by_name {
     }};
 }
 
+// The same, and whether it was done. What no row names is passed by the last.
+macro_rules! attempt_by_name {
+    ($alloc:expr, $name:expr, $d:expr; $($text:literal => $read:ident($($slot:expr),+),)+ _ => $skip:ident() $(,)?) => {{
+        $(if named($name, $text) {
+            return $read($alloc, $d, $($slot),+);
+        })+
+        $d.$skip()
+    }};
+}
+
+pub(crate) use attempt_by_name;
 pub(crate) use read_by_name;
 
 /// The most subdivisions that a record may have.
@@ -90,4 +101,26 @@ pub fn read_few_once<'de, T: Decode<'de>>(
     *list = read_few(alloc, d)?;
     *met = true;
     Ok(())
+}
+
+/// Reads a list of at most 32 that stands at most once as `read_few_once` does, and says whether it did.
+pub fn attempt_few_once<'de, T: Decode<'de>>(
+    alloc: Global,
+    d: &mut Decoder<'de>,
+    met: &mut bool,
+    list: &mut Vec<T>,
+) -> bool
+    requires exact { T.exact ≡ true }
+    requires started { IsSome d.old.budget }
+    ensures { result ≡ true → decoded false (part_once (few_at 32 T.meaning) (met.old, map T.datum list.old.items)) d.old ≡ Some ((met.new, map T.datum list.new.items), d.new) }
+{
+    if *met {
+        return false;
+    }
+    if let Ok(read) = read_few(alloc, d) {
+        *list = read;
+        *met = true;
+        return true;
+    }
+    false
 }

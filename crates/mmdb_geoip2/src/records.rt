@@ -6,10 +6,10 @@ ghost use Rattle.std.specs.Vec.{vec_capacity};
 ghost use Rattle.mmdb_decode.specs.Tables.{data_of, no_data};
 ghost use Rattle.mmdb_geoip2.specs.RecordTables.{top_country_table, top_city_table, top_enterprise_table};
 
-use crate::fields::{read_by_name, read_few_once};
+use crate::fields::{attempt_by_name, attempt_few_once, read_by_name, read_few_once};
 use crate::{city, country, enterprise};
 use mmdb_decode::decoder::Decoder;
-use mmdb_decode::fields::{Fields, Met, read_part};
+use mmdb_decode::fields::{Fields, Met, attempt_part, read_part};
 use mmdb_decode::record::named;
 use mmdb_format::error::DecodeResult;
 use std::alloc::Global;
@@ -55,6 +55,24 @@ impl<'de> Fields<'de> for Country<'de> {
             "registered_country" => read_part(&mut met.2, &mut self.registered_country),
             "represented_country" => read_part(&mut met.3, &mut self.represented_country),
             "traits" => read_part(&mut met.4, &mut self.traits),
+        )
+    }
+
+    #[inline(always)]
+    fn attempt_field(
+        &mut self,
+        met: &mut Met,
+        alloc: Global,
+        name: &'de [u8],
+        d: &mut Decoder<'de>,
+    ) -> bool {
+        attempt_by_name!(alloc, name, d;
+            "continent" => attempt_part(&mut met.0, &mut self.continent),
+            "country" => attempt_part(&mut met.1, &mut self.country),
+            "registered_country" => attempt_part(&mut met.2, &mut self.registered_country),
+            "represented_country" => attempt_part(&mut met.3, &mut self.represented_country),
+            "traits" => attempt_part(&mut met.4, &mut self.traits),
+            _ => attempt_skip(),
         )
     }
 }
@@ -110,6 +128,28 @@ impl<'de> Fields<'de> for City<'de> {
             "traits" => read_part(&mut met.8, &mut self.traits),
         )
     }
+
+    #[inline(always)]
+    fn attempt_field(
+        &mut self,
+        met: &mut Met,
+        alloc: Global,
+        name: &'de [u8],
+        d: &mut Decoder<'de>,
+    ) -> bool {
+        attempt_by_name!(alloc, name, d;
+            "city" => attempt_part(&mut met.0, &mut self.city),
+            "continent" => attempt_part(&mut met.1, &mut self.continent),
+            "country" => attempt_part(&mut met.2, &mut self.country),
+            "location" => attempt_part(&mut met.3, &mut self.location),
+            "postal" => attempt_part(&mut met.4, &mut self.postal),
+            "registered_country" => attempt_part(&mut met.5, &mut self.registered_country),
+            "represented_country" => attempt_part(&mut met.6, &mut self.represented_country),
+            "subdivisions" => attempt_few_once(&mut met.7, &mut self.subdivisions),
+            "traits" => attempt_part(&mut met.8, &mut self.traits),
+            _ => attempt_skip(),
+        )
+    }
 }
 
 /// What an enterprise database says of an address.
@@ -161,6 +201,28 @@ impl<'de> Fields<'de> for Enterprise<'de> {
             "represented_country" => read_part(&mut met.6, &mut self.represented_country),
             "subdivisions" => read_few_once(&mut met.7, &mut self.subdivisions),
             "traits" => read_part(&mut met.8, &mut self.traits),
+        )
+    }
+
+    #[inline(always)]
+    fn attempt_field(
+        &mut self,
+        met: &mut Met,
+        alloc: Global,
+        name: &'de [u8],
+        d: &mut Decoder<'de>,
+    ) -> bool {
+        attempt_by_name!(alloc, name, d;
+            "city" => attempt_part(&mut met.0, &mut self.city),
+            "continent" => attempt_part(&mut met.1, &mut self.continent),
+            "country" => attempt_part(&mut met.2, &mut self.country),
+            "location" => attempt_part(&mut met.3, &mut self.location),
+            "postal" => attempt_part(&mut met.4, &mut self.postal),
+            "registered_country" => attempt_part(&mut met.5, &mut self.registered_country),
+            "represented_country" => attempt_part(&mut met.6, &mut self.represented_country),
+            "subdivisions" => attempt_few_once(&mut met.7, &mut self.subdivisions),
+            "traits" => attempt_part(&mut met.8, &mut self.traits),
+            _ => attempt_skip(),
         )
     }
 }

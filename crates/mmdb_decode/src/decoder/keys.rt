@@ -14,12 +14,12 @@ use mmdb_format::fault::Fault;
 use std::alloc::Global;
 
 /// So many bytes of a field's name are free.
-const FREE_NAME: usize = 32;
+pub(super) const FREE_NAME: usize = 32;
 
 impl<'de> Decoder<'de> {
     // A key, some of whose first bytes are free.
     #[inline(always)]
-    fn take_key(&mut self, free: usize) -> Result<&'de [u8], Fault>
+    pub(super) fn take_key(&mut self, free: usize) -> Result<&'de [u8], Fault>
         ensures { Takes (λ x. x.now) (decoded false (key_past free) self.old) self.old self.new result }
     {
         let (key, next) = key_bytes_at(self.section, self.place)?;

@@ -18,7 +18,7 @@ use std::alloc::Global;
 impl<'de> Decoder<'de> {
     // A whole number of one type, of at most so many bytes.
     #[inline(always)]
-    fn take_number(&mut self, wanted: u16, most: usize) -> Result<u128, Fault>
+    pub(super) fn take_number(&mut self, wanted: u16, most: usize) -> Result<u128, Fault>
         requires { most ≤ 16 }
         ensures read { Takes (λ n. n) (decoded false (number_of wanted most) self.old) self.old self.new result }
         ensures bound { IfOk result (λ n. n < 256 ^ most) }
@@ -39,7 +39,7 @@ impl<'de> Decoder<'de> {
 
     // The bits of a number of exactly so many bytes.
     #[inline(always)]
-    fn take_bits(&mut self, wanted: u16, size: usize) -> Result<u128, Fault>
+    pub(super) fn take_bits(&mut self, wanted: u16, size: usize) -> Result<u128, Fault>
         requires { size ≤ 16 }
         ensures read { Takes (λ n. n) (decoded false (bits_of wanted size) self.old) self.old self.new result }
         ensures bound { IfOk result (λ n. n < 256 ^ size) }
@@ -51,7 +51,7 @@ impl<'de> Decoder<'de> {
 
     // A truth value.
     #[inline(always)]
-    fn take_bool(&mut self) -> Result<bool, Fault>
+    pub(super) fn take_bool(&mut self) -> Result<bool, Fault>
         ensures { Takes (λ b. b) (decoded false spec_bool_at self.old) self.old self.new result }
     {
         let (b, next) = bool_at(self.section, self.place, self.levels)?;
@@ -82,7 +82,7 @@ impl<'de> Decoder<'de> {
 
     // A text.
     #[inline(always)]
-    fn take_text(&mut self) -> Result<&'de str, Fault>
+    pub(super) fn take_text(&mut self) -> Result<&'de str, Fault>
         ensures { Takes (λ x. x.now) (decoded false text_at self.old) self.old self.new result }
     {
         let bytes = self.take_bytes(TEXT)?;

@@ -71,7 +71,7 @@ impl<'de> Decoder<'de> {
 
 // How many parts a container has.
 #[tactic(auto, unfolding(crate::specs::Skipping::parts_of))]
-fn parts_of(header: Header) -> Option<usize>
+pub(super) fn parts_of(header: Header) -> Option<usize>
     requires { header.size < 2 ^ 25 }
     ensures value { result ≡ spec_parts_of header }
     ensures bound { IfSome result (λ n. n < 2 ^ 26) }
