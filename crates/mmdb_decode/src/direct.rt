@@ -128,20 +128,24 @@ pub(crate) fn container_at(
     })
 }
 
-// Whether bytes are UTF-8. Few that are ASCII are told without a loop, and of std's answer for all others
-// nothing but its being one is looked at.
+// Whether bytes are UTF-8, by std's test. Its answer takes memory, which is in here and so in no loop of a caller.
+#[inline(never)]
+fn is_utf8(bytes: &[u8]) -> bool
+    ensures { MatchBool result (IsUtf8 bytes.now) (¬ (IsUtf8 bytes.now)) }
+{
+    match std::str::from_utf8(bytes) {
+        Ok(_) => true,
+        Err(_) => false,
+    }
+}
+
+// Whether bytes are UTF-8. Few that are ASCII are told without a loop.
 #[tactic(auto, using(crate::proofs::Texts::ascii_text))]
 #[inline(always)]
 fn is_text(bytes: &[u8]) -> bool
     ensures { MatchBool result (IsUtf8 bytes.now) (¬ (IsUtf8 bytes.now)) }
 {
-    if is_short_ascii(bytes) {
-        return true;
-    }
-    match std::str::from_utf8(bytes) {
-        Ok(_) => true,
-        Err(_) => false,
-    }
+    is_short_ascii(bytes) || is_utf8(bytes)
 }
 
 /// The bytes as text, where they are UTF-8. The text is made of the bytes at hand: one taken out of an answer in

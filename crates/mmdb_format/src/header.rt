@@ -1,5 +1,5 @@
 //! Headers and pointers.
-ghost use Rattle.std.specs.Prelude.{◌≡◌, ◌≢◌, ℕ, ◌<◌, ◌≤◌, ◌^◌, ◌+◌, ◌/◌, length, Some, slice_get, IfSome, IfOk, option_map};
+ghost use Rattle.std.specs.Prelude.{◌≡◌, ℕ, ◌<◌, ◌≤◌, ◌^◌, ◌+◌, ◌-◌, length, Some, slice_get, IfSome, IfOk, option_map};
 ghost use Rattle.std.specs.Result.{result_ok};
 ghost use Rattle.mmdb_format.specs.Header.{bytes_at as spec_bytes_at, spelled as spec_spelled, number_at as spec_number_at, size_at as spec_size_at, sized_header as spec_sized_header, header_at as spec_header_at};
 ghost use Rattle.mmdb_format.specs.Pointer.{pointer_at as spec_pointer_at, direct_at as spec_direct_at, behind as spec_behind};
@@ -116,48 +116,52 @@ fn number_at(section: &[u8], place: usize, len: usize) -> Result<usize, Fault>
     }
 }
 
+// The size that one, two or three length bytes at a place tell. Out of line, with an answer that fits in registers.
+#[inline(never)]
 #[tactic(auto, unfolding(crate::specs::Header::size_at))]
-fn size_at(section: &[u8], place: usize, low: u8) -> Result<(usize, usize), Fault>
-    ensures value { result_ok result ≡ spec_size_at section.now place low }
-    ensures bound { IfOk result (λ z. (z.0 < 2 ^ 25) × (z.1 ≤ place + 3)) }
+fn long_size_at(section: &[u8], place: usize, low: u8) -> Option<usize>
+    requires long { 28 < low }
+    requires bits { low < 32 }
+    ensures value { option_map (λ n. (n, place + (low - 28))) result ≡ spec_size_at section.now place low }
+    ensures bound { IfSome result (λ n. (n < 2 ^ 25) × (place + (low - 28) ≤ length section.now)) }
 {
-    Ok(match low {
-        0..=28 => (usize::from(low), place),
-        29 => (29 + number_at(section, place, 1)?, place + 1),
-        30 => (285 + number_at(section, place, 2)?, place + 2),
-        _ => (65_821 + number_at(section, place, 3)?, place + 3),
+    Some(match low {
+        29 => 29 + number_at(section, place, 1).ok()?,
+        30 => 285 + number_at(section, place, 2).ok()?,
+        _ => 65_821 + number_at(section, place, 3).ok()?,
     })
 }
 
+#[inline(always)]
+#[tactic(auto, unfolding(crate::specs::Header::size_at))]
+fn size_at(section: &[u8], place: usize, low: u8) -> Result<(usize, usize), Fault>
+    requires { low < 32 }
+    ensures value { result_ok result ≡ spec_size_at section.now place low }
+    ensures bound { IfOk result (λ z. z.0 < 2 ^ 25) }
+{
+    if low <= 28 {
+        return Ok((usize::from(low), place));
+    }
+    match long_size_at(section, place, low) {
+        Some(size) => Ok((size, place + usize::from(low - 28))),
+        None => Err(Fault::EndOfBuffer),
+    }
+}
+
+#[inline(always)]
 #[tactic(auto, unfolding(crate::specs::Header::sized_header))]
 fn sized_header(section: &[u8], place: usize, kind: u16, low: u8) -> Result<Header, Fault>
-    requires { 1 < kind }
+    requires kind { 1 < kind }
+    requires bits { low < 32 }
     ensures value { result_ok result ≡ spec_sized_header section.now place kind low }
-    ensures bound { IfOk result (λ h. (h.size < 2 ^ 25) × (h.kind ≡ 1 → h.size < 32)) }
+    ensures bound { IfOk result (λ h. (h.size < 2 ^ 25) × (h.kind ≡ kind)) }
 {
     let (size, body) = size_at(section, place, low)?;
     Ok(Header { kind, size, body })
 }
 
-// A header with a type byte or length bytes of its own, after its control byte.
-#[inline(never)]
-#[tactic(auto, unfolding(crate::specs::Header::header_at))]
-fn long_header_at(section: &[u8], place: usize, control: u8) -> Result<Header, Fault>
-    requires control { slice_get section.now place ≡ Some control }
-    requires no_pointer { control / 32 ≢ 1 }
-    ensures value { result_ok result ≡ spec_header_at section.now place }
-    ensures bound { IfOk result (λ h. (h.size < 2 ^ 25) × (h.kind ≡ 1 → h.size < 32)) }
-{
-    if control / 32 != 0 {
-        return sized_header(section, place + 1, u16::from(control / 32), control % 32);
-    }
-    match section.get(place + 1) {
-        Some(kind) => sized_header(section, place + 2, u16::from(*kind) + 7, control % 32),
-        None => Err(Fault::EndOfBuffer),
-    }
-}
-
-/// The header at a place. One that is its control byte alone is made where it is asked for.
+/// The header at a place. One that is its control byte alone is told apart first, and nothing here that stays out of
+/// line has a large answer: its memory would be cleared for each header.
 #[inline(always)]
 #[tactic(auto, unfolding(crate::specs::Header::header_at, crate::specs::Header::sized_header, crate::specs::Header::size_at))]
 pub fn header_at(section: &[u8], place: usize) -> Result<Header, Fault>
@@ -176,7 +180,13 @@ pub fn header_at(section: &[u8], place: usize) -> Result<Header, Fault>
             body: place + 1,
         });
     }
-    long_header_at(section, place, *control)
+    if kind != 0 {
+        return sized_header(section, place + 1, u16::from(kind), low);
+    }
+    match section.get(place + 1) {
+        Some(kind) => sized_header(section, place + 2, u16::from(*kind) + 7, low),
+        None => Err(Fault::EndOfBuffer),
+    }
 }
 
 /// The pointer whose control byte has these low five bits, and whose bytes begin at a place.
