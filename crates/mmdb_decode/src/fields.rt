@@ -92,8 +92,8 @@ fn attempt_rest<'de, R: Fields<'de>>(
     true
 }
 
-// Reads a map into a record of which no field was met, and says whether it did; else the decoder stays. It
-// reads by a decoder of its own, of which no other call knows where the record's fields are read in line.
+// Reads a map into a record of which no field was met, and says whether it did; else the decoder stays. The
+// decoder that reads is one of its own, which can stay in registers.
 fn attempt_into<'de, R: Fields<'de>>(
     alloc: Global,
     d: &mut Decoder<'de>,
@@ -141,18 +141,19 @@ fn read_rest<'de, R: Fields<'de>>(
     Ok(())
 }
 
-// Reads a map into a record of which no field was met.
+// Reads a map into a record, which is emptied before.
+#[inline(never)]
 fn read_into<'de, R: Fields<'de>>(
     alloc: Global,
     d: &mut Decoder<'de>,
     fields: &mut R,
 ) -> DecodeResult<()>
-    requires { data_of R.table fields.old ≡ no_data R.table }
     ensures ok { OnOk result (decoded true (record_of R.table) d.old ≡ Some (data_of R.table fields.new, d.new)) }
     ensures kept { OnOk result (Kept d.old d.new) }
     ensures err { IfErr result (λ e. Refuses R.free e (decoded true (record_of R.table) d.old)) }
     ensures given_up { OnErr result (GivenUp d.old d.new) }
 {
+    *fields = R::empty(alloc);
     let mut met = Met(
         false, false, false, false, false, false, false, false, false,
     );
@@ -185,7 +186,6 @@ impl<'de, R: Fields<'de>> Decode<'de> for R {
         if attempt_into(alloc, d, &mut fields) {
             return Ok(fields);
         }
-        fields = R::empty(alloc);
         read_into(alloc, d, &mut fields)?;
         Ok(fields)
     }
@@ -205,7 +205,6 @@ pub fn read_part<'de, R: Fields<'de>>(
     if *met {
         return Err(duplicate_field(alloc, name, d.offset()));
     }
-    *part = R::empty(alloc);
     read_into(alloc, d, part)?;
     *met = true;
     Ok(())

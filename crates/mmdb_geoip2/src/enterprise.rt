@@ -332,33 +332,17 @@ impl<'de> Fields<'de> for Traits<'de> {
         )
     }
 
-    #[inline(always)]
     fn attempt_field(
         &mut self,
-        _met: &mut Met,
+        met: &mut Met,
         alloc: Global,
         name: &'de [u8],
         d: &mut Decoder<'de>,
     ) -> bool {
-        attempt_by_name!(alloc, name, d;
-            "autonomous_system_number" => attempt_once(&mut self.autonomous_system_number),
-            "autonomous_system_organization" => attempt_once(&mut self.autonomous_system_organization),
-            "connection_type" => attempt_once(&mut self.connection_type),
-            "domain" => attempt_once(&mut self.domain),
-            "is_anonymous" => attempt_once(&mut self.is_anonymous),
-            "is_anonymous_vpn" => attempt_once(&mut self.is_anonymous_vpn),
-            "is_anycast" => attempt_once(&mut self.is_anycast),
-            "is_hosting_provider" => attempt_once(&mut self.is_hosting_provider),
-            "isp" => attempt_once(&mut self.isp),
-            "is_public_proxy" => attempt_once(&mut self.is_public_proxy),
-            "is_residential_proxy" => attempt_once(&mut self.is_residential_proxy),
-            "is_tor_exit_node" => attempt_once(&mut self.is_tor_exit_node),
-            "mobile_country_code" => attempt_once(&mut self.mobile_country_code),
-            "mobile_network_code" => attempt_once(&mut self.mobile_network_code),
-            "organization" => attempt_once(&mut self.organization),
-            "user_type" => attempt_once(&mut self.user_type),
-            _ => attempt_skip_scalar(),
-        )
+        match self.read_field(met, alloc, name, d) {
+            Ok(()) => true,
+            Err(_) => false,
+        }
     }
 }
 

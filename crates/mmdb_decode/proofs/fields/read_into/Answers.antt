@@ -17,7 +17,7 @@ read_rest-requires g c κs = ((refl, tt), (enters_map c.args.d.now c.begin_map.n
 pub returns-in-Ok-clause-ok : goal.returns-in-Ok-clause-ok
 returns-in-Ok-clause-ok g c =
     let t = g.R.Fields.table in
-    let none = parts_at_first t c.args.fields.now c.requires in
+    let none = parts_at_first t c.empty.result c.empty.ensures in
     let read = rw none at c.in-Ok.ensures.ok in
     record_read t (flags c.read_rest.new.met) c.read_rest.new.fields c.args.d.now c.end_map.new.self (map_read (pairs_from name_at (fields_of t) (no_parts t)) c.args.d.now c.begin_map.new.self c.read_rest.new.d c.end_map.new.self c.in_ok-entries.entries c.read_rest.new.entries (parts_met t (flags c.read_rest.new.met) c.read_rest.new.fields) c.in_ok-entries.ensures read c.in-Ok.ensures.rest c.end_map.ensures)
 
@@ -27,7 +27,7 @@ returns-in-Ok-clause-kept g c = kept_map c.args.d.now c.begin_map.new.self c.rea
 pub returns-in-Err-clause-err : goal.returns-in-Err-clause-err
 returns-in-Err-clause-err g c =
     let t = g.R.Fields.table in
-    let none = parts_at_first t c.args.fields.now c.requires in
+    let none = parts_at_first t c.empty.result c.empty.ensures in
     let unread = rw none at c.in-Err.ensures.err in
     record_unread g.R.Fields.free c.in-Err.e t c.args.d.now (refuses_more g.R.Fields.free c.in-Err.e (decoded false (pairs_from name_at (fields_of t) (no_parts t) c.in_ok-entries.entries.remaining) c.begin_map.new.self) _ (map_not_read (pairs_from name_at (fields_of t) (no_parts t)) c.args.d.now c.begin_map.new.self c.in_ok-entries.entries c.in_ok-entries.ensures) unread)
 
