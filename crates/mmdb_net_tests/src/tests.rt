@@ -3,6 +3,7 @@ use mmdb_net::laws::networks_equal_where_same;
 use mmdb_net::{IpNetwork, IpNetworkError, Ipv4Network, Ipv6Network, mask_ip};
 use mmdb_vectors::equality::equality;
 use std::alloc::Global;
+use std::fmt::Debug;
 use std::net::{IpAddr, Ipv4Addr, Ipv6Addr};
 use std::process::Abort;
 use std::test::Fail;
@@ -80,95 +81,99 @@ const IPV6: &[Row] = &[
     },
 ];
 
+// Asserts that what is told of a text is what is wanted.
+fn assert_told<T: PartialEq + Debug>(rt: &impl Abort, text: &str, told: &T, wanted: &T) {
+    assert!(rt; *told == *wanted, "{text}: {told:?}");
+}
+
+// Asserts what a network is written as: by `Display`, in full as a text, and in full behind bytes.
+fn assert_texts(rt: &impl Abort, row: &Row, displayed: &str, full: &str, pushed: &[u8]) {
+    assert_told(rt, row.text, &displayed, &row.displayed);
+    assert_told(rt, row.text, &full, &row.full);
+    assert_told(rt, row.text, &pushed, &row.full.as_bytes());
+}
+
 // Asserts what is told of a network of either kind.
 fn assert_network(
     rt: &impl Abort,
     alloc: Global,
     network: IpNetwork,
-    row: Row,
+    row: &Row,
 ) -> Result<(), Fail> {
     let told = (network.ip(), network.prefix(), network.network());
     let wanted = (row.ip.parse()?, row.prefix, row.first.parse()?);
-    assert!(rt; told == wanted, "{}: {told:?}", row.text);
+    assert_told(rt, row.text, &told, &wanted);
     let displayed = format!(in alloc; "{network}")?;
     let full = network.full_text(alloc)?;
-    let texts = (displayed.as_str(), full.as_str());
-    assert!(rt;
-        texts == (row.displayed, row.full),
-        "{}: {texts:?}",
-        row.text
-    );
     let mut pushed = Vec::new(alloc);
     network.push_full_text(&mut pushed)?;
-    assert_eq!(rt; pushed.as_slice(), row.full.as_bytes());
+    assert_texts(
+        rt,
+        row,
+        displayed.as_str(),
+        full.as_str(),
+        pushed.as_slice(),
+    );
     Ok(())
 }
 
 #[test]
 fn network_texts(rt: HostRuntime) -> Result<(), Fail> {
     for row in IPV4.iter().chain(IPV6) {
-        assert_network(&rt, rt.alloc(), row.text.parse()?, *row)?;
+        assert_network(&rt, rt.alloc(), row.text.parse()?, row)?;
     }
     Ok(())
 }
 
 // Asserts what is told of a network of IPv4.
-fn assert_ipv4(rt: &impl Abort, alloc: Global, row: Row) -> Result<(), Fail> {
+fn assert_ipv4(rt: &impl Abort, alloc: Global, row: &Row) -> Result<(), Fail> {
     let network: Ipv4Network = row.text.parse()?;
     let (ip, first): (Ipv4Addr, Ipv4Addr) = (row.ip.parse()?, row.first.parse()?);
     let told = (network.ip(), network.prefix(), network.network());
-    assert!(rt; told == (ip, row.prefix, first), "{}: {told:?}", row.text);
-    assert!(rt;
-        Ipv4Network::new(ip, row.prefix)? == network,
-        "{}",
-        row.text
-    );
+    assert_told(rt, row.text, &told, &(ip, row.prefix, first));
+    assert_told(rt, row.text, &Ipv4Network::new(ip, row.prefix)?, &network);
     let displayed = format!(in alloc; "{network}")?;
     let full = network.full_text(alloc)?;
-    let texts = (displayed.as_str(), full.as_str());
-    assert!(rt;
-        texts == (row.displayed, row.full),
-        "{}: {texts:?}",
-        row.text
-    );
     let mut pushed = Vec::new(alloc);
     network.push_full_text(&mut pushed)?;
-    assert_eq!(rt; pushed.as_slice(), row.full.as_bytes());
+    assert_texts(
+        rt,
+        row,
+        displayed.as_str(),
+        full.as_str(),
+        pushed.as_slice(),
+    );
     Ok(())
 }
 
 // Asserts what is told of a network of IPv6.
-fn assert_ipv6(rt: &impl Abort, alloc: Global, row: Row) -> Result<(), Fail> {
+fn assert_ipv6(rt: &impl Abort, alloc: Global, row: &Row) -> Result<(), Fail> {
     let network: Ipv6Network = row.text.parse()?;
     let (ip, first): (Ipv6Addr, Ipv6Addr) = (row.ip.parse()?, row.first.parse()?);
     let told = (network.ip(), network.prefix(), network.network());
-    assert!(rt; told == (ip, row.prefix, first), "{}: {told:?}", row.text);
-    assert!(rt;
-        Ipv6Network::new(ip, row.prefix)? == network,
-        "{}",
-        row.text
-    );
+    assert_told(rt, row.text, &told, &(ip, row.prefix, first));
+    assert_told(rt, row.text, &Ipv6Network::new(ip, row.prefix)?, &network);
     let displayed = format!(in alloc; "{network}")?;
     let full = network.full_text(alloc)?;
-    let texts = (displayed.as_str(), full.as_str());
-    assert!(rt;
-        texts == (row.displayed, row.full),
-        "{}: {texts:?}",
-        row.text
-    );
     let mut pushed = Vec::new(alloc);
     network.push_full_text(&mut pushed)?;
-    assert_eq!(rt; pushed.as_slice(), row.full.as_bytes());
+    assert_texts(
+        rt,
+        row,
+        displayed.as_str(),
+        full.as_str(),
+        pushed.as_slice(),
+    );
     Ok(())
 }
 
 #[test]
 fn networks_of_one_kind(rt: HostRuntime) -> Result<(), Fail> {
     for row in IPV4 {
-        assert_ipv4(&rt, rt.alloc(), *row)?;
+        assert_ipv4(&rt, rt.alloc(), row)?;
     }
     for row in IPV6 {
-        assert_ipv6(&rt, rt.alloc(), *row)?;
+        assert_ipv6(&rt, rt.alloc(), row)?;
     }
     Ok(())
 }

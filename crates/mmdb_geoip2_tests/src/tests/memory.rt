@@ -80,7 +80,7 @@ pub fn assert_no_record<'de, T: Decode<'de>>(rt: &impl Abort, alloc: Global) {
 }
 
 /// The section of a row.
-pub fn section(alloc: Global, row: &Row) -> Result<Vec<u8>, Fail> {
+pub fn section(alloc: Global, row: &Row<'_>) -> Result<Vec<u8>, Fail> {
     Ok(with_unknown(alloc, row.before, row.after)?)
 }
 

@@ -19,23 +19,23 @@ pub const UNKNOWN: &[&[u8]] = &[
     b"\x41M\x20\xFF",
 ];
 
-/// Parts one after the other.
-pub fn section_of(alloc: Global, parts: &[&[u8]]) -> Result<Vec<u8>, AllocError> {
-    let mut section = Vec::new(alloc);
-    for part in parts {
-        section.extend_from_slice(part)?;
+/// Puts a map of fields, between which the unknown ones stand, behind the bytes given.
+pub fn push_with_unknown(
+    section: &mut Vec<u8>,
+    before: &[u8],
+    after: &[u8],
+) -> Result<(), AllocError> {
+    section.extend_from_slice(before)?;
+    for field in UNKNOWN {
+        section.extend_from_slice(field)?;
     }
-    Ok(section)
+    section.extend_from_slice(after)
 }
 
 /// A map of fields, between which the unknown ones stand.
 pub fn with_unknown(alloc: Global, before: &[u8], after: &[u8]) -> Result<Vec<u8>, AllocError> {
     let mut section = Vec::new(alloc);
-    section.extend_from_slice(before)?;
-    for field in UNKNOWN {
-        section.extend_from_slice(field)?;
-    }
-    section.extend_from_slice(after)?;
+    push_with_unknown(&mut section, before, after)?;
     Ok(section)
 }
 
