@@ -1,5 +1,5 @@
 -- What stays kept.
-use Rattle.std.proofs.Common.{◌≡◌, ℕ, List, Option, Some, None, sym, ap, ◌∙◌, ◌<◌, length, subst, slice_set, slice_index_or}
+use Rattle.std.proofs.Common.{◌≡◌, ◌⊎◌, inl, inr, ℕ, List, Option, Some, None, sym, ap, ◌∙◌, ◌<◌, length, subst, slice_set, slice_index_or}
 use Rattle.std.proofs.lemmas.List.Elements.{All-set}
 use Rattle.std.specs.List.{All}
 use Rattle.maxminddb.specs.File.{Database}
@@ -34,3 +34,8 @@ pub place_set : (db : Database) (rows : Rows) (paths : List (List PathElement)) 
     → (IsKeptAt db rows paths old → IsKeptAt db rows paths new) → All (IsKeptAt db rows paths) places → All (IsKeptAt db rows paths) (slice_set places at new)
 place_set db rows paths places at old new within there goes kept =
     All-set (IsKeptAt db rows paths) places at new (goes (subst (IsKeptAt db rows paths) there (kept at old within))) kept
+
+-- one of the slots of a place
+pub either_kept : (db : Database) (rows : Rows) (paths : List (List PathElement)) (place : Place) (slot : Slot) → (slot ≡ place.newer) ⊎ (slot ≡ place.older) → IsKeptAt db rows paths place → IsKept db rows paths slot
+either_kept db rows paths place slot (inl e) kept = subst (IsKept db rows paths) (sym e) kept.0
+either_kept db rows paths place slot (inr e) kept = subst (IsKept db rows paths) (sym e) kept.1

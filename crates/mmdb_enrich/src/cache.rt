@@ -1,5 +1,5 @@
 //! What was added for the last records.
-ghost use Rattle.std.specs.Prelude.{◌≡◌, ◌++◌, List, ℕ, Some, None, IfOk, IfSome, true};
+ghost use Rattle.std.specs.Prelude.{◌≡◌, ◌++◌, ◌⊎◌, List, ℕ, Some, None, IfOk, IfSome, true};
 ghost use Rattle.maxminddb.specs.File.{Database};
 ghost use Rattle.maxminddb.specs.declared.path.PathElement.{PathElement as SpecPathElement};
 ghost use Rattle.mmdb_filter.specs.declared.rows.Rows.{Rows as SpecRows};
@@ -69,6 +69,20 @@ impl Slot {
     }
 }
 
+impl Place {
+    // The slot that keeps the record at an offset, if one of them does.
+    #[inline(always)]
+    fn slot_of(&self, offset: usize) -> &Slot
+        ensures { (result.now ≡ self.now.newer) ⊎ (result.now ≡ self.now.older) }
+    {
+        if self.older.is_of(offset) {
+            &self.older
+        } else {
+            &self.newer
+        }
+    }
+}
+
 impl Cache {
     /// Of no record. It takes memory for each place at once.
     pub fn new(alloc: Global) -> Result<Cache, AllocError>
@@ -97,14 +111,8 @@ impl Cache {
         if at >= self.places.len() {
             return None;
         }
-        let place = &self.places[at];
-        if place.newer.is_of(offset) {
-            Some(&place.newer)
-        } else if place.older.is_of(offset) {
-            Some(&place.older)
-        } else {
-            None
-        }
+        let slot = self.places[at].slot_of(offset);
+        if slot.is_of(offset) { Some(slot) } else { None }
     }
 
     /// Adds the cells that are kept of a record, and tells how a line with it fares.
