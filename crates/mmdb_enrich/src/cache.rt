@@ -70,7 +70,8 @@ impl Slot {
 }
 
 impl Place {
-    // The slot that keeps the record at an offset, if one of them does.
+    // The slot that keeps the record at an offset, if one of them does. Both are looked at, so that no guess goes wrong
+    // of which it is.
     #[inline(always)]
     fn slot_of(&self, offset: usize) -> &Slot
         ensures { (result.now ≡ self.now.newer) ⊎ (result.now ≡ self.now.older) }

@@ -26,7 +26,10 @@ impl KeptCells {
 
     /// None.
     pub(crate) fn none() -> KeptCells {
-        KeptCells::Few(FewCells { length: 0, bytes: [0; ROOM] })
+        KeptCells::Few(FewCells {
+            length: 0,
+            bytes: [0; ROOM],
+        })
     }
 
     /// A copy of cells.
@@ -37,7 +40,10 @@ impl KeptCells {
         if len <= ROOM {
             let mut bytes = [0; ROOM];
             bytes[..len].copy_from_slice(cells);
-            return Ok(KeptCells::Few(FewCells { length: len as u8, bytes }));
+            return Ok(KeptCells::Few(FewCells {
+                length: len as u8,
+                bytes,
+            }));
         }
         let mut many = Vec::with_capacity(alloc, len)?;
         many.extend_from_slice(cells)?;

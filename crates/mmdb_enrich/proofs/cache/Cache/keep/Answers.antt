@@ -15,4 +15,4 @@ returns c = λ db rows paths kept add.
     let place = c.index_mut.result.now in
     let within : at < length places = search rules in
     let there : slice_index_or places at place ≡ place = search rules in
-    place_set db rows paths places at place _ within there (λ old. (one_kept db rows paths c.args.offset (record {offset = Some c.args.offset; outcome = c.args.outcome; cells = c.in-Ok.cells}) c.args.cells.now c.args.outcome refl c.in-Ok.ensures refl add, old.1)) (c.make_room.ensures db rows paths kept)
+    place_set db rows paths places at place _ within there (λ old. (one_kept db rows paths c.args.offset (record { offset = Some c.args.offset; outcome = c.args.outcome; cells = c.in-Ok.cells }) c.args.cells.now c.args.outcome refl c.in-Ok.ensures refl add, old.1)) (c.make_room.ensures db rows paths kept)
