@@ -1,5 +1,6 @@
 -- What is added for an address.
-use Rattle.std.proofs.Common.{◌≡◌, ℕ, List, [], ◌++◌, Option, Some, None, Bool, IfSome, if◌then◌else◌, refl, sym, ap, ◌∙◌, subst, inr}
+use Rattle.std.proofs.Common.{◌≡◌, ℕ, List, [], ◌++◌, Option, Some, None, Bool, IfSome, if◌then◌else◌, length, drop, refl, sym, ap, ◌∙◌, subst, inr}
+use Rattle.std.proofs.Math.Seq.{drop-append_seam}
 use Rattle.std.specs.Global.{Vec}
 use Rattle.std.specs.declared.net.ip_addr.IpAddr.{IpAddr}
 use Rattle.maxminddb.specs.File.{Database, data_section}
@@ -19,10 +20,14 @@ found_added db rows fields address leaf offset o outcome old new answers at (ext
 pub absent_added : (db : Database) (rows : Rows) (fields : Vec (Vec PathElement)) (outcome : Outcome) (old new : Vec ℕ) → outcome ≡ Absent → new.items ≡ old.items ++ blanks rows (paths_of fields) → AddsAtTo db rows fields None outcome old new
 absent_added db rows fields outcome old new e put = (blanks rows (paths_of fields), (refl, e), put)
 
-pub read_added : (db asked : Database) (rows : Rows) (paths : List (List PathElement)) (offset : ℕ) (old new cells : List ℕ) (read : Bool) (outcome : Outcome)
-    → asked ≡ db → old ≡ [] → new ≡ old ++ cells → AreCells rows paths (data_section asked) offset cells → read ≡ are_read paths (data_section asked) offset → outcome ≡ (if read then Found else Refused) → AddsAt db rows paths (Some offset) new outcome
-read_added db asked rows paths offset old new cells read outcome same empty put are r told =
-    subst (λ d. AddsAt d rows paths (Some offset) new outcome) same (subst (λ x. AreCells rows paths (data_section asked) offset x) (sym (put ∙ ap (λ o. o ++ cells) empty)) are, told ∙ ap (λ b. if b then Found else Refused) r)
+pub read_added : (db asked : Database) (rows : Rows) (paths : List (List PathElement)) (offset : ℕ) (shown cells : List ℕ) (read : Bool) (outcome : Outcome)
+    → asked ≡ db → shown ≡ cells → AreCells rows paths (data_section asked) offset cells → read ≡ are_read paths (data_section asked) offset → outcome ≡ (if read then Found else Refused) → AddsAt db rows paths (Some offset) shown outcome
+read_added db asked rows paths offset shown cells read outcome same put are r told =
+    subst (λ d. AddsAt d rows paths (Some offset) shown outcome) same (subst (λ x. AreCells rows paths (data_section asked) offset x) (sym put) are, told ∙ ap (λ b. if b then Found else Refused) r)
+
+-- what stands behind what was there
+pub behind : (old new added : List ℕ) (n : ℕ) → n ≡ length old → new ≡ old ++ added → drop n new ≡ added
+behind old new added n e put = ap (λ k. drop k new) e ∙ ap (λ l. drop (length old) l) put ∙ drop-append_seam old added
 
 pub held : {A : Type 0} (o : Option A) (x : A) (P : A → Type 0) → o ≡ Some x → IfSome o P → P x
 held None x P e h = absurd (cc)

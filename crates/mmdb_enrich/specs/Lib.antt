@@ -3,3 +3,4 @@ pub mod Cells
 pub mod Added
 pub mod Kept
 pub mod Rows
+pub mod KeptCells

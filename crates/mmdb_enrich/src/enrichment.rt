@@ -60,17 +60,10 @@ impl<'a, 'f, S: AsSlice<u8> + Drop> Enrichment<'a, 'f, S> {
         ensures added { IfOk result (λ outcome. AddsAtTo self.now.reader.now self.now.rows self.now.paths (Some offset) outcome out.old out.new) }
         ensures kept { AreKept self.now.reader.now self.now.rows (paths_of self.now.paths) cache.new }
     {
-        let mut cells = Vec::new(self.alloc);
-        let are_read = put_cells(
-            self.alloc,
-            self.rows,
-            found,
-            self.paths.as_slice(),
-            &mut cells,
-        )?;
+        let before = out.len();
+        let are_read = put_cells(self.alloc, self.rows, found, self.paths.as_slice(), out)?;
         let outcome = outcome_of(are_read);
-        out.extend_from_slice(cells.as_slice())?;
-        cache.keep(offset, cells, outcome);
+        cache.keep(offset, &out.as_slice()[before..], outcome);
         Ok(outcome)
     }
 

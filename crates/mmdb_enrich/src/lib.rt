@@ -5,6 +5,7 @@ mod cache;
 mod cells;
 mod columns;
 mod enrichment;
+mod kept_cells;
 mod quotes;
 
 pub use cache::Cache;

@@ -41,7 +41,7 @@ pub(crate) fn pass_on<R: BufRead, W: Write>(
     let mut now = place;
     for _ in 0..u64::MAX {
         if now == Place::Ended || piece.len() < PIECE {
-            return put_row(out, piece.as_slice(), added);
+            return put_row(out, piece, added);
         }
         put_front(out, piece)?;
         now = read_piece(input, rows, now, piece)?;

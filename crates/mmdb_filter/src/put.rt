@@ -1,9 +1,10 @@
 //! Writing all of a text.
-ghost use Rattle.std.specs.Prelude.{OnOk, OnErr};
+ghost use Rattle.std.specs.Prelude.{◌≡◌, OnOk, OnErr};
 ghost use Rattle.std.specs.Io.KnownBytes.{Appends};
 ghost use Rattle.mmdb_filter.specs.Lines.{AppendsFront, row_with};
 
 use crate::text::text_length;
+use std::alloc::AllocError;
 use std::io::{self, ErrorKind, Write};
 
 /// Writes all of the bytes. An interrupted write goes on.
@@ -29,14 +30,26 @@ pub(crate) fn put_all<W: Write>(out: &mut W, bytes: &[u8]) -> io::Result<()>
     Err(io::Error::from(ErrorKind::TimedOut))
 }
 
-/// Writes a row, with what is added before its end.
+/// Writes a row, with what is added before its end, all at once. The row grows by that.
 #[inline(always)]
-pub(crate) fn put_row<W: Write>(out: &mut W, row: &[u8], added: &[u8]) -> io::Result<()>
-    ensures whole { OnOk result (Appends (W.contents out.old) (W.contents out.new) (row_with row.now added.now)) }
-    ensures begun { OnErr result (AppendsFront (W.contents out.old) (W.contents out.new) (row_with row.now added.now)) }
+pub(crate) fn put_row<W: Write>(out: &mut W, row: &mut Vec<u8>, added: &[u8]) -> io::Result<()>
+    ensures whole { OnOk result (Appends (W.contents out.old) (W.contents out.new) (row_with row.old.items added.now)) }
+    ensures begun { OnErr result (AppendsFront (W.contents out.old) (W.contents out.new) (row_with row.old.items added.now)) }
 {
-    let (text, end) = row.split_at(text_length(row));
-    put_all(out, text)?;
-    put_all(out, added)?;
-    put_all(out, end)
+    add_before_end(row, added)?;
+    put_all(out, row.as_slice())
+}
+
+// Adds bytes before the end of a row.
+#[inline(always)]
+fn add_before_end(row: &mut Vec<u8>, added: &[u8]) -> Result<(), AllocError>
+    ensures { OnOk result (row.new.items ≡ row_with row.old.items added.now) }
+{
+    let len = text_length(row.as_slice());
+    let end_len = row.len() - len;
+    let mut end = [0; 2];
+    end[..end_len].copy_from_slice(&row.as_slice()[len..]);
+    row.truncate(len);
+    row.extend_from_slice(added)?;
+    row.extend_from_slice(&end[..end_len])
 }

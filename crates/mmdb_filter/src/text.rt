@@ -1,5 +1,5 @@
 //! The text of a row.
-ghost use Rattle.std.specs.Prelude.{◌≡◌, ◌≤◌, length};
+ghost use Rattle.std.specs.Prelude.{◌≡◌, ◌+◌, ◌≤◌, length};
 ghost use Rattle.mmdb_filter.specs.Lines.{text_length as spec_text_length, seen_of, is_long as spec_is_long};
 
 /// How many bytes of a row's text additions see.
@@ -10,6 +10,7 @@ pub const MOST_SEEN: usize = 65_536;
 pub(crate) fn text_length(row: &[u8]) -> usize
     ensures length { result ≡ spec_text_length row.now }
     ensures within { result ≤ length row.now }
+    ensures short { length row.now ≤ result + 2 }
 {
     let len = row.len();
     if len > 0 && row[len - 1] == b'\n' {

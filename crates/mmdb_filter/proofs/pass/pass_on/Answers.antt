@@ -15,8 +15,7 @@ returns-then-eq-clause-whole g c = λ ready.
       | then-eq-via-else-eq+then-len-lt-PIECE w ↦ λ not. c.loop.invariant.ready ready not (search rules)
     ] in
     on_ok c.put_row.result
-    (λ put. passed c.args.rows c.args.place c.loop.now c.args.piece.now.items c.loop.piece.items c.args.added.now (g.R.Read.remaining c.args.input.now) (g.W.Write.contents c.args.out.now) (g.R.Read.remaining c.loop.input) (g.W.Write.contents c.loop.out) (g.W.Write.contents c.put_row.new.out) ending
-    (subst (λ p. Appends (g.W.Write.contents c.loop.out) (g.W.Write.contents c.put_row.new.out) (row_with p c.args.added.now)) c.as_slice.ensures.value put) c.loop.invariant.way)
+    (λ put. passed c.args.rows c.args.place c.loop.now c.args.piece.now.items c.loop.piece.items c.args.added.now (g.R.Read.remaining c.args.input.now) (g.W.Write.contents c.args.out.now) (g.R.Read.remaining c.loop.input) (g.W.Write.contents c.loop.out) (g.W.Write.contents c.put_row.new.out) ending put c.loop.invariant.way)
     c.put_row.ensures.whole
 
 pub returns-then-eq-clause-begun : goal.returns-then-eq-clause-begun
@@ -27,8 +26,7 @@ returns-then-eq-clause-begun g c = λ ready.
       | then-eq-via-else-eq+then-len-lt-PIECE w ↦ λ not. c.loop.invariant.ready ready not (search rules)
     ] in
     on_err c.put_row.result
-    (λ put. passed_in c.args.rows c.args.place c.loop.now c.args.piece.now.items c.loop.piece.items c.args.added.now (g.R.Read.remaining c.args.input.now) (g.W.Write.contents c.args.out.now) (g.R.Read.remaining c.loop.input) (g.W.Write.contents c.loop.out) (g.W.Write.contents c.put_row.new.out) ending
-    (subst (λ p. AppendsFront (g.W.Write.contents c.loop.out) (g.W.Write.contents c.put_row.new.out) (row_with p c.args.added.now)) c.as_slice.ensures.value put) c.loop.invariant.way)
+    (λ put. passed_in c.args.rows c.args.place c.loop.now c.args.piece.now.items c.loop.piece.items c.args.added.now (g.R.Read.remaining c.args.input.now) (g.W.Write.contents c.args.out.now) (g.R.Read.remaining c.loop.input) (g.W.Write.contents c.loop.out) (g.W.Write.contents c.put_row.new.out) ending put c.loop.invariant.way)
     c.put_row.ensures.begun
 
 pub returns-in_err-put_front-clause-begun : goal.returns-in_err-put_front-clause-begun

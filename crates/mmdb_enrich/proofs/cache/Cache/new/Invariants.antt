@@ -4,4 +4,4 @@ use Rattle.std.specs.List.{All}
 use Rattle.mmdb_enrich.proofs.cache.Cache.new.Given as goal
 
 abbrev pub invariant-loop : goal.invariant-loop
-invariant-loop l = All (λ slot. slot.offset ≡ None) l.slots.items
+invariant-loop l = All (λ place. (place.newer.offset ≡ None) × (place.older.offset ≡ None)) l.places.items
