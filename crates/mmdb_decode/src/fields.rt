@@ -94,11 +94,7 @@ fn attempt_rest<'de, R: Fields<'de>>(
 
 // Reads a map into a record of which no field was met, and says whether it did; else the decoder stays. The
 // decoder that reads is one of its own, which can stay in registers.
-fn attempt_into<'de, R: Fields<'de>>(
-    alloc: Global,
-    d: &mut Decoder<'de>,
-    fields: &mut R,
-) -> bool
+fn attempt_into<'de, R: Fields<'de>>(alloc: Global, d: &mut Decoder<'de>, fields: &mut R) -> bool
     requires { data_of R.table fields.old ≡ no_data R.table }
     ensures ok { result ≡ true → decoded true (record_of R.table) d.old ≡ Some (data_of R.table fields.new, d.new) }
     ensures same { result ≡ false → d.new ≡ d.old }
