@@ -8,6 +8,7 @@ ghost use Rattle.std.specs.Prelude.{MatchBool};
 ghost use Rattle.std.specs.Str.{IsUtf8};
 
 use crate::ascii::is_short_ascii;
+use crate::utf8::is_short_chars;
 use mmdb_format::content::{content_bytes, full_number, short_number};
 use mmdb_format::fault::Fault;
 use mmdb_format::header::{Direct, MAX_LEVELS, direct_at};
@@ -145,7 +146,7 @@ fn is_utf8(bytes: &[u8]) -> bool
 fn is_text(bytes: &[u8]) -> bool
     ensures { MatchBool result (IsUtf8 bytes.now) (¬ (IsUtf8 bytes.now)) }
 {
-    is_short_ascii(bytes) || is_utf8(bytes)
+    is_short_ascii(bytes) || is_short_chars(bytes) || is_utf8(bytes)
 }
 
 /// The bytes as text, where they are UTF-8. The text is made of the bytes at hand: one taken out of an answer in

@@ -1,0 +1,52 @@
+//! A look at texts whose characters have at most three bytes, as most names do.
+ghost use Rattle.std.specs.Prelude.{◌≡◌, ◌+◌, ◌<◌, ◌≤◌, true, length, take, drop, slice_index, IfSome};
+ghost use Rattle.std.specs.Str.{IsUtf8};
+
+/// Whether a byte goes on with a character.
+#[inline(always)]
+fn goes_on(byte: u8) -> bool
+    ensures { result ≡ true → (128 ≤ byte) × (byte < 192) }
+{
+    0x80 <= byte && byte < 0xc0
+}
+
+/// The length of the character at a place, where it is below U+D000, which leaves out the surrogates.
+#[inline(always)]
+fn short_char_len(bytes: &[u8], at: usize) -> Option<usize>
+    requires { at < length bytes.now }
+    ensures some { IfSome result (λ n. (0 < n) × (at + n ≤ length bytes.now)) }
+    ensures text { IfSome result (λ n. IsUtf8 (take n (drop at bytes.now))) }
+{
+    let first = bytes[at];
+    if first < 0x80 {
+        return Some(1);
+    }
+    let left = bytes.len() - at;
+    if 0xc2 <= first && first < 0xe0 && left >= 2 && goes_on(bytes[at + 1]) {
+        return Some(2);
+    }
+    if 0xe1 <= first
+        && first < 0xed
+        && left >= 3
+        && goes_on(bytes[at + 1])
+        && goes_on(bytes[at + 2])
+    {
+        return Some(3);
+    }
+    None
+}
+
+/// Whether bytes are such characters, one after the other. Of other characters it knows nothing.
+#[inline(never)]
+pub(crate) fn is_short_chars(bytes: &[u8]) -> bool
+    ensures { result ≡ true → IsUtf8 bytes.now }
+{
+    let mut at = 0;
+    while at < bytes.len() {
+        match short_char_len(bytes, at) {
+            Some(len) => at += len,
+            None => return false,
+        }
+    }
+    true
+}
