@@ -1,10 +1,12 @@
 -- Bytes of one, two and three that are characters.
-use Rattle.std.proofs.Common.{◌≡◌, ℕ, suc, ◌+◌, ◌-◌, ◌*◌, ◌/◌, ◌≤◌, ◌<◌, List, [], ◌∷◌, length, take, drop, refl, sym, ap, ◌∙◌, subst, arith}
+use Rattle.std.proofs.Common.{◌≡◌, ℕ, Bool, true, false, suc, ◌+◌, ◌-◌, ◌*◌, ◌/◌, ◌≤◌, ◌<◌, List, [], ◌∷◌, length, take, drop, refl, sym, ap, ◌∙◌, subst, arith}
 use Rattle.std.proofs.Math.ListN.{get_or}
 use Rattle.std.proofs.Math.Seq.{drop-cons}
 use Rattle.std.proofs.Math.Utf8.{encode, next, low_scalar}
-use Rattle.std.proofs.lemmas.Bool.{le-ltb, lt-ltb}
-use Rattle.std.proofs.lemmas.Str.{IsUtf8-encode, encode_ascii}
+use Rattle.std.proofs.Math.Dec.{ltb}
+use Rattle.std.proofs.lemmas.Bool.{le-ltb, lt-ltb, ltb-true, ltb-false}
+use Rattle.std.proofs.lemmas.List.{get_or-take, get_or-drop, get_or_past, length-take}
+use Rattle.std.proofs.lemmas.Str.{IsUtf8-encode, IsUtf8-from_ascii, encode_ascii}
 use Rattle.std.specs.Str.{IsUtf8}
 
 two : (c : ℕ) → 128 ≤ c → c < 2048 → encode c ≡ (192 + c / 64) ∷ next c ∷ []
@@ -48,3 +50,11 @@ of_three bs at l h f g =
     let q : y ≡ next (c / 64) = omega arith in
     let r : z ≡ next c = omega arith in
     char _ c (omega arith) (ap (take 3) (first bs at (omega arith) ∙ ap (λ l'. x ∷ l') (step bs at 1 (omega arith) ∙ ap (λ l'. y ∷ l') (step bs at 2 l))) ∙ (λ k. p k ∷ q k ∷ r k ∷ []) ∙ sym (three c (omega arith) (omega arith)))
+
+-- bytes of ASCII in a row are text
+low : (bs : List ℕ) (at n i : ℕ) (b : Bool) → ltb i n ≡ b → ((k : ℕ) → at ≤ k → k < at + n → get_or bs k 0 < 128) → get_or (take n (drop at bs)) i 0 < 128
+low bs at n i true e h = let l = ltb-true i n e in rw (get_or-take n (drop at bs) i 0 l, get_or-drop at bs i 0) (h (at + i) (omega arith) (omega (arith, l)))
+low bs at n i false e h = let l = ltb-false i n e in rw (get_or_past (take n (drop at bs)) i 0 (omega (arith, l, length-take n (drop at bs)))) (omega arith)
+
+pub of_ascii : (bs : List ℕ) (at n : ℕ) → ((k : ℕ) → at ≤ k → k < at + n → get_or bs k 0 < 128) → IsUtf8 (take n (drop at bs))
+of_ascii bs at n h = IsUtf8-from_ascii (take n (drop at bs)) (λ i. low bs at n i (ltb i n) refl h)

@@ -16,7 +16,7 @@ fn are_four_ascii(bytes: &[u8], at: usize) -> bool
 
 /// Whether the eight bytes from a place on are ASCII.
 #[inline(always)]
-fn are_eight_ascii(bytes: &[u8], at: usize) -> bool
+pub(crate) fn are_eight_ascii(bytes: &[u8], at: usize) -> bool
     requires { at + 8 ≤ length bytes.now }
     ensures { result ≡ true → (k : ℕ) → at ≤ k → k < at + 8 → slice_index bytes.now k < 128 }
 {

@@ -2,6 +2,8 @@
 ghost use Rattle.std.specs.Prelude.{◌≡◌, ◌+◌, ◌<◌, ◌≤◌, true, length, take, drop, slice_index, IfSome};
 ghost use Rattle.std.specs.Str.{IsUtf8};
 
+use crate::ascii::are_eight_ascii;
+
 /// Whether a byte goes on with a character.
 #[inline(always)]
 fn goes_on(byte: u8) -> bool
@@ -10,18 +12,22 @@ fn goes_on(byte: u8) -> bool
     0x80 <= byte && byte < 0xc0
 }
 
-/// The length of the character at a place, where it is below U+D000, which leaves out the surrogates.
+/// The length of eight characters of ASCII at a place, or of one character below U+D000, which leaves out the
+/// surrogates.
 #[inline(always)]
-fn short_char_len(bytes: &[u8], at: usize) -> Option<usize>
+fn short_chars_len(bytes: &[u8], at: usize) -> Option<usize>
     requires { at < length bytes.now }
     ensures some { IfSome result (λ n. (0 < n) × (at + n ≤ length bytes.now)) }
     ensures text { IfSome result (λ n. IsUtf8 (take n (drop at bytes.now))) }
 {
     let first = bytes[at];
+    let left = bytes.len() - at;
     if first < 0x80 {
+        if left >= 8 && are_eight_ascii(bytes, at) {
+            return Some(8);
+        }
         return Some(1);
     }
-    let left = bytes.len() - at;
     if 0xc2 <= first && first < 0xe0 && left >= 2 && goes_on(bytes[at + 1]) {
         return Some(2);
     }
@@ -43,7 +49,7 @@ pub(crate) fn is_short_chars(bytes: &[u8]) -> bool
 {
     let mut at = 0;
     while at < bytes.len() {
-        match short_char_len(bytes, at) {
+        match short_chars_len(bytes, at) {
             Some(len) => at += len,
             None => return false,
         }
