@@ -140,7 +140,7 @@ fn is_utf8(bytes: &[u8]) -> bool
     }
 }
 
-// Whether bytes are UTF-8. Few that are ASCII are told without a loop.
+// Whether bytes are UTF-8. Few that are ASCII are told without a loop, and most names before std is asked.
 #[tactic(auto, using(crate::proofs::Texts::ascii_text))]
 #[inline(always)]
 fn is_text(bytes: &[u8]) -> bool
