@@ -23,3 +23,4 @@ pub mod TextMapLaws
 pub mod RecordStandingLaws
 pub mod ContainerTrees
 pub mod TableLaws
+pub mod RememberedLaws

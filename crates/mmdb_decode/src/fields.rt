@@ -64,9 +64,26 @@ pub trait Fields<'de>: Sized + Drop {
         ensures { result ≡ true → decoded false (fields_of table (parts_met table (flags met.old) self.old) name.now) d.old ≡ Some (parts_met table (flags met.new) self.new, d.new) };
 }
 
-// Reads the fields that are left of a map, and says whether it did.
+/// A record that attempts its fields one after the other.
+pub trait Attempts<'de>: Fields<'de> {
+    /// Reads the fields that are left of a map, and says whether it did. After a refusal the record and the decoder are
+    /// given up.
+    fn attempt_rest(
+        &mut self,
+        met: &mut Met,
+        alloc: Global,
+        d: &mut Decoder<'de>,
+        entries: &mut Entries,
+    ) -> bool
+        requires { IsSome d.old.budget }
+        ensures ok { result ≡ true → decoded false (pairs_from name_at (fields_of Self.table) (parts_met Self.table (flags met.old) self.old) (pairs_left entries.old)) d.old ≡ Some (parts_met Self.table (flags met.new) self.new, d.new) }
+        ensures rest { entries.new ≡ with_pairs_left (pairs_left entries.new) entries.old }
+        ensures spent { result ≡ true → pairs_left entries.new ≡ 0 };
+}
+
+// Reads the fields that are left of a map, each by itself, and says whether it did.
 #[inline(always)]
-fn attempt_rest<'de, R: Fields<'de>>(
+fn attempt_each<'de, R: Fields<'de>>(
     alloc: Global,
     d: &mut Decoder<'de>,
     entries: &mut Entries,
@@ -92,9 +109,25 @@ fn attempt_rest<'de, R: Fields<'de>>(
     true
 }
 
+/// A record whose fields are attempted each by itself.
+pub trait EachByItself {}
+
+impl<'de, R: Fields<'de> + EachByItself> Attempts<'de> for R {
+    #[inline(always)]
+    fn attempt_rest(
+        &mut self,
+        met: &mut Met,
+        alloc: Global,
+        d: &mut Decoder<'de>,
+        entries: &mut Entries,
+    ) -> bool {
+        attempt_each(alloc, d, entries, self, met)
+    }
+}
+
 // Reads a map into a record of which no field was met, and says whether it did; else the decoder stays. The
 // decoder that reads is one of its own, which can stay in registers.
-fn attempt_into<'de, R: Fields<'de>>(alloc: Global, d: &mut Decoder<'de>, fields: &mut R) -> bool
+fn attempt_into<'de, R: Attempts<'de>>(alloc: Global, d: &mut Decoder<'de>, fields: &mut R) -> bool
     requires { data_of R.table fields.old ≡ no_data R.table }
     ensures ok { result ≡ true → decoded true (record_of R.table) d.old ≡ Some (data_of R.table fields.new, d.new) }
     ensures same { result ≡ false → d.new ≡ d.old }
@@ -106,7 +139,7 @@ fn attempt_into<'de, R: Fields<'de>>(alloc: Global, d: &mut Decoder<'de>, fields
     let Some(mut entries) = here.attempt_map() else {
         return false;
     };
-    if !attempt_rest(alloc, &mut here, &mut entries, fields, &mut met) {
+    if !fields.attempt_rest(&mut met, alloc, &mut here, &mut entries) {
         entries.give_up(&mut here);
         return false;
     }
@@ -166,7 +199,7 @@ fn read_into<'de, R: Fields<'de>>(
     }
 }
 
-impl<'de, R: Fields<'de>> Decode<'de> for R {
+impl<'de, R: Attempts<'de>> Decode<'de> for R {
     ghost Datum = { Data R.table };
 
     ghost datum = { data_of R.table };
@@ -207,7 +240,7 @@ pub fn read_part<'de, R: Fields<'de>>(
 }
 
 /// Reads a part that stands at most once as `read_part` does, and says whether it did.
-pub fn attempt_part<'de, R: Fields<'de>>(
+pub fn attempt_part<'de, R: Attempts<'de>>(
     alloc: Global,
     d: &mut Decoder<'de>,
     met: &mut bool,

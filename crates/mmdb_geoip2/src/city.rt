@@ -9,7 +9,7 @@ use crate::fields::{attempt_by_name, read_by_name};
 use crate::names::Names;
 use mmdb_decode::attempt::attempt_once;
 use mmdb_decode::decoder::Decoder;
-use mmdb_decode::fields::{Fields, Met, attempt_part, read_part};
+use mmdb_decode::fields::{EachByItself, Fields, Met, attempt_part, read_part};
 use mmdb_decode::record::{named, read_once};
 use mmdb_format::content::Double;
 use mmdb_format::error::DecodeResult;
@@ -23,6 +23,8 @@ pub struct City<'a> {
     /// Its names, by language.
     pub names: Names<'a>,
 }
+
+impl EachByItself for City<'_> {}
 
 impl<'de> Fields<'de> for City<'de> {
     ghost table = { city_table };
@@ -83,6 +85,8 @@ pub struct Location<'a> {
     /// The time zone, as the IANA Time Zone Database names it, like "America/New_York".
     pub time_zone: Option<&'a str>,
 }
+
+impl EachByItself for Location<'_> {}
 
 impl<'de> Fields<'de> for Location<'de> {
     ghost table = { location_table };
@@ -146,6 +150,8 @@ pub struct Postal<'a> {
     pub code: Option<&'a str>,
 }
 
+impl EachByItself for Postal<'_> {}
+
 impl<'de> Fields<'de> for Postal<'de> {
     ghost table = { postal_table };
 
@@ -199,6 +205,8 @@ pub struct Subdivision<'a> {
     /// Its names, by language.
     pub names: Names<'a>,
 }
+
+impl EachByItself for Subdivision<'_> {}
 
 impl<'de> Fields<'de> for Subdivision<'de> {
     ghost table = { subdivision_table };

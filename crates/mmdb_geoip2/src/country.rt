@@ -9,7 +9,7 @@ use crate::fields::{attempt_by_name, read_by_name};
 use crate::names::Names;
 use mmdb_decode::attempt::attempt_once;
 use mmdb_decode::decoder::Decoder;
-use mmdb_decode::fields::{Fields, Met, attempt_part, read_part};
+use mmdb_decode::fields::{EachByItself, Fields, Met, attempt_part, read_part};
 use mmdb_decode::record::{named, read_once};
 use mmdb_format::error::DecodeResult;
 use std::alloc::Global;
@@ -24,6 +24,8 @@ pub struct Continent<'a> {
     /// Its names, by language.
     pub names: Names<'a>,
 }
+
+impl EachByItself for Continent<'_> {}
 
 impl<'de> Fields<'de> for Continent<'de> {
     ghost table = { continent_table };
@@ -84,6 +86,8 @@ pub struct Country<'a> {
     /// Its names, by language.
     pub names: Names<'a>,
 }
+
+impl EachByItself for Country<'_> {}
 
 impl<'de> Fields<'de> for Country<'de> {
     ghost table = { country_table };
@@ -152,6 +156,8 @@ pub struct RepresentedCountry<'a> {
     pub representation_type: Option<&'a str>,
 }
 
+impl EachByItself for RepresentedCountry<'_> {}
+
 impl<'de> Fields<'de> for RepresentedCountry<'de> {
     ghost table = { represented_table };
 
@@ -213,6 +219,8 @@ pub struct Traits {
     /// Whether the network is an anycast one, reached at several places.
     pub is_anycast: Option<bool>,
 }
+
+impl EachByItself for Traits {}
 
 impl<'de> Fields<'de> for Traits {
     ghost table = { country_traits_table };

@@ -9,7 +9,7 @@ use crate::fields::{attempt_by_name, read_by_name};
 use crate::names::Names;
 use mmdb_decode::attempt::attempt_once;
 use mmdb_decode::decoder::Decoder;
-use mmdb_decode::fields::{Fields, Met, attempt_part, read_part};
+use mmdb_decode::fields::{EachByItself, Fields, Met, attempt_part, read_part};
 use mmdb_decode::record::{named, read_once};
 use mmdb_format::error::DecodeResult;
 use std::alloc::Global;
@@ -24,6 +24,8 @@ pub struct City<'a> {
     /// Its names, by language.
     pub names: Names<'a>,
 }
+
+impl EachByItself for City<'_> {}
 
 impl<'de> Fields<'de> for City<'de> {
     ghost table = { enterprise_city_table };
@@ -86,6 +88,8 @@ pub struct Country<'a> {
     /// Its names, by language.
     pub names: Names<'a>,
 }
+
+impl EachByItself for Country<'_> {}
 
 impl<'de> Fields<'de> for Country<'de> {
     ghost table = { enterprise_country_table };
@@ -151,6 +155,8 @@ pub struct Postal<'a> {
     pub confidence: Option<u8>,
 }
 
+impl EachByItself for Postal<'_> {}
+
 impl<'de> Fields<'de> for Postal<'de> {
     ghost table = { enterprise_postal_table };
 
@@ -208,6 +214,8 @@ pub struct Subdivision<'a> {
     /// Its names, by language.
     pub names: Names<'a>,
 }
+
+impl EachByItself for Subdivision<'_> {}
 
 impl<'de> Fields<'de> for Subdivision<'de> {
     ghost table = { enterprise_subdivision_table };
@@ -297,6 +305,8 @@ pub struct Traits<'a> {
     /// Who uses the address, like "business", "college", "hosting" or "residential".
     pub user_type: Option<&'a str>,
 }
+
+impl EachByItself for Traits<'_> {}
 
 impl<'de> Fields<'de> for Traits<'de> {
     ghost table = { enterprise_traits_table };

@@ -7,7 +7,7 @@ ghost use Rattle.mmdb_geoip2.specs.NetworkTables.{isp_table, connection_type_tab
 use crate::fields::{attempt_by_name, read_by_name};
 use mmdb_decode::attempt::attempt_once;
 use mmdb_decode::decoder::Decoder;
-use mmdb_decode::fields::{Fields, Met};
+use mmdb_decode::fields::{EachByItself, Fields, Met};
 use mmdb_decode::record::{named, read_once};
 use mmdb_format::error::DecodeResult;
 use std::alloc::Global;
@@ -28,6 +28,8 @@ pub struct Isp<'a> {
     /// The name of the organization that uses the address.
     pub organization: Option<&'a str>,
 }
+
+impl EachByItself for Isp<'_> {}
 
 impl<'de> Fields<'de> for Isp<'de> {
     ghost table = { isp_table };
@@ -87,6 +89,8 @@ pub struct ConnectionType<'a> {
     pub connection_type: Option<&'a str>,
 }
 
+impl EachByItself for ConnectionType<'_> {}
+
 impl<'de> Fields<'de> for ConnectionType<'de> {
     ghost table = { connection_type_table };
 
@@ -139,6 +143,8 @@ pub struct AnonymousIp {
     /// Whether the address is a Tor exit node.
     pub is_tor_exit_node: Option<bool>,
 }
+
+impl EachByItself for AnonymousIp {}
 
 impl<'de> Fields<'de> for AnonymousIp {
     ghost table = { anonymous_ip_table };
@@ -200,6 +206,8 @@ pub struct DensityIncome {
     pub population_density: Option<u32>,
 }
 
+impl EachByItself for DensityIncome {}
+
 impl<'de> Fields<'de> for DensityIncome {
     ghost table = { density_income_table };
 
@@ -246,6 +254,8 @@ pub struct Domain<'a> {
     pub domain: Option<&'a str>,
 }
 
+impl EachByItself for Domain<'_> {}
+
 impl<'de> Fields<'de> for Domain<'de> {
     ghost table = { domain_table };
 
@@ -288,6 +298,8 @@ pub struct Asn<'a> {
     /// The organization that the autonomous system is registered for.
     pub autonomous_system_organization: Option<&'a str>,
 }
+
+impl EachByItself for Asn<'_> {}
 
 impl<'de> Fields<'de> for Asn<'de> {
     ghost table = { asn_table };

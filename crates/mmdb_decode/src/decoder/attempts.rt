@@ -5,10 +5,12 @@ ghost use Rattle.mmdb_decode.specs.State.{decoded};
 ghost use Rattle.mmdb_decode.specs.Scalars.{u16_at, u32_at, bool_at, double_at, text_at, free_of_charge};
 ghost use Rattle.mmdb_decode.specs.Maps.{name_at, entered_map};
 ghost use Rattle.mmdb_decode.specs.Skipping.{skip_at};
+ghost use Rattle.mmdb_decode.specs.Remembering.{Repeats};
 
 use super::Decoder;
 use super::keys::FREE_NAME;
 use super::skipping::{MAX_NESTED, parts_of};
+use crate::budget::spent;
 use crate::items::Entries;
 use mmdb_format::content::{Double, passed_end};
 use mmdb_format::header::header_at;
@@ -25,6 +27,32 @@ impl<'de> Decoder<'de> {
             place: self.place,
             levels: self.levels,
             budget: self.budget,
+        }
+    }
+
+    // Goes from where a decoder of the section stood to where it stands that read on from there, and charges what was
+    // charged between. It says whether it did; else it stays.
+    #[inline(always)]
+    pub(crate) fn repeat(&mut self, before: &Decoder<'de>, behind: &Decoder<'de>) -> bool
+        ensures ok { result ≡ true → Repeats before.now behind.now self.old self.new }
+        ensures same { result ≡ false → self.new ≡ self.old }
+    {
+        self.stays_within();
+        if self.place != before.place || self.levels != before.levels {
+            return false;
+        }
+        let (Some(first), Some(last)) = (before.budget, behind.budget) else {
+            return false;
+        };
+        let values = last.values.saturating_sub(first.values) as usize;
+        let bytes = last.bytes.saturating_sub(first.bytes) as usize;
+        match spent(self.budget, values, bytes) {
+            Ok(budget) => {
+                self.budget = budget;
+                self.place = behind.place;
+                true
+            }
+            Err(_) => false,
         }
     }
 

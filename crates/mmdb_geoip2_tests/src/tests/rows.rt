@@ -66,6 +66,60 @@ fn type_of_a_represented_country(rt: HostRuntime) -> Result<(), Fail> {
     Ok(())
 }
 
+/// Two countries, and bytes behind them so many times; the code of each. They are one map, two maps, or a map and
+/// another that begins at its second byte, so that the pairs of both begin at one place.
+#[rattlefmt::skip]
+const COUNTRIES: &[(&[u8], usize, Option<&str>, Option<&str>)] = &[
+    (b"\xE2\x47country\x20\x20\x52registered_country\x20\x20\xE1\x48iso_code\x41c", 0, Some("c"), Some("c")),
+    (b"\xE2\x52registered_country\x20\x20\x47country\x20\x20\xE1\x48iso_code\x41c", 0, Some("c"), Some("c")),
+    (b"\xE2\x47country\xE1\x48iso_code\x41c\x52registered_country\x20\x09", 0, Some("c"), Some("c")),
+    (b"\xE2\x47country\xE1\x48iso_code\x41c\x52registered_country\xE1\x48iso_code\x41g", 0, Some("c"), Some("g")),
+    (b"\xE2\x47country\x20\x20\x52registered_country\x20\x2C\xE1\x48iso_code\x41c\xE1\x48iso_code\x41g", 0, Some("c"), Some("g")),
+    (b"\xE2\x47country\x20\x20\x52registered_country\x20\x21\xFD\xE0\x48iso_code\x41c", 504, Some("c"), None),
+    (b"\xE2\x52registered_country\x20\x20\x47country\x20\x21\xFD\xE0\x48iso_code\x41c", 504, None, Some("c")),
+];
+
+#[test]
+fn countries_of_one_map(rt: HostRuntime) -> Result<(), Fail> {
+    let alloc = rt.alloc();
+    for (start, times, country, registered) in COUNTRIES {
+        let section = repeated(alloc, start, 0x40, *times)?;
+        let found: Country<'_> = decode(alloc, section.as_slice())?;
+        assert!(rt; found.country.iso_code == *country, "{start:?}");
+        assert!(rt;
+            found.registered_country.iso_code == *registered,
+            "{start:?}"
+        );
+        let city: City<'_> = decode(alloc, section.as_slice())?;
+        assert!(rt; city.country.iso_code == *country, "{start:?}");
+        assert!(rt;
+            city.registered_country.iso_code == *registered,
+            "{start:?}"
+        );
+    }
+    Ok(())
+}
+
+/// Two countries that are one map, and bytes of it so many times: each is charged.
+#[rattlefmt::skip]
+const CHARGED: &[(&[u8], usize, &str)] = &[
+    (b"\xE2\x47country\x20\x20\x52registered_country\x20\x20\xFE\x3E\xE1", 32_764, READ),
+    (b"\xE2\x47country\x20\x20\x52registered_country\x20\x20\xFE\x3E\xE2", 32_766, "resource limit exceeded at offset 30: exceeded maximum number of data structure values"),
+];
+
+#[test]
+fn one_map_is_charged_twice(rt: HostRuntime) -> Result<(), Fail> {
+    let alloc = rt.alloc();
+    for (start, times, text) in CHARGED {
+        let section = repeated(alloc, start, 0x40, *times)?;
+        let rows = [(section.as_slice(), *text)];
+        assert_told::<Country<'_>>(&rt, alloc, &rows)?;
+        assert_told::<City<'_>>(&rt, alloc, &rows)?;
+        assert_told::<Enterprise<'_>>(&rt, alloc, &rows)?;
+    }
+    Ok(())
+}
+
 /// Cities.
 #[rattlefmt::skip]
 const CITIES: &[(&[u8], &str)] = &[

@@ -14,4 +14,4 @@ returns-clause-ok g c =
     let entered = rw c.again-here.ensures at c.in-Some.ensures in
     let none = parts_at_first t c.args.fields.now c.requires in
     let read = rw none at (c.if-not-attempt_rest.ensures.ok refl) in
-    λ _. record_read t (flags c.attempt_rest.new.met) c.attempt_rest.new.fields c.args.d.now c.end_map.new.self (map_read (pairs_from name_at (fields_of t) (no_parts t)) c.args.d.now c.attempt_map.new.self c.attempt_rest.new.d c.end_map.new.self c.in-Some.entries c.attempt_rest.new.entries (parts_met t (flags c.attempt_rest.new.met) c.attempt_rest.new.fields) entered read c.if-not-attempt_rest.ensures.rest c.end_map.ensures)
+    λ _. record_read t (flags c.attempt_rest.new.met) c.attempt_rest.new.self c.args.d.now c.end_map.new.self (map_read (pairs_from name_at (fields_of t) (no_parts t)) c.args.d.now c.attempt_map.new.self c.attempt_rest.new.d c.end_map.new.self c.in-Some.entries c.attempt_rest.new.entries (parts_met t (flags c.attempt_rest.new.met) c.attempt_rest.new.self) entered read c.if-not-attempt_rest.ensures.rest c.end_map.ensures)

@@ -1,8 +1,9 @@
 use Rattle.std.proofs.Common.{◌≡◌, false, IsSome}
 use Rattle.mmdb_decode.specs.Maps.{pairs_from, name_at}
+use Rattle.mmdb_decode.specs.Remembering.{Remembers}
 use Rattle.mmdb_decode.specs.State.{decoded}
 use Rattle.mmdb_decode.specs.Tables.{fields_of, parts_met, flags}
-use Rattle.mmdb_decode.proofs.fields.attempt_rest.Given as goal
+use Rattle.mmdb_decode.proofs.remembered.attempt_each_recalling.Given as goal
 
 -- what is left to read, with the fields so far, is the whole
 abbrev pub invariant-loop-entries : goal.invariant-loop-entries
@@ -11,6 +12,8 @@ invariant-loop-entries g l =
     record {
       rest : decoded false (pairs_from name_at (fields_of t) (parts_met t (flags l.fn.met) l.fn.fields) l.fn.entries.remaining) l.fn.d ≡ decoded false (pairs_from name_at (fields_of t) (parts_met t (flags l.met) l.fields) l.entries.remaining) l.d;
       started : IsSome l.d.budget;
+      section : l.d.section ≡ l.fn.d.section;
+      remembered : Remembers g.T.Fields.table l.remembered l.fn.d.section;
       same : l.entries ≡ record l.fn.entries { remaining = l.entries.remaining };
     }
 

@@ -6,7 +6,7 @@ use Rattle.mmdb_decode.specs.State.{decoded}
 use Rattle.mmdb_decode.specs.Tables.{fields_of, parts_met, flags}
 use Rattle.mmdb_decode.proofs.MapLaws.{pairs_done, pairs_go_on}
 use Rattle.mmdb_decode.proofs.StepLaws.{kept_decoded, kept_trans, still_begun}
-use Rattle.mmdb_decode.proofs.fields.attempt_rest.Goals as goal
+use Rattle.mmdb_decode.proofs.fields.attempt_each.Goals as goal
 
 pub attempt_field-requires : goal.attempt_field-requires
 attempt_field-requires g c κs = ((refl, tt), still_begun c.loop-entries.d.budget c.attempt_name.new.self.budget (kept_decoded false name_at c.loop-entries.d c.attempt_name.new.self c.in-Some.name.now c.in-Some.ensures).charges c.loop-entries.invariant.started)

@@ -1,0 +1,18 @@
+use Rattle.std.proofs.Common.{◌≡◌, false, IsSome}
+use Rattle.mmdb_decode.specs.Maps.{pairs_from, name_at}
+use Rattle.mmdb_decode.specs.State.{decoded}
+use Rattle.mmdb_decode.specs.Tables.{fields_of, parts_met, flags}
+use Rattle.mmdb_decode.proofs.fields.attempt_each.Given as goal
+
+-- what is left to read, with the fields so far, is the whole
+abbrev pub invariant-loop-entries : goal.invariant-loop-entries
+invariant-loop-entries g l =
+    let t = g.R.Fields.table in
+    record {
+      rest : decoded false (pairs_from name_at (fields_of t) (parts_met t (flags l.fn.met) l.fn.fields) l.fn.entries.remaining) l.fn.d ≡ decoded false (pairs_from name_at (fields_of t) (parts_met t (flags l.met) l.fields) l.entries.remaining) l.d;
+      started : IsSome l.d.budget;
+      same : l.entries ≡ record l.fn.entries { remaining = l.entries.remaining };
+    }
+
+abbrev pub decreases-loop-entries : goal.decreases-loop-entries
+decreases-loop-entries g l = l.entries.remaining
