@@ -1,6 +1,6 @@
 -- Cells, one after another.
 use Rattle.std.proofs.Common.{◌≡◌, ℕ, List, [], ◌∷◌, ◌++◌, Bool, true, false, ◌&&◌, is_some, refl, sym, ap, ◌∙◌, append_assoc, append-nil}
-use Rattle.maxminddb.specs.declared.path.PathElement.{PathElement}
+use Rattle.mmdb_reader.specs.declared.path.PathElement.{PathElement}
 use Rattle.mmdb_filter.specs.declared.rows.Rows.{Rows}
 use Rattle.mmdb_enrich.specs.Columns.{delimiter_of}
 use Rattle.mmdb_enrich.specs.Cells.{read_at, IsCell, AreCells, are_read}

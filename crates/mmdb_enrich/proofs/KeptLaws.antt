@@ -2,8 +2,8 @@
 use Rattle.std.proofs.Common.{◌≡◌, ◌⊎◌, inl, inr, ℕ, List, Option, Some, None, sym, ap, ◌∙◌, ◌<◌, length, subst, slice_set, slice_index_or}
 use Rattle.std.proofs.lemmas.List.Elements.{All-set}
 use Rattle.std.specs.List.{All}
-use Rattle.maxminddb.specs.File.{Database}
-use Rattle.maxminddb.specs.declared.path.PathElement.{PathElement}
+use Rattle.mmdb_reader.specs.File.{Database}
+use Rattle.mmdb_reader.specs.declared.path.PathElement.{PathElement}
 use Rattle.mmdb_enrich.specs.Added.{AddsAt}
 use Rattle.mmdb_enrich.specs.declared.cache.Slot.{Slot}
 use Rattle.mmdb_filter.specs.declared.rows.Rows.{Rows}

@@ -2,9 +2,9 @@
 -- address that a column of the row spells.
 use Rattle.std.specs.Prelude.{◌≡◌, ◌⊎◌, ℕ, List, Option, Some, None, option_map, Bool, if◌then◌else◌}
 use Rattle.std.specs.declared.net.ip_addr.IpAddr.{IpAddr}
-use Rattle.maxminddb.specs.File.{Database, data_section}
-use Rattle.maxminddb.specs.Lookup.{CanAsk, IsRefusedAt, Answers, outcome_at}
-use Rattle.maxminddb.specs.declared.path.PathElement.{PathElement}
+use Rattle.mmdb_reader.specs.File.{Database, data_section}
+use Rattle.mmdb_reader.specs.Lookup.{CanAsk, IsRefusedAt, Answers, outcome_at}
+use Rattle.mmdb_reader.specs.declared.path.PathElement.{PathElement}
 use Rattle.mmdb_filter.specs.declared.rows.Rows.{Rows}
 use Rattle.mmdb_filter.specs.declared.counts.Outcome.{Outcome}
 use Rattle.mmdb_filter.specs.declared.counts.Outcome.TheVariants.{Found, Absent, Unreadable, Refused}

@@ -1,8 +1,8 @@
 -- What a cache keeps: of each record that it has, what is added for it.
 use Rattle.std.specs.Prelude.{◌≡◌, ℕ, List, Some}
 use Rattle.std.specs.List.{All}
-use Rattle.maxminddb.specs.File.{Database}
-use Rattle.maxminddb.specs.declared.path.PathElement.{PathElement}
+use Rattle.mmdb_reader.specs.File.{Database}
+use Rattle.mmdb_reader.specs.declared.path.PathElement.{PathElement}
 use Rattle.mmdb_enrich.specs.declared.cache.Cache.{Cache}
 use Rattle.mmdb_enrich.specs.declared.cache.Place.{Place}
 use Rattle.mmdb_enrich.specs.declared.cache.Slot.{Slot}

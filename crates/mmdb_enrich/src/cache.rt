@@ -1,7 +1,7 @@
 //! What was added for the last records.
 ghost use Rattle.std.specs.Prelude.{◌≡◌, ◌++◌, ◌⊎◌, List, ℕ, Some, None, IfOk, IfSome, true};
-ghost use Rattle.maxminddb.specs.File.{Database};
-ghost use Rattle.maxminddb.specs.declared.path.PathElement.{PathElement as SpecPathElement};
+ghost use Rattle.mmdb_reader.specs.File.{Database};
+ghost use Rattle.mmdb_reader.specs.declared.path.PathElement.{PathElement as SpecPathElement};
 ghost use Rattle.mmdb_filter.specs.declared.rows.Rows.{Rows as SpecRows};
 ghost use Rattle.mmdb_enrich.specs.Added.{AddsAt};
 ghost use Rattle.mmdb_enrich.specs.Kept.{IsKept, AreKept};

@@ -2,14 +2,14 @@
 ghost use Rattle.std.specs.Prelude.{◌≡◌, ◌∷◌, ◌++◌, ℕ, List, Some, IfOk, OnOk, map, is_some};
 ghost use Rattle.mmdb_filter.specs.declared.rows.Rows.TheVariants.{Lines, Csv};
 ghost use Rattle.mmdb_value.specs.Values.{value_tree};
-ghost use Rattle.maxminddb.specs.File.{data_section};
-ghost use Rattle.maxminddb.specs.Found.{database_asked, offset_found};
+ghost use Rattle.mmdb_reader.specs.File.{data_section};
+ghost use Rattle.mmdb_reader.specs.Found.{database_asked, offset_found};
 ghost use Rattle.mmdb_enrich.specs.Columns.{delimiter_of as spec_delimiter_of};
 ghost use Rattle.mmdb_enrich.specs.Cells.{is_plain as spec_is_plain, ShowsCell, IsCell, AreCells, blanks, are_read, read_at};
 
 use crate::columns::delimiter_of;
 use crate::quotes::put_csv_cell;
-use maxminddb::{LookupResult, MaxMindDbError, PathElement, Value};
+use mmdb_reader::{LookupResult, MaxMindDbError, PathElement, Value};
 use mmdb_filter::Rows;
 use mmdb_json::compact;
 use std::alloc::{AllocError, Global};

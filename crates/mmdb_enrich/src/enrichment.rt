@@ -9,7 +9,7 @@ ghost use Rattle.mmdb_enrich.specs.Rows.{paths_of};
 use crate::cache::Cache;
 use crate::cells::{put_blanks, put_cells};
 use crate::columns::address_of;
-use maxminddb::{LookupResult, PathElement, Reader};
+use mmdb_reader::{LookupResult, PathElement, Reader};
 use mmdb_filter::{Additions, Outcome, Rows};
 use std::alloc::{AllocError, Global};
 use std::convert::AsSlice;
@@ -42,7 +42,7 @@ fn outcome_of(are_read: bool) -> Outcome
 }
 
 impl<'a, 'f, S: AsSlice<u8> + Drop> Enrichment<'a, 'f, S> {
-    ghost use Rattle.maxminddb.specs.Found.{database_asked, offset_found};
+    ghost use Rattle.mmdb_reader.specs.Found.{database_asked, offset_found};
     ghost use Rattle.mmdb_enrich.specs.Rows.{AddsAtTo, AddsForTo};
 
     // Adds the cells of a record that was not kept, and keeps them.

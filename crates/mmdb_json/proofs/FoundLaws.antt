@@ -12,9 +12,9 @@ use Rattle.mmdb_value.specs.AnyValue.{value_at}
 use Rattle.mmdb_value.specs.Values.{value_tree}
 use Rattle.mmdb_value.specs.declared.any_value.Value.{Value}
 use Rattle.mmdb_value.proofs.StandingLaws.{value_is_what_stands}
-use Rattle.maxminddb.specs.Selecting.{selected, read_there, read_along, answer_along, SelectsTo}
-use Rattle.maxminddb.specs.declared.path.PathElement.{PathElement}
-use Rattle.maxminddb.proofs.PartLemmas.{path_selects}
+use Rattle.mmdb_reader.specs.Selecting.{selected, read_there, read_along, answer_along, SelectsTo}
+use Rattle.mmdb_reader.specs.declared.path.PathElement.{PathElement}
+use Rattle.mmdb_reader.proofs.PartLemmas.{path_selects}
 use Rattle.mmdb_json.specs.Shown.{Shows, AllShow, PairsShow, key_bytes, WritesShown}
 use Rattle.mmdb_json.specs.Texts.{IsCompact}
 use Rattle.mmdb_json.specs.Found.{StandsAlong, IsJsonAlong, WritesAlong}

@@ -4,9 +4,9 @@ use Rattle.json.specs.Token.{Token}
 use Rattle.json.specs.Token as token
 use Rattle.mmdb_format.specs.Unfolding.{Tree, Unfolds}
 use Rattle.mmdb_decode.specs.Reading.{Reading}
-use Rattle.maxminddb.specs.Parts.{part_of}
-use Rattle.maxminddb.specs.Selecting.{selected, HasNone}
-use Rattle.maxminddb.specs.declared.path.PathElement.{PathElement}
+use Rattle.mmdb_reader.specs.Parts.{part_of}
+use Rattle.mmdb_reader.specs.Selecting.{selected, HasNone}
+use Rattle.mmdb_reader.specs.declared.path.PathElement.{PathElement}
 use Rattle.mmdb_json.specs.Shown.{WritesShown}
 use Rattle.mmdb_json.specs.Texts.{IsCompact}
 

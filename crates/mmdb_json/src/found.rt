@@ -2,17 +2,17 @@
 ghost use Rattle.std.specs.Prelude.{◌≡◌, true, false, IfOk, IfErr, IfSome, IfNone};
 ghost use Rattle.mmdb_format.specs.Error.{MemoryApart};
 ghost use Rattle.mmdb_value.specs.AnyValue.{value_at};
-ghost use Rattle.maxminddb.specs.Decoding.{RefusesToDecode};
-ghost use Rattle.maxminddb.specs.File.{data_section};
-ghost use Rattle.maxminddb.specs.Found.{database_asked, offset_found};
-ghost use Rattle.maxminddb.specs.Selecting.{answer_along, HasNone};
+ghost use Rattle.mmdb_reader.specs.Decoding.{RefusesToDecode};
+ghost use Rattle.mmdb_reader.specs.File.{data_section};
+ghost use Rattle.mmdb_reader.specs.Found.{database_asked, offset_found};
+ghost use Rattle.mmdb_reader.specs.Selecting.{answer_along, HasNone};
 ghost use Rattle.mmdb_json.specs.Found.{IsJsonAlong, WritesAlong};
 
 use crate::sink::TokenSink;
 use crate::text::compact;
 use crate::write::write_value;
 use json::Token;
-use maxminddb::{LookupResult, MaxMindDbError, PathElement, Value};
+use mmdb_reader::{LookupResult, MaxMindDbError, PathElement, Value};
 use std::alloc::Global;
 use std::convert::AsSlice;
 

@@ -2,7 +2,7 @@
 use crate::error::ProgramError;
 use jiff::Timestamp;
 use json::{Pretty, Token};
-use maxminddb::{Metadata, Reader, Value};
+use mmdb_reader::{Metadata, Reader, Value};
 use memchr::memmem;
 use mmdb_json::write_value;
 use std::alloc::{AllocError, Global};

@@ -3,7 +3,7 @@ use crate::error::ProgramError;
 use crate::meter::Meter;
 use crate::request::{Column, EnrichWords};
 use csv::{ByteRecord, ReaderBuilder};
-use maxminddb::Reader;
+use mmdb_reader::Reader;
 use mmdb_enrich::{Cache, Enrichment, delimiter_of, put_csv_cell};
 use mmdb_filter::{Counts, MOST_SEEN, Place, Rows, filter_rows, read_piece};
 use std::alloc::{AllocError, Global};

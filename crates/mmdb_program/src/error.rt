@@ -1,5 +1,5 @@
 //! Why the program gave up.
-use maxminddb::MaxMindDbError;
+use mmdb_reader::MaxMindDbError;
 use std::alloc::{AllocError, AllocFailed};
 use std::io;
 use thiserror::Error;

@@ -1,7 +1,7 @@
 //! Every network of a range with what its record has.
 use crate::error::ProgramError;
 use crate::layout::Layout;
-use maxminddb::{IpNetwork, LookupResult, MaxMindDbError, Reader, Within, WithinOptions};
+use mmdb_reader::{IpNetwork, LookupResult, MaxMindDbError, Reader, Within, WithinOptions};
 use std::alloc::Global;
 use std::convert::AsSlice;
 use std::io::Write;

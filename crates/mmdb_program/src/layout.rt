@@ -1,7 +1,7 @@
 //! What the rows of an export look like.
 use csv::Writer as CsvWriter;
 use json::{Token, Writer};
-use maxminddb::{LookupResult, MaxMindDbError, PathElement, Value};
+use mmdb_reader::{LookupResult, MaxMindDbError, PathElement, Value};
 use mmdb_json::{compact, write_found};
 use std::alloc::Global;
 use std::convert::AsSlice;

@@ -1,5 +1,5 @@
 //! Paths as a person writes them.
-use maxminddb::PathElement;
+use mmdb_reader::PathElement;
 use std::alloc::{AllocError, Global};
 
 // The step that a part between dots stands for.

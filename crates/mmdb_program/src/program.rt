@@ -5,7 +5,7 @@ use crate::error::ProgramError;
 use crate::export::{Faulty, Rows, networks_in};
 use crate::request::{Answer, ExportWords, NoRequest, Request, ShowWords, request_of};
 use crate::show::show_to;
-use maxminddb::{MaxMindDbError, Reader};
+use mmdb_reader::{MaxMindDbError, Reader};
 use mmdb_filter::Counts;
 use std::alloc::{AllocError, Global};
 use std::convert::AsSlice;

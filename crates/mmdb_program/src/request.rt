@@ -4,7 +4,7 @@ use crate::paths::path_of;
 use crate::words::command;
 use clap::error::ErrorKind;
 use clap::{ArgMatches, Error};
-use maxminddb::{IpNetwork, PathElement};
+use mmdb_reader::{IpNetwork, PathElement};
 use mmdb_filter::Rows;
 use std::alloc::{AllocError, AllocFailed, Global};
 use std::net::IpAddr;

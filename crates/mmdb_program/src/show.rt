@@ -1,7 +1,7 @@
 //! What a database has for an address, as JSON.
 use crate::error::ProgramError;
 use json::{Pretty, Token, Writer};
-use maxminddb::{LookupResult, MaxMindDbError, PathElement, Reader};
+use mmdb_reader::{LookupResult, MaxMindDbError, PathElement, Reader};
 use mmdb_json::{TokenSink, write_found};
 use std::alloc::Global;
 use std::convert::AsSlice;

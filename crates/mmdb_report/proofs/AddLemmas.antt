@@ -12,9 +12,9 @@ use Rattle.mmdb_net.specs.declared.network.IpNetwork.{IpNetwork}
 use Rattle.mmdb_net.specs.declared.network.Ipv4Network.{Ipv4Network}
 use Rattle.mmdb_net.specs.declared.network.Ipv6Network.{Ipv6Network}
 use Rattle.mmdb_net.specs.declared.network.IpNetwork.TheVariants.{V4, V6}
-use Rattle.maxminddb.specs.File.{Database}
-use Rattle.maxminddb.specs.Items.{Item, Failure, Network}
-use Rattle.maxminddb.specs.Shown.{IsShownBy}
+use Rattle.mmdb_reader.specs.File.{Database}
+use Rattle.mmdb_reader.specs.Items.{Item, Failure, Network}
+use Rattle.mmdb_reader.specs.Shown.{IsShownBy}
 use Rattle.mmdb_report.specs.Counts.{is_ipv4_of, is_ipv6_of, is_without_data, is_fault, offsets_at}
 use Rattle.mmdb_report.specs.Tallies.{Adds, one_if, has_offset}
 use Rattle.mmdb_report.specs.declared.tally.Tally.{Tally}

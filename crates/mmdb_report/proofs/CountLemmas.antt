@@ -9,9 +9,9 @@ use Rattle.mmdb_net.specs.declared.network.IpNetwork.{IpNetwork}
 use Rattle.mmdb_net.specs.declared.network.IpNetwork.TheVariants.{V4, V6}
 use Rattle.mmdb_net.specs.Network.{prefix_of, block_of}
 use Rattle.mmdb_net.proofs.NetworkLaws.{length-block_of}
-use Rattle.maxminddb.specs.File.{Database, before_ipv4}
-use Rattle.maxminddb.specs.Items.{Network}
-use Rattle.maxminddb.specs.Shown.{IsShownBy}
+use Rattle.mmdb_reader.specs.File.{Database, before_ipv4}
+use Rattle.mmdb_reader.specs.Items.{Network}
+use Rattle.mmdb_reader.specs.Shown.{IsShownBy}
 use Rattle.mmdb_report.specs.Counts.{is_ipv4_of, is_ipv6_of}
 
 -- one more item

@@ -6,11 +6,11 @@ use Rattle.std.specs.Cmp.{nat_eq_equiv}
 use Rattle.std.proofs.lemmas.List.{length-map}
 use Rattle.std.proofs.lemmas.List.Folds.{list_any-append}
 use Rattle.std.proofs.lemmas.Map.Made.{length-from_keys}
-use Rattle.maxminddb.specs.File.{Database}
-use Rattle.maxminddb.specs.Items.{Item, item_of, items_of}
-use Rattle.maxminddb.specs.Listing.{Listed, IsListing}
-use Rattle.maxminddb.specs.Shown.{block_in}
-use Rattle.maxminddb.specs.declared.options.WithinOptions.{WithinOptions}
+use Rattle.mmdb_reader.specs.File.{Database}
+use Rattle.mmdb_reader.specs.Items.{Item, item_of, items_of}
+use Rattle.mmdb_reader.specs.Listing.{Listed, IsListing}
+use Rattle.mmdb_reader.specs.Shown.{block_in}
+use Rattle.mmdb_reader.specs.declared.options.WithinOptions.{WithinOptions}
 use Rattle.mmdb_net.specs.declared.network.IpNetwork.{IpNetwork}
 use Rattle.mmdb_report.specs.Reports.{most_items, ReportsOn, HasTooMany}
 use Rattle.mmdb_report.specs.Counts.{is_ipv4_of, is_ipv6_of, is_without_data, is_fault, offsets_at, offsets_of, Counts}

@@ -5,9 +5,9 @@ use Rattle.std.specs.Set.{distinct_count}
 use Rattle.std.specs.Net.Addr.{is_ipv4}
 use Rattle.mmdb_net.specs.declared.network.IpNetwork.{IpNetwork}
 use Rattle.mmdb_net.specs.Network.{ip_of, prefix_of}
-use Rattle.maxminddb.specs.File.{Database, before_ipv4}
-use Rattle.maxminddb.specs.Items.{Item, Failure, Network}
-use Rattle.maxminddb.specs.Shown.{IsShownBy}
+use Rattle.mmdb_reader.specs.File.{Database, before_ipv4}
+use Rattle.mmdb_reader.specs.Items.{Item, Failure, Network}
+use Rattle.mmdb_reader.specs.Shown.{IsShownBy}
 use Rattle.mmdb_report.specs.declared.report.Report.{Report}
 
 -- The item is shown as an IPv4 network of this prefix: its leaf has so many bits after the zeros before

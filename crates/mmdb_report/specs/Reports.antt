@@ -2,11 +2,11 @@
 use Rattle.std.specs.Prelude.{◌≡◌, ◌⊎◌, ℕ, ◌<◌, ◌≤◌, List, length, Result, Ok, Err}
 use Rattle.mmdb_format.specs.Error.{OfInput, OfMemory, kind_of}
 use Rattle.mmdb_net.specs.declared.network.IpNetwork.{IpNetwork}
-use Rattle.maxminddb.specs.File.{Database}
-use Rattle.maxminddb.specs.Items.{items_of}
-use Rattle.maxminddb.specs.Listing.{Listed, IsListing}
-use Rattle.maxminddb.specs.Shown.{block_in}
-use Rattle.maxminddb.specs.declared.options.WithinOptions.{WithinOptions}
+use Rattle.mmdb_reader.specs.File.{Database}
+use Rattle.mmdb_reader.specs.Items.{items_of}
+use Rattle.mmdb_reader.specs.Listing.{Listed, IsListing}
+use Rattle.mmdb_reader.specs.Shown.{block_in}
+use Rattle.mmdb_reader.specs.declared.options.WithinOptions.{WithinOptions}
 use Rattle.mmdb_report.specs.Counts.{Counts}
 use Rattle.mmdb_report.specs.declared.report.Report.{Report}
 use Rattle.mmdb_report.specs.declared.report.ReportError.{ReportError}

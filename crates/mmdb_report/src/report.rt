@@ -1,11 +1,11 @@
 //! What is counted of the networks of a range.
 ghost use Rattle.std.specs.Prelude.{◌≡◌, ◌↔◌, IfOk};
 ghost use Rattle.mmdb_net.specs.Network.{ip_of};
-ghost use Rattle.maxminddb.specs.Lookup.{CanAsk};
+ghost use Rattle.mmdb_reader.specs.Lookup.{CanAsk};
 ghost use Rattle.mmdb_report.specs.Reports.{ReportsOn, HasTooMany, IsOfRange, NamesRangeOrMemory};
 
 use crate::tally::Tally;
-use maxminddb::{IpNetwork, MaxMindDbError, Reader, WithinOptions};
+use mmdb_reader::{IpNetwork, MaxMindDbError, Reader, WithinOptions};
 use std::alloc::Global;
 use std::convert::AsSlice;
 use thiserror::Error;

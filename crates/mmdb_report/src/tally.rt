@@ -1,12 +1,12 @@
 //! The counts so far.
 ghost use Rattle.std.specs.Prelude.{ℕ, ◌≤◌, slice_index, Some, OnOk, IfErr};
-ghost use Rattle.maxminddb.specs.File.{Database};
-ghost use Rattle.maxminddb.specs.Found.{database_asked, leaf_of, shown_as_ipv4};
-ghost use Rattle.maxminddb.specs.Items.{item_view, IsItemOf};
-ghost use Rattle.maxminddb.specs.Shown.{IsShownBy};
+ghost use Rattle.mmdb_reader.specs.File.{Database};
+ghost use Rattle.mmdb_reader.specs.Found.{database_asked, leaf_of, shown_as_ipv4};
+ghost use Rattle.mmdb_reader.specs.Items.{item_view, IsItemOf};
+ghost use Rattle.mmdb_reader.specs.Shown.{IsShownBy};
 
 use crate::report::{Report, ReportError};
-use maxminddb::{IpNetwork, LookupResult, MaxMindDbError};
+use mmdb_reader::{IpNetwork, LookupResult, MaxMindDbError};
 use std::alloc::Global;
 use std::collections::HashSet;
 use std::convert::AsSlice;

@@ -5,9 +5,9 @@ use Rattle.mmdb_net.specs.declared.network.IpNetwork.{IpNetwork}
 use Rattle.mmdb_net.specs.declared.network.IpNetwork.TheVariants.{V4, V6}
 use Rattle.mmdb_net.specs.Network.{full_text_of, ipv4_block_of, ipv6_block_of}
 use Rattle.mmdb_net.specs.FullText.{ipv4_full_text, ipv6_full_text}
-use Rattle.maxminddb.specs.File.{Database, before_ipv4}
-use Rattle.maxminddb.specs.Shown.{IsShownBy}
-use Rattle.maxminddb.specs.Items.{Network}
+use Rattle.mmdb_reader.specs.File.{Database, before_ipv4}
+use Rattle.mmdb_reader.specs.Shown.{IsShownBy}
+use Rattle.mmdb_reader.specs.Items.{Network}
 use Rattle.mmdb_tool.specs.Lines.{leaf_text, leaf_line, network_line, offset_text, line_of}
 
 drop-front : (xs ys : List Bool) → drop (length xs) (xs ++ ys) ≡ ys

@@ -3,12 +3,12 @@ use Rattle.std.proofs.Common.{◌≡◌, ℕ, List, [], ◌∷◌, ◌++◌, Opt
 use Rattle.std.specs.Io.KnownBytes.{Appends}
 use Rattle.std.proofs.KnownBytes.{Appends-trans}
 use Rattle.mmdb_net.specs.declared.network.IpNetwork.{IpNetwork}
-use Rattle.maxminddb.specs.declared.options.WithinOptions.{WithinOptions}
-use Rattle.maxminddb.specs.File.{Database}
-use Rattle.maxminddb.specs.Items.{Item, items_of}
-use Rattle.maxminddb.specs.Listing.{Listed, IsListing, listed}
-use Rattle.maxminddb.specs.Shown.{block_in}
-use Rattle.maxminddb.proofs.ListingLemmas.{range_walk_lists}
+use Rattle.mmdb_reader.specs.declared.options.WithinOptions.{WithinOptions}
+use Rattle.mmdb_reader.specs.File.{Database}
+use Rattle.mmdb_reader.specs.Items.{Item, items_of}
+use Rattle.mmdb_reader.specs.Listing.{Listed, IsListing, listed}
+use Rattle.mmdb_reader.specs.Shown.{block_in}
+use Rattle.mmdb_reader.proofs.ListingLemmas.{range_walk_lists}
 use Rattle.mmdb_tool.specs.Lines.{line_of, lines_of}
 use Rattle.mmdb_tool.specs.Putting.{AppendsFront}
 use Rattle.mmdb_tool.specs.ListText.{BeginsList}

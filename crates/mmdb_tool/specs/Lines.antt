@@ -6,10 +6,10 @@ use Rattle.std.specs.declared.net.ip_addr.IpAddr.{IpAddr}
 use Rattle.mmdb_net.specs.declared.network.IpNetwork.{IpNetwork}
 use Rattle.mmdb_net.specs.Network.{full_text_of}
 use Rattle.mmdb_net.specs.FullText.{ipv4_full_text, ipv6_full_text}
-use Rattle.maxminddb.specs.File.{Database, before_ipv4}
-use Rattle.maxminddb.specs.Items.{Item, Failure, Network}
-use Rattle.maxminddb.specs.Lookup.{Answers, outcome_at}
-use Rattle.maxminddb.specs.Shown.{is_shown_as_ipv4, IsShownBy}
+use Rattle.mmdb_reader.specs.File.{Database, before_ipv4}
+use Rattle.mmdb_reader.specs.Items.{Item, Failure, Network}
+use Rattle.mmdb_reader.specs.Lookup.{Answers, outcome_at}
+use Rattle.mmdb_reader.specs.Shown.{is_shown_as_ipv4, IsShownBy}
 
 -- what stands for the offset of a value
 abbrev pub offset_text : Option ℕ → List ℕ

@@ -1,5 +1,5 @@
 //! The program's words.
-use maxminddb::{IpNetwork, WithinOptions};
+use mmdb_reader::{IpNetwork, WithinOptions};
 use std::net::IpAddr;
 
 /// The usage line.

@@ -1,13 +1,13 @@
 //! The lines of networks.
 ghost use Rattle.std.specs.Prelude.{◌≡◌, ◌⊎◌, ◌↔◌, ◌++◌, Some, IfOk, IfErr, OnOk, string_bytes};
 ghost use Rattle.mmdb_format.specs.Error.{OfInput, OfDatabase, OfMemory, kind_of, IsRefusedAs};
-ghost use Rattle.maxminddb.specs.Lookup.{CanAsk, IsRefusedAt};
-ghost use Rattle.maxminddb.specs.File.{Database};
-ghost use Rattle.maxminddb.specs.Items.{item_view, IsItemOf};
+ghost use Rattle.mmdb_reader.specs.Lookup.{CanAsk, IsRefusedAt};
+ghost use Rattle.mmdb_reader.specs.File.{Database};
+ghost use Rattle.mmdb_reader.specs.Items.{item_view, IsItemOf};
 ghost use Rattle.mmdb_tool.specs.Lines.{network_line, line_of, IsLookupLine};
 
 use itoa::Buffer;
-use maxminddb::{IpNetwork, LookupResult, MaxMindDbError, Reader};
+use mmdb_reader::{IpNetwork, LookupResult, MaxMindDbError, Reader};
 use std::alloc::{AllocError, Global};
 use std::convert::AsSlice;
 use std::net::IpAddr;

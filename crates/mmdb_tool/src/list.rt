@@ -1,13 +1,13 @@
 //! The list of a range, as text.
 ghost use Rattle.std.specs.Prelude.{◌≡◌, ◌↔◌, OnOk, OnErr};
 ghost use Rattle.mmdb_net.specs.Network.{ip_of};
-ghost use Rattle.maxminddb.specs.Lookup.{CanAsk};
+ghost use Rattle.mmdb_reader.specs.Lookup.{CanAsk};
 ghost use Rattle.mmdb_tool.specs.Putting.{AppendsFront, PutsFront, TellsFault};
 ghost use Rattle.mmdb_tool.specs.ListText.{WritesList, BeginsList, IsOfRange, NamesRangeOrMemory, TellsListFault};
 
 use crate::line::put_item_line;
 use crate::sink::{PutError, Sink, put_all};
-use maxminddb::{IpNetwork, MaxMindDbError, Reader, WithinOptions};
+use mmdb_reader::{IpNetwork, MaxMindDbError, Reader, WithinOptions};
 use std::alloc::{AllocError, Global};
 use std::convert::AsSlice;
 use std::io;

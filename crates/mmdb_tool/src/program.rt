@@ -6,7 +6,7 @@ use crate::line::lookup_line;
 use crate::list::{ListError, list_to};
 use crate::report_text::report_text;
 use crate::sink::{Sink, put_all};
-use maxminddb::{MaxMindDbError, Reader};
+use mmdb_reader::{MaxMindDbError, Reader};
 use mmdb_report::{ReportError, report_on};
 use std::alloc::{AllocError, Global};
 use std::convert::AsSlice;

@@ -1,7 +1,7 @@
 use Rattle.std.proofs.Common.{◌≡◌, ◌+◌, ◌∷◌, drop, map, is_some, sym, ap, ◌∙◌, subst, arith}
 use Rattle.std.proofs.lemmas.List.{drop_more, drop_all}
-use Rattle.maxminddb.specs.File.{data_section}
-use Rattle.maxminddb.specs.Found.{database_asked}
+use Rattle.mmdb_reader.specs.File.{data_section}
+use Rattle.mmdb_reader.specs.Found.{database_asked}
 use Rattle.mmdb_enrich.specs.Cells.{IsCell, read_at}
 use Rattle.mmdb_enrich.proofs.CellLaws.{CellsWay, one_cell, cells_done}
 use Rattle.mmdb_enrich.proofs.cells.put_cells.Goals as goal

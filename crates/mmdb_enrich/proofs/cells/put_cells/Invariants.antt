@@ -1,6 +1,6 @@
 use Rattle.std.proofs.Common.{◌≡◌, ℕ, Some, drop, map}
-use Rattle.maxminddb.specs.File.{data_section}
-use Rattle.maxminddb.specs.Found.{database_asked, offset_found}
+use Rattle.mmdb_reader.specs.File.{data_section}
+use Rattle.mmdb_reader.specs.Found.{database_asked, offset_found}
 use Rattle.mmdb_enrich.proofs.CellLaws.{CellsWay}
 use Rattle.mmdb_enrich.proofs.cells.put_cells.Given as goal
 

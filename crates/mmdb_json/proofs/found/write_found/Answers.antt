@@ -1,6 +1,6 @@
 use Rattle.std.proofs.Common.{rules, refl}
-use Rattle.maxminddb.specs.File.{data_section}
-use Rattle.maxminddb.specs.Found.{database_asked, offset_found}
+use Rattle.mmdb_reader.specs.File.{data_section}
+use Rattle.mmdb_reader.specs.Found.{database_asked, offset_found}
 use Rattle.mmdb_json.proofs.FoundLaws.{writes_along}
 use Rattle.mmdb_json.proofs.found.write_found.Goals as goal
 

@@ -1,7 +1,7 @@
 use Rattle.std.proofs.Common.{rules, Some, ap, ◌∙◌, subst, refl}
-use Rattle.maxminddb.specs.File.{Database}
-use Rattle.maxminddb.specs.Items.{item_view, IsItemOf}
-use Rattle.maxminddb.specs.Enumeration.{items_to_come, database_walked}
+use Rattle.mmdb_reader.specs.File.{Database}
+use Rattle.mmdb_reader.specs.Items.{item_view, IsItemOf}
+use Rattle.mmdb_reader.specs.Enumeration.{items_to_come, database_walked}
 use Rattle.mmdb_report.proofs.TallyLemmas.{shares_first, shares_next, counts_all, counted_length, more_than_counted, reports_list, has_too_many, full_of}
 use Rattle.mmdb_report.proofs.report.report_on.Goals as goal
 

@@ -1,5 +1,5 @@
 use Rattle.std.proofs.Common.{◌≡◌}
-use Rattle.maxminddb.specs.Enumeration.{items_to_come, database_walked}
+use Rattle.mmdb_reader.specs.Enumeration.{items_to_come, database_walked}
 use Rattle.mmdb_report.proofs.TallyLemmas.{Shares}
 use Rattle.mmdb_report.proofs.report.report_on.Given as goal
 

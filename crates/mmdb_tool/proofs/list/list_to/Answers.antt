@@ -1,9 +1,9 @@
 use Rattle.std.proofs.Common.{◌≡◌, ◌++◌, ℕ, List, [], Some, sym, refl, ap, ◌∙◌, subst, append_assoc, append-nil}
 use Rattle.std.specs.Io.KnownBytes.{Appends}
 use Rattle.std.proofs.KnownBytes.{Appends-trans}
-use Rattle.maxminddb.specs.File.{Database}
-use Rattle.maxminddb.specs.Items.{item_view, IsItemOf}
-use Rattle.maxminddb.specs.Enumeration.{items_to_come, database_walked}
+use Rattle.mmdb_reader.specs.File.{Database}
+use Rattle.mmdb_reader.specs.Items.{item_view, IsItemOf}
+use Rattle.mmdb_reader.specs.Enumeration.{items_to_come, database_walked}
 use Rattle.mmdb_tool.specs.Lines.{line_of, lines_of}
 use Rattle.mmdb_tool.proofs.ListLemmas.{some_put, one_held, all_held, part_more, not_begun, text_of_list, listing_of, on_err_given}
 use Rattle.mmdb_tool.proofs.list.list_to.Goals as goal

@@ -1,6 +1,6 @@
 use Rattle.std.proofs.Common.{◌≡◌, ℕ, List, ◌++◌}
 use Rattle.std.specs.Io.KnownBytes.{Appends}
-use Rattle.maxminddb.specs.Enumeration.{items_to_come, database_walked}
+use Rattle.mmdb_reader.specs.Enumeration.{items_to_come, database_walked}
 use Rattle.mmdb_tool.specs.Lines.{lines_of}
 use Rattle.mmdb_tool.specs.declared.sink.Fault.TheVariants.{Free}
 use Rattle.mmdb_tool.proofs.list.list_to.Given as goal

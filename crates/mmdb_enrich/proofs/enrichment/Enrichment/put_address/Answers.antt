@@ -1,6 +1,6 @@
 use Rattle.std.proofs.Common.{rules, ◌≡◌, Some, None, subst}
 use Rattle.std.proofs.lemmas.Result.{IfOk-weaker}
-use Rattle.maxminddb.specs.Found.{leaf_of, offset_found}
+use Rattle.mmdb_reader.specs.Found.{leaf_of, offset_found}
 use Rattle.mmdb_enrich.specs.Rows.{paths_of, AddsAtTo}
 use Rattle.mmdb_enrich.proofs.AddedLaws.{found_added, absent_added, held}
 use Rattle.mmdb_enrich.proofs.enrichment.Enrichment.put_address.Goals as goal

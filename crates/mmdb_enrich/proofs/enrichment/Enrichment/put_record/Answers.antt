@@ -1,6 +1,6 @@
 use Rattle.std.proofs.Common.{rules, ◌≡◌, ◌-◌, ◌++◌, Some, length, take, drop, map, subst, ap, ◌∙◌}
 use Rattle.std.proofs.lemmas.List.{take_rest}
-use Rattle.maxminddb.specs.Found.{database_asked}
+use Rattle.mmdb_reader.specs.Found.{database_asked}
 use Rattle.mmdb_enrich.specs.Added.{AddsAt}
 use Rattle.mmdb_enrich.specs.Rows.{paths_of}
 use Rattle.mmdb_enrich.proofs.AddedLaws.{read_added, behind}

@@ -1,6 +1,6 @@
 use Rattle.std.proofs.Common.{rules, nat_eq, sym, refl, ap, ◌∙◌}
 use Rattle.std.specs.Set.{is_member}
-use Rattle.maxminddb.specs.Items.{item_view}
+use Rattle.mmdb_reader.specs.Items.{item_view}
 use Rattle.mmdb_report.proofs.AddLemmas.{adds_failure, adds_network, adds_some, adds_none, adds_ipv4, adds_ipv6}
 use Rattle.mmdb_report.proofs.tally.Tally.add.Goals as goal
 use Rattle.mmdb_report.proofs.tally.Tally.add.Goals.{in-Some+in-Ok-insert, in-None, in-V4, in-V6}

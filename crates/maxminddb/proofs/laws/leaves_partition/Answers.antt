@@ -1,5 +1,0 @@
-use Rattle.maxminddb.proofs.LawLemmas.{leaves_are_disjoint, each_address_has_one_leaf}
-use Rattle.maxminddb.proofs.laws.leaves_partition.Goals as goal
-
-pub returns : goal.returns
-returns c = record { disjoint = leaves_are_disjoint; covering = each_address_has_one_leaf }

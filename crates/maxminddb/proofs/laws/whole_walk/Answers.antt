@@ -1,5 +1,0 @@
-use Rattle.maxminddb.proofs.ListingLemmas.{whole_walk_lists_all}
-use Rattle.maxminddb.proofs.laws.whole_walk.Goals as goal
-
-pub returns : goal.returns
-returns c = whole_walk_lists_all

@@ -1,9 +1,0 @@
-use Rattle.std.proofs.Common.{◌-◌, ◌^◌, ◌∙◌, ℕ, ap, arith}
-use Rattle.maxminddb.proofs.PositionLemmas.{upper-fits}
-use Rattle.maxminddb.proofs.positions.Position.half.Goals as goal
-
-pub overflow_add-result : goal.overflow_add-result
-overflow_add-result g c =
-    let fits = upper-fits c.args.reader.now c.args.self c.requires.at c.requires.halves.1 in
-    let same = c.from.ensures ∙ c.width.ensures.value in
-    omega (arith, fits, ap (λ (w : ℕ). 2 ^ (w - c.args.self.prefix - 1)) same)

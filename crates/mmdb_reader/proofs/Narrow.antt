@@ -1,0 +1,134 @@
+-- How few positions wait while a walk is under way, and how few stops it takes.
+use Rattle.std.proofs.Common.{◌≡◌, ℕ, ◌+◌, ◌-◌, ◌*◌, ◌<◌, ◌≤◌, zero, suc, Bool, true, false, ◌||◌, nat_lt, List, [], ◌∷◌, ◌++◌, take, length, arith, ap, ◌∙◌, refl, inl, inr, length-append}
+use Rattle.std.proofs.lemmas.Bool.{cases_Bool, cases_lt}
+use Rattle.std.proofs.lemmas.List.{take-append-le}
+use Rattle.std.proofs.Math.Seq.{take-append-add}
+use Rattle.mmdb_reader.specs.File.{Database, tree_of, width}
+use Rattle.mmdb_reader.specs.Tree.{step}
+use Rattle.mmdb_reader.specs.Stops.{Stop, stops, shared, cost, cut, is_fault, most_stops}
+use Rattle.mmdb_reader.specs.Walked.{goes_on_from}
+use Rattle.mmdb_reader.specs.WholeLaws.{FewPositionsWait, FewStopsAreTaken}
+use Rattle.mmdb_reader.proofs.PositionLemmas.{width-le}
+use Rattle.mmdb_reader.proofs.Progress.{total-append}
+use Rattle.mmdb_reader.proofs.Visits.{Visit, visit, with_lead, total, visits_below, visits_of, visits_after, total-visits_of, length-visits_of, some_visit, below-node, below-stop, visits-stops}
+
+-- ---- the first visits of a list
+
+total-one : (gap : ℕ) (v : Visit) → total (v ∷ []) ≡ v.gap
+unfolding total
+total-one gap v = omega arith
+
+total-with_lead : (lead : ℕ) (vs : List Visit) → 0 < length vs → total (with_lead lead vs) ≡ lead + total vs
+unfolding total with_lead
+total-with_lead lead [] some = absurd (omega arith)
+total-with_lead lead (v ∷ vs) some = omega arith
+
+length-with_lead : (lead : ℕ) (vs : List Visit) → length (with_lead lead vs) ≡ length vs
+unfolding with_lead
+length-with_lead lead [] = refl
+length-with_lead lead (v ∷ vs) = refl
+
+take-with_lead : (k lead : ℕ) (vs : List Visit) → take (suc k) (with_lead lead vs) ≡ with_lead lead (take (suc k) vs)
+unfolding with_lead
+take-with_lead k lead [] = refl
+take-with_lead k lead (v ∷ vs) = refl
+
+some-take : (k : ℕ) (vs : List Visit) → 0 < length vs → 0 < length (take (suc k) vs)
+some-take k [] some = absurd (omega arith)
+some-take k (v ∷ vs) some = omega arith
+
+one-visit : (k : ℕ) (v : Visit) (vs : List Visit) → vs ≡ v ∷ [] → k < length vs → (total (take (suc k) vs) ≡ v.gap) × (length vs ≡ 1) × (total vs ≡ v.gap) × (k ≡ 0)
+one-visit zero v vs e less = (rw e (total-one 0 v), ap length e, ap total e ∙ total-one 0 v, refl)
+one-visit (suc k) v vs e less = absurd (omega (arith, ap length e))
+
+module _ (db : Database) where
+  -- a node has one inner position for each stop but the last
+  total-below : (rest number : ℕ) (high : Bool) → total (visits_below db rest number high) + 1 ≡ 2 * length (visits_below db rest number high)
+  total-below zero number high =
+      let one = one-visit 0 _ _ (below-stop db zero number high (inl refl)) (some_visit db zero number high) in omega (arith, one.1, one.2)
+  total-below (suc rest) number high = elim (cases_Bool (goes_on_from db number high)) [
+    | inr off ↦ (let one = one-visit 0 _ _ (below-stop db (suc rest) number high (inr off)) (some_visit db (suc rest) number high) in omega (arith, one.1, one.2))
+    | inl on ↦
+        let low = visits_below db rest (step (tree_of db) number false) high in
+        let upper = visits_below db rest (step (tree_of db) number true) (high || nat_lt 31 rest) in
+        let is = below-node db rest number high on in
+        omega (
+          arith,
+          ap total is,
+          ap length is,
+          total-append (with_lead 1 low) upper,
+          length-append (with_lead 1 low) upper,
+          total-with_lead 1 low (some_visit db rest (step (tree_of db) number false) high),
+          length-with_lead 1 low,
+          total-below rest (step (tree_of db) number false) high,
+          total-below rest (step (tree_of db) number true) (high || nat_lt 31 rest),
+        )
+  ]
+
+  first-below : (rest number : ℕ) (high : Bool) (k : ℕ) → k < length (visits_below db rest number high) → total (take (suc k) (visits_below db rest number high)) ≤ 2 * k + 1 + rest
+  first-below zero number high k less =
+      let one = one-visit k _ _ (below-stop db zero number high (inl refl)) less in omega (arith, one.0)
+  first-below (suc rest) number high k less = elim (cases_Bool (goes_on_from db number high)) [
+    | inr off ↦ (let one = one-visit k _ _ (below-stop db (suc rest) number high (inr off)) less in omega (arith, one.0))
+    | inl on ↦
+        let low = visits_below db rest (step (tree_of db) number false) high in
+        let upper = visits_below db rest (step (tree_of db) number true) (high || nat_lt 31 rest) in
+        let is = below-node db rest number high on in
+        let some = some_visit db rest (step (tree_of db) number false) high in
+        let long = length-append (with_lead 1 low) upper in
+        let same = length-with_lead 1 low in
+        elim (cases_lt k (length low)) [
+          | inl here ↦
+              let part : total (take (suc k) (with_lead 1 low ++ upper)) ≡ 1 + total (take (suc k) low) =
+              ap total (take-append-le (suc k) (with_lead 1 low) upper (omega (arith, here, same)) ∙ take-with_lead k 1 low) ∙ total-with_lead 1 (take (suc k) low) (some-take k low some) in
+              omega (arith, ap (λ (vs : List Visit). total (take (suc k) vs)) is, part, first-below rest (step (tree_of db) number false) high k here)
+          | inr past ↦
+              let j : ℕ = k - length low in
+              let cut_at : suc k ≡ length (with_lead 1 low) + suc j = omega (arith, past, same) in
+              let part : total (take (suc k) (with_lead 1 low ++ upper)) ≡ total (with_lead 1 low) + total (take (suc j) upper) =
+              ap (λ (n : ℕ). total (take n (with_lead 1 low ++ upper))) cut_at ∙ ap total (take-append-add (with_lead 1 low) upper (suc j)) ∙ total-append (with_lead 1 low) (take (suc j) upper) in
+              omega (
+                arith,
+                ap (λ (vs : List Visit). total (take (suc k) vs)) is,
+                part,
+                past,
+                total-with_lead 1 low some,
+                total-below rest (step (tree_of db) number false) high,
+                first-below rest (step (tree_of db) number true) (high || nat_lt 31 rest) j (omega (arith, past, less, ap length is, long, same)),
+              )
+        ]
+  ]
+
+-- ---- the first stops
+
+take-after : (n : ℕ) (before : List Bool) (ms : List Stop) → take n (visits_after before ms) ≡ visits_after before (take n ms)
+unfolding visits_after
+take-after zero before ms = refl
+take-after (suc n) before [] = refl
+take-after (suc n) before (m ∷ ms) = ap (λ (vs : List Visit). visit (length m.bits - shared before m.bits) m.end ∷ vs) (take-after n m.bits ms)
+
+take-visits_of : (n : ℕ) (ms : List Stop) → take n (visits_of ms) ≡ visits_of (take n ms)
+unfolding visits_of
+take-visits_of zero ms = refl
+take-visits_of (suc n) [] = refl
+take-visits_of (suc n) (m ∷ ms) = ap (λ (vs : List Visit). visit (length m.bits + 1) m.end ∷ vs) (take-after n m.bits ms)
+
+pub few_wait : FewPositionsWait
+few_wait db n less =
+    let all = visits-stops db in
+    let long : length (visits_below db (width db) 0 false) ≡ length (stops db) = ap length all ∙ length-visits_of (stops db) in
+    let costs : total (take (suc n) (visits_below db (width db) 0 false)) ≡ cost (take (suc n) (stops db)) =
+    ap (λ (vs : List Visit). total (take (suc n) vs)) all ∙ ap total (take-visits_of (suc n) (stops db)) ∙ total-visits_of (take (suc n) (stops db)) in
+    omega (arith, costs, width-le db, first-below db (width db) 0 false n (omega (arith, long, less)))
+
+cut-few : (most : ℕ) (ms : List Stop) → length (cut most ms) ≤ most
+unfolding cut
+cut-few zero ms = omega arith
+cut-few (suc most) [] = omega arith
+cut-few (suc most) (m ∷ ms) = elim (cases_Bool (is_fault m.end)) [
+  | inl bad ↦ rw bad (omega arith)
+  | inr fine ↦ rw fine (let h = cut-few most ms in omega (arith, h))
+]
+
+pub few_taken : FewStopsAreTaken
+few_taken db = cut-few (most_stops db + 1) (stops db)

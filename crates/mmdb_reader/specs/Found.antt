@@ -1,0 +1,22 @@
+-- What contracts see of a lookup's result.
+use Rattle.std.specs.Prelude.{ℕ, Bool, List, Option, nat_eq}
+use Rattle.std.specs.declared.convert.AsSlice.{Ghosts}
+use Rattle.mmdb_reader.specs.declared.lookup_result.LookupResult.{LookupResult}
+use Rattle.mmdb_reader.specs.File.{Database}
+use Rattle.mmdb_reader.specs.Numbered.{numbered_block}
+
+-- the database that was asked
+abbrev pub database_asked : {S : Type 0} {G : Ghosts S ℕ} → LookupResult S G → Database
+database_asked r = r.reader.now
+
+-- the leaf that the result is of
+abbrev pub leaf_of : {S : Type 0} {G : Ghosts S ℕ} → LookupResult S G → List Bool
+leaf_of r = numbered_block r.reader.now r.address.width r.address.bits r.prefix
+
+-- the offset of the leaf's value in the data section, if it has one
+abbrev pub offset_found : {S : Type 0} {G : Ghosts S ℕ} → LookupResult S G → Option ℕ
+offset_found r = r.offset
+
+-- whether the leaf is shown as an IPv4 network
+abbrev pub shown_as_ipv4 : {S : Type 0} {G : Ghosts S ℕ} → LookupResult S G → Bool
+shown_as_ipv4 r = nat_eq r.address.width 32

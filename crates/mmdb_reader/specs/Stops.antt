@@ -1,0 +1,100 @@
+-- What a walk of the whole tree stops at, ascending, and how many positions it takes to get there ("Binary
+-- Search Tree Section" and "IPv4 addresses in an IPv6 tree" of the MaxMind DB File Format Specification 2.0).
+use Rattle.std.specs.Prelude.{ℕ, ◌+◌, ◌-◌, ◌*◌, zero, suc, Bool, true, false, not, ◌&&◌, List, [], ◌∷◌, ◌++◌, length, if◌then◌else◌, nat_lt}
+use Rattle.mmdb_reader.specs.declared.walked.End.{End}
+use Rattle.mmdb_reader.specs.declared.walked.End.TheVariants.{Alias, Fault, Absent, Found}
+use Rattle.mmdb_reader.specs.File.{Database, tree_of, width}
+use Rattle.mmdb_reader.specs.Tree.{walk}
+use Rattle.mmdb_reader.specs.Alias.{is_alias}
+use Rattle.mmdb_reader.specs.Lookup.{Outcome, Offset, NoData, Refused, outcome_of}
+
+-- what a leaf has: a value at an offset, no data, or a fault
+abbrev pub end_of_outcome : Outcome → End
+end_of_outcome (Offset offset) = Found offset
+end_of_outcome NoData = Absent
+end_of_outcome Refused = Fault
+
+-- The same of the number to which a leaf leads. A full address that still stands on a node is a fault.
+unfoldable pub end_of_leaf : Database → ℕ → End
+end_of_leaf db number = if nat_lt number db.metadata.node_count then Fault else end_of_outcome (outcome_of db number)
+
+-- where a walk stops, and at what
+pub record Stop : Type 0 where
+  pub bits : List Bool
+  pub end : End
+
+abbrev pub stop : List Bool → End → Stop
+stop bits end = record { bits = bits; end = end }
+
+-- The walk goes on below a node, unless it has come there by an alias.
+abbrev pub goes_on : Database → List Bool → Bool
+goes_on db bits = not (is_alias db bits) && nat_lt (walk (tree_of db) bits) db.metadata.node_count
+
+-- It stops at an alias, and else at a leaf.
+abbrev pub end_at : Database → List Bool → End
+end_at db bits = if is_alias db bits then Alias else end_of_leaf db (walk (tree_of db) bits)
+
+-- the stops that begin with these bits, where so many bits are left to a full address
+unfoldable pub stops_below : Database → ℕ → List Bool → List Stop
+stops_below db zero bits = stop bits (end_at db bits) ∷ []
+stops_below db (suc left) bits =
+    if goes_on db bits
+    then stops_below db left (bits ++ false ∷ []) ++ stops_below db left (bits ++ true ∷ [])
+    else stop bits (end_at db bits) ∷ []
+
+-- All stops: the topmost aliases, and the leaves that are behind no alias.
+abbrev pub stops : Database → List Stop
+stops db = stops_below db (width db) []
+
+-- the offsets of the values of leaves
+abbrev pub offset_of : End → List ℕ
+offset_of (Found offset) = offset ∷ []
+offset_of Alias = []
+offset_of Fault = []
+offset_of Absent = []
+
+unfoldable pub offsets : List Stop → List ℕ
+offsets [] = []
+offsets (m ∷ ms) = offset_of m.end ++ offsets ms
+
+abbrev pub is_fault : End → Bool
+is_fault Fault = true
+is_fault Alias = false
+is_fault Absent = false
+is_fault (Found offset) = false
+
+-- ---- what it costs to walk there
+
+abbrev pub same_bit : Bool → Bool → Bool
+same_bit true y = y
+same_bit false y = not y
+
+-- how many bits two strings share from their beginnings
+abbrev pub shared : List Bool → List Bool → ℕ
+shared [] t = 0
+shared (x ∷ s) [] = 0
+shared (x ∷ s) (y ∷ t) = if same_bit x y then suc (shared s t) else 0
+
+-- Each stop costs its length less the beginning that it shares with the one before.
+unfoldable pub cost_after : List Bool → List Stop → ℕ
+cost_after before [] = 0
+cost_after before (m ∷ ms) = (length m.bits - shared before m.bits) + cost_after m.bits ms
+
+-- The first one costs its length and 1.
+unfoldable pub cost : List Stop → ℕ
+cost [] = 0
+cost (m ∷ ms) = (length m.bits + 1) + cost_after m.bits ms
+
+-- the first stops, at most so many, up to the first that is a faulty leaf
+unfoldable pub cut : ℕ → List Stop → List Stop
+cut zero ms = []
+cut (suc most) [] = []
+cut (suc most) (m ∷ ms) = m ∷ (if is_fault m.end then [] else cut most ms)
+
+-- how many stops a tree may have
+abbrev pub most_stops : Database → ℕ
+most_stops db = 3 * db.metadata.node_count
+
+-- What the walk costs: all stops, or those up to the one at which it is refused.
+abbrev pub walk_cost : Database → ℕ
+walk_cost db = cost (cut (suc (most_stops db)) (stops db))

@@ -1,0 +1,119 @@
+//! The values of lookups' results.
+ghost use Rattle.std.specs.Prelude.{◌≡◌, ℕ, true, Some, IfOk, IfErr, IfSome, IfNone, OnErr, IsSome, is_some, option_map};
+ghost use Rattle.mmdb_decode.specs.State.{State, begin, decoded};
+ghost use Rattle.mmdb_decode.specs.Refusal.{Refuses, answer};
+ghost use Rattle.mmdb_reader.specs.File.{data_section};
+ghost use Rattle.mmdb_reader.specs.Found.{database_asked, offset_found};
+ghost use Rattle.mmdb_reader.specs.Decoding.{DecodesTo, RefusesToDecode};
+ghost use Rattle.mmdb_reader.specs.Selecting.{selected, read_along, answer_along, SelectsTo, Reaches, LeadsNowhere, HasNone};
+
+use crate::lookup_result::LookupResult;
+use crate::offsets::counted_from_start;
+use crate::path::PathElement;
+use crate::selecting::{go_along, with_path};
+use mmdb_decode::decode::Decode;
+use mmdb_decode::decoder::Decoder;
+use mmdb_decode::laws::values_bounded;
+use mmdb_decode::steps::Steps;
+use mmdb_format::error::{DecodeResult, MaxMindDbError};
+use std::alloc::Global;
+use std::convert::AsSlice;
+
+// The value at a place of a section.
+fn decode_at<'de, T: Decode<'de>>(
+    alloc: Global,
+    section: &'de [u8],
+    place: usize,
+) -> DecodeResult<T>
+    ensures ok { IfOk result (λ v. T.exact ≡ true → answer T.starts T.meaning section.now place ≡ Some (T.datum v)) }
+    ensures err { IfErr result (λ e. T.exact ≡ true → Refuses T.free e (answer T.starts T.meaning section.now place)) }
+    ensures told { IfOk result (λ v. (after : State) × T.told (begin section.now place) v after) }
+{
+    let mut d = Decoder::new(section, place);
+    T::decode(alloc, &mut d)
+}
+
+// The value at the end of a path that begins at a place of a section.
+#[inline(always)]
+fn decode_along<'de, T: Decode<'de>>(
+    alloc: Global,
+    section: &'de [u8],
+    place: usize,
+    path: &[PathElement<'_>],
+) -> DecodeResult<Option<T>>
+    ensures ok { IfOk result (λ value. T.exact ≡ true → answer true (read_along path.now T.meaning) section.now place ≡ Some (option_map T.datum value)) }
+    ensures err { IfErr result (λ e. T.exact ≡ true → Refuses T.free e (answer true (read_along path.now T.meaning) section.now place)) }
+    ensures none { IfOk result (λ value. IfNone value (LeadsNowhere path.now section.now place)) }
+    ensures told { IfOk result (λ value. IfSome value (λ v. (there after : State) × (decoded true (selected path.now) (begin section.now place) ≡ Some (true, there)) × T.told there v after)) }
+{
+    let mut d = Decoder::new(section, place);
+    d.begin_budget();
+    match go_along(&mut d, path) {
+        Ok(true) => {}
+        Ok(false) => {
+            values_bounded(&d);
+            return Ok(None);
+        }
+        Err(refused) => return Err(refused.refusal(alloc, &mut d, path)),
+    }
+    match T::decode(alloc, &mut d) {
+        Ok(value) => Ok(Some(value)),
+        Err(error) => Err(with_path(alloc, error, path)),
+    }
+}
+
+impl<'a, S: AsSlice<u8> + Drop> LookupResult<'a, S> {
+    /// The value of the network, or none exactly where it has no data; only data can be refused.
+    ///
+    /// Refused, memory apart, exactly where no value of the type's shape stands at the offset within the
+    /// limits: `InvalidDatabase` where the bytes are no value, `Decoding` where the value is of another
+    /// shape, `ResourceLimit` over a limit. Of a type whose meaning is not exact its own relation is known,
+    /// and of Ok alone.
+    pub fn decode<T: Decode<'a>>(&self, alloc: Global) -> Result<Option<T>, MaxMindDbError>
+        ensures ok { IfOk result (λ value. T.exact ≡ true → DecodesTo T.datum (answer T.starts T.meaning (data_section (database_asked self.now))) (offset_found self.now) value) }
+        ensures err { IfErr result (λ e. T.exact ≡ true → RefusesToDecode T.free e (answer T.starts T.meaning (data_section (database_asked self.now))) (offset_found self.now)) }
+        ensures none { IfOk result (λ value. is_some value ≡ is_some (offset_found self.now)) }
+        ensures of_data { OnErr result (IsSome (offset_found self.now)) }
+        ensures told { IfOk result (λ value. IfSome value (λ v. (place : ℕ) × (after : State) × (offset_found self.now ≡ Some place) × T.told (begin (data_section (database_asked self.now)) place) v after)) }
+    {
+        let Some(offset) = self.offset else {
+            return Ok(None);
+        };
+        match decode_at(alloc, self.reader.data_section(), offset) {
+            Ok(value) => Ok(Some(value)),
+            Err(error) => Err(counted_from_start(error, self.reader.data_start())),
+        }
+    }
+
+    /// The value at the end of a path into the network's value, without reading what stands beside the path;
+    /// none exactly where the network has no data, no key of a map on the way is equal, or an index is out of
+    /// range. The first of equal keys counts. An empty path is `decode`.
+    ///
+    /// Refused, memory apart, exactly where another value than a map for a key or an array for an index
+    /// stands on the way, where bytes on the way are no value, where no value of the type's shape stands at
+    /// the path's end, or where way and value together pass the limits. A `Decoding` or `ResourceLimit`
+    /// names the path up to the step at which it arose. The way itself takes no memory.
+    pub fn decode_path<T: Decode<'a>>(
+        &self,
+        alloc: Global,
+        path: &[PathElement<'_>],
+    ) -> Result<Option<T>, MaxMindDbError>
+        ensures ok { IfOk result (λ value. T.exact ≡ true → SelectsTo T.datum (answer_along path.now T.starts T.meaning (data_section (database_asked self.now))) (offset_found self.now) value) }
+        ensures err { IfErr result (λ e. T.exact ≡ true → RefusesToDecode T.free e (answer_along path.now T.starts T.meaning (data_section (database_asked self.now))) (offset_found self.now)) }
+        ensures none { IfOk result (λ value. IfNone value (HasNone path.now (data_section (database_asked self.now)) (offset_found self.now))) }
+        ensures of_data { OnErr result (IsSome (offset_found self.now)) }
+        ensures told { IfOk result (λ value. IfSome value (λ v. (place : ℕ) × (there after : State) × (offset_found self.now ≡ Some place) × Reaches path.now (data_section (database_asked self.now)) place there × T.told there v after)) }
+    {
+        let Some(offset) = self.offset else {
+            return Ok(None);
+        };
+        if path.is_empty() {
+            return self.decode(alloc);
+        }
+        let section_start = self.reader.data_start();
+        match decode_along(alloc, self.reader.data_section(), offset, path) {
+            Ok(value) => Ok(value),
+            Err(error) => Err(counted_from_start(error, section_start)),
+        }
+    }
+}

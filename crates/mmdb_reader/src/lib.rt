@@ -1,0 +1,40 @@
+//! A reader of MaxMind DB files: the metadata, the search tree, and lookups of addresses in it.
+#![tactic(auto)]
+
+mod data;
+pub mod laws;
+mod lookup_result;
+mod marker;
+pub mod metadata;
+mod metadata_fields;
+mod offsets;
+mod options;
+mod path;
+mod positions;
+pub mod reader;
+mod selecting;
+mod source;
+mod steps;
+mod table;
+pub mod tree;
+mod verify;
+mod walked;
+mod walking;
+
+pub use lookup_result::LookupResult;
+pub use metadata::Metadata;
+pub use mmdb_net as geonet;
+pub use mmdb_net::{IpNetwork, IpNetworkError, Ipv4Network, Ipv6Network, mask_ip};
+pub use mmdb_value as values;
+pub use mmdb_value::{
+    Checked, Decode, DecodeResult, Decoder, Double, Entries, Float, Items, Kind, MaxMindDbError,
+    OwnedBytes, RawValue, Value, check_value, decoding, decoding_at, decoding_at_path,
+    empty_container, fuzzing as fuzzing, invalid_database, invalid_database_at, invalid_input,
+    resource_limit_at,
+};
+pub use options::WithinOptions;
+pub use path::{PathElement, render_path};
+pub use reader::Reader;
+pub use steps::Steps;
+pub use tree::read_node;
+pub use walking::Within;

@@ -1,0 +1,113 @@
+//! What lookups find.
+ghost use Rattle.std.specs.Prelude.{◌≡◌, ◌≤◌, ◌<◌, ◌^◌, ℕ, false, ⊤, IsOkAnd, is_some, nat_eq};
+ghost use Rattle.std.specs.Net.Addr.{is_ipv4};
+ghost use Rattle.mmdb_net.specs.Address.{address_width};
+ghost use Rattle.mmdb_reader.specs.File.{Database};
+ghost use Rattle.mmdb_reader.specs.Lookup.{block_at};
+ghost use Rattle.mmdb_reader.specs.Numbered.{numbered_block};
+
+use crate::reader::Reader;
+use mmdb_format::error::MaxMindDbError;
+use mmdb_net::{IpNetwork, mask_ip};
+use std::alloc::AllocError;
+use std::convert::AsSlice;
+use std::net::{IpAddr, Ipv4Addr, Ipv6Addr};
+
+/// An address as a number, and how many bits it has: 32 or 128.
+#[derive(Clone, Copy)]
+pub(crate) struct NumberedAddress {
+    pub(crate) bits: u128,
+    pub(crate) width: usize,
+}
+
+impl NumberedAddress {
+    /// An address as a number.
+    #[inline(always)]
+    pub(crate) fn of(address: IpAddr) -> NumberedAddress
+        ensures width { result.width ≡ address_width address }
+        ensures kind { nat_eq result.width 32 ≡ is_ipv4 address }
+        ensures fits { result.bits < 2 ^ result.width }
+        ensures block { (db : Database) (prefix : ℕ) → numbered_block db result.width result.bits prefix ≡ block_at db address prefix }
+    {
+        match address {
+            IpAddr::V4(address) => NumberedAddress {
+                bits: u128::from(address.to_bits()),
+                width: 32,
+            },
+            IpAddr::V6(address) => NumberedAddress {
+                bits: address.to_bits(),
+                width: 128,
+            },
+        }
+    }
+
+    /// The address that it is.
+    fn address(self) -> IpAddr
+        requires width { nat_eq self.width 32 ≡ false → self.width ≡ 128 }
+        requires fits { self.bits < 2 ^ self.width }
+        ensures width { address_width result ≡ self.width }
+        ensures kind { is_ipv4 result ≡ nat_eq self.width 32 }
+        ensures block { (db : Database) (prefix : ℕ) → block_at db result prefix ≡ numbered_block db self.width self.bits prefix }
+    {
+        if self.width == 32 {
+            IpAddr::V4(Ipv4Addr::from_bits(self.bits as u32))
+        } else {
+            IpAddr::V6(Ipv6Addr::from_bits(self.bits))
+        }
+    }
+}
+
+/// A leaf of a database: its network, and the place of its value in the data section. Its fields fill it, as
+/// far as they can: an `IpAddr` would be copied in pieces.
+pub struct LookupResult<'a, S: AsSlice<u8> + Drop> {
+    pub(crate) reader: &'a Reader<S>,
+    pub(crate) offset: Option<usize>,
+    pub(crate) address: NumberedAddress,
+    pub(crate) prefix: usize,
+    ghost is_width: { nat_eq address.width 32 ≡ false → address.width ≡ 128 },
+    ghost fits: { address.bits < 2 ^ address.width },
+    ghost is_prefix: { prefix ≤ address.width },
+}
+
+impl<'a, S: AsSlice<u8> + Drop> Copy for LookupResult<'a, S> {}
+
+impl<'a, S: AsSlice<u8> + Drop> Clone for LookupResult<'a, S> {
+    ghost is_clone = { λ s r. r ≡ s };
+
+    ghost is_infallible = { λ _. ⊤ };
+
+    fn clone(&self) -> Result<LookupResult<'a, S>, AllocError> {
+        Ok(*self)
+    }
+}
+
+impl<'a, S: AsSlice<u8> + Drop> LookupResult<'a, S> {
+    ghost use Rattle.mmdb_reader.specs.Found.{database_asked, leaf_of, offset_found, shown_as_ipv4};
+    ghost use Rattle.mmdb_reader.specs.Shown.{IsShownBy};
+
+    /// Whether the database has data for the network.
+    pub fn has_data(&self) -> bool
+        ensures { result ≡ is_some (offset_found self.now) }
+    {
+        self.offset.is_some()
+    }
+
+    /// The place of the network's value, counted from the start of the data section, if it has one.
+    pub fn offset(&self) -> Option<usize>
+        ensures { result ≡ offset_found self.now }
+    {
+        self.offset
+    }
+
+    /// The network of all addresses that share the answer, with a masked address. Never fails.
+    ///
+    /// For an IPv4 address it is an IPv4 network, save in an IPv6 database whose walk leaves the nodes
+    /// among the 96 zero bits before IPv4: there it is the network `::/k` of the bits walked.
+    pub fn network(&self) -> Result<IpNetwork, MaxMindDbError>
+        ensures { IsOkAnd result (IsShownBy (database_asked self.now) (leaf_of self.now) (shown_as_ipv4 self.now)) }
+    {
+        let prefix = self.prefix as u8;
+        let masked = mask_ip(self.address.address(), prefix);
+        Ok(IpNetwork::new(masked, prefix)?)
+    }
+}

@@ -1,0 +1,337 @@
+//! Readers, and lookups of addresses.
+ghost use Rattle.std.specs.Prelude.{◌≡◌, ℕ, ◌+◌, ◌^◌, ◌<◌, ◌≤◌, ◌⊎◌, ◌↔◌, Bool, List, IfOk, IfErr, IfSome, OnOk, MatchOption, MatchResult, length, slice_index};
+ghost use Rattle.std.specs.Net.Addr.{is_ipv4};
+ghost use Rattle.mmdb_format.specs.Error.{OfDatabase, OfInput, kind_of, MemoryApart, IsRefusedAs};
+ghost use Rattle.mmdb_net.specs.Address.{address_width};
+ghost use Rattle.mmdb_reader.specs.Metadata.{metadata_datum};
+ghost use Rattle.mmdb_reader.specs.File.{database, IsSupported, HasRoom, data_start, data_length, data_section, marker_bytes, metadata_section, separator, tree_len};
+
+use crate::lookup_result::{LookupResult, NumberedAddress};
+use crate::marker::MARKER;
+use crate::metadata::Metadata;
+use crate::steps::Steps;
+use crate::table::Entry;
+use crate::tree::Nodes;
+use mmdb_format::error::MaxMindDbError;
+use mmdb_format::message::{Message, Text};
+use std::alloc::Global;
+use std::convert::AsSlice;
+use std::marker::Model;
+use std::net::{IpAddr, Ipv6Addr};
+
+// The zero bytes between the tree and the data.
+pub(crate) const SEPARATOR: usize = 16;
+
+// A leaf as the network that shows it, with the number to which its walk leads.
+#[derive(Clone, Copy)]
+struct Leaf {
+    number: usize,
+    address: IpAddr,
+    prefix: u8,
+    ghost is_prefix: { prefix ≤ address_width address },
+}
+
+/// A database over the bytes that a source holds or lends.
+#[derive(Drop)]
+pub struct Reader<S: AsSlice<u8> + Drop> {
+    source: S,
+    marker: usize,
+    metadata: Metadata,
+    data_start: usize,
+    ipv4_start: usize,
+    ipv4_depth: u8,
+    ipv4_table: Vec<Entry>,
+    ipv6_table: Vec<Entry>,
+}
+
+impl<S: AsSlice<u8> + Drop> Model for Reader<S> {
+    ghost use Rattle.mmdb_reader.specs.Metadata.{metadata_datum};
+    ghost use Rattle.mmdb_reader.specs.File.{Database, database};
+    ghost use Rattle.mmdb_reader.specs.Kept.{IsReader};
+
+    ghost Value = { Database };
+
+    ghost view = { λ r. database (S.items r.source) r.marker (metadata_datum r.metadata) };
+
+    ghost invariant = { λ r. IsReader (database (S.items r.source) r.marker (metadata_datum r.metadata)) r.data_start r.ipv4_start r.ipv4_depth r.ipv4_table.items r.ipv6_table.items };
+}
+
+impl<S: AsSlice<u8> + Drop> Reader<S> {
+    ghost use Rattle.mmdb_reader.specs.Found.{database_asked, leaf_of, offset_found, shown_as_ipv4};
+    ghost use Rattle.mmdb_reader.specs.Counting.{CountsNodes};
+    ghost use Rattle.mmdb_reader.specs.Lookup.{CanAsk, Outcome, Answers, IsRefusedAt, IsLeafAt, Refused, outcome_of, outcome_at, block_at};
+    ghost use Rattle.mmdb_reader.specs.Shown.{is_shown_as_ipv4, has_ipv4_subtree, ipv4_start};
+    ghost use Rattle.mmdb_reader.specs.Tree.{search_tree};
+    ghost use Rattle.mmdb_reader.specs.File.{tree_of, width, data_section};
+    ghost use Rattle.mmdb_reader.specs.Alias.{is_alias_at};
+
+    /// A reader of a source whose marker stands at this place, and whose metadata are these.
+    pub(crate) fn from_parts(
+        alloc: Global,
+        source: S,
+        marker: usize,
+        metadata: Metadata,
+    ) -> Result<Reader<S>, MaxMindDbError>
+        requires within { marker + length marker_bytes ≤ length (S.items source) }
+        ensures reader { IfOk result (λ r. r ≡ database (S.items source) marker (metadata_datum metadata)) }
+        ensures supported { OnOk result (IsSupported (metadata_datum metadata)) }
+        ensures room { OnOk result (HasRoom (database (S.items source) marker (metadata_datum metadata))) }
+        ensures refused { let db = database (S.items source) marker (metadata_datum metadata) in IfErr result (λ e. MemoryApart e ((kind_of e ≡ OfDatabase) × ¬ (IsSupported db.metadata × HasRoom db))) }
+    {
+        metadata.check_supported(alloc)?;
+        let node_count = metadata.node_count as usize;
+        let data_start = node_count * (metadata.record_size as usize / 4) + SEPARATOR;
+        if data_start > marker {
+            return Err(MaxMindDbError::InvalidDatabase {
+                message: Message::Fixed(Text::TreeTooLarge),
+                offset: None,
+            });
+        }
+        let nodes = Nodes {
+            bytes: source.as_slice(),
+            node_count,
+            record_size: metadata.record_size,
+        };
+        let start = nodes.ipv4_start(metadata.ip_version);
+        let ipv4_table = nodes.table(alloc, start.number)?;
+        let ipv6_table = if metadata.ip_version == 6 {
+            nodes.table(alloc, 0)?
+        } else {
+            Vec::new(alloc)
+        };
+        Ok(Reader {
+            source,
+            marker,
+            metadata,
+            data_start,
+            ipv4_start: start.number,
+            ipv4_depth: start.taken as u8,
+            ipv4_table,
+            ipv6_table,
+        })
+    }
+
+    /// What the database says of itself.
+    pub fn metadata(&self) -> &Metadata
+        ensures { metadata_datum result.now ≡ self.now.metadata }
+    {
+        &self.metadata
+    }
+
+    // Where the data section begins.
+    pub(crate) fn data_start(&self) -> usize
+        ensures { result ≡ data_start self.now }
+    {
+        self.data_start
+    }
+
+    // The data section.
+    pub(crate) fn data_section(&self) -> &[u8]
+        ensures { result.now ≡ data_section self.now }
+    {
+        &self.source.as_slice()[self.data_start..self.marker]
+    }
+
+    // How many bytes the data section has.
+    pub(crate) fn data_len(&self) -> usize
+        ensures { result ≡ data_length self.now }
+    {
+        self.marker - self.data_start
+    }
+
+    // Where the metadata section begins.
+    pub(crate) fn metadata_start(&self) -> usize
+        ensures { result ≡ self.now.marker + length marker_bytes }
+    {
+        let _bytes = self.source.as_slice();
+        self.marker + MARKER.len()
+    }
+
+    // The metadata section.
+    pub(crate) fn metadata_section(&self) -> &[u8]
+        ensures { result.now ≡ metadata_section self.now.bytes self.now.marker }
+    {
+        &self.source.as_slice()[self.marker + MARKER.len()..]
+    }
+
+    // The bytes between the tree and the data section.
+    pub(crate) fn separator(&self) -> &[u8]
+        ensures length { length result.now ≡ separator }
+        ensures bytes { (j : ℕ) → j < separator → slice_index result.now j ≡ slice_index self.now.bytes (tree_len self.now + j) }
+    {
+        &self.source.as_slice()[self.data_start - SEPARATOR..self.data_start]
+    }
+
+    // The nodes of the search tree.
+    #[inline(always)]
+    pub(crate) fn nodes(&self) -> Nodes<'_>
+        ensures tree { search_tree result.bytes.now result.node_count result.record_size ≡ tree_of self.now }
+        ensures count { result.node_count ≡ self.now.metadata.node_count }
+        ensures few { result.node_count < 2 ^ 32 }
+    {
+        Nodes {
+            bytes: self.source.as_slice(),
+            node_count: self.metadata.node_count as usize,
+            record_size: self.metadata.record_size,
+        }
+    }
+
+    // How many bits a full address has.
+    pub(crate) fn width(&self) -> u8
+        ensures value { result ≡ width self.now }
+        ensures within { result ≤ 128 }
+    {
+        if self.metadata.ip_version == 6 {
+            128
+        } else {
+            32
+        }
+    }
+
+    // Whether bits that lead to this number, and spell this address with zeros after them, are an alias.
+    pub(crate) fn is_alias(&self, number: usize, address: u128) -> bool
+        ensures { result ≡ is_alias_at self.now number address }
+    {
+        let start = self.ipv4_start();
+        self.has_ipv4_subtree() && start != 0 && number == start && address >= 1 << 32
+    }
+
+    // Whether IPv4 begins on a node of an IPv6 database.
+    pub(crate) fn has_ipv4_subtree(&self) -> bool
+        ensures { result ≡ has_ipv4_subtree self.now }
+    {
+        self.metadata.ip_version == 6 && self.ipv4_start() < self.metadata.node_count as usize
+    }
+
+    // Where IPv4 begins.
+    pub(crate) fn ipv4_start(&self) -> usize
+        ensures { result ≡ ipv4_start self.now }
+    {
+        self.ipv4_start
+    }
+
+    // The leaf on an address's bits, or none where IPv6 is asked of an IPv4 database. Where the first
+    // sixteen bits lead is read from a table.
+    #[inline(always)]
+    fn find_leaf(&self, address: IpAddr, steps: &mut Steps) -> Option<Leaf>
+        requires room { steps.old + 128 < 2 ^ 64 }
+        ensures found { MatchOption result
+            (¬ (CanAsk self.now address))
+            (λ leaf. IsLeafAt self.now address (block_at self.now leaf.address leaf.prefix) leaf.number) }
+        ensures shown { IfSome result (λ leaf. is_ipv4 leaf.address ≡ is_shown_as_ipv4 self.now address) }
+        ensures counted { MatchOption result (steps.new ≡ steps.old) (λ leaf. CountsNodes self.now address (block_at self.now leaf.address leaf.prefix) steps.old steps.new) }
+    {
+        let nodes = self.nodes();
+        match address {
+            IpAddr::V4(_) if self.ipv4_start >= nodes.node_count => Some(Leaf {
+                number: self.ipv4_start,
+                address: IpAddr::V6(Ipv6Addr::UNSPECIFIED),
+                prefix: self.ipv4_depth,
+            }),
+            IpAddr::V4(v4) => {
+                let descent = nodes.descend_ipv4(&self.ipv4_table, v4.to_bits());
+                steps.add(descent.read);
+                Some(Leaf {
+                    number: descent.number,
+                    address,
+                    prefix: descent.taken as u8,
+                })
+            }
+            IpAddr::V6(_) if self.metadata.ip_version != 6 => None,
+            IpAddr::V6(v6) => {
+                let descent = nodes.descend_ipv6(&self.ipv6_table, v6.to_bits());
+                steps.add(descent.read);
+                Some(Leaf {
+                    number: descent.number,
+                    address,
+                    prefix: descent.taken as u8,
+                })
+            }
+        }
+    }
+
+    // The offset in the data section that a number of the tree stands for, if it has data. None where the
+    // number leads nowhere.
+    #[tactic(auto, unfolding(crate::specs::Lookup::outcome_of))]
+    #[inline(always)]
+    pub(crate) fn place_of(&self, number: usize) -> Option<Option<usize>>
+        ensures { MatchOption result
+            (outcome_of self.now number ≡ Refused)
+            (λ offset. outcome_of self.now number ≡ outcome_at offset) }
+    {
+        let nodes = self.metadata.node_count as usize;
+        if number <= nodes {
+            return Some(None);
+        }
+        match number.checked_sub(nodes + SEPARATOR) {
+            Some(offset) if offset < self.marker - self.data_start => Some(Some(offset)),
+            _ => None,
+        }
+    }
+
+    // The same, with the error for a number that leads nowhere.
+    #[inline(always)]
+    pub(crate) fn offset_at(&self, number: usize) -> Result<Option<usize>, MaxMindDbError>
+        ensures { MatchResult result
+            (λ offset. outcome_of self.now number ≡ outcome_at offset)
+            (λ e. (kind_of e ≡ OfDatabase) × (outcome_of self.now number ≡ Refused)) }
+    {
+        match self.place_of(number) {
+            Some(offset) => Ok(offset),
+            None => Err(MaxMindDbError::InvalidDatabase {
+                message: Message::Fixed(Text::InvalidLocation),
+                offset: None,
+            }),
+        }
+    }
+
+    /// `lookup`, which adds the nodes that it reads to `steps`.
+    ///
+    /// For an IPv4 address, where IPv4 begins on a node, they are those of the bits after the first
+    /// sixteen. An address that the database may not be asked for adds none.
+    #[inline(always)]
+    pub fn lookup_counted(
+        &self,
+        address: IpAddr,
+        steps: &mut Steps,
+    ) -> Result<LookupResult<'_, S>, MaxMindDbError>
+        requires room { steps.old + 128 < 2 ^ 64 }
+        ensures answered { IfOk result (λ r. Answers self.now address (leaf_of r) (outcome_at (offset_found r))) }
+        ensures shown { IfOk result (λ r. shown_as_ipv4 r ≡ is_shown_as_ipv4 self.now address) }
+        ensures database { IfOk result (λ r. database_asked r ≡ self.now) }
+        ensures of_input { IsRefusedAs OfInput result ↔ ¬ (CanAsk self.now address) }
+        ensures of_database { IsRefusedAs OfDatabase result ↔ IsRefusedAt self.now address }
+        ensures no_other { IfErr result (λ e. (kind_of e ≡ OfInput) ⊎ (kind_of e ≡ OfDatabase)) }
+        ensures counted { (leaf : List Bool) (outcome : Outcome) → Answers self.now address leaf outcome → CountsNodes self.now address leaf steps.old steps.new }
+        ensures not_counted { ¬ (CanAsk self.now address) → steps.new ≡ steps.old }
+    {
+        let Some(leaf) = self.find_leaf(address, steps) else {
+            return Err(MaxMindDbError::InvalidInput {
+                message: Message::Fixed(Text::Ipv6InIpv4Lookup),
+            });
+        };
+        let offset = self.offset_at(leaf.number)?;
+        Ok(LookupResult {
+            reader: self,
+            offset,
+            address: NumberedAddress::of(leaf.address),
+            prefix: usize::from(leaf.prefix),
+        })
+    }
+
+    /// What the database has for an address.
+    ///
+    /// An IPv6 address asked of an IPv4 database is `InvalidInput`; a leaf whose number leads outside
+    /// the data section is `InvalidDatabase`. Nothing else is refused.
+    #[inline(always)]
+    pub fn lookup(&self, address: IpAddr) -> Result<LookupResult<'_, S>, MaxMindDbError>
+        ensures answered { IfOk result (λ r. Answers self.now address (leaf_of r) (outcome_at (offset_found r))) }
+        ensures shown { IfOk result (λ r. shown_as_ipv4 r ≡ is_shown_as_ipv4 self.now address) }
+        ensures database { IfOk result (λ r. database_asked r ≡ self.now) }
+        ensures of_input { IsRefusedAs OfInput result ↔ ¬ (CanAsk self.now address) }
+        ensures of_database { IsRefusedAs OfDatabase result ↔ IsRefusedAt self.now address }
+        ensures no_other { IfErr result (λ e. (kind_of e ≡ OfInput) ⊎ (kind_of e ≡ OfDatabase)) }
+    {
+        self.lookup_counted(address, &mut Steps::new())
+    }
+}

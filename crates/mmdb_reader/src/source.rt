@@ -1,0 +1,99 @@
+//! Readers from the bytes of a file.
+ghost use Rattle.std.specs.Prelude.{◌≡◌, ◌⊎◌, false, Some, IfOk, IfErr, IfSome};
+ghost use Rattle.mmdb_format.specs.Error.{OfIo, OfMemory, kind_of, MemoryApart};
+ghost use Rattle.mmdb_decode.specs.Refusal.{Refuses};
+ghost use Rattle.mmdb_reader.specs.Metadata.{metadata_datum};
+ghost use Rattle.mmdb_reader.specs.Source.{metadata_read, IsDatabaseOf, IsNoDatabase};
+
+use crate::marker::{MARKER, find_marker};
+use crate::metadata::Metadata;
+use crate::offsets::counted_from_start;
+use crate::reader::Reader;
+use mmdb_decode::fuzzing;
+use mmdb_format::error::{DecodeResult, MaxMindDbError};
+use mmdb_format::message::{Message, Text};
+use std::alloc::Global;
+use std::convert::AsSlice;
+use std::fs::{File, OpenFile};
+use std::io::{self, Read};
+use std::path::AsPath;
+use std::rt::Files;
+
+// What stands at the beginning of a metadata section, which begins at a place of its file.
+fn read_metadata(alloc: Global, section: &[u8], start: usize) -> DecodeResult<Metadata>
+    ensures ok { IfOk result (λ m. metadata_read section.now ≡ Some (metadata_datum m)) }
+    ensures err { IfErr result (λ e. Refuses false e (metadata_read section.now)) }
+{
+    match fuzzing::decode::<Metadata>(alloc, section) {
+        Ok(metadata) => Ok(metadata),
+        Err(error) => Err(counted_from_start(error, start)),
+    }
+}
+
+// All bytes that are left in a file, for which memory is taken at once where it is known how many there
+// are.
+fn read_whole<R: Read>(
+    alloc: Global,
+    file: &mut R,
+    expected: usize,
+) -> Result<Vec<u8>, MaxMindDbError>
+    ensures whole { IfOk result (λ bytes. IfSome (R.remaining file.old) (λ left. bytes.items ≡ left)) }
+    ensures kinds { IfErr result (λ e. (kind_of e ≡ OfIo) ⊎ (kind_of e ≡ OfMemory)) }
+{
+    let mut bytes = Vec::with_capacity(alloc, expected.saturating_add(1))?;
+    match file.read_to_end(&mut bytes) {
+        Ok(_) => Ok(bytes),
+        Err(error) if error.kind() == io::ErrorKind::OutOfMemory => Err(MaxMindDbError::Memory),
+        Err(error) => Err(MaxMindDbError::Io(error)),
+    }
+}
+
+// How many bytes a file says that it has, or 0 where it does not say.
+fn expected_len<F: OpenFile>(file: &F) -> usize {
+    match file.metadata() {
+        Ok(metadata) => usize::try_from(metadata.len()).unwrap_or(0),
+        Err(_) => 0,
+    }
+}
+
+impl<S: AsSlice<u8> + Drop> Reader<S> {
+    /// A reader of the bytes of a file, which it owns or borrows.
+    ///
+    /// The file is accepted exactly where, memory apart, valid metadata stand after its last marker,
+    /// and the search tree and its separator have room before the marker. All refusals for the file are
+    /// `InvalidDatabase`, but those for what stands where the metadata should be, which are of the kind
+    /// that reading any value gives.
+    pub fn from_source(alloc: Global, buf: S) -> Result<Reader<S>, MaxMindDbError>
+        ensures accepted { IfOk result (λ reader. IsDatabaseOf (S.items buf) reader) }
+        ensures refused { IfErr result (λ e. MemoryApart e (IsNoDatabase (S.items buf))) }
+    {
+        let bytes = buf.as_slice();
+        let Some(marker) = find_marker(bytes) else {
+            return Err(MaxMindDbError::InvalidDatabase {
+                message: Message::Fixed(Text::NoMarker),
+                offset: None,
+            });
+        };
+        let start = marker + MARKER.len();
+        let metadata = read_metadata(alloc, &bytes[start..], start)?;
+        Reader::from_parts(alloc, buf, marker, metadata)
+    }
+}
+
+impl Reader<Vec<u8>> {
+    /// A reader of the file at a path, which is read whole.
+    ///
+    /// Refused as `Io` where a call on the file failed, as `Memory`, or as `from_source` refuses what was
+    /// read.
+    pub fn open_readfile<R: Files, P: AsPath + Drop>(
+        rt: &R,
+        alloc: Global,
+        path: P,
+    ) -> Result<Reader<Vec<u8>>, MaxMindDbError>
+        ensures { IfOk result (λ reader. IsDatabaseOf reader.bytes reader) }
+    {
+        let mut file = File::open(rt, path)?;
+        let expected = expected_len(&file);
+        Reader::from_source(alloc, read_whole(alloc, &mut file, expected)?)
+    }
+}

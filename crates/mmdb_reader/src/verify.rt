@@ -1,0 +1,167 @@
+//! Verification of a whole database.
+ghost use Rattle.std.specs.Prelude.{◌≡◌, ◌≤◌, ◌<◌, ◌+◌, ◌*◌, ◌^◌, length, IfOk, IfErr, OnOk};
+ghost use Rattle.mmdb_format.specs.Error.{OfDatabase, MemoryApart, IsOfOrMemory};
+ghost use Rattle.mmdb_check.specs.Checking.{CanAddAll, none};
+ghost use Rattle.mmdb_reader.specs.File.{data_section};
+ghost use Rattle.mmdb_reader.specs.Stops.{stops, offsets, walk_cost};
+ghost use Rattle.mmdb_reader.specs.Walked.{HoldsOffsets};
+ghost use Rattle.mmdb_reader.specs.Whole.{HasWholeMetadata, HasWholeTree, HasZeroSeparator, IsWhole};
+ghost use Rattle.mmdb_reader.specs.WholeLaws.{AnswersAll};
+
+use crate::offsets::counted_from_start;
+use crate::reader::Reader;
+use crate::steps::Steps;
+use crate::walked::{WalkEnd, Walked};
+use crate::walking::invalid;
+use mmdb_check::checked::Checked;
+use mmdb_check::fuzzing;
+use mmdb_check::places::{Places, check_places};
+use mmdb_format::error::MaxMindDbError;
+use mmdb_format::message::{Message, Text};
+use std::alloc::{AllocError, Global};
+use std::convert::AsSlice;
+
+fn too_many_stops_text(alloc: Global, most: usize) -> Result<Message, AllocError> {
+    Message::of_text(
+        alloc,
+        format!(in alloc;
+            "search tree appears to have a cycle or invalid structure (exceeded {most} iterations)"
+        )?,
+    )
+}
+
+// The error for a tree whose walk stops more often than allowed.
+fn too_many_stops(alloc: Global, most: usize) -> MaxMindDbError
+    ensures { IsOfOrMemory OfDatabase result }
+{
+    match too_many_stops_text(alloc, most) {
+        Ok(message) => MaxMindDbError::InvalidDatabase {
+            message,
+            offset: None,
+        },
+        Err(_) => MaxMindDbError::Memory,
+    }
+}
+
+impl<S: AsSlice<u8> + Drop> Reader<S> {
+    // Whether the metadata name the type of the database and describe it, and unfold.
+    fn verify_metadata(&self, alloc: Global) -> Result<(), MaxMindDbError>
+        ensures ok { OnOk result (HasWholeMetadata self.now) }
+        ensures err { IfErr result (λ e. MemoryApart e (¬ HasWholeMetadata self.now)) }
+    {
+        let section = self.metadata_section();
+        match fuzzing::verify(alloc, section) {
+            Ok(()) => {}
+            Err(error) => return Err(counted_from_start(error, self.metadata_start())),
+        }
+        let metadata = self.metadata();
+        if metadata.database_type.is_empty() {
+            return Err(invalid(Text::EmptyType));
+        }
+        if metadata.description.is_empty() {
+            return Err(invalid(Text::EmptyDescription));
+        }
+        Ok(())
+    }
+
+    // The offsets of walked leaves, if no walked leaf is faulty and there are not too many stops.
+    fn walk_tree(&self, alloc: Global, steps: &mut Steps) -> Result<Places, MaxMindDbError>
+        requires { steps.old + (6 * self.now.metadata.node_count + 130) < 2 ^ 64 }
+        ensures ok { IfOk result (λ places. HasWholeTree self.now × HoldsOffsets self.now places) }
+        ensures err { IfErr result (λ e. MemoryApart e (¬ HasWholeTree self.now)) }
+        ensures bound { steps.new ≤ steps.old + (6 * self.now.metadata.node_count + 130) }
+        ensures counted { OnOk result ((steps.new ≡ steps.old + walk_cost self.now) × (steps.new + 1 ≡ steps.old + 2 * length (stops self.now))) }
+        ensures refused { IfErr result (λ e. MemoryApart e (steps.new ≡ steps.old + walk_cost self.now)) }
+        ensures most { steps.new ≤ steps.old + walk_cost self.now }
+    {
+        let mut stack = Vec::with_capacity(alloc, usize::from(self.width()))?;
+        let mut places = Places::new(alloc, self.data_len())?;
+        let walked = match self.sweep(&mut stack, &mut places) {
+            Some(taken) => Walked {
+                taken,
+                end: WalkEnd::Whole,
+            },
+            None => {
+                stack.clear();
+                places = Places::new(alloc, self.data_len())?;
+                self.walk(&mut stack, &mut places)
+            }
+        };
+        steps.add(walked.taken);
+        match walked.end {
+            WalkEnd::Whole => Ok(places),
+            WalkEnd::AtFault(number) if number < self.nodes().node_count => {
+                Err(invalid(Text::TreeTooDeep))
+            }
+            WalkEnd::AtFault(_) => Err(invalid(Text::InvalidLocation)),
+            WalkEnd::TooMany => Err(too_many_stops(alloc, 3 * self.nodes().node_count)),
+        }
+    }
+
+    // Whether the separator is zero.
+    fn verify_separator(&self) -> Result<(), MaxMindDbError>
+        ensures ok { OnOk result (HasZeroSeparator self.now) }
+        ensures err { IfErr result (λ e. MemoryApart e (¬ HasZeroSeparator self.now)) }
+    {
+        for byte in self.separator() {
+            if *byte != 0 {
+                return Err(invalid(Text::ByteInSeparator));
+            }
+        }
+        Ok(())
+    }
+
+    // Whether the values at these places unfold together.
+    fn verify_values(&self, alloc: Global, places: &Places) -> Result<(), MaxMindDbError>
+        requires { HoldsOffsets self.now places.now }
+        ensures ok { OnOk result (CanAddAll (data_section self.now) none (offsets (stops self.now))) }
+        ensures err { IfErr result (λ e. MemoryApart e (¬ CanAddAll (data_section self.now) none (offsets (stops self.now)))) }
+    {
+        let mut checked = Checked::new(alloc, self.data_section())?;
+        match check_places(alloc, &mut checked, places) {
+            Ok(()) => Ok(()),
+            Err(error) => Err(counted_from_start(error, self.data_start())),
+        }
+    }
+
+    /// `verify`, which adds the positions of the tree that it takes to `steps`.
+    ///
+    /// They are at most six for each node and 130 more: each node and each leaf on the way, and each alias, behind
+    /// which it does not go. Where the metadata are whole, or `verify` succeeds, they are exactly those up to the
+    /// last leaf or alias, or up to the one at which it is refused. Not counted is a sweep of at most three nodes for
+    /// each node, which comes first: where it finds a whole tree, no walk comes after it.
+    pub fn verify_counted(&self, alloc: Global, steps: &mut Steps) -> Result<(), MaxMindDbError>
+        requires { steps.old + (6 * self.now.metadata.node_count + 130) < 2 ^ 64 }
+        ensures whole { OnOk result (IsWhole self.now) }
+        ensures answers { OnOk result (AnswersAll self.now) }
+        ensures refused { IfErr result (λ e. MemoryApart e (¬ IsWhole self.now)) }
+        ensures bound { steps.new ≤ steps.old + (6 * self.now.metadata.node_count + 130) }
+        ensures counted { OnOk result ((steps.new ≡ steps.old + walk_cost self.now) × (steps.new + 1 ≡ steps.old + 2 * length (stops self.now))) }
+        ensures counted_refused { IfErr result (λ e. MemoryApart e (HasWholeMetadata self.now → steps.new ≡ steps.old + walk_cost self.now)) }
+        ensures most { steps.new ≤ steps.old + walk_cost self.now }
+    {
+        self.verify_metadata(alloc)?;
+        let places = self.walk_tree(alloc, steps)?;
+        self.verify_separator()?;
+        self.verify_values(alloc, &places)
+    }
+
+    /// Checks the whole database: its metadata, its tree, the separator after it, and the values of all leaves that
+    /// stand behind no alias, ascending by their offsets, each once.
+    ///
+    /// Accepted are, memory apart, exactly the whole files. Each lookup of an accepted one succeeds, behind aliases
+    /// too, and at each offset that it answers a finite tree of valid texts unfolds. Refused are, as
+    /// `InvalidDatabase`, metadata without a database type or a description, a tree with a leaf that leads nowhere
+    /// or with more than three leaves and aliases for each node, a separator that is not zero, and the values that
+    /// `check_value` refuses so; as `ResourceLimit` values that cost more than `check_value` allows.
+    pub fn verify(&self, alloc: Global) -> Result<(), MaxMindDbError>
+        ensures whole { OnOk result (IsWhole self.now) }
+        ensures answers { OnOk result (AnswersAll self.now) }
+        ensures refused { IfErr result (λ e. MemoryApart e (¬ IsWhole self.now)) }
+    {
+        let mut steps = Steps::new();
+        // So it is known that there are few enough nodes for the room that is asked for.
+        let _nodes = self.nodes();
+        self.verify_counted(alloc, &mut steps)
+    }
+}

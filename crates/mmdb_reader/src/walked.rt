@@ -1,0 +1,340 @@
+//! The walk of a whole tree.
+ghost use Rattle.std.specs.Prelude.{◌≡◌, ℕ, ◌≤◌, ◌<◌, ◌+◌, ◌*◌, [], vec_len, length, MatchBool, IfSome, IsTrue, false, not};
+ghost use Rattle.std.specs.Vec.{vec_capacity};
+ghost use Rattle.mmdb_check.specs.Checking.{holds};
+ghost use Rattle.mmdb_reader.specs.declared.walked.WalkEnd.TheVariants.{Whole};
+ghost use Rattle.mmdb_reader.specs.File.{width, data_length};
+ghost use Rattle.mmdb_reader.specs.Stops.{end_of_leaf as spec_end_of_leaf, is_fault, walk_cost};
+ghost use Rattle.mmdb_reader.specs.Walked.{AreLimits, Takes, GoesOn, IsStopped, half_of, end_from, is_alias_of, Keeps, IsVerdict};
+
+use crate::reader::{Reader, SEPARATOR};
+use crate::tree::Nodes;
+use mmdb_check::places::Places;
+use std::convert::AsSlice;
+
+/// What a walk stops at: an alias, or a leaf that is faulty, has no data, or has a value at an offset.
+#[derive(Clone, Copy)]
+pub(crate) enum End {
+    Alias,
+    Fault,
+    Absent,
+    Found(usize),
+}
+
+/// A number of the tree, how many bits lead to it, and whether they are high: whether one of the first 96
+/// bits of an IPv6 address is 1.
+#[derive(Clone, Copy)]
+pub(crate) struct Point {
+    pub(crate) number: usize,
+    pub(crate) prefix: u8,
+    pub(crate) high: bool,
+}
+
+/// How a walk ended: it has stopped everywhere, or is refused at a faulty leaf that leads to a number, or
+/// since it has stopped too often.
+#[derive(Clone, Copy)]
+pub(crate) enum WalkEnd {
+    Whole,
+    AtFault(usize),
+    TooMany,
+}
+
+/// How a walk ended, and how many positions it took.
+#[derive(Clone, Copy)]
+pub(crate) struct Walked {
+    pub(crate) taken: usize,
+    pub(crate) end: WalkEnd,
+}
+
+impl<S: AsSlice<u8> + Drop> Reader<S> {
+    // Whether a number is reached by an alias, by bits that are high.
+    #[inline(always)]
+    fn is_alias_of(&self, number: usize, high: bool) -> bool
+        ensures { result ≡ is_alias_of self.now number high }
+    {
+        let start = self.ipv4_start();
+        self.has_ipv4_subtree() && start != 0 && number == start && high
+    }
+
+    // Whether the walk goes on below a point.
+    #[inline(always)]
+    fn goes_on(&self, point: Point) -> bool
+        ensures { MatchBool result (GoesOn self.now point) (IsStopped self.now point) }
+    {
+        point.prefix < self.width()
+            && point.number < self.nodes().node_count
+            && !self.is_alias_of(point.number, point.high)
+    }
+
+    // What a leaf has that leads to a number.
+    #[tactic(auto, unfolding(crate::specs::Stops::end_of_leaf))]
+    #[inline(always)]
+    fn end_of_leaf(&self, number: usize) -> End
+        ensures { result ≡ spec_end_of_leaf self.now number }
+    {
+        if number < self.nodes().node_count {
+            return End::Fault;
+        }
+        match self.place_of(number) {
+            None => End::Fault,
+            Some(None) => End::Absent,
+            Some(Some(offset)) => End::Found(offset),
+        }
+    }
+
+    // What the walk stops at.
+    #[inline(always)]
+    fn end_from(&self, point: Point) -> End
+        ensures { result ≡ end_from self.now point.number point.high }
+    {
+        if self.is_alias_of(point.number, point.high) {
+            return End::Alias;
+        }
+        self.end_of_leaf(point.number)
+    }
+
+    // The lower or the upper half of what lies below a point.
+    #[inline(always)]
+    fn half_of(&self, point: Point, right: bool) -> Point
+        requires { GoesOn self.now point }
+        ensures { result ≡ half_of self.now point right }
+    {
+        Point {
+            number: self.nodes().child(point.number, right),
+            prefix: point.prefix + 1,
+            high: point.high || right && point.prefix + 32 < self.width(),
+        }
+    }
+
+    // Puts the offset of what a walk stops at into the set, if it has one. Whether it is no fault.
+    #[tactic(auto, using(crate::proofs::Progress::adds_offset, crate::proofs::Progress::adds_none, crate::proofs::Progress::found_inside))]
+    #[inline(always)]
+    fn keep(&self, point: Point, places: &mut Places) -> bool
+        requires { length places.old ≡ data_length self.now }
+        ensures kept { result ≡ not (is_fault (end_from self.now point.number point.high)) }
+        ensures places { Keeps self.now point places.old places.new }
+        ensures length { length places.new ≡ length places.old }
+    {
+        match self.end_from(point) {
+            End::Fault => return false,
+            End::Found(offset) => places.insert(offset),
+            End::Alias | End::Absent => {}
+        }
+        true
+    }
+
+    // Walks the whole tree, from the root. `stack` keeps the upper halves that are still to come, and
+    // `places` the offsets that were found.
+    pub(crate) fn walk(&self, stack: &mut Vec<Point>, places: &mut Places) -> Walked
+        requires empty { stack.old.items ≡ [] }
+        requires room { width self.now ≤ vec_capacity stack.old }
+        requires places { length places.old ≡ data_length self.now }
+        requires none { (q : ℕ) → holds places.old q ≡ false }
+        ensures verdict { IsVerdict self.now places.new result.taken result.end }
+        ensures counted { result.taken ≡ walk_cost self.now }
+        ensures bound { result.taken ≤ 6 * self.now.metadata.node_count + 130 }
+        ensures length { length places.new ≡ length places.old }
+    {
+        let most = 3 * self.nodes().node_count;
+        let mut point = Point {
+            number: 0,
+            prefix: 0,
+            high: false,
+        };
+        let mut stops = 0usize;
+        let mut taken = 0usize;
+        loop {
+            taken += 1;
+            if self.goes_on(point) {
+                stack.push_reserved(self.half_of(point, true));
+                point = self.half_of(point, false);
+                continue;
+            }
+            stops += 1;
+            if !self.keep(point, places) {
+                return Walked {
+                    taken,
+                    end: WalkEnd::AtFault(point.number),
+                };
+            }
+            if stops > most {
+                return Walked {
+                    taken,
+                    end: WalkEnd::TooMany,
+                };
+            }
+            let Some(next) = stack.pop() else {
+                return Walked {
+                    taken,
+                    end: WalkEnd::Whole,
+                };
+            };
+            point = next;
+        }
+    }
+
+    // Walks the whole tree, a node at a time, and gives the positions that it took. Both halves of a node are looked
+    // at together, so the offsets come in another order than the leaves. None where the walk is refused, or may be:
+    // where it stops is then told by `walk`.
+    pub(crate) fn sweep(&self, stack: &mut Vec<Point>, places: &mut Places) -> Option<usize>
+        requires empty { stack.old.items ≡ [] }
+        requires room { width self.now ≤ vec_capacity stack.old }
+        requires places { length places.old ≡ data_length self.now }
+        requires none { (q : ℕ) → holds places.old q ≡ false }
+        ensures whole { IfSome result (λ taken. IsVerdict self.now places.new taken Whole) }
+        ensures counted { IfSome result (λ taken. taken ≡ walk_cost self.now) }
+        ensures bound { IfSome result (λ taken. taken ≤ 6 * self.now.metadata.node_count) }
+        ensures kept { vec_capacity stack.new ≡ vec_capacity stack.old }
+    {
+        let walker = self.walker();
+        let mut point = Point {
+            number: 0,
+            prefix: 0,
+            high: false,
+        };
+        if !walker.goes_on(point) {
+            return None;
+        }
+        for nodes in 1..3 * walker.nodes.node_count {
+            let lower = walker.half_of(point, false);
+            if !walker.take(walker.half_of(point, true), stack, places) {
+                return None;
+            }
+            if walker.goes_on(lower) {
+                point = lower;
+                continue;
+            }
+            if !walker.keep(lower, places) {
+                return None;
+            }
+            let Some(next) = stack.pop() else {
+                return Some(2 * nodes + 1);
+            };
+            point = next;
+        }
+        None
+    }
+
+    // What is asked at each point, at hand.
+    fn walker(&self) -> Walker<'_, S>
+        ensures { result.reader.now ≡ self.now }
+    {
+        let start = self.ipv4_start();
+        Walker {
+            reader: self,
+            nodes: self.nodes(),
+            width: usize::from(self.width()),
+            ipv4_start: if self.has_ipv4_subtree() && start != 0 {
+                Some(start)
+            } else {
+                None
+            },
+            data_len: self.data_len(),
+        }
+    }
+}
+
+// What a walk asks of a database at each point, at hand: its nodes, how many bits a full address has, where aliases
+// lead, if there are any, and how many bytes the data section has.
+#[derive(Drop)]
+struct Walker<'a, S: AsSlice<u8> + Drop> {
+    reader: &'a Reader<S>,
+    nodes: Nodes<'a>,
+    width: usize,
+    ipv4_start: Option<usize>,
+    data_len: usize,
+    ghost are: { AreLimits reader.now nodes width ipv4_start data_len },
+}
+
+impl<S: AsSlice<u8> + Drop> Walker<'_, S> {
+    // Whether a point is reached by an alias.
+    #[inline(always)]
+    fn is_alias(&self, point: Point) -> bool
+        ensures { result ≡ is_alias_of self.now.reader.now point.number point.high }
+    {
+        match self.ipv4_start {
+            Some(start) => point.number == start && point.high,
+            None => false,
+        }
+    }
+
+    // Whether the walk goes on below a point.
+    #[inline(always)]
+    fn goes_on(&self, point: Point) -> bool
+        ensures { MatchBool result (GoesOn self.now.reader.now point) (IsStopped self.now.reader.now point) }
+    {
+        usize::from(point.prefix) < self.width
+            && point.number < self.nodes.node_count
+            && !self.is_alias(point)
+    }
+
+    // The lower or the upper half of what lies below a point.
+    #[inline(always)]
+    fn half_of(&self, point: Point, right: bool) -> Point
+        requires { GoesOn self.now.reader.now point }
+        ensures { result ≡ half_of self.now.reader.now point right }
+    {
+        Point {
+            number: self.nodes.child(point.number, right),
+            prefix: point.prefix + 1,
+            high: point.high || right && usize::from(point.prefix) + 32 < self.width,
+        }
+    }
+
+    // What the walk stops at. An alias is a node, so of the others nothing is asked.
+    #[tactic(auto, unfolding(crate::specs::Stops::end_of_leaf, crate::specs::Lookup::outcome_of))]
+    #[inline(always)]
+    fn end_from(&self, point: Point) -> End
+        ensures { result ≡ end_from self.now.reader.now point.number point.high }
+    {
+        if point.number < self.nodes.node_count {
+            return if self.is_alias(point) {
+                End::Alias
+            } else {
+                End::Fault
+            };
+        }
+        let past = point.number - self.nodes.node_count;
+        if past == 0 {
+            End::Absent
+        } else if past < SEPARATOR || past - SEPARATOR >= self.data_len {
+            End::Fault
+        } else {
+            End::Found(past - SEPARATOR)
+        }
+    }
+
+    // Puts the offset of what the walk stops at into the set, if it has one. Whether it is no fault.
+    #[tactic(auto, using(crate::proofs::Progress::adds_offset, crate::proofs::Progress::adds_none, crate::proofs::Progress::found_inside))]
+    #[inline(always)]
+    fn keep(&self, point: Point, places: &mut Places) -> bool
+        requires { length places.old ≡ data_length self.now.reader.now }
+        ensures kept { result ≡ not (is_fault (end_from self.now.reader.now point.number point.high)) }
+        ensures places { Keeps self.now.reader.now point places.old places.new }
+        ensures length { length places.new ≡ length places.old }
+    {
+        match self.end_from(point) {
+            End::Fault => return false,
+            End::Found(offset) => places.insert(offset),
+            End::Alias | End::Absent => {}
+        }
+        true
+    }
+
+    // Puts a point on the stack, where the walk goes on below it, and else keeps what it stops at. Whether that is
+    // no fault.
+    #[inline(always)]
+    fn take(&self, point: Point, stack: &mut Vec<Point>, places: &mut Places) -> bool
+        requires room { vec_len stack.old < vec_capacity stack.old }
+        requires places { length places.old ≡ data_length self.now.reader.now }
+        ensures taken { IsTrue result → Takes self.now.reader.now point stack.old.items stack.new.items places.old places.new }
+        ensures room { vec_capacity stack.new ≡ vec_capacity stack.old }
+        ensures length { length places.new ≡ length places.old }
+    {
+        if self.goes_on(point) {
+            stack.push_reserved(point);
+            return true;
+        }
+        self.keep(point, places)
+    }
+}

@@ -1,0 +1,302 @@
+//! The networks of a database, one after another.
+ghost use Rattle.std.specs.Prelude.{◌≡◌, ◌+◌, ◌≤◌, ◌<◌, ◌⊎◌, ◌↔◌, [], IfOk, IfErr, MatchOption, Some, option_map, take};
+ghost use Rattle.std.specs.Result.{result_ok};
+ghost use Rattle.std.specs.Vec.{vec_capacity};
+ghost use Rattle.mmdb_format.specs.Error.{OfDatabase, OfInput, OfMemory, kind_of, IsRefusedAs};
+ghost use Rattle.mmdb_net.specs.Bits.{bits_of, bit_of};
+ghost use Rattle.mmdb_net.specs.Network.{ip_of, prefix_of};
+ghost use Rattle.mmdb_reader.specs.File.{width};
+ghost use Rattle.mmdb_reader.specs.Positions.{IsStack};
+
+use crate::lookup_result::{LookupResult, NumberedAddress};
+use crate::offsets::counted_from_start;
+use crate::options::WithinOptions;
+use crate::positions::{Position, ROOT};
+use crate::reader::Reader;
+use mmdb_decode::peek::empty_container;
+use mmdb_format::error::MaxMindDbError;
+use mmdb_format::message::{Message, Text};
+use mmdb_net::IpNetwork;
+use std::alloc::Global;
+use std::convert::AsSlice;
+use std::net::{IpAddr, Ipv4Addr, Ipv6Addr};
+
+/// The networks of a range that are still to come, in ascending order.
+///
+/// A leaf that is faulty is one `InvalidDatabase` in its place, and the others come after it. No item
+/// takes memory.
+#[derive(Drop)]
+pub struct Within<'de, S: AsSlice<u8> + Drop> {
+    pub(crate) reader: &'de Reader<S>,
+    pub(crate) options: WithinOptions,
+    pub(crate) stack: Vec<Position>,
+    pub(crate) ghost placed: { IsStack reader.now (vec_capacity stack) stack.items },
+}
+
+// The first bits of a range in a database, with zeros before IPv4.
+#[derive(Clone, Copy)]
+struct Range {
+    address: u128,
+    prefix: u8,
+}
+
+impl Range {
+    // Whether a bit of the address is set, counted from the lowest.
+    fn has_bit(&self, place: u8) -> bool
+        requires { place < 128 }
+        ensures { result ≡ bit_of self.now.address place }
+    {
+        (self.address >> place) % 2 == 1
+    }
+}
+
+// The error for a database that is not as its format says.
+pub(crate) fn invalid(text: Text) -> MaxMindDbError
+    ensures { kind_of result ≡ OfDatabase }
+{
+    MaxMindDbError::InvalidDatabase {
+        message: Message::Fixed(text),
+        offset: None,
+    }
+}
+
+impl<S: AsSlice<u8> + Drop> Reader<S> {
+    ghost use Rattle.mmdb_reader.specs.Items.{item_view, item_of_leaf, items_of};
+    ghost use Rattle.mmdb_reader.specs.Listing.{is_hidden, finding_at, listed};
+    ghost use Rattle.mmdb_reader.specs.Positions.{IsAt, IsStart, bits_to};
+    ghost use Rattle.mmdb_reader.specs.Found.{database_asked, leaf_of, offset_found, shown_as_ipv4};
+    ghost use Rattle.mmdb_reader.specs.ShownLeaf.{begins_with_zeros, is_leaf_shown_as_ipv4};
+    ghost use Rattle.mmdb_reader.specs.Shown.{block_in};
+    ghost use Rattle.mmdb_reader.specs.Lookup.{CanAsk};
+    ghost use Rattle.mmdb_reader.specs.Enumeration.{database_walked, items_to_come, positions_reserved, ListsRange};
+    ghost use Rattle.mmdb_reader.specs.Ranges.{IsRangeOf, positions_for};
+    ghost use Rattle.mmdb_reader.specs.Findings.{finding_of_answer, FaultsAreOfDatabase};
+
+    // Whether nothing below a position is listed, since it is an alias.
+    fn hides(&self, position: Position, options: WithinOptions) -> bool
+        requires { IsAt self.now position }
+        ensures { result ≡ is_hidden self.now options (bits_to self.now position) }
+    {
+        !options.includes_aliased() && self.is_alias(position.number, position.address)
+    }
+
+    // What a leaf that leads to a number is listed with, if it is listed: a fault, or the offset of its
+    // value, if it has one.
+    #[tactic(auto, unfolding(crate::specs::Listing::finding_at))]
+    fn finding(
+        &self,
+        number: usize,
+        options: WithinOptions,
+    ) -> Option<Result<Option<usize>, MaxMindDbError>>
+        ensures value { finding_of_answer result ≡ finding_at self.now options number }
+        ensures faults { FaultsAreOfDatabase result }
+    {
+        if number < self.nodes().node_count {
+            return Some(Err(invalid(Text::TreeTooDeep)));
+        }
+        let offset = match self.offset_at(number) {
+            Ok(offset) => offset,
+            Err(error) => return Some(Err(error)),
+        };
+        let Some(place) = offset else {
+            return if options.includes_without_data() {
+                Some(Ok(None))
+            } else {
+                None
+            };
+        };
+        if !options.skips_empty() {
+            return Some(Ok(offset));
+        }
+        match empty_container(self.data_section(), place) {
+            Ok(true) => None,
+            Ok(false) => Some(Ok(offset)),
+            Err(error) => Some(Err(counted_from_start(error, self.data_start()))),
+        }
+    }
+
+    // Whether the bits to a position of an IPv6 database begin with the 96 zeros before IPv4.
+    fn is_behind_zeros(&self, position: Position) -> bool
+        requires at { IsAt self.now position }
+        requires ipv6 { width self.now ≡ 128 }
+        ensures { result ≡ begins_with_zeros 96 (bits_to self.now position) }
+    {
+        position.prefix >= 96 && position.address < 1 << 32
+    }
+
+    // Whether the leaf at a position is shown as an IPv4 network.
+    fn shows_as_ipv4(&self, position: Position) -> bool
+        requires { IsAt self.now position }
+        ensures { result ≡ is_leaf_shown_as_ipv4 self.now (bits_to self.now position) }
+    {
+        self.width() == 32 || self.has_ipv4_subtree() && self.is_behind_zeros(position)
+    }
+
+    // The leaf at a position, with the offset of its value.
+    fn leaf_at(&self, position: Position, offset: Option<usize>) -> LookupResult<'_, S>
+        requires { IsAt self.now position }
+        ensures database { database_asked result ≡ self.now }
+        ensures leaf { leaf_of result ≡ bits_to self.now position }
+        ensures offset { offset_found result ≡ offset }
+        ensures shown { shown_as_ipv4 result ≡ is_leaf_shown_as_ipv4 self.now (bits_to self.now position) }
+    {
+        if self.shows_as_ipv4(position) {
+            return LookupResult {
+                reader: self,
+                offset,
+                address: NumberedAddress {
+                    bits: position.address,
+                    width: 32,
+                },
+                prefix: position.prefix - (usize::from(self.width()) - 32),
+            };
+        }
+        LookupResult {
+            reader: self,
+            offset,
+            address: NumberedAddress {
+                bits: position.address,
+                width: 128,
+            },
+            prefix: position.prefix,
+        }
+    }
+
+    // The item for the leaf at a position.
+    fn item(
+        &self,
+        position: Position,
+        finding: Result<Option<usize>, MaxMindDbError>,
+    ) -> Result<LookupResult<'_, S>, MaxMindDbError>
+        requires at { IsAt self.now position }
+        requires faults { FaultsAreOfDatabase (Some finding) }
+        ensures value { Some (item_view result) ≡ option_map (item_of_leaf self.now (bits_to self.now position)) (finding_of_answer (Some finding)) }
+        ensures database { IfOk result (λ r. database_asked r ≡ self.now) }
+    {
+        Ok(self.leaf_at(position, finding?))
+    }
+
+    // The first bits of a range, unless it is an IPv6 range and the database has no IPv6.
+    fn range_of(&self, network: IpNetwork) -> Option<Range>
+        ensures { MatchOption result (¬ CanAsk self.now (ip_of network)) (λ range. IsRangeOf self.now network range.address range.prefix) }
+    {
+        let prefix = network.prefix();
+        match network.ip() {
+            IpAddr::V4(address) => Some(Range {
+                address: u128::from(address.to_bits()),
+                prefix: self.width() - 32 + prefix,
+            }),
+            IpAddr::V6(_) if self.width() == 32 => None,
+            IpAddr::V6(address) => Some(Range {
+                address: address.to_bits(),
+                prefix,
+            }),
+        }
+    }
+
+    // Where the walk of a range begins: at the range, or at the leaf that holds it. None where an
+    // alias leads to it.
+    fn start(&self, range: Range, options: WithinOptions) -> Option<Position>
+        requires { range.prefix ≤ width self.now }
+        ensures { let bits = take range.prefix (bits_of (width self.now) range.address) in MatchOption result (listed self.now options bits ≡ []) (IsStart self.now options bits) }
+    {
+        let width = self.width();
+        let mut position = ROOT;
+        while position.prefix < usize::from(range.prefix) {
+            if self.hides(position, options) {
+                return None;
+            }
+            if !position.has_halves(self) {
+                return Some(position);
+            }
+            let right = range.has_bit(width - position.prefix as u8 - 1);
+            position = position.half(self, right);
+        }
+        Some(position)
+    }
+
+    /// The networks of a range, in ascending order, each once: the leaves of the tree that lie in the
+    /// range, or the one that holds it, with its own wider network.
+    ///
+    /// Takes all memory at once, for one position more than the bits after the range's prefix. An IPv6
+    /// range asked of an IPv4 database is `InvalidInput`; else only memory is refused.
+    pub fn within(
+        &self,
+        alloc: Global,
+        network: IpNetwork,
+        options: WithinOptions,
+    ) -> Result<Within<'_, S>, MaxMindDbError>
+        ensures listing { IfOk result (λ w. ListsRange w options (block_in self.now network)) }
+        ensures listed { IfOk result (λ w. items_to_come w ≡ items_of self.now (listed self.now options (block_in self.now network))) }
+        ensures database { IfOk result (λ w. database_walked w ≡ self.now) }
+        ensures reserved { IfOk result (λ w. positions_reserved w ≡ positions_for network) }
+        ensures of_input { IsRefusedAs OfInput result ↔ ¬ CanAsk self.now (ip_of network) }
+        ensures no_other { IfErr result (λ e. (kind_of e ≡ OfInput) ⊎ (kind_of e ≡ OfMemory)) }
+    {
+        let Some(range) = self.range_of(network) else {
+            return Err(MaxMindDbError::InvalidInput {
+                message: Message::Fixed(Text::Ipv6InIpv4Range),
+            });
+        };
+        let mut stack = Vec::with_capacity(alloc, usize::from(self.width() - range.prefix) + 1)?;
+        if let Some(position) = self.start(range, options) {
+            stack.push_reserved(position);
+        }
+        Ok(Within {
+            reader: self,
+            options,
+            stack,
+        })
+    }
+
+    /// All networks of the database, in ascending order: those within 0.0.0.0/0, or ::/0 where it has
+    /// IPv6. Only memory is refused.
+    pub fn networks(
+        &self,
+        alloc: Global,
+        options: WithinOptions,
+    ) -> Result<Within<'_, S>, MaxMindDbError>
+        ensures listing { IfOk result (λ w. ListsRange w options []) }
+        ensures listed { IfOk result (λ w. items_to_come w ≡ items_of self.now (listed self.now options [])) }
+        ensures database { IfOk result (λ w. database_walked w ≡ self.now) }
+        ensures reserved { IfOk result (λ w. positions_reserved w ≡ width self.now + 1) }
+        ensures no_other { IfErr result (λ e. kind_of e ≡ OfMemory) }
+    {
+        let whole = if self.width() == 32 {
+            IpAddr::V4(Ipv4Addr::UNSPECIFIED)
+        } else {
+            IpAddr::V6(Ipv6Addr::UNSPECIFIED)
+        };
+        self.within(alloc, IpNetwork::new(whole, 0)?, options)
+    }
+}
+
+impl<'de, S: AsSlice<u8> + Drop> Iterator for Within<'de, S> {
+    ghost use Rattle.std.specs.Iterator.{item_count};
+    ghost use Rattle.mmdb_reader.specs.Enumeration.{items_to_come, YieldsItem};
+
+    type Item = Result<LookupResult<'de, S>, MaxMindDbError>;
+
+    ghost next_gives = { YieldsItem };
+
+    ghost remaining = { item_count items_to_come };
+
+    fn next(&mut self) -> Option<Self::Item> {
+        while let Some(position) = self.stack.pop() {
+            if self.reader.hides(position, self.options) {
+                continue;
+            }
+            if position.has_halves(self.reader) {
+                let upper = position.half(self.reader, true);
+                let lower = position.half(self.reader, false);
+                self.stack.push_reserved(upper);
+                self.stack.push_reserved(lower);
+                continue;
+            }
+            if let Some(finding) = self.reader.finding(position.number, self.options) {
+                return Some(self.reader.item(position, finding));
+            }
+        }
+        None
+    }
+}
