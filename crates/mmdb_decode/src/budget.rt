@@ -12,7 +12,7 @@ pub const MAX_VALUES: usize = 65_536;
 pub const MAX_BYTES: usize = 2_097_152;
 
 /// Values and bytes charged so far.
-#[derive(Clone, Copy, Debug)]
+#[derive(Clone, Copy)]
 pub struct Charges {
     pub values: u32,
     pub bytes: u32,

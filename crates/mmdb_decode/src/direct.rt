@@ -15,7 +15,7 @@ use mmdb_format::header::{Direct, MAX_LEVELS, direct_at};
 use mmdb_format::kind::{BOOL, Kind};
 
 /// A container that was entered.
-#[derive(Clone, Copy, Debug)]
+#[derive(Clone, Copy)]
 pub struct Entered {
     pub count: usize,
     pub body: usize,

@@ -22,7 +22,7 @@ pub struct Float {
 }
 
 /// What a value that holds no others says, its text not tested yet.
-#[derive(Clone, Copy, Debug)]
+#[derive(Clone, Copy)]
 pub enum Content<'de> {
     Text(&'de [u8]),
     Bytes(&'de [u8]),

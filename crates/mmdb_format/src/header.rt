@@ -11,7 +11,7 @@ use crate::kind::POINTER;
 pub const MAX_LEVELS: u16 = 512;
 
 /// The type number of a value, its size, and where its content begins.
-#[derive(Clone, Copy, Debug)]
+#[derive(Clone, Copy)]
 pub struct Header {
     pub kind: u16,
     pub size: usize,
@@ -19,14 +19,14 @@ pub struct Header {
 }
 
 /// Where a pointer leads, and the place after it.
-#[derive(Clone, Copy, Debug)]
+#[derive(Clone, Copy)]
 pub struct Pointer {
     pub target: usize,
     pub next: usize,
 }
 
 /// A header that is no pointer, directly or behind one pointer.
-#[derive(Clone, Copy, Debug)]
+#[derive(Clone, Copy)]
 pub struct Direct {
     pub header: Header,
     pub after: Option<usize>,
