@@ -59,15 +59,6 @@ impl From<isize> for PathElement<'_> {
     }
 }
 
-/// A path as an array of its steps: keys, indexes, and negative indexes that count from the end, as in
-/// `path!["subdivisions", -1, "names", "en"]`.
-#[macro_export]
-macro_rules! path {
-    ($($element:expr),* $(,)?) => {
-        [$($crate::PathElement::from($element)),*]
-    };
-}
-
 impl PathElement<'_> {
     // The step as `render_path` writes it.
     fn text(&self, alloc: Global) -> Result<String, AllocError>
