@@ -1,9 +1,13 @@
 -- The cells of a record: for each path the text of the value to which it leads.
-use Rattle.std.specs.Prelude.{◌≡◌, ℕ, List, [], ◌∷◌, ◌++◌, Option, Some, None, Bool, true, false, ◌&&◌, ◌||◌, ◌==◌, nat_lt, is_some, if◌then◌else◌}
+use Rattle.std.specs.Prelude.{◌≡◌, ℕ, List, [], ◌∷◌, ◌++◌, Option, Some, None, option_map, Bool, true, false, ◌&&◌, ◌||◌, ◌==◌, nat_lt, is_some, if◌then◌else◌, Result, Ok, Err}
 use Rattle.std.specs.Bool.{MatchBool}
 use Rattle.mmdb_format.specs.Contents.{text}
 use Rattle.mmdb_format.specs.Unfolding.{Tree, scalar}
+use Rattle.mmdb_format.specs.declared.error.MaxMindDbError.{MaxMindDbError}
+use Rattle.mmdb_decode.specs.Refusal.{Refuses}
 use Rattle.mmdb_value.specs.AnyValue.{value_at}
+use Rattle.mmdb_value.specs.Values.{value_tree}
+use Rattle.mmdb_value.specs.declared.any_value.Value.{Value}
 use Rattle.mmdb_reader.specs.Selecting.{answer_along}
 use Rattle.mmdb_reader.specs.declared.path.PathElement.{PathElement}
 use Rattle.mmdb_json.specs.Texts.{IsCompact}
@@ -50,6 +54,12 @@ ShowsCell (Csv delimiter) v cell = (value : List ℕ) × MatchBool (is_any_text 
 -- what is read along a path from the offset of a record
 abbrev pub read_at : List PathElement → List ℕ → ℕ → Option (Option Tree)
 read_at path s offset = answer_along path true (value_at true) s offset
+
+-- What a reading gave is this answer: the tree of the value, nothing where the path leads nowhere, and no answer where
+-- the way or the value was refused. Out of memory is any answer.
+abbrev pub IsReadAs : Option (Option Tree) → Result (Option Value) MaxMindDbError → Type 0
+IsReadAs answer (Ok value) = answer ≡ Some (option_map value_tree value)
+IsReadAs answer (Err e) = Refuses false e answer
 
 -- the cell of what was read: empty where nothing is there, or the way or the value was refused
 abbrev pub IsCell : Rows → Option (Option Tree) → List ℕ → Type 0

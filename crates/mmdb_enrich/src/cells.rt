@@ -1,17 +1,18 @@
 //! The cells of a record.
-ghost use Rattle.std.specs.Prelude.{◌≡◌, ◌∷◌, ◌++◌, ℕ, List, Some, IfOk, OnOk, map, is_some};
+ghost use Rattle.std.specs.Prelude.{◌≡◌, ◌∷◌, ◌++◌, ℕ, List, Option, Some, IfOk, OnOk, map, is_some};
 ghost use Rattle.mmdb_filter.specs.declared.rows.Rows.TheVariants.{Lines, Csv};
+ghost use Rattle.mmdb_format.specs.Unfolding.{Tree};
 ghost use Rattle.mmdb_value.specs.Values.{value_tree};
 ghost use Rattle.mmdb_reader.specs.File.{data_section};
 ghost use Rattle.mmdb_reader.specs.Found.{database_asked, offset_found};
 ghost use Rattle.mmdb_enrich.specs.Columns.{delimiter_of as spec_delimiter_of};
-ghost use Rattle.mmdb_enrich.specs.Cells.{is_plain as spec_is_plain, ShowsCell, IsCell, AreCells, blanks, are_read, read_at};
+ghost use Rattle.mmdb_enrich.specs.Cells.{is_plain as spec_is_plain, ShowsCell, IsCell, IsReadAs, AreCells, blanks, are_read, read_at};
 
 use crate::columns::delimiter_of;
 use crate::quotes::put_csv_cell;
-use mmdb_reader::{LookupResult, MaxMindDbError, PathElement, Value};
 use mmdb_filter::Rows;
 use mmdb_json::compact;
+use mmdb_reader::{LookupResult, MaxMindDbError, PathElement, Value};
 use std::alloc::{AllocError, Global};
 use std::convert::AsSlice;
 
@@ -71,6 +72,26 @@ fn put_value(
     }
 }
 
+// Adds the cell of what was read along a path, and tells whether nothing was refused.
+fn put_read(
+    alloc: Global,
+    rows: Rows,
+    read: &Result<Option<Value<'_>>, MaxMindDbError>,
+    out: &mut Vec<u8>,
+) -> Result<bool, AllocError>
+    ensures { IfOk result (λ told. (answer : Option (Option Tree)) → IsReadAs answer read.now → (cell : List ℕ) × IsCell rows answer cell × (out.new.items ≡ out.old.items ++ cell) × (told ≡ is_some answer)) }
+{
+    match read {
+        Ok(Some(value)) => {
+            put_value(alloc, rows, value, out)?;
+            Ok(true)
+        }
+        Ok(None) => Ok(true),
+        Err(MaxMindDbError::Memory) => Err(AllocError),
+        Err(_) => Ok(false),
+    }
+}
+
 // Adds a delimiter and the cell at the end of a path, and tells whether nothing was refused.
 fn put_cell<S: AsSlice<u8> + Drop>(
     alloc: Global,
@@ -81,17 +102,9 @@ fn put_cell<S: AsSlice<u8> + Drop>(
 ) -> Result<bool, AllocError>
     ensures { IfOk result (λ read. (offset : ℕ) → offset_found found.now ≡ Some offset → (cell : List ℕ) × IsCell rows (read_at path.now (data_section (database_asked found.now)) offset) cell × (out.new.items ≡ out.old.items ++ (spec_delimiter_of rows ∷ cell)) × (read ≡ is_some (read_at path.now (data_section (database_asked found.now)) offset))) }
 {
-    let value: Result<Option<Value<'_>>, MaxMindDbError> = found.decode_path(alloc, path);
     out.push(delimiter_of(rows))?;
-    match &value {
-        Ok(Some(value)) => {
-            put_value(alloc, rows, value, out)?;
-            Ok(true)
-        }
-        Ok(None) => Ok(true),
-        Err(MaxMindDbError::Memory) => Err(AllocError),
-        Err(_) => Ok(false),
-    }
+    let read: Result<Option<Value<'_>>, MaxMindDbError> = found.decode_path(alloc, path);
+    put_read(alloc, rows, &read, out)
 }
 
 /// Adds a delimiter and a cell for each path, and tells whether nothing was refused.

@@ -1,11 +1,16 @@
 //! What a database says of itself.
 use crate::error::ProgramError;
+use crate::output::{DONE, put};
 use jiff::Timestamp;
 use json::{Pretty, Token};
-use mmdb_reader::{Metadata, Reader, Value};
 use memchr::memmem;
 use mmdb_json::write_value;
+use mmdb_reader::{MaxMindDbError, Metadata, Reader, Value};
 use std::alloc::{AllocError, Global};
+use std::collections::BTreeMap;
+use std::fs::File;
+use std::io::{Read, Write};
+use std::rt::Files;
 
 /// What stands before the metadata.
 const MARKER: &[u8] = b"\xAB\xCD\xEFMaxMind.com";
@@ -42,36 +47,96 @@ fn date_of(alloc: Global, seconds: u64) -> Result<Option<String>, AllocError> {
     }
 }
 
+// Adds a text that was made at the end of another, if there was memory for it.
+fn add(text: &mut String, made: Result<String, AllocError>) -> Result<(), AllocError> {
+    text.push_str(made?.as_str())
+}
+
+// When a database was built, by the number of seconds since 1970.
+fn built_text(alloc: Global, seconds: u64) -> Result<String, AllocError> {
+    match date_of(alloc, seconds)? {
+        Some(date) => format!(in alloc; "{date} ({seconds} s)"),
+        None => format!(in alloc; "{seconds} s after 1970"),
+    }
+}
+
+// Adds the lines of the descriptions.
+fn add_descriptions(
+    alloc: Global,
+    descriptions: &BTreeMap<String, String>,
+    text: &mut String,
+) -> Result<(), AllocError> {
+    for (language, description) in descriptions {
+        add(
+            text,
+            format!(in alloc; "description: {description} ({language})\n"),
+        )?;
+    }
+    Ok(())
+}
+
+// Adds the line of the languages.
+fn add_languages(alloc: Global, languages: &[String], text: &mut String) -> Result<(), AllocError> {
+    text.push_str("languages:  ")?;
+    for language in languages {
+        add(text, format!(in alloc; " {language}"))?;
+    }
+    text.push_str("\n")
+}
+
+// Adds the lines of the kind, the descriptions and the languages.
+fn add_texts(alloc: Global, metadata: &Metadata, text: &mut String) -> Result<(), AllocError> {
+    let kind = &metadata.database_type;
+    add(text, format!(in alloc; "type:        {kind}\n"))?;
+    add_descriptions(alloc, &metadata.description, text)?;
+    add_languages(alloc, metadata.languages.as_slice(), text)
+}
+
+// Adds the lines of the versions and of the time.
+fn add_versions(alloc: Global, metadata: &Metadata, text: &mut String) -> Result<(), AllocError> {
+    let ip = metadata.ip_version;
+    let major = metadata.binary_format_major_version;
+    let minor = metadata.binary_format_minor_version;
+    add(text, format!(in alloc; "IP version:  {ip}\nbuilt:       "))?;
+    add(text, built_text(alloc, metadata.build_epoch))?;
+    add(text, format!(in alloc; "\nformat:      {major}.{minor}\n"))
+}
+
+// Adds the lines of the sizes.
+fn add_sizes(
+    alloc: Global,
+    metadata: &Metadata,
+    sizes: Sizes,
+    text: &mut String,
+) -> Result<(), AllocError> {
+    for (title, number, unit) in [
+        ("nodes:       ", u64::from(metadata.node_count), ""),
+        ("record size: ", u64::from(metadata.record_size), " bits"),
+        ("tree:        ", sizes.tree, " bytes"),
+        ("data:        ", sizes.data, " bytes"),
+        ("metadata:    ", sizes.metadata, " bytes"),
+    ] {
+        add(text, format!(in alloc; "{title}{number}{unit}\n"))?;
+    }
+    Ok(())
+}
+
+// Adds the lines that a person reads.
+fn add_lines(
+    alloc: Global,
+    metadata: &Metadata,
+    sizes: Sizes,
+    text: &mut String,
+) -> Result<(), AllocError> {
+    add_texts(alloc, metadata, text)?;
+    add_versions(alloc, metadata, text)?;
+    add_sizes(alloc, metadata, sizes, text)
+}
+
 // The lines that a person reads.
 fn text_of(alloc: Global, metadata: &Metadata, sizes: Sizes) -> Result<String, AllocError> {
-    let kind = &metadata.database_type;
-    let mut text = format!(in alloc; "type:        {kind}\n")?;
-    for (language, description) in &metadata.description {
-        text.push_str(format!(in alloc; "description: {description} ({language})\n")?.as_str())?;
-    }
-    text.push_str("languages:  ")?;
-    for language in &metadata.languages {
-        text.push_str(format!(in alloc; " {language}")?.as_str())?;
-    }
-    let seconds = metadata.build_epoch;
-    let date = match date_of(alloc, seconds)? {
-        Some(date) => format!(in alloc; "{date} ({seconds} s)")?,
-        None => format!(in alloc; "{seconds} s after 1970")?,
-    };
-    let ip = metadata.ip_version;
-    let (major, minor) = (
-        metadata.binary_format_major_version,
-        metadata.binary_format_minor_version,
-    );
-    let (nodes, bits) = (metadata.node_count, metadata.record_size);
-    let Sizes {
-        tree,
-        data,
-        metadata,
-    } = sizes;
-    text.push_str(format!(in alloc;
-        "\nIP version:  {ip}\nbuilt:       {date}\nformat:      {major}.{minor}\nnodes:       {nodes}\nrecord size: {bits} bits\ntree:        {tree} bytes\ndata:        {data} bytes\nmetadata:    {metadata} bytes\n"
-    )?.as_str())?;
+    let mut text = String::new(alloc);
+    add_lines(alloc, metadata, sizes, &mut text)?;
     Ok(text)
 }
 
@@ -85,32 +150,52 @@ fn put_number(alloc: Global, out: &mut Pretty, key: &str, number: u64) -> Result
     write_value(alloc, &Value::U64(number), out)
 }
 
-// The texts of the metadata.
-fn put_texts(alloc: Global, out: &mut Pretty, metadata: &Metadata) -> Result<(), AllocError> {
-    put_text(out, "database_type", metadata.database_type.as_str())?;
+// The descriptions, as an object.
+fn put_descriptions(
+    out: &mut Pretty,
+    descriptions: &BTreeMap<String, String>,
+) -> Result<(), AllocError> {
     out.token(Token::Key("description"))?;
     out.token(Token::BeginObject)?;
-    for (language, description) in &metadata.description {
+    for (language, description) in descriptions {
         put_text(out, language.as_str(), description.as_str())?;
     }
-    out.token(Token::EndObject)?;
+    out.token(Token::EndObject)
+}
+
+// The languages, as an array.
+fn put_languages(out: &mut Pretty, languages: &[String]) -> Result<(), AllocError> {
     out.token(Token::Key("languages"))?;
     out.token(Token::BeginArray)?;
-    for language in &metadata.languages {
+    for language in languages {
         out.token(Token::String(language.as_str()))?;
     }
-    out.token(Token::EndArray)?;
-    match date_of(alloc, metadata.build_epoch)? {
+    out.token(Token::EndArray)
+}
+
+// The date of a number of seconds, where it has one.
+fn put_date(alloc: Global, out: &mut Pretty, seconds: u64) -> Result<(), AllocError> {
+    match date_of(alloc, seconds)? {
         Some(date) => put_text(out, "build_time", date.as_str()),
         None => Ok(()),
     }
 }
 
-// The same as an object.
-fn json_of(alloc: Global, metadata: &Metadata, sizes: Sizes) -> Result<Vec<u8>, AllocError> {
-    let mut out = Pretty::new(alloc);
-    out.token(Token::BeginObject)?;
-    put_texts(alloc, &mut out, metadata)?;
+// The texts of the metadata.
+fn put_texts(alloc: Global, out: &mut Pretty, metadata: &Metadata) -> Result<(), AllocError> {
+    put_text(out, "database_type", metadata.database_type.as_str())?;
+    put_descriptions(out, &metadata.description)?;
+    put_languages(out, metadata.languages.as_slice())?;
+    put_date(alloc, out, metadata.build_epoch)
+}
+
+// The numbers of the metadata, and the sizes.
+fn put_numbers(
+    alloc: Global,
+    out: &mut Pretty,
+    metadata: &Metadata,
+    sizes: Sizes,
+) -> Result<(), AllocError> {
     for (key, number) in [
         ("build_epoch", metadata.build_epoch),
         (
@@ -128,12 +213,45 @@ fn json_of(alloc: Global, metadata: &Metadata, sizes: Sizes) -> Result<Vec<u8>, 
         ("data_bytes", sizes.data),
         ("metadata_bytes", sizes.metadata),
     ] {
-        put_number(alloc, &mut out, key, number)?;
+        put_number(alloc, out, key, number)?;
     }
-    out.token(Token::EndObject)?;
+    Ok(())
+}
+
+// The texts and numbers as an object.
+fn put_object(
+    alloc: Global,
+    out: &mut Pretty,
+    metadata: &Metadata,
+    sizes: Sizes,
+) -> Result<(), AllocError> {
+    out.token(Token::BeginObject)?;
+    put_texts(alloc, out, metadata)?;
+    put_numbers(alloc, out, metadata, sizes)?;
+    out.token(Token::EndObject)
+}
+
+// The text of that object.
+fn json_of(alloc: Global, metadata: &Metadata, sizes: Sizes) -> Result<Vec<u8>, AllocError> {
+    let mut out = Pretty::new(alloc);
+    put_object(alloc, &mut out, metadata, sizes)?;
     let mut text = out.into_inner();
     text.push(b'\n')?;
     Ok(text)
+}
+
+// The text of what a file says of itself.
+fn info_text(
+    alloc: Global,
+    metadata: &Metadata,
+    sizes: Sizes,
+    json: bool,
+) -> Result<Vec<u8>, AllocError> {
+    if json {
+        json_of(alloc, metadata, sizes)
+    } else {
+        Ok(text_of(alloc, metadata, sizes)?.into_bytes())
+    }
 }
 
 /// What the file of these bytes says of itself, and the sizes of its sections: as lines, or as an object.
@@ -142,9 +260,42 @@ pub fn info(alloc: Global, bytes: &[u8], json: bool) -> Result<Vec<u8>, ProgramE
     let metadata = reader.metadata();
     let marker = memmem::rfind(bytes, MARKER).unwrap_or(0);
     let sizes = sizes_of(bytes.len(), marker, metadata);
-    if json {
-        Ok(json_of(alloc, metadata, sizes)?)
-    } else {
-        Ok(text_of(alloc, metadata, sizes)?.into_bytes())
+    Ok(info_text(alloc, metadata, sizes, json)?)
+}
+
+// All bytes of a file.
+fn bytes_of<R: Files>(rt: &R, alloc: Global, file: &str) -> Result<Vec<u8>, ProgramError> {
+    let mut bytes = Vec::new(alloc);
+    let done = match File::open(rt, file) {
+        Ok(mut file) => file.read_to_end(&mut bytes),
+        Err(error) => Err(error),
+    };
+    match done {
+        Ok(_) => Ok(bytes),
+        Err(error) => Err(ProgramError::Database(MaxMindDbError::Io(error))),
     }
+}
+
+// Writes what the file of these bytes says of itself.
+fn put_info<O: Write>(
+    alloc: Global,
+    bytes: &[u8],
+    json: bool,
+    out: &mut O,
+) -> Result<u8, ProgramError> {
+    let text = info(alloc, bytes, json)?;
+    put(text.as_slice(), out)?;
+    Ok(DONE)
+}
+
+/// Writes what a database says of itself.
+pub(crate) fn about<R: Files, O: Write>(
+    rt: &R,
+    alloc: Global,
+    file: &str,
+    json: bool,
+    out: &mut O,
+) -> Result<u8, ProgramError> {
+    let bytes = bytes_of(rt, alloc, file)?;
+    put_info(alloc, bytes.as_slice(), json, out)
 }

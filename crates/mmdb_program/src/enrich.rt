@@ -1,14 +1,16 @@
 //! Rows with fields behind them.
 use crate::error::ProgramError;
 use crate::meter::Meter;
-use crate::request::{Column, EnrichWords};
+use crate::output::DONE;
+use crate::task::{Column, EnrichTask};
 use csv::{ByteRecord, ReaderBuilder};
-use mmdb_reader::Reader;
 use mmdb_enrich::{Cache, Enrichment, delimiter_of, put_csv_cell};
 use mmdb_filter::{Counts, MOST_SEEN, Place, Rows, filter_rows, read_piece};
+use mmdb_reader::Reader;
 use std::alloc::{AllocError, Global};
 use std::convert::AsSlice;
-use std::io::{BufRead, Write};
+use std::io::{self, BufRead, Write};
+use std::rt::Files;
 
 // The first row, which may not be longer than a row's text that is seen.
 fn read_header<I: BufRead>(
@@ -36,6 +38,15 @@ fn take_end(alloc: Global, row: &mut Vec<u8>) -> Result<Vec<u8>, AllocError> {
     Ok(end)
 }
 
+// Adds a name behind a delimiter.
+fn put_name(rows: Rows, name: &str, row: &mut Vec<u8>) -> Result<(), AllocError> {
+    row.push(delimiter_of(rows))?;
+    match rows {
+        Rows::Lines => row.extend_from_slice(name.as_bytes()),
+        Rows::Csv { delimiter } => put_csv_cell(delimiter, name.as_bytes(), row),
+    }
+}
+
 // Adds the names of the fields to the first row.
 fn put_names(
     alloc: Global,
@@ -45,11 +56,7 @@ fn put_names(
 ) -> Result<(), AllocError> {
     let end = take_end(alloc, row)?;
     for name in names {
-        row.push(delimiter_of(rows))?;
-        match rows {
-            Rows::Lines => row.extend_from_slice(name.as_bytes())?,
-            Rows::Csv { delimiter } => put_csv_cell(delimiter, name.as_bytes(), row)?,
-        }
+        put_name(rows, *name, row)?;
     }
     row.extend_from_slice(end.as_slice())
 }
@@ -71,6 +78,26 @@ fn place_in_csv(
     }
 }
 
+// The place of a name among the columns of the first row.
+fn place_in(
+    alloc: Global,
+    rows: Rows,
+    name: &str,
+    header: &[u8],
+) -> Result<Option<usize>, ProgramError> {
+    let mut text = Vec::new(alloc);
+    text.extend_from_slice(header)?;
+    take_end(alloc, &mut text)?;
+    match rows {
+        Rows::Lines => Ok(
+            text.as_slice()
+                .split(|b| *b == b'\t')
+                .position(|cell| cell == name.as_bytes()),
+        ),
+        Rows::Csv { delimiter } => place_in_csv(alloc, delimiter, text.as_slice(), name),
+    }
+}
+
 // The place of a column among those of the first row.
 fn place_of(
     alloc: Global,
@@ -82,54 +109,117 @@ fn place_of(
         Column::Number(number) => return Ok(number),
         Column::Name(name) => name,
     };
-    let mut text = Vec::new(alloc);
-    text.extend_from_slice(header)?;
-    take_end(alloc, &mut text)?;
-    let place = match rows {
-        Rows::Lines => text
-            .as_slice()
-            .split(|b| *b == b'\t')
-            .position(|cell| cell == name.as_bytes()),
-        Rows::Csv { delimiter } => place_in_csv(alloc, delimiter, text.as_slice(), name)?,
-    };
-    match place {
+    match place_in(alloc, rows, name, header)? {
         Some(place) => Ok(place),
         None => Err(ProgramError::NoColumn(String::from_str(alloc, name)?)),
     }
 }
 
-/// Copies rows, with the values at some paths behind each, and counts how they fared. How many passed is told on a
-/// terminal meanwhile.
-pub(crate) fn enrich<S: AsSlice<u8> + Drop, I: BufRead, O: Write, E: Write>(
+// Copies the first row with the names of the fields, and answers the place of the column.
+fn copy_header<I: BufRead, O: Write>(
     alloc: Global,
-    reader: &Reader<S>,
-    words: EnrichWords<'_>,
+    wanted: &EnrichTask<'_>,
+    input: &mut I,
+    out: &mut O,
+) -> Result<usize, ProgramError> {
+    let rows = wanted.rows;
+    let mut header = read_header(alloc, rows, input)?;
+    let column = place_of(alloc, rows, wanted.column, header.as_slice())?;
+    put_names(alloc, rows, wanted.names.as_slice(), &mut header)?;
+    out.write_all(header.as_slice())?;
+    Ok(column)
+}
+
+// The place of the column. The first row is copied where it names the columns.
+fn column_of<I: BufRead, O: Write>(
+    alloc: Global,
+    wanted: &EnrichTask<'_>,
+    input: &mut I,
+    out: &mut O,
+) -> Result<usize, ProgramError> {
+    if wanted.header {
+        copy_header(alloc, wanted, input, out)
+    } else {
+        place_of(alloc, wanted.rows, wanted.column, &[])
+    }
+}
+
+// Reports how rows fared.
+fn report_counts<E: Write>(alloc: Global, counts: Counts, err: &mut E) {
+    let Counts {
+        found,
+        absent,
+        unreadable,
+        refused,
+    } = counts;
+    let text: Result<String, AllocError> = format!(in alloc;
+        "mmdb: {found} lines with a record, {absent} without, {unreadable} without an address, {refused} refused\n"
+    );
+    if let Ok(text) = text {
+        let _ = err.write_all(text.as_bytes());
+    }
+}
+
+// Copies rows with fields behind each, and counts how they fared. How many passed is shown on a terminal meanwhile.
+fn copy_rows<S: AsSlice<u8> + Drop, I: BufRead, O: Write, E: Write>(
+    enrichment: &Enrichment<'_, '_, S>,
     is_terminal: bool,
     input: &mut I,
     out: &mut O,
     err: &mut E,
-) -> Result<Counts, ProgramError> {
-    let rows = words.rows;
-    let mut header = if words.header {
-        read_header(alloc, rows, input)?
-    } else {
-        Vec::new(alloc)
-    };
-    let column = place_of(alloc, rows, words.column, header.as_slice())?;
-    if words.header {
-        put_names(alloc, rows, words.names.as_slice(), &mut header)?;
-        out.write_all(header.as_slice())?;
-    }
+) -> io::Result<Counts> {
+    let (alloc, rows) = (enrichment.alloc, enrichment.rows);
+    let mut cache = Cache::new(alloc)?;
+    let mut meter = Meter::new(alloc, is_terminal, err);
+    let counts = filter_rows(alloc, rows, enrichment, &mut cache, input, out, &mut meter);
+    meter.clear();
+    counts
+}
+
+// Copies rows with fields behind each, and reports how they fared.
+fn enrich_rows<S: AsSlice<u8> + Drop, I: BufRead, O: Write, E: Write>(
+    enrichment: &Enrichment<'_, '_, S>,
+    is_terminal: bool,
+    input: &mut I,
+    out: &mut O,
+    err: &mut E,
+) -> Result<u8, ProgramError> {
+    let counts = copy_rows(enrichment, is_terminal, input, out, err)?;
+    report_counts(enrichment.alloc, counts, err);
+    Ok(DONE)
+}
+
+// Copies rows with fields of a database behind each.
+fn enrich_from<S: AsSlice<u8> + Drop, I: BufRead, O: Write, E: Write>(
+    alloc: Global,
+    reader: &Reader<S>,
+    wanted: EnrichTask<'_>,
+    is_terminal: bool,
+    input: &mut I,
+    out: &mut O,
+    err: &mut E,
+) -> Result<u8, ProgramError> {
+    let column = column_of(alloc, &wanted, input, out)?;
     let enrichment = Enrichment {
         alloc,
         reader,
-        rows,
+        rows: wanted.rows,
         column,
-        paths: words.paths,
+        paths: wanted.paths,
     };
-    let mut cache = Cache::new(alloc)?;
-    let mut meter = Meter::new(alloc, is_terminal, err);
-    let counts = filter_rows(alloc, rows, &enrichment, &mut cache, input, out, &mut meter);
-    meter.clear();
-    Ok(counts?)
+    enrich_rows(&enrichment, is_terminal, input, out, err)
+}
+
+/// Copies rows with fields behind each, and reports how they fared.
+pub(crate) fn enrich<R: Files, I: BufRead, O: Write, E: Write>(
+    rt: &R,
+    alloc: Global,
+    wanted: EnrichTask<'_>,
+    is_terminal: bool,
+    input: &mut I,
+    out: &mut O,
+    err: &mut E,
+) -> Result<u8, ProgramError> {
+    let reader = Reader::open_readfile(rt, alloc, wanted.file)?;
+    enrich_from(alloc, &reader, wanted, is_terminal, input, out, err)
 }

@@ -1,8 +1,9 @@
 //! Every network of a range with what its record has.
 use crate::error::ProgramError;
 use crate::layout::Layout;
+use crate::output::put;
 use mmdb_reader::{IpNetwork, LookupResult, MaxMindDbError, Reader, Within, WithinOptions};
-use std::alloc::Global;
+use std::alloc::{AllocError, Global};
 use std::convert::AsSlice;
 use std::io::Write;
 
@@ -16,7 +17,7 @@ const MOST_BYTES: usize = 4096;
 #[derive(Drop)]
 pub(crate) struct Faulty {
     pub(crate) network: Option<IpNetwork>,
-    pub(crate) error: MaxMindDbError,
+    pub(crate) error: ProgramError,
 }
 
 /// The row of a record, with an empty network.
@@ -52,6 +53,28 @@ pub(crate) struct Rows<'a> {
     long: Row,
 }
 
+// As many empty rows as are kept.
+fn empty_rows(alloc: Global) -> Result<Vec<Row>, AllocError> {
+    let mut kept = Vec::with_capacity(alloc, PLACES)?;
+    for _ in 0..PLACES {
+        kept.push(Row::empty(alloc))?;
+    }
+    Ok(kept)
+}
+
+// Writes a row with the text of its network.
+fn write_parts<O: Write>(
+    row: &[u8],
+    place: usize,
+    network: &[u8],
+    out: &mut O,
+) -> Result<(), ProgramError> {
+    let (before, after) = row.split_at(place.min(row.len()));
+    put(before, out)?;
+    put(network, out)?;
+    put(after, out)
+}
+
 // Writes a row with its network.
 fn write_row<O: Write>(
     alloc: Global,
@@ -61,26 +84,16 @@ fn write_row<O: Write>(
     out: &mut O,
 ) -> Result<(), ProgramError> {
     let network = network.to_string(alloc)?;
-    let (before, after) = row.split_at(place.min(row.len()));
-    for part in [before, network.as_bytes(), after] {
-        if let Err(error) = out.write_all(part) {
-            return Err(ProgramError::Write(error));
-        }
-    }
-    Ok(())
+    write_parts(row, place, network.as_bytes(), out)
 }
 
 impl<'a> Rows<'a> {
     /// Of no record yet.
-    pub(crate) fn new(alloc: Global, layout: &'a Layout<'a>) -> Result<Rows<'a>, MaxMindDbError> {
-        let mut kept = Vec::with_capacity(alloc, PLACES)?;
-        for _ in 0..PLACES {
-            kept.push(Row::empty(alloc))?;
-        }
+    pub(crate) fn new(alloc: Global, layout: &'a Layout<'a>) -> Result<Rows<'a>, AllocError> {
         Ok(Rows {
             alloc,
             layout,
-            kept,
+            kept: empty_rows(alloc)?,
             long: Row::empty(alloc),
         })
     }
@@ -128,27 +141,15 @@ impl<'a> Rows<'a> {
         }
     }
 
-    /// Writes the row of an item of a list, or gives why there is none. Where a field is refused there is none.
-    pub(crate) fn write<S: AsSlice<u8> + Drop, O: Write>(
+    // Writes the row of an answer, or gives why there is none.
+    fn write_found<S: AsSlice<u8> + Drop, O: Write>(
         &mut self,
-        item: Result<LookupResult<'_, S>, MaxMindDbError>,
+        found: &LookupResult<'_, S>,
         out: &mut O,
     ) -> Result<Option<Faulty>, ProgramError> {
-        let found = match item {
-            Ok(found) => found,
-            Err(error) => {
-                return Ok(Some(Faulty {
-                    network: None,
-                    error,
-                }));
-            }
-        };
-        let (alloc, place, network) = (
-            self.alloc,
-            self.layout.place_of_network(),
-            found.network()?,
-        );
-        match self.row(&found) {
+        let (alloc, place) = (self.alloc, self.layout.place_of_network());
+        let network = found.network()?;
+        match self.row(found) {
             Ok(row) => {
                 write_row(alloc, row, place, network, out)?;
                 Ok(None)
@@ -156,7 +157,22 @@ impl<'a> Rows<'a> {
             Err(MaxMindDbError::Memory) => Err(ProgramError::Memory),
             Err(error) => Ok(Some(Faulty {
                 network: Some(network),
-                error,
+                error: ProgramError::Database(error),
+            })),
+        }
+    }
+
+    /// Writes the row of an item of a list, or gives why there is none. Where a field is refused there is none.
+    pub(crate) fn write<S: AsSlice<u8> + Drop, O: Write>(
+        &mut self,
+        item: Result<LookupResult<'_, S>, MaxMindDbError>,
+        out: &mut O,
+    ) -> Result<Option<Faulty>, ProgramError> {
+        match item {
+            Ok(found) => self.write_found(&found, out),
+            Err(error) => Ok(Some(Faulty {
+                network: None,
+                error: ProgramError::Database(error),
             })),
         }
     }

@@ -1,9 +1,9 @@
 //! What the rows of an export look like.
 use csv::Writer as CsvWriter;
 use json::{Token, Writer};
-use mmdb_reader::{LookupResult, MaxMindDbError, PathElement, Value};
 use mmdb_json::{compact, write_found};
-use std::alloc::Global;
+use mmdb_reader::{LookupResult, MaxMindDbError, PathElement, Value};
+use std::alloc::{AllocError, Global};
 use std::convert::AsSlice;
 
 /// The name of a row's network.
@@ -30,20 +30,23 @@ pub(crate) enum Layout<'a> {
     Cells(Fields<'a>),
 }
 
-// The cell of the value at a path: a text as it stands, any other value as JSON, and empty where there is none.
+// The cell of a value: a text as it stands, any other value as JSON, and empty where there is none.
+fn cell_with(alloc: Global, value: Option<&Value<'_>>) -> Result<Vec<u8>, AllocError> {
+    match value {
+        Some(Value::String(text)) => text.as_bytes().to_vec(alloc),
+        Some(value) => compact(alloc, value),
+        None => Ok(Vec::new(alloc)),
+    }
+}
+
+// The cell of the value at a path.
 fn cell_of<S: AsSlice<u8> + Drop>(
     alloc: Global,
     found: &LookupResult<'_, S>,
     path: &[PathElement<'_>],
 ) -> Result<Vec<u8>, MaxMindDbError> {
     let value: Option<Value<'_>> = found.decode_path(alloc, path)?;
-    let mut cell = Vec::new(alloc);
-    match &value {
-        Some(Value::String(text)) => cell.extend_from_slice(text.as_bytes())?,
-        Some(value) => cell = compact(alloc, value)?,
-        None => {}
-    }
-    Ok(cell)
+    Ok(cell_with(alloc, value.as_ref())?)
 }
 
 // A line of cells. What refuses is a vector, which does so for want of memory alone.
@@ -59,21 +62,46 @@ fn line_of_cells(alloc: Global, cells: &[&[u8]]) -> Result<Vec<u8>, MaxMindDbErr
     }
 }
 
+// The line of the columns' names.
+fn line_of_names(alloc: Global, fields: &[&str]) -> Result<Vec<u8>, MaxMindDbError> {
+    let mut names: Vec<&[u8]> = Vec::new(alloc);
+    names.push(NETWORK.as_bytes())?;
+    for name in fields {
+        names.push(name.as_bytes())?;
+    }
+    line_of_cells(alloc, names.as_slice())
+}
+
+// The texts of the cells behind the network's.
+fn cells_of<S: AsSlice<u8> + Drop>(
+    alloc: Global,
+    fields: &Fields<'_>,
+    found: &LookupResult<'_, S>,
+) -> Result<Vec<Vec<u8>>, MaxMindDbError> {
+    let mut cells = Vec::new(alloc);
+    for path in &fields.paths {
+        cells.push(cell_of(alloc, found, path.as_slice())?)?;
+    }
+    Ok(cells)
+}
+
+// A line of an empty cell and some more.
+fn line_behind_network(alloc: Global, cells: &[Vec<u8>]) -> Result<Vec<u8>, MaxMindDbError> {
+    let mut row: Vec<&[u8]> = Vec::new(alloc);
+    row.push(b"".as_slice())?;
+    for cell in cells {
+        row.push(cell.as_slice())?;
+    }
+    line_of_cells(alloc, row.as_slice())
+}
+
 fn row_of_cells<S: AsSlice<u8> + Drop>(
     alloc: Global,
     fields: &Fields<'_>,
     found: &LookupResult<'_, S>,
 ) -> Result<Vec<u8>, MaxMindDbError> {
-    let mut cells = Vec::new(alloc);
-    for path in &fields.paths {
-        cells.push(cell_of(alloc, found, path.as_slice())?)?;
-    }
-    let mut row: Vec<&[u8]> = Vec::new(alloc);
-    row.push(b"".as_slice())?;
-    for cell in &cells {
-        row.push(cell.as_slice())?;
-    }
-    line_of_cells(alloc, row.as_slice())
+    let cells = cells_of(alloc, fields, found)?;
+    line_behind_network(alloc, cells.as_slice())
 }
 
 fn row_of_values<S: AsSlice<u8> + Drop>(
@@ -99,28 +127,53 @@ fn row_of_record<S: AsSlice<u8> + Drop>(
     Ok(())
 }
 
+// The beginning of an object with an empty network.
+fn begin_object(out: &mut Writer) -> Result<(), AllocError> {
+    out.token(Token::BeginObject)?;
+    out.token(Token::Key(NETWORK))?;
+    out.token(Token::String(""))
+}
+
 impl Layout<'_> {
+    // Writes the row of a record as an object, with an empty network.
+    fn write_object<S: AsSlice<u8> + Drop>(
+        &self,
+        alloc: Global,
+        found: &LookupResult<'_, S>,
+        out: &mut Writer,
+    ) -> Result<(), MaxMindDbError> {
+        begin_object(out)?;
+        match self {
+            Layout::Values(fields) => row_of_values(alloc, fields, found, out)?,
+            _ => row_of_record(alloc, found, out)?,
+        }
+        out.token(Token::EndObject)?;
+        Ok(())
+    }
+
+    // The same as a line.
+    fn object<S: AsSlice<u8> + Drop>(
+        &self,
+        alloc: Global,
+        found: &LookupResult<'_, S>,
+    ) -> Result<Vec<u8>, MaxMindDbError> {
+        let mut out = Writer::new(Vec::with_capacity(alloc, 256)?);
+        self.write_object(alloc, found, &mut out)?;
+        let mut row = out.into_inner();
+        row.push(b'\n')?;
+        Ok(row)
+    }
+
     /// The row of a record, with an empty network.
     pub(crate) fn row<S: AsSlice<u8> + Drop>(
         &self,
         alloc: Global,
         found: &LookupResult<'_, S>,
     ) -> Result<Vec<u8>, MaxMindDbError> {
-        if let Layout::Cells(fields) = self {
-            return row_of_cells(alloc, fields, found);
-        }
-        let mut out = Writer::new(Vec::with_capacity(alloc, 256)?);
-        out.token(Token::BeginObject)?;
-        out.token(Token::Key(NETWORK))?;
-        out.token(Token::String(""))?;
         match self {
-            Layout::Values(fields) => row_of_values(alloc, fields, found, &mut out)?,
-            _ => row_of_record(alloc, found, &mut out)?,
+            Layout::Cells(fields) => row_of_cells(alloc, fields, found),
+            Layout::Records | Layout::Values(_) => self.object(alloc, found),
         }
-        out.token(Token::EndObject)?;
-        let mut row = out.into_inner();
-        row.push(b'\n')?;
-        Ok(row)
     }
 
     /// Where the network stands in a row.
@@ -133,14 +186,9 @@ impl Layout<'_> {
 
     /// The line of the columns' names, where there are columns.
     pub(crate) fn header(&self, alloc: Global) -> Result<Option<Vec<u8>>, MaxMindDbError> {
-        let Layout::Cells(fields) = self else {
-            return Ok(None);
-        };
-        let mut names: Vec<&[u8]> = Vec::new(alloc);
-        names.push(NETWORK.as_bytes())?;
-        for name in &fields.names {
-            names.push(name.as_bytes())?;
+        match self {
+            Layout::Cells(fields) => Ok(Some(line_of_names(alloc, fields.names.as_slice())?)),
+            Layout::Records | Layout::Values(_) => Ok(None),
         }
-        Ok(Some(line_of_cells(alloc, names.as_slice())?))
     }
 }

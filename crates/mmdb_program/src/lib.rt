@@ -7,11 +7,13 @@ mod error;
 mod export;
 mod layout;
 mod meter;
+mod networks;
+mod output;
 mod paths;
 mod program;
-mod request;
 mod show;
-mod words;
+mod task;
+mod verify;
 
 pub use about::info;
 pub use error::ProgramError;

@@ -1,11 +1,39 @@
 //! What a database has for an address, as JSON.
 use crate::error::ProgramError;
+use crate::output::{DONE, FAILED, NOT_FOUND, flush, put, report};
+use crate::task::ShowTask;
 use json::{Pretty, Token, Writer};
-use mmdb_reader::{LookupResult, MaxMindDbError, PathElement, Reader};
 use mmdb_json::{TokenSink, write_found};
-use std::alloc::Global;
+use mmdb_reader::{IpNetwork, LookupResult, MaxMindDbError, PathElement, Reader};
+use std::alloc::{AllocError, Global};
 use std::convert::AsSlice;
+use std::io::Write;
 use std::net::IpAddr;
+use std::rt::Files;
+
+// The tokens of a key and of a text that was made, if there was memory for it.
+fn write_text<W: TokenSink>(
+    key: &str,
+    text: Result<String, AllocError>,
+    out: &mut W,
+) -> Result<(), AllocError> {
+    let text = text?;
+    out.token(Token::Key(key))?;
+    out.token(Token::String(text.as_str()))
+}
+
+// The tokens of an answer up to its record.
+fn begin_answer<W: TokenSink>(
+    alloc: Global,
+    address: IpAddr,
+    network: IpNetwork,
+    out: &mut W,
+) -> Result<(), AllocError> {
+    out.token(Token::BeginObject)?;
+    write_text("address", address.to_string(alloc), out)?;
+    write_text("network", network.to_string(alloc), out)?;
+    out.token(Token::Key("record"))
+}
 
 // The tokens of an answer, and whether there is a record.
 fn write_answer<S: AsSlice<u8> + Drop, W: TokenSink>(
@@ -14,14 +42,7 @@ fn write_answer<S: AsSlice<u8> + Drop, W: TokenSink>(
     found: &LookupResult<'_, S>,
     out: &mut W,
 ) -> Result<bool, MaxMindDbError> {
-    let network = found.network()?.to_string(alloc)?;
-    let address = address.to_string(alloc)?;
-    out.token(Token::BeginObject)?;
-    out.token(Token::Key("address"))?;
-    out.token(Token::String(address.as_str()))?;
-    out.token(Token::Key("network"))?;
-    out.token(Token::String(network.as_str()))?;
-    out.token(Token::Key("record"))?;
+    begin_answer(alloc, address, found.network()?, out)?;
     let is_found = write_found(alloc, found, &[], out)?;
     out.token(Token::EndObject)?;
     Ok(is_found)
@@ -41,6 +62,41 @@ fn write_one<S: AsSlice<u8> + Drop, W: TokenSink>(
     }
 }
 
+// Adds a text and a newline.
+fn put_lines(text: &[u8], out: &mut Vec<u8>) -> Result<(), AllocError> {
+    out.extend_from_slice(text)?;
+    out.push(b'\n')?;
+    Ok(())
+}
+
+// Adds an answer in one line.
+fn put_line<S: AsSlice<u8> + Drop>(
+    alloc: Global,
+    address: IpAddr,
+    found: &LookupResult<'_, S>,
+    path: Option<&Vec<PathElement<'_>>>,
+    out: &mut Vec<u8>,
+) -> Result<bool, MaxMindDbError> {
+    let mut writer = Writer::new(Vec::new(alloc));
+    let is_found = write_one(alloc, address, found, path, &mut writer)?;
+    put_lines(writer.into_inner().as_slice(), out)?;
+    Ok(is_found)
+}
+
+// Adds an answer laid out over several lines.
+fn put_pretty<S: AsSlice<u8> + Drop>(
+    alloc: Global,
+    address: IpAddr,
+    found: &LookupResult<'_, S>,
+    path: Option<&Vec<PathElement<'_>>>,
+    out: &mut Vec<u8>,
+) -> Result<bool, MaxMindDbError> {
+    let mut writer = Pretty::new(alloc);
+    let is_found = write_one(alloc, address, found, path, &mut writer)?;
+    put_lines(writer.into_inner().as_slice(), out)?;
+    Ok(is_found)
+}
+
 // Adds a text of JSON and a newline.
 fn put_one<S: AsSlice<u8> + Drop>(
     alloc: Global,
@@ -50,18 +106,27 @@ fn put_one<S: AsSlice<u8> + Drop>(
     lines: bool,
     out: &mut Vec<u8>,
 ) -> Result<bool, MaxMindDbError> {
-    let (text, is_found) = if lines {
-        let mut writer = Writer::new(Vec::new(alloc));
-        let is_found = write_one(alloc, address, found, path, &mut writer)?;
-        (writer.into_inner(), is_found)
+    if lines {
+        put_line(alloc, address, found, path, out)
     } else {
-        let mut writer = Pretty::new(alloc);
-        let is_found = write_one(alloc, address, found, path, &mut writer)?;
-        (writer.into_inner(), is_found)
-    };
-    out.extend_from_slice(text.as_slice())?;
-    out.push(b'\n')?;
-    Ok(is_found)
+        put_pretty(alloc, address, found, path, out)
+    }
+}
+
+// Adds the values at some paths, and answers whether none was missing.
+fn put_values<S: AsSlice<u8> + Drop>(
+    alloc: Global,
+    address: IpAddr,
+    found: &LookupResult<'_, S>,
+    paths: &[Vec<PathElement<'_>>],
+    lines: bool,
+    out: &mut Vec<u8>,
+) -> Result<bool, MaxMindDbError> {
+    let mut are_found = true;
+    for path in paths {
+        are_found &= put_one(alloc, address, found, Some(path), lines, out)?;
+    }
+    Ok(are_found)
 }
 
 /// Adds to `out` what a database has for an address, and tells whether nothing was missing: an object with
@@ -76,14 +141,90 @@ pub fn show_to<S: AsSlice<u8> + Drop>(
     out: &mut Vec<u8>,
 ) -> Result<bool, ProgramError> {
     let found = reader.lookup(address)?;
-    if paths.is_empty() {
-        return Ok(put_one(alloc, address, &found, None, lines, out)?);
+    let shown = if paths.is_empty() {
+        put_one(alloc, address, &found, None, lines, out)
+    } else {
+        put_values(alloc, address, &found, paths, lines, out)
+    };
+    Ok(shown?)
+}
+
+// Writes what was made before the error of an address, reports the error, and answers the status.
+fn put_failed<O: Write, E: Write>(
+    alloc: Global,
+    address: IpAddr,
+    text: &[u8],
+    error: &ProgramError,
+    out: &mut O,
+    err: &mut E,
+) -> Result<u8, ProgramError> {
+    put(text, out)?;
+    flush(out)?;
+    let address = address.to_string(alloc)?;
+    report(alloc, address.as_str(), error, err);
+    Ok(FAILED)
+}
+
+// Writes what was made for an address, and answers the status after it.
+fn put_shown<O: Write>(
+    text: &[u8],
+    is_found: bool,
+    status: u8,
+    out: &mut O,
+) -> Result<u8, ProgramError> {
+    put(text, out)?;
+    if status == DONE && !is_found {
+        Ok(NOT_FOUND)
+    } else {
+        Ok(status)
     }
-    let mut are_found = true;
-    for path in paths {
-        if !put_one(alloc, address, &found, Some(path), lines, out)? {
-            are_found = false;
-        }
+}
+
+// Writes what a database has for an address, and answers the status from there on.
+fn show_one<S: AsSlice<u8> + Drop, O: Write, E: Write>(
+    alloc: Global,
+    reader: &Reader<S>,
+    wanted: &ShowTask<'_>,
+    lines: bool,
+    address: IpAddr,
+    status: u8,
+    out: &mut O,
+    err: &mut E,
+) -> Result<u8, ProgramError> {
+    let mut text = Vec::new(alloc);
+    let paths = wanted.paths.as_slice();
+    match show_to(alloc, reader, address, paths, lines, &mut text) {
+        Ok(is_found) => put_shown(text.as_slice(), is_found, status, out),
+        Err(error) => put_failed(alloc, address, text.as_slice(), &error, out, err),
     }
-    Ok(are_found)
+}
+
+// Writes what a database has for all addresses.
+fn show_all<S: AsSlice<u8> + Drop, O: Write, E: Write>(
+    alloc: Global,
+    reader: &Reader<S>,
+    wanted: &ShowTask<'_>,
+    lines: bool,
+    out: &mut O,
+    err: &mut E,
+) -> Result<u8, ProgramError> {
+    let mut status = DONE;
+    for address in &wanted.arguments.addresses {
+        status = show_one(alloc, reader, wanted, lines, *address, status, out, err)?;
+    }
+    Ok(status)
+}
+
+/// Writes what a database has for addresses, and reports the error of each that has one.
+pub(crate) fn show<R: Files, O: Write, E: Write>(
+    rt: &R,
+    alloc: Global,
+    wanted: &ShowTask<'_>,
+    is_terminal: bool,
+    out: &mut O,
+    err: &mut E,
+) -> Result<u8, ProgramError> {
+    let reader = Reader::open_readfile(rt, alloc, wanted.arguments.file)?;
+    let lines = wanted.arguments.lines || !is_terminal;
+    show_all(alloc, &reader, wanted, lines, out, err)
 }

@@ -1,0 +1,12 @@
+//! The arguments of the program `mmdb`.
+#![tactic(auto)]
+
+mod commands;
+mod rejected;
+mod request;
+
+pub use rejected::{Message, NoRequest};
+pub use request::{
+    EnrichArguments, ExportArguments, Format, InfoArguments, Request, ShowArguments,
+    VerifyArguments, request_of,
+};

@@ -1,0 +1,183 @@
+//! What a command line asks for.
+use crate::commands::command;
+use crate::rejected::NoRequest;
+use clap::ArgMatches;
+use std::alloc::{AllocError, Global};
+use std::net::IpAddr;
+
+/// The arguments of `show`.
+#[derive(Drop)]
+pub struct ShowArguments<'a> {
+    pub file: &'a str,
+    pub addresses: Vec<IpAddr>,
+    /// Texts that should be paths.
+    pub paths: Vec<&'a str>,
+    pub lines: bool,
+}
+
+/// The arguments of `info`.
+#[derive(Drop)]
+pub struct InfoArguments<'a> {
+    pub file: &'a str,
+    pub json: bool,
+}
+
+/// The arguments of `enrich`.
+#[derive(Drop)]
+pub struct EnrichArguments<'a> {
+    pub file: &'a str,
+    /// A text that should be what stands between columns.
+    pub delimiter: Option<&'a str>,
+    /// A text that should be the number of a column, or with a header its name.
+    pub column: &'a str,
+    /// Texts that should be paths.
+    pub fields: Vec<&'a str>,
+    pub header: bool,
+}
+
+/// The formats of an export.
+#[derive(Clone, Copy)]
+pub enum Format {
+    JsonLines,
+    Csv,
+}
+
+/// The arguments of `export`.
+#[derive(Drop)]
+pub struct ExportArguments<'a> {
+    pub file: &'a str,
+    /// A text that should be a network.
+    pub range: Option<&'a str>,
+    /// Texts that should be paths.
+    pub fields: Vec<&'a str>,
+    pub format: Format,
+}
+
+/// The arguments of `verify`.
+#[derive(Drop)]
+pub struct VerifyArguments<'a> {
+    pub files: Vec<&'a str>,
+}
+
+/// A command with its arguments.
+#[derive(Drop)]
+pub enum Request<'a> {
+    /// The records of addresses, or their values at some paths.
+    Show(ShowArguments<'a>),
+    /// What a database says of itself.
+    Info(InfoArguments<'a>),
+    /// Fields behind lines.
+    Enrich(EnrichArguments<'a>),
+    /// Every network with its record.
+    Export(ExportArguments<'a>),
+    /// Whether files are whole.
+    Verify(VerifyArguments<'a>),
+}
+
+fn addresses_of(alloc: Global, texts: &[&str]) -> Result<Vec<IpAddr>, NoRequest> {
+    let mut addresses = Vec::new(alloc);
+    for text in texts {
+        match text.parse::<IpAddr>() {
+            Ok(address) => addresses.push(address)?,
+            Err(_) => return Err(NoRequest::bad_argument(alloc, text, "not an IP address")),
+        }
+    }
+    Ok(addresses)
+}
+
+// The values of an argument.
+fn texts_of<'a>(
+    alloc: Global,
+    matches: &ArgMatches<'a>,
+    name: &str,
+) -> Result<Vec<&'a str>, AllocError> {
+    let mut texts = Vec::new(alloc);
+    texts.extend_from_slice(matches.get_strs(name).unwrap_or(&[]))?;
+    Ok(texts)
+}
+
+fn file_of<'a>(matches: &ArgMatches<'a>) -> &'a str {
+    matches.get_str("FILE").unwrap_or("")
+}
+
+fn show<'a>(alloc: Global, matches: &ArgMatches<'a>) -> Result<Request<'a>, NoRequest> {
+    let addresses = addresses_of(alloc, matches.get_strs("ADDR").unwrap_or(&[]))?;
+    Ok(Request::Show(ShowArguments {
+        file: file_of(matches),
+        addresses,
+        paths: texts_of(alloc, matches, "path")?,
+        lines: matches.get_flag("lines"),
+    }))
+}
+
+fn info<'a>(matches: &ArgMatches<'a>) -> Request<'a> {
+    Request::Info(InfoArguments {
+        file: file_of(matches),
+        json: matches.get_flag("json"),
+    })
+}
+
+fn enrich<'a>(alloc: Global, matches: &ArgMatches<'a>) -> Result<Request<'a>, NoRequest> {
+    let fields = texts_of(alloc, matches, "field")?;
+    Ok(Request::Enrich(EnrichArguments {
+        file: file_of(matches),
+        delimiter: matches.get_str("delimiter"),
+        column: matches.get_str("column").unwrap_or("1"),
+        fields,
+        header: matches.get_flag("header"),
+    }))
+}
+
+fn format_of(matches: &ArgMatches<'_>) -> Format {
+    if matches.get_str("format") == Some("csv") {
+        Format::Csv
+    } else {
+        Format::JsonLines
+    }
+}
+
+fn export<'a>(alloc: Global, matches: &ArgMatches<'a>) -> Result<Request<'a>, NoRequest> {
+    let fields = texts_of(alloc, matches, "field")?;
+    Ok(Request::Export(ExportArguments {
+        file: file_of(matches),
+        range: matches.get_str("RANGE"),
+        fields,
+        format: format_of(matches),
+    }))
+}
+
+fn verify<'a>(alloc: Global, matches: &ArgMatches<'a>) -> Result<Request<'a>, NoRequest> {
+    let files = texts_of(alloc, matches, "FILE")?;
+    Ok(Request::Verify(VerifyArguments { files }))
+}
+
+// The request of a command's own arguments.
+fn of_command<'a>(
+    alloc: Global,
+    name: &str,
+    matches: &ArgMatches<'a>,
+) -> Result<Request<'a>, NoRequest> {
+    if name == "show" {
+        show(alloc, matches)
+    } else if name == "info" {
+        Ok(info(matches))
+    } else if name == "enrich" {
+        enrich(alloc, matches)
+    } else if name == "export" {
+        export(alloc, matches)
+    } else {
+        verify(alloc, matches)
+    }
+}
+
+/// What a command line asks for, the program's name first.
+pub fn request_of<'a>(alloc: Global, arguments: &'a [String]) -> Result<Request<'a>, NoRequest> {
+    let matches = match command(alloc)?.try_get_matches_from(arguments) {
+        Ok(matches) => matches,
+        Err(error) => return Err(NoRequest::from_clap(alloc, &error)),
+    };
+    match matches.subcommand() {
+        Some((name, matches)) => of_command(alloc, name, matches),
+        None => Err(NoRequest::bad_argument(alloc, "", "no command")),
+    }
+}

@@ -1,0 +1,123 @@
+//! Every network of a range, written out.
+use crate::error::ProgramError;
+use crate::export::{Faulty, Rows, networks_in};
+use crate::layout::Layout;
+use crate::output::{DONE, FAILED, flush, put, report};
+use crate::task::ExportTask;
+use mmdb_reader::{IpNetwork, LookupResult, MaxMindDbError, Reader, Within};
+use std::alloc::{AllocError, Global};
+use std::convert::AsSlice;
+use std::io::Write;
+use std::rt::Files;
+
+// What a report names for a network.
+fn name_of(alloc: Global, network: Option<IpNetwork>) -> Result<String, AllocError> {
+    match network {
+        Some(network) => network.to_string(alloc),
+        None => String::from_str(alloc, "a network"),
+    }
+}
+
+// Reports what could not be written of a database, behind what was, and answers that it was not.
+fn report_faulty<O: Write, E: Write>(
+    alloc: Global,
+    faulty: &Faulty,
+    out: &mut O,
+    err: &mut E,
+) -> Result<bool, ProgramError> {
+    flush(out)?;
+    let name = name_of(alloc, faulty.network)?;
+    report(alloc, name.as_str(), &faulty.error, err);
+    Ok(false)
+}
+
+// Writes the line of a network, or reports that it can't be read, and answers whether it was written.
+fn export_one<S: AsSlice<u8> + Drop, O: Write, E: Write>(
+    alloc: Global,
+    item: Result<LookupResult<'_, S>, MaxMindDbError>,
+    rows: &mut Rows<'_>,
+    out: &mut O,
+    err: &mut E,
+) -> Result<bool, ProgramError> {
+    match rows.write(item, out)? {
+        Some(faulty) => report_faulty(alloc, &faulty, out, err),
+        None => Ok(true),
+    }
+}
+
+// Writes a line for each network, and answers how many could not be read.
+fn export_all<S: AsSlice<u8> + Drop, O: Write, E: Write>(
+    alloc: Global,
+    networks: Within<'_, S>,
+    rows: &mut Rows<'_>,
+    out: &mut O,
+    err: &mut E,
+) -> Result<u64, ProgramError> {
+    let mut faults = 0u64;
+    for item in networks {
+        if !export_one(alloc, item, rows, out, err)? {
+            faults = faults.saturating_add(1);
+        }
+    }
+    Ok(faults)
+}
+
+// Writes the header, where the layout has one.
+fn put_header<O: Write>(
+    alloc: Global,
+    layout: &Layout<'_>,
+    out: &mut O,
+) -> Result<(), ProgramError> {
+    match layout.header(alloc)? {
+        Some(header) => put(header.as_slice(), out),
+        None => Ok(()),
+    }
+}
+
+// Reports how many networks could not be read, and answers the status.
+fn report_faults<E: Write>(alloc: Global, faults: u64, err: &mut E) -> Result<u8, ProgramError> {
+    if faults == 0 {
+        return Ok(DONE);
+    }
+    let text: String = format!(in alloc; "mmdb: {faults} networks could not be read\n")?;
+    let _ = err.write_all(text.as_bytes());
+    Ok(FAILED)
+}
+
+// Writes the header and a line for each network, and answers the status.
+fn export_networks<S: AsSlice<u8> + Drop, O: Write, E: Write>(
+    alloc: Global,
+    networks: Within<'_, S>,
+    layout: &Layout<'_>,
+    out: &mut O,
+    err: &mut E,
+) -> Result<u8, ProgramError> {
+    let mut rows = Rows::new(alloc, layout)?;
+    put_header(alloc, layout, out)?;
+    let faults = export_all(alloc, networks, &mut rows, out, err)?;
+    report_faults(alloc, faults, err)
+}
+
+// Writes the lines of a range of a database.
+fn export_from<S: AsSlice<u8> + Drop, O: Write, E: Write>(
+    alloc: Global,
+    reader: &Reader<S>,
+    wanted: &ExportTask<'_>,
+    out: &mut O,
+    err: &mut E,
+) -> Result<u8, ProgramError> {
+    let networks = networks_in(alloc, reader, wanted.range)?;
+    export_networks(alloc, networks, &wanted.layout, out, err)
+}
+
+/// Writes a line for each network of a range, and reports each that can't be read.
+pub(crate) fn export<R: Files, O: Write, E: Write>(
+    rt: &R,
+    alloc: Global,
+    wanted: &ExportTask<'_>,
+    out: &mut O,
+    err: &mut E,
+) -> Result<u8, ProgramError> {
+    let reader = Reader::open_readfile(rt, alloc, wanted.file)?;
+    export_from(alloc, &reader, wanted, out, err)
+}

@@ -1,0 +1,182 @@
+//! Requests with their texts read.
+use crate::layout::{Fields, Layout};
+use crate::paths::path_of;
+use mmdb_arguments::{
+    EnrichArguments, ExportArguments, Format, InfoArguments, NoRequest, Request, ShowArguments,
+    VerifyArguments, request_of,
+};
+use mmdb_filter::Rows;
+use mmdb_reader::{IpNetwork, PathElement};
+use std::alloc::Global;
+
+/// A column of lines.
+#[derive(Clone, Copy)]
+pub(crate) enum Column<'a> {
+    /// Counted from 0.
+    Number(usize),
+    /// By its name in the first line.
+    Name(&'a str),
+}
+
+/// What `show` is asked for.
+#[derive(Drop)]
+pub(crate) struct ShowTask<'a> {
+    pub(crate) arguments: ShowArguments<'a>,
+    pub(crate) paths: Vec<Vec<PathElement<'a>>>,
+}
+
+/// What `export` is asked for.
+#[derive(Drop)]
+pub(crate) struct ExportTask<'a> {
+    pub(crate) file: &'a str,
+    pub(crate) range: Option<IpNetwork>,
+    pub(crate) layout: Layout<'a>,
+}
+
+/// What `enrich` is asked for.
+#[derive(Drop)]
+pub(crate) struct EnrichTask<'a> {
+    pub(crate) file: &'a str,
+    pub(crate) rows: Rows,
+    pub(crate) column: Column<'a>,
+    pub(crate) names: Vec<&'a str>,
+    pub(crate) paths: Vec<Vec<PathElement<'a>>>,
+    pub(crate) header: bool,
+}
+
+/// A request whose texts are what they should be.
+#[derive(Drop)]
+pub(crate) enum Task<'a> {
+    /// The records of addresses, or their values at some paths.
+    Show(ShowTask<'a>),
+    /// What a database says of itself.
+    Info(InfoArguments<'a>),
+    /// Fields behind lines.
+    Enrich(EnrichTask<'a>),
+    /// Every network with its record.
+    Export(ExportTask<'a>),
+    /// Whether files are whole.
+    Verify(VerifyArguments<'a>),
+}
+
+impl<'a> Task<'a> {
+    /// What an error names: the file, or the command where there are several.
+    pub(crate) fn file(&self) -> &'a str {
+        match self {
+            Task::Show(show) => show.arguments.file,
+            Task::Info(info) => info.file,
+            Task::Enrich(enrich) => enrich.file,
+            Task::Export(export) => export.file,
+            Task::Verify(_) => "verify",
+        }
+    }
+}
+
+fn paths_of<'a>(alloc: Global, texts: &[&'a str]) -> Result<Vec<Vec<PathElement<'a>>>, NoRequest> {
+    let mut paths = Vec::new(alloc);
+    for text in texts {
+        match path_of(alloc, text)? {
+            Some(path) => paths.push(path)?,
+            None => return Err(NoRequest::bad_argument(alloc, text, "not a path")),
+        }
+    }
+    Ok(paths)
+}
+
+// The range that a text spells, where there is one.
+fn range_of(alloc: Global, text: Option<&str>) -> Result<Option<IpNetwork>, NoRequest> {
+    let Some(text) = text else {
+        return Ok(None);
+    };
+    match text.parse::<IpNetwork>() {
+        Ok(range) => Ok(Some(range)),
+        Err(_) => Err(NoRequest::bad_argument(alloc, text, "not a network")),
+    }
+}
+
+// The column that a text stands for: a name only where there is a header.
+fn column_of<'a>(alloc: Global, text: &'a str, header: bool) -> Result<Column<'a>, NoRequest> {
+    match text.parse::<usize>() {
+        Ok(number) if number > 0 => Ok(Column::Number(number - 1)),
+        Err(_) if header => Ok(Column::Name(text)),
+        _ => Err(NoRequest::bad_argument(alloc, text, "not the number of a column")),
+    }
+}
+
+// What rows are, by what stands between their cells: between those of a line tabs, else they are CSV.
+fn rows_of(alloc: Global, delimiter: Option<&str>) -> Result<Rows, NoRequest> {
+    let Some(text) = delimiter else {
+        return Ok(Rows::Lines);
+    };
+    match text.as_bytes() {
+        b"\t" | b"\\t" => Ok(Rows::Lines),
+        [b'"' | b'\n' | b'\r'] => Err(NoRequest::bad_argument(
+            alloc,
+            "--delimiter",
+            "neither a quote nor a line break",
+        )),
+        [delimiter] => Ok(Rows::Csv {
+            delimiter: *delimiter,
+        }),
+        _ => Err(NoRequest::bad_argument(alloc, text, "not one ASCII character")),
+    }
+}
+
+fn show<'a>(alloc: Global, arguments: ShowArguments<'a>) -> Result<ShowTask<'a>, NoRequest> {
+    let paths = paths_of(alloc, arguments.paths.as_slice())?;
+    Ok(ShowTask { arguments, paths })
+}
+
+fn enrich<'a>(alloc: Global, arguments: EnrichArguments<'a>) -> Result<EnrichTask<'a>, NoRequest> {
+    let rows = rows_of(alloc, arguments.delimiter)?;
+    let column = column_of(alloc, arguments.column, arguments.header)?;
+    let paths = paths_of(alloc, arguments.fields.as_slice())?;
+    Ok(EnrichTask {
+        file: arguments.file,
+        rows,
+        column,
+        names: arguments.fields,
+        paths,
+        header: arguments.header,
+    })
+}
+
+// How networks are written in a format with the values at the paths of these names.
+fn layout_of<'a>(
+    alloc: Global,
+    format: Format,
+    names: Vec<&'a str>,
+) -> Result<Layout<'a>, NoRequest> {
+    let paths = paths_of(alloc, names.as_slice())?;
+    match (format, names.is_empty()) {
+        (Format::Csv, true) => Err(NoRequest::bad_argument(
+            alloc,
+            "--format csv",
+            "needs a --field",
+        )),
+        (Format::Csv, false) => Ok(Layout::Cells(Fields { names, paths })),
+        (Format::JsonLines, true) => Ok(Layout::Records),
+        (Format::JsonLines, false) => Ok(Layout::Values(Fields { names, paths })),
+    }
+}
+
+fn export<'a>(alloc: Global, arguments: ExportArguments<'a>) -> Result<ExportTask<'a>, NoRequest> {
+    let (file, range) = (arguments.file, arguments.range);
+    let layout = layout_of(alloc, arguments.format, arguments.fields)?;
+    Ok(ExportTask {
+        file,
+        range: range_of(alloc, range)?,
+        layout,
+    })
+}
+
+/// What a command line asks for, the program's name first.
+pub(crate) fn task_of<'a>(alloc: Global, arguments: &'a [String]) -> Result<Task<'a>, NoRequest> {
+    match request_of(alloc, arguments)? {
+        Request::Show(arguments) => Ok(Task::Show(show(alloc, arguments)?)),
+        Request::Info(arguments) => Ok(Task::Info(arguments)),
+        Request::Enrich(arguments) => Ok(Task::Enrich(enrich(alloc, arguments)?)),
+        Request::Export(arguments) => Ok(Task::Export(export(alloc, arguments)?)),
+        Request::Verify(arguments) => Ok(Task::Verify(arguments)),
+    }
+}
