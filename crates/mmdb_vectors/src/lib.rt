@@ -1,7 +1,8 @@
-//! What tests of several crates share: a builder of files, the rows that failed, a file that fails, a hoard
-//! of memory, sections of bytes, what the two operators of equality say, and a program's words.
+//! What tests of several crates share: a builder of files, sections of bytes, answers as texts, the rows that
+//! failed, a file that fails, a hoard of memory, what the two operators of equality say, and a program's words.
 #![tactic(auto)]
 
+pub mod answer;
 pub mod builder;
 pub mod equality;
 pub mod failures;
