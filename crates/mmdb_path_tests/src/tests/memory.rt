@@ -79,13 +79,6 @@ enum Wanted {
     RefusedPath,
 }
 
-fn is_refused_for_memory<T: Drop>(answer: Result<T, MaxMindDbError>) -> bool {
-    match answer {
-        Err(MaxMindDbError::Memory) => true,
-        _ => false,
-    }
-}
-
 fn is_wanted(
     alloc: Global,
     found: LookupResult<'_, &[u8]>,
@@ -99,9 +92,9 @@ fn is_wanted(
         Wanted::Text(text) => found
             .decode_path::<&str>(alloc, path)
             .is_ok_and(|read| read == Some(text)),
-        Wanted::RefusedNumber => is_refused_for_memory(found.decode_path::<u16>(alloc, path)),
-        Wanted::RefusedValue => is_refused_for_memory(found.decode_path::<Value<'_>>(alloc, path)),
-        Wanted::RefusedPath => is_refused_for_memory(render_path(alloc, path)),
+        Wanted::RefusedNumber => outcome(found.decode_path::<u16>(alloc, path)) == Met::Memory,
+        Wanted::RefusedValue => outcome(found.decode_path::<Value<'_>>(alloc, path)) == Met::Memory,
+        Wanted::RefusedPath => outcome(render_path(alloc, path)) == Met::Memory,
     }
 }
 

@@ -47,7 +47,10 @@ const TEXTS: &[(&[PathElement<'static>], &str)] = &[
 fn texts_of_paths(rt: HostRuntime) -> Result<(), Failures> {
     let mut failures = Failures::new(rt.alloc());
     for (path, text) in TEXTS {
-        failures.expect_text(path, render_path(rt.alloc(), path), text);
+        match render_path(rt.alloc(), path) {
+            Ok(rendered) => failures.expect(&rendered, rendered.as_str() == *text),
+            Err(error) => failures.note(path, &error),
+        }
     }
     failures.verdict()
 }

@@ -43,8 +43,8 @@ const SCALARS: [(&[u8], Value<'static>); 20] = [
 ];
 
 // Whether a section is read so by the call for any type.
-fn is_read_as(alloc: Global, section: &[u8], wanted: &Value<'_>) -> bool {
-    match fuzzing::decode::<Value<'_>>(alloc, section) {
+fn is_read_as<'de>(alloc: Global, section: &'de [u8], wanted: &Value<'de>) -> bool {
+    match fuzzing::decode::<Value<'de>>(alloc, section) {
         Ok(value) => value == *wanted,
         Err(_) => false,
     }
@@ -60,29 +60,34 @@ fn scalars(rt: HostRuntime) -> Result<(), Failures> {
 }
 
 // Notes where a section is read as something else: by the call for any type, or by that for any value.
-fn expect_value(failures: &mut Failures, alloc: Global, section: &[u8], wanted: Value<'_>) {
+fn expect_value<'de>(
+    failures: &mut Failures,
+    alloc: Global,
+    section: &'de [u8],
+    wanted: Value<'de>,
+) {
     failures.expect(&section, is_read_as(alloc, section, &wanted));
-    let value = decode_value(alloc, section);
-    failures.expect(&section, value.is_ok_and(|value| value == wanted));
-}
-
-// A map of these pairs.
-fn map_of<'a, const N: usize>(alloc: Global, pairs: [(&'a str, Value<'a>); N]) -> Value<'a> {
-    Value::Map(Vec::from_array(alloc, pairs).unwrap_or(Vec::new(alloc)))
+    match decode_value(alloc, section) {
+        Ok(value) => failures.expect(&section, value == wanted),
+        Err(error) => failures.note(&section, &error),
+    }
 }
 
 #[test]
 fn texts_and_pointers(rt: HostRuntime) -> Result<(), Failures> {
     let (alloc, mut failures) = (rt.alloc(), Failures::new(rt.alloc()));
     let it = &mut failures;
-    let map = map_of(
+    let pairs = Vec::from_array(
         alloc,
         [("a", Value::String("x")), ("b", Value::String("y"))],
     );
+    let map = Value::Map(pairs.unwrap_or(Vec::new(alloc)));
     expect_value(it, alloc, b"\x02\x00\x41a\x20\x0A\x41b\x41y\x41x", map);
-    let map = map_of(alloc, [("a", Value::U16(1)), ("a", Value::U16(2))]);
+    let pairs = Vec::from_array(alloc, [("a", Value::U16(1)), ("a", Value::U16(2))]);
+    let map = Value::Map(pairs.unwrap_or(Vec::new(alloc)));
     expect_value(it, alloc, b"\xE2\x41a\xA1\x01\x41a\xA1\x02", map);
-    let map = map_of(alloc, [("k", Value::String("y"))]);
+    let pairs = Vec::from_array(alloc, [("k", Value::String("y"))]);
+    let map = Value::Map(pairs.unwrap_or(Vec::new(alloc)));
     expect_value(it, alloc, b"\x01\x00\x20\x06\x41y\x41k", map);
     let elements = Vec::from_array(alloc, [Value::U16(1), Value::String("x")]);
     let array = Value::Array(elements.unwrap_or(Vec::new(alloc)));
@@ -93,11 +98,20 @@ fn texts_and_pointers(rt: HostRuntime) -> Result<(), Failures> {
 }
 
 // Notes where a section is read as something else where texts are not tested: by either call.
-fn expect_raw_value(failures: &mut Failures, alloc: Global, section: &[u8], wanted: RawValue<'_>) {
-    let value = fuzzing::decode::<RawValue<'_>>(alloc, section);
-    failures.expect(&section, value.is_ok_and(|value| value == wanted));
-    let value = decode_raw_value(alloc, section);
-    failures.expect(&section, value.is_ok_and(|value| value == wanted));
+fn expect_raw_value<'de>(
+    failures: &mut Failures,
+    alloc: Global,
+    section: &'de [u8],
+    wanted: RawValue<'de>,
+) {
+    match fuzzing::decode::<RawValue<'de>>(alloc, section) {
+        Ok(value) => failures.expect(&section, value == wanted),
+        Err(error) => failures.note(&section, &error),
+    }
+    match decode_raw_value(alloc, section) {
+        Ok(value) => failures.expect(&section, value == wanted),
+        Err(error) => failures.note(&section, &error),
+    }
 }
 
 #[test]
