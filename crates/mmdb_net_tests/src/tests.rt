@@ -2,11 +2,9 @@
 use mmdb_net::laws::networks_equal_where_same;
 use mmdb_net::{IpNetwork, IpNetworkError, Ipv4Network, Ipv6Network, mask_ip};
 use mmdb_vectors::equality::equality;
-use std::alloc::Global;
-use std::fmt::Debug;
-use std::net::{IpAddr, Ipv4Addr, Ipv6Addr};
-use std::process::Abort;
-use std::test::Fail;
+use mmdb_vectors::failures::Failures;
+use std::alloc::{AllocError, Global};
+use std::net::IpAddr;
 
 /// A text that is read as a network, and what is told of it.
 #[derive(Clone, Copy)]
@@ -81,101 +79,115 @@ const IPV6: &[Row] = &[
     },
 ];
 
-// Asserts that what is told of a text is what is wanted.
-fn assert_told<T: PartialEq + Debug>(rt: &impl Abort, text: &str, told: &T, wanted: &T) {
-    assert!(rt; *told == *wanted, "{text}: {told:?}");
+/// What is told of a network.
+#[derive(Drop)]
+struct Told {
+    ip: IpAddr,
+    prefix: u8,
+    first: IpAddr,
+    displayed: Result<String, AllocError>,
+    full: Result<String, AllocError>,
+    /// What is pushed, and whether the push is answered with `Ok`.
+    pushed: (Vec<u8>, bool),
+    /// Whether the address and the prefix make the same network.
+    is_made_again: bool,
 }
 
-// Asserts what a network is written as: by `Display`, in full as a text, and in full behind bytes.
-fn assert_texts(rt: &impl Abort, row: &Row, displayed: &str, full: &str, pushed: &[u8]) {
-    assert_told(rt, row.text, &displayed, &row.displayed);
-    assert_told(rt, row.text, &full, &row.full);
-    assert_told(rt, row.text, &pushed, &row.full.as_bytes());
-}
-
-// Asserts what is told of a network of either kind.
-fn assert_network(
-    rt: &impl Abort,
-    alloc: Global,
-    network: IpNetwork,
-    row: &Row,
-) -> Result<(), Fail> {
-    let told = (network.ip(), network.prefix(), network.network());
-    let wanted = (row.ip.parse()?, row.prefix, row.first.parse()?);
-    assert_told(rt, row.text, &told, &wanted);
-    let displayed = format!(in alloc; "{network}")?;
-    let full = network.full_text(alloc)?;
+// What is told of a text that is read as a network of either kind.
+fn network_told(alloc: Global, text: &str) -> Option<Told> {
+    let network: IpNetwork = text.parse().ok()?;
     let mut pushed = Vec::new(alloc);
-    network.push_full_text(&mut pushed)?;
-    assert_texts(
-        rt,
-        row,
-        displayed.as_str(),
-        full.as_str(),
-        pushed.as_slice(),
-    );
-    Ok(())
+    let is_pushed = network.push_full_text(&mut pushed).is_ok();
+    Some(Told {
+        ip: network.ip(),
+        prefix: network.prefix(),
+        first: network.network(),
+        displayed: format!(in alloc; "{network}"),
+        full: network.full_text(alloc),
+        pushed: (pushed, is_pushed),
+        is_made_again: IpNetwork::new(network.ip(), network.prefix()) == Ok(network),
+    })
 }
 
-#[test]
-fn network_texts(rt: HostRuntime) -> Result<(), Fail> {
-    for row in IPV4.iter().chain(IPV6) {
-        assert_network(&rt, rt.alloc(), row.text.parse()?, row)?;
+// The same of a network of IPv4.
+fn ipv4_told(alloc: Global, text: &str) -> Option<Told> {
+    let network: Ipv4Network = text.parse().ok()?;
+    let mut pushed = Vec::new(alloc);
+    let is_pushed = network.push_full_text(&mut pushed).is_ok();
+    Some(Told {
+        ip: IpAddr::V4(network.ip()),
+        prefix: network.prefix(),
+        first: IpAddr::V4(network.network()),
+        displayed: format!(in alloc; "{network}"),
+        full: network.full_text(alloc),
+        pushed: (pushed, is_pushed),
+        is_made_again: Ipv4Network::new(network.ip(), network.prefix()) == Ok(network),
+    })
+}
+
+// The same of a network of IPv6.
+fn ipv6_told(alloc: Global, text: &str) -> Option<Told> {
+    let network: Ipv6Network = text.parse().ok()?;
+    let mut pushed = Vec::new(alloc);
+    let is_pushed = network.push_full_text(&mut pushed).is_ok();
+    Some(Told {
+        ip: IpAddr::V6(network.ip()),
+        prefix: network.prefix(),
+        first: IpAddr::V6(network.network()),
+        displayed: format!(in alloc; "{network}"),
+        full: network.full_text(alloc),
+        pushed: (pushed, is_pushed),
+        is_made_again: Ipv6Network::new(network.ip(), network.prefix()) == Ok(network),
+    })
+}
+
+// Whether a text is that of an address.
+fn is_text_of(text: &str, address: IpAddr) -> bool {
+    text.parse::<IpAddr>().ok() == Some(address)
+}
+
+// Whether what is told without a text is what a row wants.
+fn is_wanted(told: &Told, row: &Row) -> bool {
+    let (pushed, is_pushed) = &told.pushed;
+    is_text_of(row.ip, told.ip)
+        && told.prefix == row.prefix
+        && is_text_of(row.first, told.first)
+        && *is_pushed
+        && pushed.as_slice() == row.full.as_bytes()
+        && told.is_made_again
+}
+
+// Notes what is told otherwise than a row wants.
+fn expect_told(failures: &mut Failures, row: &Row, told: Option<Told>) {
+    match told {
+        Some(told) => {
+            failures.expect(&row.text, is_wanted(&told, row));
+            failures.expect_text(&row.text, told.displayed, row.displayed);
+            failures.expect_text(&row.text, told.full, row.full);
+        }
+        None => failures.expect(&row.text, false),
     }
-    Ok(())
-}
-
-// Asserts what is told of a network of IPv4.
-fn assert_ipv4(rt: &impl Abort, alloc: Global, row: &Row) -> Result<(), Fail> {
-    let network: Ipv4Network = row.text.parse()?;
-    let (ip, first): (Ipv4Addr, Ipv4Addr) = (row.ip.parse()?, row.first.parse()?);
-    let told = (network.ip(), network.prefix(), network.network());
-    assert_told(rt, row.text, &told, &(ip, row.prefix, first));
-    assert_told(rt, row.text, &Ipv4Network::new(ip, row.prefix)?, &network);
-    let displayed = format!(in alloc; "{network}")?;
-    let full = network.full_text(alloc)?;
-    let mut pushed = Vec::new(alloc);
-    network.push_full_text(&mut pushed)?;
-    assert_texts(
-        rt,
-        row,
-        displayed.as_str(),
-        full.as_str(),
-        pushed.as_slice(),
-    );
-    Ok(())
-}
-
-// Asserts what is told of a network of IPv6.
-fn assert_ipv6(rt: &impl Abort, alloc: Global, row: &Row) -> Result<(), Fail> {
-    let network: Ipv6Network = row.text.parse()?;
-    let (ip, first): (Ipv6Addr, Ipv6Addr) = (row.ip.parse()?, row.first.parse()?);
-    let told = (network.ip(), network.prefix(), network.network());
-    assert_told(rt, row.text, &told, &(ip, row.prefix, first));
-    assert_told(rt, row.text, &Ipv6Network::new(ip, row.prefix)?, &network);
-    let displayed = format!(in alloc; "{network}")?;
-    let full = network.full_text(alloc)?;
-    let mut pushed = Vec::new(alloc);
-    network.push_full_text(&mut pushed)?;
-    assert_texts(
-        rt,
-        row,
-        displayed.as_str(),
-        full.as_str(),
-        pushed.as_slice(),
-    );
-    Ok(())
 }
 
 #[test]
-fn networks_of_one_kind(rt: HostRuntime) -> Result<(), Fail> {
+fn network_texts(rt: HostRuntime) -> Result<(), Failures> {
+    let mut failures = Failures::new(rt.alloc());
+    for row in IPV4.iter().chain(IPV6) {
+        expect_told(&mut failures, row, network_told(rt.alloc(), row.text));
+    }
+    failures.verdict()
+}
+
+#[test]
+fn networks_of_one_kind(rt: HostRuntime) -> Result<(), Failures> {
+    let mut failures = Failures::new(rt.alloc());
     for row in IPV4 {
-        assert_ipv4(&rt, rt.alloc(), row)?;
+        expect_told(&mut failures, row, ipv4_told(rt.alloc(), row.text));
     }
     for row in IPV6 {
-        assert_ipv6(&rt, rt.alloc(), row)?;
+        expect_told(&mut failures, row, ipv6_told(rt.alloc(), row.text));
     }
-    Ok(())
+    failures.verdict()
 }
 
 const REFUSED: &[(&str, IpNetworkError)] = &[
@@ -194,104 +206,129 @@ const REFUSED: &[(&str, IpNetworkError)] = &[
 ];
 
 #[test]
-fn refused_texts(rt: HostRuntime) {
+fn refused_texts(rt: HostRuntime) -> Result<(), Failures> {
+    let mut failures = Failures::new(rt.alloc());
     for (text, error) in REFUSED {
-        assert!(rt; text.parse::<IpNetwork>() == Err(*error), "{text}");
+        failures.expect(text, text.parse::<IpNetwork>() == Err(*error));
     }
-    let other_kind = Err(IpNetworkError::InvalidAddr);
-    assert!(rt; "::/24".parse::<Ipv4Network>() == other_kind);
-    assert!(rt; "1.2.3.4/24".parse::<Ipv6Network>() == Err(IpNetworkError::InvalidAddr));
+    let other_kind = IpNetworkError::InvalidAddr;
+    failures.expect(&"IPv6", "::/24".parse::<Ipv4Network>() == Err(other_kind));
+    failures.expect(
+        &"IPv4",
+        "1.2.3.4/24".parse::<Ipv6Network>() == Err(other_kind),
+    );
+    failures.verdict()
 }
 
-#[test]
-fn error_texts(rt: HostRuntime) -> Result<(), Fail> {
-    for (error, text) in [
-        (IpNetworkError::InvalidAddr, "invalid address"),
-        (IpNetworkError::InvalidPrefix, "invalid prefix"),
-        (IpNetworkError::InvalidCidrFormat, "invalid cidr format"),
-    ] {
-        assert!(rt;
-            format!(in rt.alloc(); "{error}")?.as_str() == text,
-            "{text}"
-        );
-    }
-    Ok(())
-}
-
-#[test]
-fn addresses_held(rt: HostRuntime) -> Result<(), Fail> {
-    for (network, address, is_held) in [
-        ("192.168.1.100/24", "192.168.1.255", true),
-        ("192.168.1.100/24", "192.168.2.0", false),
-        ("192.168.1.100/0", "127.0.0.1", true),
-        ("192.168.1.100/0", "2001:db8::ab", false),
-        ("2001:db8::ab/33", "2001:db8:7fff::", true),
-        ("2001:db8::ab/33", "2001:db8:8000::", false),
-    ] {
-        let range: IpNetwork = network.parse()?;
-        let address: IpAddr = address.parse()?;
-        let told = match (range, address) {
-            (IpNetwork::V4(range), IpAddr::V4(address)) => range.contains(address),
-            (IpNetwork::V6(range), IpAddr::V6(address)) => range.contains(address),
-            _ => false,
-        };
-        assert!(rt; told == is_held, "{network}");
-        assert!(rt; range.contains(address) == is_held, "{network}");
-    }
-    Ok(())
-}
-
-#[test]
-fn networks_that_are_equal(rt: HostRuntime) -> Result<(), Fail> {
-    for (a, b, is_equal) in [
-        ("1.2.3.4/24", "1.2.3.4/024", true),
-        ("1.2.3.4/24", "1.2.3.5/24", false),
-        ("1.2.3.4/24", "1.2.3.4/25", false),
-        ("192.168.1.100/0", "0.0.0.0/0", false),
-        ("2001:db8::/32", "2001:db8:0::/32", true),
-        ("2001:db8::/32", "2001:db8::1/32", false),
-        ("2001:db8::/32", "2001:db8::/33", false),
-        ("0.0.0.0/0", "::/0", false),
-    ] {
-        let (left, right): (IpNetwork, IpNetwork) = (a.parse()?, b.parse()?);
-        let of_one_kind = match (left, right) {
-            (IpNetwork::V4(left), IpNetwork::V4(right)) => equality(&left, &right),
-            (IpNetwork::V6(left), IpNetwork::V6(right)) => equality(&left, &right),
-            _ => Some(false),
-        };
-        assert!(rt; of_one_kind == Some(is_equal), "{a} and {b}");
-        assert!(rt; equality(&left, &right) == Some(is_equal), "{a} and {b}");
-    }
-    Ok(())
-}
-
-const ERRORS: [IpNetworkError; 3] = [
-    IpNetworkError::InvalidAddr,
-    IpNetworkError::InvalidPrefix,
-    IpNetworkError::InvalidCidrFormat,
+const ERRORS: [(IpNetworkError, &str); 3] = [
+    (IpNetworkError::InvalidAddr, "invalid address"),
+    (IpNetworkError::InvalidPrefix, "invalid prefix"),
+    (IpNetworkError::InvalidCidrFormat, "invalid cidr format"),
 ];
 
 #[test]
-fn errors_that_are_equal(rt: HostRuntime) {
-    for (i, a) in ERRORS.iter().enumerate() {
-        for (j, b) in ERRORS.iter().enumerate() {
-            assert!(rt; equality(a, b) == Some(i == j), "{a} and {b}");
-        }
+fn error_texts(rt: HostRuntime) -> Result<(), Failures> {
+    let mut failures = Failures::new(rt.alloc());
+    for (error, text) in ERRORS {
+        failures.expect_text(&text, format!(in rt.alloc(); "{error}"), text);
     }
+    failures.verdict()
+}
+
+/// A network, an address, and whether the network holds it.
+const HELD: &[(&str, &str, bool)] = &[
+    ("192.168.1.100/24", "192.168.1.255", true),
+    ("192.168.1.100/24", "192.168.2.0", false),
+    ("192.168.1.100/0", "127.0.0.1", true),
+    ("192.168.1.100/0", "2001:db8::ab", false),
+    ("2001:db8::ab/33", "2001:db8:7fff::", true),
+    ("2001:db8::ab/33", "2001:db8:8000::", false),
+];
+
+// Whether a network holds an address: as one of its kind, and as one of either kind.
+fn holds(network: &str, address: &str) -> Option<(bool, bool)> {
+    let range: IpNetwork = network.parse().ok()?;
+    let address: IpAddr = address.parse().ok()?;
+    let of_one_kind = match (range, address) {
+        (IpNetwork::V4(range), IpAddr::V4(address)) => range.contains(address),
+        (IpNetwork::V6(range), IpAddr::V6(address)) => range.contains(address),
+        _ => false,
+    };
+    Some((of_one_kind, range.contains(address)))
 }
 
 #[test]
-fn masked_addresses(rt: HostRuntime) -> Result<(), Fail> {
-    for (address, prefix, masked) in [
-        ("192.168.1.100", 16, "192.168.0.0"),
-        ("192.168.1.100", 200, "192.168.1.100"),
-        ("2001:db8::ab", 33, "2001:db8::"),
-        ("2001:db8::ab", 128, "2001:db8::ab"),
-    ] {
-        let (address, masked): (IpAddr, IpAddr) = (address.parse()?, masked.parse()?);
-        assert!(rt; mask_ip(address, prefix) == masked, "{masked:?}/{prefix}");
+fn addresses_held(rt: HostRuntime) -> Result<(), Failures> {
+    let mut failures = Failures::new(rt.alloc());
+    for (network, address, is_held) in HELD {
+        let told = holds(network, address);
+        failures.expect(&[*network, *address], told == Some((*is_held, *is_held)));
     }
-    Ok(())
+    failures.verdict()
+}
+
+/// Two networks, and whether they are equal.
+const PAIRS: &[(&str, &str, bool)] = &[
+    ("1.2.3.4/24", "1.2.3.4/024", true),
+    ("1.2.3.4/24", "1.2.3.5/24", false),
+    ("1.2.3.4/24", "1.2.3.4/25", false),
+    ("192.168.1.100/0", "0.0.0.0/0", false),
+    ("2001:db8::/32", "2001:db8:0::/32", true),
+    ("2001:db8::/32", "2001:db8::1/32", false),
+    ("2001:db8::/32", "2001:db8::/33", false),
+    ("0.0.0.0/0", "::/0", false),
+];
+
+// What equality says of two networks, as such of one kind and as such of either kind, where both agree.
+fn equality_told(a: &str, b: &str) -> Option<bool> {
+    let (left, right): (IpNetwork, IpNetwork) = (a.parse().ok()?, b.parse().ok()?);
+    let of_one_kind = match (left, right) {
+        (IpNetwork::V4(left), IpNetwork::V4(right)) => equality(&left, &right),
+        (IpNetwork::V6(left), IpNetwork::V6(right)) => equality(&left, &right),
+        _ => Some(false),
+    };
+    equality(&left, &right).filter(|told| of_one_kind == Some(*told))
+}
+
+#[test]
+fn networks_that_are_equal(rt: HostRuntime) -> Result<(), Failures> {
+    let mut failures = Failures::new(rt.alloc());
+    for (a, b, is_equal) in PAIRS {
+        failures.expect(&[*a, *b], equality_told(a, b) == Some(*is_equal));
+    }
+    failures.verdict()
+}
+
+#[test]
+fn errors_that_are_equal(rt: HostRuntime) -> Result<(), Failures> {
+    let mut failures = Failures::new(rt.alloc());
+    for (i, (a, left)) in ERRORS.iter().enumerate() {
+        for (j, (b, right)) in ERRORS.iter().enumerate() {
+            failures.expect(&[*left, *right], equality(a, b) == Some(i == j));
+        }
+    }
+    failures.verdict()
+}
+
+/// An address, a prefix, and the address that its first bits make.
+const MASKED: &[(&str, u8, &str)] = &[
+    ("192.168.1.100", 16, "192.168.0.0"),
+    ("192.168.1.100", 200, "192.168.1.100"),
+    ("2001:db8::ab", 33, "2001:db8::"),
+    ("2001:db8::ab", 128, "2001:db8::ab"),
+];
+
+#[test]
+fn masked_addresses(rt: HostRuntime) -> Result<(), Failures> {
+    let mut failures = Failures::new(rt.alloc());
+    for (address, prefix, masked) in MASKED {
+        let told = match address.parse::<IpAddr>() {
+            Ok(address) => is_text_of(masked, mask_ip(address, *prefix)),
+            Err(_) => false,
+        };
+        failures.expect(masked, told);
+    }
+    failures.verdict()
 }
 
 #[test]

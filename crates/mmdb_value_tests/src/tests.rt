@@ -7,6 +7,5 @@ mod errors;
 mod limits;
 mod memory;
 mod steps;
-mod told;
 mod typed;
 mod values;

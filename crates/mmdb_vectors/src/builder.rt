@@ -5,7 +5,7 @@ use std::alloc::{AllocError, Global};
 const MARKER: &[u8] = b"\xAB\xCD\xEFMaxMind.com";
 
 /// The encoded values of the metadata fields that tests change, and what stands beside the fields.
-#[derive(Clone, Copy, Debug)]
+#[derive(Clone, Copy)]
 pub struct Fields<'a> {
     /// The header of the map.
     pub map: &'a [u8],
@@ -21,7 +21,7 @@ pub struct Fields<'a> {
 }
 
 /// One of the fields.
-#[derive(Clone, Copy, Debug, PartialEq, Eq)]
+#[derive(Clone, Copy, Debug)]
 pub enum Field {
     Map,
     MajorVersion,
@@ -75,25 +75,13 @@ pub const BASE_NODE: &[u8] = b"\x00\x00\x01\x00\x00\x11";
 /// The data of the base file: the text "x".
 pub const BASE_DATA: &[u8] = b"\x41x";
 
-fn push_field(file: &mut Vec<u8>, name: &str, value: &[u8]) -> Result<(), AllocError> {
-    let size = (name.len() % 29) as u8;
-    file.push(0x40 + size)?;
-    file.extend_from_slice(name.as_bytes())?;
-    file.extend_from_slice(value)
-}
-
-fn push_metadata(file: &mut Vec<u8>, fields: Fields<'_>) -> Result<(), AllocError> {
-    file.extend_from_slice(fields.map)?;
-    push_field(file, "binary_format_major_version", fields.major_version)?;
-    push_field(file, "binary_format_minor_version", fields.minor_version)?;
-    push_field(file, "build_epoch", fields.build_epoch)?;
-    push_field(file, "database_type", fields.database_type)?;
-    push_field(file, "description", b"\xE1\x42en\x41d")?;
-    push_field(file, "ip_version", fields.ip_version)?;
-    push_field(file, "languages", b"\x00\x04")?;
-    push_field(file, "node_count", fields.node_count)?;
-    push_field(file, "record_size", fields.record_size)?;
-    file.extend_from_slice(fields.more)
+/// These bytes, one part behind the other.
+pub fn joined(alloc: Global, parts: &[&[u8]]) -> Result<Vec<u8>, AllocError> {
+    let mut bytes = Vec::new(alloc);
+    for part in parts {
+        bytes.extend_from_slice(part)?;
+    }
+    Ok(bytes)
 }
 
 /// A file of these nodes, data and metadata fields.
@@ -103,13 +91,33 @@ pub fn file(
     data: &[u8],
     fields: Fields<'_>,
 ) -> Result<Vec<u8>, AllocError> {
-    let mut file = Vec::new(alloc);
-    file.extend_from_slice(nodes)?;
-    file.extend_from_slice(&[0; 16])?;
-    file.extend_from_slice(data)?;
-    file.extend_from_slice(MARKER)?;
-    push_metadata(&mut file, fields)?;
-    Ok(file)
+    joined(
+        alloc,
+        &[
+            nodes,
+            &[0; 16],
+            data,
+            MARKER,
+            fields.map,
+            b"\x5Bbinary_format_major_version",
+            fields.major_version,
+            b"\x5Bbinary_format_minor_version",
+            fields.minor_version,
+            b"\x4Bbuild_epoch",
+            fields.build_epoch,
+            b"\x4Ddatabase_type",
+            fields.database_type,
+            b"\x4Bdescription\xE1\x42en\x41d",
+            b"\x4Aip_version",
+            fields.ip_version,
+            b"\x49languages\x00\x04",
+            b"\x4Anode_count",
+            fields.node_count,
+            b"\x4Brecord_size",
+            fields.record_size,
+            fields.more,
+        ],
+    )
 }
 
 /// A file of these nodes and data, with the metadata of the base file but for the changes.
@@ -143,60 +151,67 @@ pub fn push_node_24(nodes: &mut Vec<u8>, left: u32, right: u32) -> Result<(), Al
     nodes.extend_from_slice(&[a, b, c, d, e, f])
 }
 
+/// Nodes of 24 bits a record.
+pub fn nodes_24(alloc: Global, records: &[(u32, u32)]) -> Result<Vec<u8>, AllocError> {
+    let mut nodes = Vec::new(alloc);
+    for (left, right) in records {
+        push_node_24(&mut nodes, *left, *right)?;
+    }
+    Ok(nodes)
+}
+
+/// A file of nodes of 24 bits a record and of the base file's data, with these changes of its metadata.
+fn file_of_nodes(
+    alloc: Global,
+    records: &[(u32, u32)],
+    changes: Changes<'_>,
+) -> Result<Vec<u8>, AllocError> {
+    let nodes = nodes_24(alloc, records)?;
+    changed_file(alloc, nodes.as_slice(), BASE_DATA, changes)
+}
+
 /// An IPv6 file whose 96 zero bits lead from node 0 over the nodes 1 to 95 to node 96, where IPv4
 /// begins, and whose first bit 1 leads to node 96 too. Node 96 has no data on the left and offset 0
 /// on the right; all else has no data.
 pub fn file_with_alias(alloc: Global) -> Result<Vec<u8>, AllocError> {
-    let mut nodes = Vec::new(alloc);
-    push_node_24(&mut nodes, 1, 96)?;
-    for node in 1..96u32 {
-        push_node_24(&mut nodes, node + 1, 97)?;
+    let mut records = [(97, 97); 97];
+    for node in 0..96 {
+        records[node].0 = node as u32 + 1;
     }
-    push_node_24(&mut nodes, 97, 113)?;
-    let fields = Fields {
-        ip_version: b"\xA1\x06",
-        node_count: b"\xC1\x61",
-        ..BASE
-    };
-    file(alloc, nodes.as_slice(), BASE_DATA, fields)
+    records[0].1 = 96;
+    records[96].1 = 113;
+    let changes: Changes<'_> = &[
+        (Field::IpVersion, b"\xA1\x06"),
+        (Field::NodeCount, b"\xC1\x61"),
+    ];
+    file_of_nodes(alloc, &records, changes)
 }
 
 /// An IPv6 file without an IPv4 subtree: node 0 has offset 0 on the left and no data on the right.
 pub fn file_without_subtree(alloc: Global) -> Result<Vec<u8>, AllocError> {
-    let fields = Fields {
-        ip_version: b"\xA1\x06",
-        ..BASE
-    };
-    file(alloc, b"\x00\x00\x11\x00\x00\x01", BASE_DATA, fields)
+    let changes: Changes<'_> = &[(Field::IpVersion, b"\xA1\x06")];
+    file_of_nodes(alloc, &[(17, 1)], changes)
 }
 
 /// An IPv4 file of twenty nodes: each leads to the next on the left, the last one to no data, and each to
 /// offset 0 on the right.
 pub fn file_of_twenty_nodes(alloc: Global) -> Result<Vec<u8>, AllocError> {
-    let mut nodes = Vec::new(alloc);
-    for node in 0..20u32 {
-        push_node_24(&mut nodes, node + 1, 36)?;
+    let mut records = [(0, 36); 20];
+    for node in 0..20 {
+        records[node].0 = node as u32 + 1;
     }
-    changed_file(
-        alloc,
-        nodes.as_slice(),
-        BASE_DATA,
-        &[(Field::NodeCount, b"\xC1\x14".as_slice())],
-    )
+    let changes: Changes<'_> = &[(Field::NodeCount, b"\xC1\x14")];
+    file_of_nodes(alloc, &records, changes)
 }
 
 /// An IPv4 file of eighteen nodes, one a level: both halves of each are the next one, but of the last one,
 /// which has no data on the left and offset 0 on the right.
 pub fn file_of_shared_nodes(alloc: Global) -> Result<Vec<u8>, AllocError> {
-    let mut nodes = Vec::new(alloc);
-    for node in 0..17u32 {
-        push_node_24(&mut nodes, node + 1, node + 1)?;
+    let mut records = [(18, 34); 18];
+    for node in 0..17 {
+        let next = node as u32 + 1;
+        records[node] = (next, next);
     }
-    push_node_24(&mut nodes, 18, 34)?;
-    changed_file(
-        alloc,
-        nodes.as_slice(),
-        BASE_DATA,
-        &[(Field::NodeCount, b"\xC1\x12".as_slice())],
-    )
+    let changes: Changes<'_> = &[(Field::NodeCount, b"\xC1\x12")];
+    file_of_nodes(alloc, &records, changes)
 }

@@ -1,11 +1,16 @@
 //! The words of a program.
 use std::alloc::{AllocError, Global};
 
+fn push_word(words: &mut Vec<String>, alloc: Global, text: &str) -> Result<(), AllocError> {
+    words.push(String::from_str(alloc, text)?)?;
+    Ok(())
+}
+
 /// The words that follow a program's name.
 pub fn words_of(alloc: Global, texts: &[&str]) -> Result<Vec<String>, AllocError> {
     let mut words = Vec::new(alloc);
     for text in texts {
-        words.push(String::from_str(alloc, text)?)?;
+        push_word(&mut words, alloc, text)?;
     }
     Ok(words)
 }

@@ -1,12 +1,16 @@
 //! Verdicts on values.
-use super::sections::{deep, fan, overlap, section_of, told};
+use super::sections::{deep, fan, overlap};
 use mmdb_value::fuzzing::verify;
 use mmdb_value::laws::{no_place_is_met_again, order_is_free};
 use mmdb_value::{Checked, check_value};
+use mmdb_vectors::answer::{OK, told};
+use mmdb_vectors::failures::Failures;
+use mmdb_vectors::section::section_of;
 use std::alloc::Global;
-use std::test::Fail;
 
 const TOO_DEEP: &str = "exceeded maximum data structure depth; database is likely corrupt";
+
+const FAILED: &str = "invalid input: this check has already failed";
 
 /// Sections, and what the check of their first value says.
 #[rattlefmt::skip]
@@ -14,15 +18,15 @@ const FIRST_VALUES: &[(&[u8], &str)] = &[
     // A pointer to itself, to a pointer, and to the map around it.
     (b"\x20\x00", "invalid database at offset 0: cyclic data pointer references offset 0"),
     (b"\x20\x02\x20\x00", "invalid database at offset 0: cyclic data pointer references offset 0"),
-    (b"\x20\x02\x20\x04\x41x", "good"),
+    (b"\x20\x02\x20\x04\x41x", OK),
     (b"\xE1\x41a\x20\x00", "invalid database at offset 0: cyclic data pointer references offset 0"),
     // A key of any type, and one behind a pointer.
-    (b"\xE1\xA1\x07\x01\x07", "good"),
-    (b"\xE1\x20\x05\x01\x07\x41k", "good"),
+    (b"\xE1\xA1\x07\x01\x07", OK),
+    (b"\xE1\x20\x05\x01\x07\x41k", OK),
     // Texts are UTF-8, of keys too; bytes need not be.
     (b"\x42\xFF\xFE", "invalid database at offset 0: invalid UTF-8 in string"),
     (b"\xE1\x41\xFF\x01\x07", "invalid database at offset 1: invalid UTF-8 in string"),
-    (b"\x82\xFF\xFE", "good"),
+    (b"\x82\xFF\xFE", OK),
     // What can't be read.
     (b"", "invalid database at offset 0: unexpected end of buffer"),
     (b"\x28", "invalid database at offset 0: unexpected end of buffer"),
@@ -33,92 +37,106 @@ const FIRST_VALUES: &[(&[u8], &str)] = &[
     (b"\x41", "invalid database at offset 0: string of size 1"),
     (b"\x02\x04\xA1\x05", "invalid database at offset 4: unexpected end of buffer"),
     // What stands after the first value, and what it does not lead to, is not looked at.
-    (b"\x00\x07\x00\x06", "good"),
+    (b"\x00\x07\x00\x06", OK),
 ];
 
 #[test]
-fn first_values(rt: HostRuntime) -> Result<(), Fail> {
-    let alloc = rt.alloc();
+fn first_values(rt: HostRuntime) -> Result<(), Failures> {
+    let (alloc, mut failures) = (rt.alloc(), Failures::new(rt.alloc()));
     for (section, text) in FIRST_VALUES {
-        let verdict = told(alloc, verify(alloc, section))?;
-        assert!(rt; verdict.as_str() == *text, "at {section:?}: {verdict}");
+        failures.expect_text(section, told(alloc, verify(alloc, section)), text);
     }
-    Ok(())
+    failures.verdict()
+}
+
+/// So many arrays within each other around a bool, and what the check says.
+#[rattlefmt::skip]
+const LEVELS: [(usize, &str); 2] = [
+    (128, OK),
+    (129, "invalid database at offset 256: exceeded maximum data structure depth; database is likely corrupt"),
+];
+
+#[test]
+fn levels_at_the_limit(rt: HostRuntime) -> Result<(), Failures> {
+    let (alloc, mut failures) = (rt.alloc(), Failures::new(rt.alloc()));
+    for (arrays, text) in LEVELS {
+        let section = section_of(alloc, &[(b"\x01\x04", arrays), (b"\x00\x07", 1)]);
+        failures.expect_text(
+            &arrays,
+            told(alloc, verify(alloc, section.as_slice())),
+            text,
+        );
+    }
+    failures.verdict()
+}
+
+// Notes where a section is not of this length, or the check of its first value says something else.
+fn expect_verdict(failures: &mut Failures, alloc: Global, section: &[u8], len: usize, text: &str) {
+    failures.expect(&section, section.len() == len);
+    failures.expect_text(&section, told(alloc, verify(alloc, section)), text);
 }
 
 #[test]
-fn levels_at_the_limit(rt: HostRuntime) -> Result<(), Fail> {
-    let alloc = rt.alloc();
-    let good = section_of(alloc, &[(b"\x01\x04", 128), (b"\x00\x07", 1)])?;
-    assert!(rt; verify(alloc, good.as_slice()).is_ok());
-    let refused = section_of(alloc, &[(b"\x01\x04", 129), (b"\x00\x07", 1)])?;
-    let verdict = told(alloc, verify(alloc, refused.as_slice()))?;
-    let text = format!(in alloc; "invalid database at offset 256: {TOO_DEEP}")?;
-    assert!(rt; verdict.as_str() == text.as_str(), "{verdict}");
-    Ok(())
-}
-
-#[test]
-fn work_at_the_limit(rt: HostRuntime) -> Result<(), Fail> {
-    let alloc = rt.alloc();
-    let good = overlap(alloc, 41)?;
-    assert!(rt; good.len() == 154);
-    assert!(rt; verify(alloc, good.as_slice()).is_ok());
-    let refused = overlap(alloc, 42)?;
-    assert!(rt; refused.len() == 157);
-    let verdict = told(alloc, verify(alloc, refused.as_slice()))?;
+fn work_at_the_limit(rt: HostRuntime) -> Result<(), Failures> {
+    let (alloc, mut failures) = (rt.alloc(), Failures::new(rt.alloc()));
+    let good = overlap(alloc, 41);
+    expect_verdict(&mut failures, alloc, good.as_slice(), 154, OK);
     // An array, 42 pointers and 42 texts of 28 bytes cost 1261, and 8 times 157 is 1256: refused at the last text.
+    let refused = overlap(alloc, 42);
     let text = "resource limit exceeded at offset 128: exceeded maximum verification work";
-    assert!(rt; verdict.as_str() == text, "{verdict}");
+    expect_verdict(&mut failures, alloc, refused.as_slice(), 157, text);
     // What is shared costs once.
-    assert!(rt; verify(alloc, fan(alloc, 16)?.as_slice()).is_ok());
-    Ok(())
+    let shared = fan(alloc, 16);
+    expect_verdict(&mut failures, alloc, shared.as_slice(), 98, OK);
+    failures.verdict()
 }
 
-// What one check after the other says of two places of a section.
-fn both(alloc: Global, section: &[u8], places: [usize; 2]) -> Result<(String, String), Fail> {
-    let mut checked = Checked::new(alloc, section)?;
-    let first = told(alloc, check_value(alloc, &mut checked, places[0]))?;
-    let second = told(alloc, check_value(alloc, &mut checked, places[1]))?;
-    Ok((first, second))
-}
-
-#[test]
-fn exact_checks(rt: HostRuntime) -> Result<(), Fail> {
-    let alloc = rt.alloc();
-    // 27 arrays, a pointer and a hundred arrays are 128 levels, in whatever order they are met.
-    let good = deep(alloc, 27)?;
-    for places in [[0, 202], [202, 0], [202, 202]] {
-        let (first, second) = both(alloc, good.as_slice(), places)?;
-        assert!(rt; first.as_str() == "good", "at {places:?}: {first}");
-        assert!(rt; second.as_str() == "good", "at {places:?}: {second}");
+// Notes what checks of places of a section, one after the other, say otherwise: of a place the whole text is
+// given, or else its ending.
+fn expect_checks(failures: &mut Failures, alloc: Global, section: &[u8], places: &[(usize, &str)]) {
+    let Ok(mut checked) = Checked::new(alloc, section) else {
+        failures.expect(&places, false);
+        return;
+    };
+    for (place, text) in places {
+        let verdict = told(alloc, check_value(alloc, &mut checked, *place));
+        if *text == TOO_DEEP {
+            failures.expect_ending(&(*place, places), verdict, text);
+        } else {
+            failures.expect_text(&(*place, places), verdict, text);
+        }
     }
-    let refused = deep(alloc, 28)?;
-    let (first, second) = both(alloc, refused.as_slice(), [0, 202])?;
-    assert!(rt; first.as_str() == "good", "{first}");
-    assert!(rt; second.as_str().ends_with(TOO_DEEP), "{second}");
-    let (first, second) = both(alloc, refused.as_slice(), [202, 0])?;
-    assert!(rt; first.as_str().ends_with(TOO_DEEP), "{first}");
-    assert!(rt;
-        second.as_str() == "invalid input: this check has already failed",
-        "{second}"
-    );
-    Ok(())
 }
 
 #[test]
-fn check_after_a_refusal(rt: HostRuntime) -> Result<(), Fail> {
-    let alloc = rt.alloc();
-    let (first, second) = both(alloc, b"\x20\x00", [0, 0])?;
-    assert!(rt;
-        first.as_str() == "invalid database at offset 0: cyclic data pointer references offset 0",
-        "{first}"
-    );
-    assert!(rt;
-        second.as_str() == "invalid input: this check has already failed",
-        "{second}"
-    );
-    Ok(())
+fn exact_checks(rt: HostRuntime) -> Result<(), Failures> {
+    let (alloc, mut failures) = (rt.alloc(), Failures::new(rt.alloc()));
+    // 27 arrays, a pointer and a hundred arrays are 128 levels, in whatever order they are met.
+    let good = deep(alloc, 27);
+    for places in [[0, 202], [202, 0], [202, 202]] {
+        let rows = places.map(|place| (place, OK));
+        expect_checks(&mut failures, alloc, good.as_slice(), &rows);
+    }
+    let refused = deep(alloc, 28);
+    let rows = [(0, OK), (202, TOO_DEEP)];
+    expect_checks(&mut failures, alloc, refused.as_slice(), &rows);
+    let rows = [(202, TOO_DEEP), (0, FAILED)];
+    expect_checks(&mut failures, alloc, refused.as_slice(), &rows);
+    failures.verdict()
+}
+
+#[test]
+fn check_after_a_refusal(rt: HostRuntime) -> Result<(), Failures> {
+    let (alloc, mut failures) = (rt.alloc(), Failures::new(rt.alloc()));
+    let rows = [
+        (
+            0,
+            "invalid database at offset 0: cyclic data pointer references offset 0",
+        ),
+        (0, FAILED),
+    ];
+    expect_checks(&mut failures, alloc, b"\x20\x00", &rows);
+    failures.verdict()
 }
 
 #[test]

@@ -1,76 +1,56 @@
 //! Hostile values: cycles, fans, overlaps, cut sections, unknown types.
-use super::sections::{fan, overlap, told};
+use super::sections::{fan, overlap};
 use mmdb_value::fuzzing::{decode, verify};
 use mmdb_value::{RawValue, Value};
-use std::alloc::{AllocError, Global};
-use std::process::Abort;
-use std::test::Fail;
+use mmdb_vectors::answer::{OK, told};
+use mmdb_vectors::failures::Failures;
+use std::alloc::Global;
 
 const TOO_DEEP: &str = "exceeded maximum data structure depth; database is likely corrupt";
 
-// What is said of a section's first value: read as any value, the same not tested, and checked.
-fn verdicts(alloc: Global, section: &[u8]) -> Result<[String; 3], AllocError> {
-    Ok([
-        told(alloc, decode::<Value<'_>>(alloc, section))?,
-        told(alloc, decode::<RawValue<'_>>(alloc, section))?,
-        told(alloc, verify(alloc, section))?,
-    ])
-}
-
-// Asserts how what is said of a section's first value ends.
-fn assert_verdicts(
-    rt: &impl Abort,
-    alloc: Global,
-    section: &[u8],
-    endings: [&str; 3],
-) -> Result<(), Fail> {
-    for (verdict, ending) in verdicts(alloc, section)?.iter().zip(endings) {
-        assert!(rt;
-            verdict.as_str().ends_with(ending),
-            "at {section:?}: {verdict}"
-        );
-    }
-    Ok(())
+// Notes where what is said of a section's first value ends otherwise: read as any value, the same not tested,
+// and checked.
+fn expect_verdicts(failures: &mut Failures, alloc: Global, section: &[u8], endings: [&str; 3]) {
+    let [value, raw_value, check] = endings;
+    let told_value = told(alloc, decode::<Value<'_>>(alloc, section));
+    failures.expect_ending(&section, told_value, value);
+    let told_raw_value = told(alloc, decode::<RawValue<'_>>(alloc, section));
+    failures.expect_ending(&section, told_raw_value, raw_value);
+    failures.expect_ending(&section, told(alloc, verify(alloc, section)), check);
 }
 
 #[test]
-fn fans_and_overlaps(rt: HostRuntime) -> Result<(), Fail> {
-    let alloc = rt.alloc();
+fn fans_and_overlaps(rt: HostRuntime) -> Result<(), Failures> {
+    let (alloc, mut failures) = (rt.alloc(), Failures::new(rt.alloc()));
     let many = "exceeded maximum number of data structure values";
     let work = "exceeded maximum verification work";
-    assert_verdicts(
-        &rt,
-        alloc,
-        fan(alloc, 15)?.as_slice(),
-        ["good", "good", "good"],
-    )?;
-    assert_verdicts(&rt, alloc, fan(alloc, 16)?.as_slice(), [many, many, "good"])?;
-    assert_verdicts(
-        &rt,
-        alloc,
-        overlap(alloc, 41)?.as_slice(),
-        ["good", "good", "good"],
-    )?;
-    assert_verdicts(
-        &rt,
-        alloc,
-        overlap(alloc, 42)?.as_slice(),
-        ["good", "good", work],
-    )?;
-    Ok(())
+    let section = fan(alloc, 15);
+    expect_verdicts(&mut failures, alloc, section.as_slice(), [OK, OK, OK]);
+    let section = fan(alloc, 16);
+    expect_verdicts(&mut failures, alloc, section.as_slice(), [many, many, OK]);
+    let section = overlap(alloc, 41);
+    expect_verdicts(&mut failures, alloc, section.as_slice(), [OK, OK, OK]);
+    let section = overlap(alloc, 42);
+    expect_verdicts(&mut failures, alloc, section.as_slice(), [OK, OK, work]);
+    failures.verdict()
 }
 
 #[test]
-fn cycles(rt: HostRuntime) -> Result<(), Fail> {
-    let cyclic = "cyclic data pointer references offset 0";
+fn cycles(rt: HostRuntime) -> Result<(), Failures> {
+    let mut failures = Failures::new(rt.alloc());
+    let endings = [
+        TOO_DEEP,
+        TOO_DEEP,
+        "cyclic data pointer references offset 0",
+    ];
     for section in [
         b"\x20\x00".as_slice(),
         b"\x20\x02\x20\x00",
         b"\xE1\x41a\x20\x00",
     ] {
-        assert_verdicts(&rt, rt.alloc(), section, [TOO_DEEP, TOO_DEEP, cyclic])?;
+        expect_verdicts(&mut failures, rt.alloc(), section, endings);
     }
-    Ok(())
+    failures.verdict()
 }
 
 /// Sections each byte of which belongs to their first value.
@@ -88,35 +68,40 @@ const WHOLE: &[&[u8]] = &[
     b"\x20\x02\x20\x04\x41x",
 ];
 
-#[test]
-fn proper_beginnings(rt: HostRuntime) -> Result<(), Fail> {
-    let alloc = rt.alloc();
-    for section in WHOLE {
-        assert!(rt;
-            decode::<RawValue<'_>>(alloc, section).is_ok(),
-            "{section:?}"
-        );
-        for len in 0..section.len() {
-            let cut = &section[..len];
-            for verdict in &verdicts(alloc, cut)? {
-                assert!(rt; verdict.as_str() != "good", "at {cut:?}");
-            }
-        }
-    }
-    Ok(())
+// Whether the value at the beginning of a section is refused by each reading and by the check.
+fn is_refused(alloc: Global, section: &[u8]) -> bool {
+    decode::<Value<'_>>(alloc, section).is_err()
+        && decode::<RawValue<'_>>(alloc, section).is_err()
+        && verify(alloc, section).is_err()
 }
 
 #[test]
-fn unknown_types(rt: HostRuntime) -> Result<(), Fail> {
-    let alloc = rt.alloc();
-    for byte in 5..=255u8 {
-        if byte == 7 || byte == 8 {
-            continue;
+fn proper_beginnings(rt: HostRuntime) -> Result<(), Failures> {
+    let (alloc, mut failures) = (rt.alloc(), Failures::new(rt.alloc()));
+    for section in WHOLE {
+        failures.expect(section, decode::<RawValue<'_>>(alloc, section).is_ok());
+        for len in 0..section.len() {
+            failures.expect(&(*section, len), is_refused(alloc, &section[..len]));
         }
-        let number = u32::from(byte) + 7;
-        let text = format!(in alloc; "unknown data type: {number}")?;
-        let text = text.as_str();
-        assert_verdicts(&rt, alloc, &[0x00, byte], [text, text, text])?;
     }
-    Ok(())
+    failures.verdict()
+}
+
+// Notes where a value of an unknown type is not refused with the type's number.
+fn expect_unknown(failures: &mut Failures, alloc: Global, byte: u8) {
+    match format!(in alloc; "unknown data type: {}", u32::from(byte) + 7) {
+        Ok(text) => expect_verdicts(failures, alloc, &[0x00, byte], [text.as_str(); 3]),
+        Err(_) => failures.expect(&byte, false),
+    }
+}
+
+#[test]
+fn unknown_types(rt: HostRuntime) -> Result<(), Failures> {
+    let mut failures = Failures::new(rt.alloc());
+    for byte in 5..=255u8 {
+        if byte != 7 && byte != 8 {
+            expect_unknown(&mut failures, rt.alloc(), byte);
+        }
+    }
+    failures.verdict()
 }

@@ -1,26 +1,15 @@
 //! Reads and clones where memory is refused.
-ghost use Rattle.std.specs.Prelude.{◌<◌};
-
-use super::fields::{Row, TOP_CITY, TOP_COUNTRY, TOP_ENTERPRISE};
+use super::fields::{TOP_CITY, TOP_COUNTRY, TOP_ENTERPRISE};
 use super::section::with_unknown;
 use mmdb_decode::decode::Decode;
 use mmdb_decode::fuzzing::decode;
 use mmdb_format::error::MaxMindDbError;
 use mmdb_geoip2::{City, Country, Domain, Enterprise};
-use mmdb_vectors::hoard::Hoard;
+use mmdb_vectors::failures::Failures;
+use mmdb_vectors::hoard::{Hoard, Met, refused_in_turn};
 use std::alloc::Global;
-use std::process::Abort;
-use std::test::Fail;
 
-/// What came of a call.
-#[derive(Clone, Copy, Debug, PartialEq, Eq)]
-enum Met {
-    Memory,
-    Value,
-    Refusal,
-}
-
-fn outcome<T>(answer: &Result<T, MaxMindDbError>) -> Met {
+fn outcome<T: Drop>(answer: Result<T, MaxMindDbError>) -> Met {
     match answer {
         Ok(_) => Met::Value,
         Err(MaxMindDbError::Memory) => Met::Memory,
@@ -28,153 +17,121 @@ fn outcome<T>(answer: &Result<T, MaxMindDbError>) -> Met {
     }
 }
 
-fn read_met<'de, T: Decode<'de>>(alloc: Global, section: &'de [u8], budget: usize) -> Met
-    requires { budget < 1000000 }
-{
-    let small = Hoard::of_all_but(alloc, budget);
-    let read = decode::<T>(alloc, section);
-    let met = outcome(&read);
-    drop(small);
-    met
-}
-
-// Asserts that a read is refused for memory at least so often, with more of it each time, before it meets
-// the answer that it has with enough; a read that takes none meets it at once.
-fn assert_turns<'de, T: Decode<'de>>(
-    rt: &impl Abort,
+// A read is refused for memory at least so often, with more of it each time, before it meets the answer that
+// it has with enough; a read that takes none meets it at once.
+fn expect_turns<'de, T: Decode<'de>>(
+    failures: &mut Failures,
     alloc: Global,
     section: &'de [u8],
-    least: u32,
     last: Met,
 ) {
+    let (refused, then) = refused_in_turn(alloc, 64, || outcome(decode::<T>(alloc, section)));
+    failures.expect(&(section, refused, then), then == last && refused > 0);
+}
+
+/// A record is read where every growth is refused.
+pub fn expect_none<'de, T: Decode<'de>>(
+    failures: &mut Failures,
+    alloc: Global,
+    section: &'de [u8],
+) {
     let large = Hoard::of_large_blocks(alloc);
-    let mut refused = 0u32;
-    let mut then = Met::Memory;
-    for step in 0..256usize {
-        then = read_met::<T>(alloc, section, step * 64);
-        if then != Met::Memory {
-            break;
-        }
-        refused = refused.saturating_add(1);
-    }
-    drop(large);
-    assert!(rt; then == last, "{then:?} at {section:?}");
-    assert!(rt;
-        refused >= least && (least > 0 || refused == 0),
-        "{refused} at {section:?}"
-    );
-}
-
-/// Asserts that a record is read where every growth is refused.
-pub fn assert_none<'de, T: Decode<'de>>(rt: &impl Abort, alloc: Global, section: &'de [u8]) {
-    let large = Hoard::of_large_blocks(alloc);
-    let then = read_met::<T>(alloc, section, 0);
-    drop(large);
-    assert!(rt; then == Met::Value, "{then:?} at {section:?}");
-}
-
-/// Asserts that a text where a record is asked for is refused for memory as long as there is none for what is
-/// told of it, and then as a text.
-pub fn assert_no_record<'de, T: Decode<'de>>(rt: &impl Abort, alloc: Global) {
-    assert_turns::<T>(rt, alloc, b"\x41x", 1, Met::Refusal);
-}
-
-/// The section of a row.
-pub fn section(alloc: Global, row: &Row<'_>) -> Result<Vec<u8>, Fail> {
-    Ok(with_unknown(alloc, row.before, row.after)?)
-}
-
-#[test]
-fn records_without_a_list(rt: HostRuntime) -> Result<(), Fail> {
-    let alloc = rt.alloc();
-    assert_none::<Country<'_>>(&rt, alloc, section(alloc, &TOP_COUNTRY)?.as_slice());
-    assert_no_record::<Country<'_>>(&rt, alloc);
-    // A refusal that names a field takes memory for its text.
-    assert_turns::<Domain<'_>>(
-        &rt,
-        alloc,
-        b"\xE2\x46domain\x41x\x46domain\x41y",
-        1,
-        Met::Refusal,
-    );
-    Ok(())
-}
-
-#[test]
-fn lists_refused_in_turn(rt: HostRuntime) -> Result<(), Fail> {
-    let alloc = rt.alloc();
-    let city = section(alloc, &TOP_CITY)?;
-    assert_turns::<City<'_>>(&rt, alloc, city.as_slice(), 1, Met::Value);
-    let found = section(alloc, &TOP_ENTERPRISE)?;
-    assert_turns::<Enterprise<'_>>(&rt, alloc, found.as_slice(), 1, Met::Value);
-    Ok(())
-}
-
-#[test]
-fn records_with_a_list(rt: HostRuntime) {
-    let alloc = rt.alloc();
-    assert_turns::<City<'_>>(&rt, alloc, b"\xE1\x44city\x41x", 1, Met::Refusal);
-    assert_turns::<Enterprise<'_>>(&rt, alloc, b"\xE1\x44city\x41x", 1, Met::Refusal);
-    // Where no list stands, none is made.
-    assert_none::<City<'_>>(&rt, alloc, b"\xE1\x44city\xE0");
-    assert_none::<Enterprise<'_>>(&rt, alloc, b"\xE1\x44city\xE0");
-}
-
-fn clone_met<T: Clone + Drop>(record: &T, alloc: Global, budget: usize) -> Met
-    requires { budget < 1000000 }
-{
-    let small = Hoard::of_all_but(alloc, budget);
-    let cloned = record.clone().map_err(MaxMindDbError::from);
-    let met = outcome(&cloned);
+    let small = Hoard::of_all_left(alloc);
+    let met = outcome(decode::<T>(alloc, section));
     drop(small);
-    met
+    drop(large);
+    failures.expect(&section, met == Met::Value);
+}
+
+/// A text is read as no record: where every growth is refused there is none for what is told of it, and then
+/// the text is refused.
+pub fn expect_no_record<'de, T: Decode<'de>>(failures: &mut Failures, alloc: Global) {
+    expect_turns::<T>(failures, alloc, b"\x41x", Met::Refusal);
+}
+
+#[test]
+fn records_without_a_list(rt: HostRuntime) -> Result<(), Failures> {
+    let alloc = rt.alloc();
+    let (mut failures, section) = (Failures::new(alloc), with_unknown(alloc, &TOP_COUNTRY));
+    expect_none::<Country<'_>>(&mut failures, alloc, section.as_slice());
+    expect_no_record::<Country<'_>>(&mut failures, alloc);
+    // A refusal that names a field takes memory for its text.
+    let twice = b"\xE2\x46domain\x41x\x46domain\x41y";
+    expect_turns::<Domain<'_>>(&mut failures, alloc, twice, Met::Refusal);
+    failures.verdict()
+}
+
+#[test]
+fn lists_refused_in_turn(rt: HostRuntime) -> Result<(), Failures> {
+    let (alloc, mut failures) = (rt.alloc(), Failures::new(rt.alloc()));
+    let city = with_unknown(alloc, &TOP_CITY);
+    expect_turns::<City<'_>>(&mut failures, alloc, city.as_slice(), Met::Value);
+    let enterprise = with_unknown(alloc, &TOP_ENTERPRISE);
+    expect_turns::<Enterprise<'_>>(&mut failures, alloc, enterprise.as_slice(), Met::Value);
+    failures.verdict()
+}
+
+#[test]
+fn records_with_a_list(rt: HostRuntime) -> Result<(), Failures> {
+    let (alloc, mut failures) = (rt.alloc(), Failures::new(rt.alloc()));
+    let text = b"\xE1\x44city\x41x";
+    expect_turns::<City<'_>>(&mut failures, alloc, text, Met::Refusal);
+    expect_turns::<Enterprise<'_>>(&mut failures, alloc, text, Met::Refusal);
+    // Where no list stands, none is made.
+    let without = b"\xE1\x44city\xE0";
+    expect_none::<City<'_>>(&mut failures, alloc, without);
+    expect_none::<Enterprise<'_>>(&mut failures, alloc, without);
+    failures.verdict()
 }
 
 // How often a clone is refused for memory, with more of it each time, and what it meets then.
-fn cloned_in_turn<T: Clone + Drop>(record: &T, alloc: Global) -> (u32, Met) {
-    let large = Hoard::of_large_blocks(alloc);
-    let mut refused = 0u32;
-    let mut then = Met::Memory;
-    for step in 0..256usize {
-        then = clone_met(record, alloc, step * 64);
-        if then != Met::Memory {
-            break;
-        }
-        refused = refused.saturating_add(1);
+fn cloned_in_turn<T: Clone + Drop>(alloc: Global, record: &T) -> (u32, Met) {
+    refused_in_turn(
+        alloc,
+        64,
+        || outcome(record.clone().map_err(MaxMindDbError::from)),
+    )
+}
+
+// The same of what a section is read as.
+fn read_and_cloned_in_turn<'de, T: Decode<'de> + Clone>(
+    alloc: Global,
+    section: &'de [u8],
+) -> (u32, Met) {
+    match decode::<T>(alloc, section) {
+        Ok(record) => cloned_in_turn(alloc, &record),
+        Err(_) => (0, Met::Refusal),
     }
-    drop(large);
-    (refused, then)
-}
-
-// How often a clone of a city is refused so, and what it meets then.
-fn city_clones_met(alloc: Global, section: &[u8]) -> Result<(u32, Met), MaxMindDbError> {
-    let city: City<'_> = decode(alloc, section)?;
-    Ok(cloned_in_turn(&city, alloc))
-}
-
-// The same of an enterprise.
-fn enterprise_clones_met(alloc: Global, section: &[u8]) -> Result<(u32, Met), MaxMindDbError> {
-    let found: Enterprise<'_> = decode(alloc, section)?;
-    Ok(cloned_in_turn(&found, alloc))
 }
 
 #[test]
-fn clones_refused_in_turn(rt: HostRuntime) -> Result<(), Fail> {
-    let alloc = rt.alloc();
-    let (refused, then) = city_clones_met(alloc, section(alloc, &TOP_CITY)?.as_slice())?;
-    assert!(rt; refused > 0 && then == Met::Value);
-    let section = section(alloc, &TOP_ENTERPRISE)?;
-    let (refused, then) = enterprise_clones_met(alloc, section.as_slice())?;
-    assert!(rt; refused > 0 && then == Met::Value);
-    Ok(())
+fn clones_refused_in_turn(rt: HostRuntime) -> Result<(), Failures> {
+    let (alloc, mut failures) = (rt.alloc(), Failures::new(rt.alloc()));
+    let city = with_unknown(alloc, &TOP_CITY);
+    let (refused, then) = read_and_cloned_in_turn::<City<'_>>(alloc, city.as_slice());
+    failures.expect(&("city", refused, then), refused > 0 && then == Met::Value);
+    let enterprise = with_unknown(alloc, &TOP_ENTERPRISE);
+    let (refused, then) = read_and_cloned_in_turn::<Enterprise<'_>>(alloc, enterprise.as_slice());
+    failures.expect(
+        &("enterprise", refused, then),
+        refused > 0 && then == Met::Value,
+    );
+    failures.verdict()
+}
+
+// Whether the clone of a city has its two subdivisions and its postal code.
+fn is_cloned(alloc: Global, section: &[u8]) -> bool {
+    match decode::<City<'_>>(alloc, section) {
+        Ok(city) => match city.clone() {
+            Ok(same) => same.subdivisions.len() == 2 && same.postal == city.postal,
+            Err(_) => false,
+        },
+        Err(_) => false,
+    }
 }
 
 #[test]
-fn clone_of_a_city(rt: HostRuntime) -> Result<(), Fail> {
-    let alloc = rt.alloc();
-    let section = section(alloc, &TOP_CITY)?;
-    let city: City<'_> = decode(alloc, section.as_slice())?;
-    let same = city.clone()?;
-    assert!(rt; same.subdivisions.len() == 2 && same.postal == city.postal);
-    Ok(())
+fn clone_of_a_city(rt: HostRuntime) {
+    let section = with_unknown(rt.alloc(), &TOP_CITY);
+    assert!(rt; is_cloned(rt.alloc(), section.as_slice()));
 }

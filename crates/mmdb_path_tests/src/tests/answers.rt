@@ -1,10 +1,9 @@
 //! What paths into small records find, and how they are refused.
-use super::vectors::{RECORD, Wanted, high, low, told_at};
+use super::vectors::{RECORD, Wanted, file_of, high, low, told_at};
 use maxminddb::PathElement::{Index, IndexFromEnd, Key};
-use maxminddb::{LookupResult, MaxMindDbError, PathElement, Reader, Value, path};
-use mmdb_vectors::builder::{BASE, BASE_NODE, file};
+use maxminddb::{LookupResult, PathElement, Reader, Value, path};
+use mmdb_vectors::failures::Failures;
 use std::alloc::Global;
-use std::test::Fail;
 
 /// Data, a path, what is asked for at its end, and the answer. The data begin at 22 in the file: there an
 /// offset of `InvalidDatabase` counts from the start of the file, any other from that of the data.
@@ -112,37 +111,43 @@ const ROWS: &[(&[u8], &[PathElement<'static>], Wanted, &str)] = &[
 ];
 
 #[test]
-fn paths(rt: HostRuntime) -> Result<(), Fail> {
-    let alloc = rt.alloc();
+fn paths(rt: HostRuntime) -> Result<(), Failures> {
+    let (alloc, mut failures) = (rt.alloc(), Failures::new(rt.alloc()));
     for (data, path, wanted, text) in ROWS {
-        let told = told_at(alloc, data, path, *wanted)?;
-        assert!(rt;
-            told.as_str() == *text,
-            "{data:?} at {path:?}: {told}, not {text}"
-        );
+        failures.expect_text(&(*data, *path), told_at(alloc, data, path, *wanted), text);
     }
-    Ok(())
+    failures.verdict()
 }
 
 // Whether the empty path reads a value, and the one that stands there.
-fn is_whole_by_empty_path(
-    alloc: Global,
-    found: LookupResult<'_, &[u8]>,
-) -> Result<bool, MaxMindDbError> {
-    let by_path: Option<Value<'_>> = found.decode_path(alloc, &[])?;
-    let whole: Option<Value<'_>> = found.decode(alloc)?;
-    Ok(by_path.is_some() && by_path == whole)
+fn is_whole_by_empty_path(alloc: Global, found: LookupResult<'_, &[u8]>) -> bool {
+    match found.decode_path::<Value<'_>>(alloc, &[]) {
+        Ok(Some(by_path)) => found
+            .decode::<Value<'_>>(alloc)
+            .is_ok_and(|whole| whole == Some(by_path)),
+        _ => false,
+    }
+}
+
+fn is_nothing(alloc: Global, found: LookupResult<'_, &[u8]>, path: &[PathElement<'_>]) -> bool {
+    matches!(&found.decode_path::<u16>(alloc, path), Ok(None))
+}
+
+// Whether a record is read whole by the empty path, and where no record stands no path leads to a value.
+fn is_whole(alloc: Global, reader: &Reader<&[u8]>) -> bool {
+    match (reader.lookup(high()), reader.lookup(low())) {
+        (Ok(found), Ok(without)) => {
+            is_whole_by_empty_path(alloc, found)
+                && is_nothing(alloc, without, &path!["a"])
+                && is_nothing(alloc, without, &[])
+        }
+        _ => false,
+    }
 }
 
 #[test]
-fn paths_of_whole_records(rt: HostRuntime) -> Result<(), Fail> {
-    let alloc = rt.alloc();
-    let file = file(alloc, BASE_NODE, RECORD, BASE)?;
-    let reader = Reader::from_source(alloc, file.as_slice())?;
-    assert!(rt; is_whole_by_empty_path(alloc, reader.lookup(high())?)?);
-    let without = reader.lookup(low())?;
-    let by_key = without.decode_path::<u16>(alloc, &path!["a"])?;
-    let by_none = without.decode_path::<u16>(alloc, &[])?;
-    assert!(rt; (by_key, by_none) == (None, None));
-    Ok(())
+fn paths_of_whole_records(rt: HostRuntime) {
+    let file = file_of(rt.alloc(), RECORD);
+    let reader = Reader::from_source(rt.alloc(), file.as_slice());
+    assert!(rt; reader.is_ok_and(|reader| is_whole(rt.alloc(), &reader)));
 }

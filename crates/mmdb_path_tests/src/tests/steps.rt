@@ -3,28 +3,36 @@ use maxminddb::PathElement::{Index, IndexFromEnd, Key};
 use maxminddb::laws::{path_selects, steps_equal_where_same};
 use maxminddb::{PathElement, path, render_path};
 use mmdb_vectors::equality::equality;
-use std::test::Fail;
+use mmdb_vectors::failures::Failures;
+
+/// Numbers of 64 bits, and the steps that they are.
+const LARGE_NUMBERS: &[(isize, PathElement<'static>)] = &[
+    (0, Index(0)),
+    (5, Index(5)),
+    (-1, IndexFromEnd(0)),
+    (-2, IndexFromEnd(1)),
+    (isize::MAX, Index(9_223_372_036_854_775_807)),
+    (isize::MIN + 1, IndexFromEnd(9_223_372_036_854_775_806)),
+    (isize::MIN, IndexFromEnd(usize::MAX)),
+];
+
+/// Numbers of 32 bits, and the steps that they are.
+const SMALL_NUMBERS: &[(i32, PathElement<'static>)] = &[
+    (7, Index(7)),
+    (-2, IndexFromEnd(1)),
+    (i32::MIN, IndexFromEnd(2_147_483_647)),
+];
 
 #[test]
-fn steps_of_numbers(rt: HostRuntime) {
-    for (number, step) in [
-        (0isize, Index(0)),
-        (5, Index(5)),
-        (-1, IndexFromEnd(0)),
-        (-2, IndexFromEnd(1)),
-        (isize::MAX, Index(9_223_372_036_854_775_807)),
-        (isize::MIN + 1, IndexFromEnd(9_223_372_036_854_775_806)),
-        (isize::MIN, IndexFromEnd(usize::MAX)),
-    ] {
-        assert!(rt; PathElement::from(number) == step, "{number}");
+fn steps_of_numbers(rt: HostRuntime) -> Result<(), Failures> {
+    let mut failures = Failures::new(rt.alloc());
+    for (number, step) in LARGE_NUMBERS {
+        failures.expect(number, PathElement::from(*number) == *step);
     }
-    for (number, step) in [
-        (7i32, Index(7)),
-        (-2, IndexFromEnd(1)),
-        (i32::MIN, IndexFromEnd(2_147_483_647)),
-    ] {
-        assert!(rt; PathElement::from(number) == step, "{number}");
+    for (number, step) in SMALL_NUMBERS {
+        failures.expect(number, PathElement::from(*number) == *step);
     }
+    failures.verdict()
 }
 
 /// Paths, and their texts.
@@ -36,47 +44,53 @@ const TEXTS: &[(&[PathElement<'static>], &str)] = &[
 ];
 
 #[test]
-fn texts_of_paths(rt: HostRuntime) -> Result<(), Fail> {
-    let alloc = rt.alloc();
+fn texts_of_paths(rt: HostRuntime) -> Result<(), Failures> {
+    let mut failures = Failures::new(rt.alloc());
     for (path, text) in TEXTS {
-        let rendered = render_path(alloc, path)?;
-        assert!(rt; rendered.as_str() == *text, "{path:?}: {rendered}");
-    }
-    Ok(())
-}
-
-#[test]
-fn paths_of_many_steps(rt: HostRuntime) -> Result<(), Fail> {
-    let alloc = rt.alloc();
-    let steps = path!["test", 5, -1, 7usize,];
-    let printed = format!(in alloc; "{steps:?}")?;
-    assert_eq!(rt;
-        printed.as_str(),
-        "[Key(\"test\"), Index(5), IndexFromEnd(0), Index(7)]"
-    );
-    let none: [PathElement<'_>; 0] = path![];
-    assert!(rt; none.is_empty());
-    Ok(())
-}
-
-#[test]
-fn equal_steps(rt: HostRuntime) -> Result<(), Fail> {
-    let steps = [
-        Key("a"),
-        Key("b"),
-        Index(0),
-        Index(1),
-        IndexFromEnd(0),
-        IndexFromEnd(1),
-    ];
-    for (i, a) in steps.iter().enumerate() {
-        for (j, b) in steps.iter().enumerate() {
-            assert!(rt; equality(a, b) == Some(i == j), "{a:?} and {b:?}");
+        match render_path(rt.alloc(), path) {
+            Ok(rendered) => failures.expect(&rendered, rendered.as_str() == *text),
+            Err(error) => failures.note(path, &error),
         }
-        let copy = a.clone()?;
-        assert!(rt; equality(a, &copy) == Some(true), "{a:?}");
     }
-    Ok(())
+    failures.verdict()
+}
+
+#[test]
+fn paths_of_many_steps(rt: HostRuntime) -> Result<(), Failures> {
+    let mut failures = Failures::new(rt.alloc());
+    let steps = path!["test", 5, -1, 7usize,];
+    let printed = format!(in rt.alloc(); "{steps:?}");
+    let text = "[Key(\"test\"), Index(5), IndexFromEnd(0), Index(7)]";
+    failures.expect_text(&"steps", printed, text);
+    let none: [PathElement<'_>; 0] = path![];
+    failures.expect(&"none", none.is_empty());
+    failures.verdict()
+}
+
+const STEPS: [PathElement<'static>; 6] = [
+    Key("a"),
+    Key("b"),
+    Index(0),
+    Index(1),
+    IndexFromEnd(0),
+    IndexFromEnd(1),
+];
+
+fn equals_clone(step: &PathElement<'_>) -> bool {
+    step.clone()
+        .is_ok_and(|copy| equality(step, &copy) == Some(true))
+}
+
+#[test]
+fn equal_steps(rt: HostRuntime) -> Result<(), Failures> {
+    let mut failures = Failures::new(rt.alloc());
+    for (i, a) in STEPS.iter().enumerate() {
+        for (j, b) in STEPS.iter().enumerate() {
+            failures.expect(&(i, j), equality(a, b) == Some(i == j));
+        }
+        failures.expect(a, equals_clone(a));
+    }
+    failures.verdict()
 }
 
 #[test]

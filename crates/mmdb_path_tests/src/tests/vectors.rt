@@ -1,8 +1,8 @@
 //! What the tests of paths share.
-use maxminddb::{LookupResult, MaxMindDbError, PathElement, Reader};
+use maxminddb::{LookupResult, PathElement, Reader};
+use mmdb_vectors::answer::shown;
 use mmdb_vectors::builder::{BASE, BASE_NODE, file};
 use std::alloc::{AllocError, Global};
-use std::fmt::Debug;
 use std::net::{IpAddr, Ipv4Addr};
 
 /// A map of a to an array of the numbers 5 and 6, and of b to a map of c to the text x.
@@ -18,15 +18,9 @@ pub fn high() -> IpAddr {
     IpAddr::V4(Ipv4Addr::new(200, 0, 0, 1))
 }
 
-/// A value or a refusal, as it is printed.
-fn printed<T: Debug + Drop>(
-    alloc: Global,
-    read: Result<Option<T>, MaxMindDbError>,
-) -> Result<String, AllocError> {
-    match read {
-        Ok(value) => format!(in alloc; "{value:?}"),
-        Err(error) => format!(in alloc; "{error}"),
-    }
+/// The base file with these data. Where memory is lacking it is empty.
+pub fn file_of(alloc: Global, data: &[u8]) -> Vec<u8> {
+    file(alloc, BASE_NODE, data, BASE).unwrap_or(Vec::new(alloc))
 }
 
 /// What is asked for at a path's end.
@@ -47,12 +41,24 @@ fn answer(
     wanted: Wanted,
 ) -> Result<String, AllocError> {
     match wanted {
-        Wanted::U16 => printed(alloc, found.decode_path::<u16>(alloc, path)),
-        Wanted::SmallNumber => printed(alloc, found.decode_path::<u8>(alloc, path)),
-        Wanted::Bool => printed(alloc, found.decode_path::<bool>(alloc, path)),
-        Wanted::Text => printed(alloc, found.decode_path::<&str>(alloc, path)),
-        Wanted::List => printed(alloc, found.decode_path::<Vec<u16>>(alloc, path)),
-        Wanted::Bools => printed(alloc, found.decode_path::<Vec<bool>>(alloc, path)),
+        Wanted::U16 => shown(alloc, found.decode_path::<u16>(alloc, path)),
+        Wanted::SmallNumber => shown(alloc, found.decode_path::<u8>(alloc, path)),
+        Wanted::Bool => shown(alloc, found.decode_path::<bool>(alloc, path)),
+        Wanted::Text => shown(alloc, found.decode_path::<&str>(alloc, path)),
+        Wanted::List => shown(alloc, found.decode_path::<Vec<u16>>(alloc, path)),
+        Wanted::Bools => shown(alloc, found.decode_path::<Vec<bool>>(alloc, path)),
+    }
+}
+
+fn told_by(
+    alloc: Global,
+    reader: &Reader<&[u8]>,
+    path: &[PathElement<'_>],
+    wanted: Wanted,
+) -> Result<String, AllocError> {
+    match reader.lookup(high()) {
+        Ok(found) => answer(alloc, found, path, wanted),
+        Err(error) => format!(in alloc; "{error}"),
     }
 }
 
@@ -62,8 +68,10 @@ pub fn told_at(
     data: &[u8],
     path: &[PathElement<'_>],
     wanted: Wanted,
-) -> Result<String, MaxMindDbError> {
-    let file = file(alloc, BASE_NODE, data, BASE)?;
-    let reader = Reader::from_source(alloc, file.as_slice())?;
-    Ok(answer(alloc, reader.lookup(high())?, path, wanted)?)
+) -> Result<String, AllocError> {
+    let file = file_of(alloc, data);
+    match Reader::from_source(alloc, file.as_slice()) {
+        Ok(reader) => told_by(alloc, &reader, path, wanted),
+        Err(error) => format!(in alloc; "{error}"),
+    }
 }

@@ -1,27 +1,31 @@
 //! Which values are equal, and which are not.
 use mmdb_value::{Decode, Double, Float, Kind, OwnedBytes, RawValue, Value, fuzzing};
 use mmdb_vectors::equality::equality;
+use mmdb_vectors::failures::Failures;
 use std::alloc::Global;
-use std::process::Abort;
-use std::test::Fail;
 
 type Pairs = &'static [(&'static [u8], &'static [u8], bool)];
 
-// Asserts of each two sections whether their values are equal.
-fn assert_equalities<'de, T: Decode<'de> + PartialEq>(
-    rt: &impl Abort,
+// What equality says of the values of two sections.
+fn told<'de, T: Decode<'de> + PartialEq>(
+    alloc: Global,
+    a: &'de [u8],
+    b: &'de [u8],
+) -> Option<bool> {
+    let left = fuzzing::decode::<T>(alloc, a).ok()?;
+    let right = fuzzing::decode::<T>(alloc, b).ok()?;
+    equality(&left, &right)
+}
+
+// Notes the pairs of sections of whose values equality says something else.
+fn expect_equalities<'de, T: Decode<'de> + PartialEq>(
+    failures: &mut Failures,
     alloc: Global,
     pairs: &[(&'de [u8], &'de [u8], bool)],
-) -> Result<(), Fail> {
+) {
     for (a, b, is_equal) in pairs {
-        let left: T = fuzzing::decode(alloc, a)?;
-        let right: T = fuzzing::decode(alloc, b)?;
-        assert!(rt;
-            equality(&left, &right) == Some(*is_equal),
-            "{a:?} and {b:?}"
-        );
+        failures.expect(&[*a, *b], told::<T>(alloc, a, b) == Some(*is_equal));
     }
-    Ok(())
 }
 
 /// Values of which the second is spelled in another way, or differs in one part.
@@ -66,8 +70,10 @@ const VALUES: Pairs = &[
 ];
 
 #[test]
-fn any_values(rt: HostRuntime) -> Result<(), Fail> {
-    assert_equalities::<Value<'_>>(&rt, rt.alloc(), VALUES)
+fn any_values(rt: HostRuntime) -> Result<(), Failures> {
+    let mut failures = Failures::new(rt.alloc());
+    expect_equalities::<Value<'_>>(&mut failures, rt.alloc(), VALUES);
+    failures.verdict()
 }
 
 #[rattlefmt::skip]
@@ -79,9 +85,11 @@ const RAW_TEXTS: Pairs = &[
 ];
 
 #[test]
-fn any_raw_values(rt: HostRuntime) -> Result<(), Fail> {
-    assert_equalities::<RawValue<'_>>(&rt, rt.alloc(), VALUES)?;
-    assert_equalities::<RawValue<'_>>(&rt, rt.alloc(), RAW_TEXTS)
+fn any_raw_values(rt: HostRuntime) -> Result<(), Failures> {
+    let mut failures = Failures::new(rt.alloc());
+    expect_equalities::<RawValue<'_>>(&mut failures, rt.alloc(), VALUES);
+    expect_equalities::<RawValue<'_>>(&mut failures, rt.alloc(), RAW_TEXTS);
+    failures.verdict()
 }
 
 /// Numbers are compared as bits: zeros of two signs differ, and a NaN is equal to itself.
@@ -111,11 +119,12 @@ const BYTES: Pairs = &[
 ];
 
 #[test]
-fn numbers_and_bytes(rt: HostRuntime) -> Result<(), Fail> {
-    let alloc = rt.alloc();
-    assert_equalities::<Double>(&rt, alloc, DOUBLES)?;
-    assert_equalities::<Float>(&rt, alloc, FLOATS)?;
-    assert_equalities::<OwnedBytes>(&rt, alloc, BYTES)
+fn numbers_and_bytes(rt: HostRuntime) -> Result<(), Failures> {
+    let (alloc, mut failures) = (rt.alloc(), Failures::new(rt.alloc()));
+    expect_equalities::<Double>(&mut failures, alloc, DOUBLES);
+    expect_equalities::<Float>(&mut failures, alloc, FLOATS);
+    expect_equalities::<OwnedBytes>(&mut failures, alloc, BYTES);
+    failures.verdict()
 }
 
 const KINDS: [Kind; 14] = [
@@ -136,10 +145,12 @@ const KINDS: [Kind; 14] = [
 ];
 
 #[test]
-fn kinds(rt: HostRuntime) {
+fn kinds(rt: HostRuntime) -> Result<(), Failures> {
+    let mut failures = Failures::new(rt.alloc());
     for (i, a) in KINDS.iter().enumerate() {
         for (j, b) in KINDS.iter().enumerate() {
-            assert!(rt; equality(a, b) == Some(i == j), "{a:?} and {b:?}");
+            failures.expect(&[*a, *b], equality(a, b) == Some(i == j));
         }
     }
+    failures.verdict()
 }

@@ -4,61 +4,86 @@ use mmdb_value::{
     MaxMindDbError, decoding, decoding_at, decoding_at_path, invalid_database, invalid_database_at,
     invalid_input, resource_limit_at,
 };
+use mmdb_vectors::failures::Failures;
+use std::alloc::Global;
 use std::io;
-use std::test::Fail;
 
-#[test]
-fn errors_print_their_texts(rt: HostRuntime) -> Result<(), Fail> {
-    let alloc = rt.alloc();
-    let (unexpected, bad) = ("unexpected type", "bad address");
-    for (error, text) in [
-        (
-            invalid_database(alloc, "something went wrong"),
-            "invalid database: something went wrong",
-        ),
-        (
-            decoding(alloc, unexpected),
-            "decoding error: unexpected type",
-        ),
-        (
-            decoding_at(alloc, unexpected, 100),
-            "decoding error at offset 100: unexpected type",
-        ),
-        (invalid_input(alloc, bad), "invalid input: bad address"),
-        (
-            decoding_at_path(alloc, unexpected, 100, "/city/names/en"),
-            "decoding error at offset 100 (path: /city/names/en): unexpected type",
-        ),
-        (
-            invalid_database_at(alloc, "something went wrong", 42),
-            "invalid database at offset 42: something went wrong",
-        ),
-        (
-            resource_limit_at(alloc, "too many values", 100),
-            "resource limit exceeded at offset 100: too many values",
-        ),
-        (
-            MaxMindDbError::from(IpNetworkError::InvalidPrefix),
-            "invalid network: invalid prefix",
-        ),
-        (MaxMindDbError::Memory, "out of memory"),
-    ] {
-        let printed = format!(in alloc; "{error}")?;
-        assert!(rt; printed.as_str() == text, "{printed}");
-    }
-    Ok(())
+// Notes where an error prints another text.
+fn expect_printed(failures: &mut Failures, alloc: Global, error: MaxMindDbError, text: &str) {
+    failures.expect_text(&text, format!(in alloc; "{error}"), text);
 }
 
 #[test]
-fn errors_from_others(rt: HostRuntime) -> Result<(), Fail> {
-    let alloc = rt.alloc();
+fn errors_print_their_texts(rt: HostRuntime) -> Result<(), Failures> {
+    let (alloc, mut failures) = (rt.alloc(), Failures::new(rt.alloc()));
+    let (wrong, unexpected) = ("something went wrong", "unexpected type");
+    let error = invalid_database(alloc, wrong);
+    expect_printed(
+        &mut failures,
+        alloc,
+        error,
+        "invalid database: something went wrong",
+    );
+    let error = decoding(alloc, unexpected);
+    expect_printed(
+        &mut failures,
+        alloc,
+        error,
+        "decoding error: unexpected type",
+    );
+    let error = decoding_at(alloc, unexpected, 100);
+    expect_printed(
+        &mut failures,
+        alloc,
+        error,
+        "decoding error at offset 100: unexpected type",
+    );
+    let error = invalid_input(alloc, "bad address");
+    expect_printed(&mut failures, alloc, error, "invalid input: bad address");
+    let error = decoding_at_path(alloc, unexpected, 100, "/city/names/en");
+    let text = "decoding error at offset 100 (path: /city/names/en): unexpected type";
+    expect_printed(&mut failures, alloc, error, text);
+    let error = invalid_database_at(alloc, wrong, 42);
+    let text = "invalid database at offset 42: something went wrong";
+    expect_printed(&mut failures, alloc, error, text);
+    let error = resource_limit_at(alloc, "too many values", 100);
+    let text = "resource limit exceeded at offset 100: too many values";
+    expect_printed(&mut failures, alloc, error, text);
+    let error = MaxMindDbError::from(IpNetworkError::InvalidPrefix);
+    expect_printed(
+        &mut failures,
+        alloc,
+        error,
+        "invalid network: invalid prefix",
+    );
+    expect_printed(
+        &mut failures,
+        alloc,
+        MaxMindDbError::Memory,
+        "out of memory",
+    );
+    failures.verdict()
+}
+
+fn is_of_file(error: &MaxMindDbError) -> bool {
+    matches!(error, MaxMindDbError::Io(_))
+}
+
+fn is_of_network(error: &MaxMindDbError) -> bool {
+    matches!(error, MaxMindDbError::InvalidNetwork(_))
+}
+
+#[test]
+fn errors_from_others(rt: HostRuntime) -> Result<(), Failures> {
+    let (alloc, mut failures) = (rt.alloc(), Failures::new(rt.alloc()));
     let kind = io::ErrorKind::NotFound;
-    let cause = format!(in alloc; "i/o error: {}", io::Error::from(kind))?;
     let file = MaxMindDbError::from(io::Error::from(kind));
-    assert!(rt; matches!(&file, MaxMindDbError::Io(_)));
-    let printed = format!(in alloc; "{file}")?;
-    assert!(rt; printed.as_str() == cause.as_str(), "{printed}");
+    failures.expect(&"file", is_of_file(&file));
+    match format!(in alloc; "i/o error: {}", io::Error::from(kind)) {
+        Ok(cause) => expect_printed(&mut failures, alloc, file, cause.as_str()),
+        Err(_) => failures.expect(&"cause", false),
+    }
     let network = MaxMindDbError::from(IpNetworkError::InvalidAddr);
-    assert!(rt; matches!(&network, MaxMindDbError::InvalidNetwork(_)));
-    Ok(())
+    failures.expect(&"network", is_of_network(&network));
+    failures.verdict()
 }

@@ -1,5 +1,4 @@
 //! The single steps of a decoder, by hand.
-use super::told::told;
 use crate::probe::Probe;
 use mmdb_value::laws::{
     answer_is_whole_value, answer_is_within_limits, any_value_is_exact, how_containers_are_read,
@@ -10,8 +9,9 @@ use mmdb_value::laws::{
     text_map_is_what_stands, value_is_what_stands, values_bounded, values_equal_where_same,
 };
 use mmdb_value::{DecodeResult, Decoder, Entries, Items, Kind, Value, empty_container};
+use mmdb_vectors::answer::{OK, told};
+use mmdb_vectors::failures::Failures;
 use std::alloc::Global;
-use std::test::Fail;
 
 /// A map of k to an array of the numbers 5 and 6.
 const PAIR: &[u8] = b"\xE1\x41k\x02\x04\xA1\x05\xA1\x06";
@@ -45,24 +45,25 @@ fn pair_told<'de>(
     Ok((key, kind, told?))
 }
 
-#[test]
-fn steps_of_a_decoder(rt: HostRuntime) -> Result<(), Fail> {
-    let alloc = rt.alloc();
-    let mut d = Decoder::new(PAIR, 0);
-    assert!(rt; d.peek_kind(alloc)? == Kind::Map);
-    assert!(rt; d.offset() == 0);
+// Whether the map is entered, its key and array are told as they stand, and what is left is skipped.
+fn is_stepped_through(alloc: Global, d: &mut Decoder<'_>) -> DecodeResult<bool> {
+    let is_map = d.peek_kind(alloc)? == Kind::Map && d.offset() == 0;
     let mut entries = d.begin_map(alloc)?;
-    let told = pair_told(alloc, &mut d, &mut entries);
-    entries.give_up(&mut d);
+    let told = pair_told(alloc, d, &mut entries);
+    entries.give_up(d);
     let (key, kind, numbers) = told?;
-    assert!(rt; key == Some(b"k".as_slice()));
-    assert!(rt; kind == Kind::Array);
-    assert!(rt; numbers == (2, 2, 5, 1));
-    assert!(rt; d.offset() == 7);
+    let is_pair = key == Some(b"k".as_slice()) && kind == Kind::Array && numbers == (2, 2, 5, 1);
+    let stands_after_first = d.offset() == 7;
     d.skip_value(alloc)?;
-    assert!(rt; d.offset() == 9);
+    Ok(is_map && is_pair && stands_after_first && d.offset() == 9)
+}
+
+#[test]
+fn steps_of_a_decoder(rt: HostRuntime) {
+    let mut d = Decoder::new(PAIR, 0);
+    let told = is_stepped_through(rt.alloc(), &mut d);
     values_bounded(&d);
-    Ok(())
+    assert!(rt; told.unwrap_or(false));
 }
 
 // Enters an array of so many elements, and gives it up.
@@ -72,42 +73,31 @@ fn enter_array_of(alloc: Global, d: &mut Decoder<'_>, len: usize) -> DecodeResul
     Ok(())
 }
 
+/// A section, a place, a length, and what is told where an array of that length is asked for there.
+#[rattlefmt::skip]
+const ENTERED: [(&[u8], usize, usize, &str); 4] = [
+    (PAIR, 3, 2, OK),
+    (PAIR, 3, 3, "decoding error at offset 5: expected tuple of length 3, got array of length 2"),
+    (b"\x02\x04\xA0\xA0", 0, 3, "decoding error at offset 2: expected tuple of length 3, got array of length 2"),
+    (PAIR, 0, 1, "decoding error at offset 0: expected array, got type 7"),
+];
+
 #[test]
-fn arrays_of_a_length(rt: HostRuntime) -> Result<(), Fail> {
-    let alloc = rt.alloc();
-    for (section, place, len, text) in [
-        (PAIR, 3, 2, "read"),
-        (
-            PAIR,
-            3,
-            3,
-            "decoding error at offset 5: expected tuple of length 3, got array of length 2",
-        ),
-        (
-            b"\x02\x04\xA0\xA0".as_slice(),
-            0,
-            3,
-            "decoding error at offset 2: expected tuple of length 3, got array of length 2",
-        ),
-        (
-            PAIR,
-            0,
-            1,
-            "decoding error at offset 0: expected array, got type 7",
-        ),
-    ] {
+fn arrays_of_a_length(rt: HostRuntime) -> Result<(), Failures> {
+    let (alloc, mut failures) = (rt.alloc(), Failures::new(rt.alloc()));
+    for (section, place, len, text) in ENTERED {
         let mut d = Decoder::new(section, place);
-        let answer = told(alloc, enter_array_of(alloc, &mut d, len))?;
-        assert!(rt; answer.as_str() == text, "{answer}");
+        let answer = told(alloc, enter_array_of(alloc, &mut d, len));
+        failures.expect_text(&(place, len), answer, text);
     }
-    Ok(())
+    failures.verdict()
 }
 
 /// Values that are skipped, and what is told. The size of a pointer is the number of its own bytes after
 /// the control byte.
 #[rattlefmt::skip]
 const SKIPPED: &[(&[u8], &str)] = &[
-    (b"\x20\xFF", "read"),
+    (b"\x20\xFF", OK),
     (b"\x20", "invalid database at offset 0: pointer of size 1"),
     (b"\x27", "invalid database at offset 0: pointer of size 1"),
     (b"\x28\x00", "invalid database at offset 0: pointer of size 2"),
@@ -121,13 +111,13 @@ const SKIPPED: &[(&[u8], &str)] = &[
 ];
 
 #[test]
-fn values_skipped(rt: HostRuntime) -> Result<(), Fail> {
-    let alloc = rt.alloc();
+fn values_skipped(rt: HostRuntime) -> Result<(), Failures> {
+    let (alloc, mut failures) = (rt.alloc(), Failures::new(rt.alloc()));
     for (section, text) in SKIPPED {
-        let answer = told(alloc, Decoder::new(section, 0).skip_value(alloc))?;
-        assert!(rt; answer.as_str() == *text, "{section:?}: {answer}");
+        let answer = told(alloc, Decoder::new(section, 0).skip_value(alloc));
+        failures.expect_text(section, answer, text);
     }
-    Ok(())
+    failures.verdict()
 }
 
 #[rattlefmt::skip]
@@ -146,11 +136,12 @@ const HEADS: &[(&[u8], Option<bool>)] = &[
 ];
 
 #[test]
-fn empty_containers(rt: HostRuntime) {
+fn empty_containers(rt: HostRuntime) -> Result<(), Failures> {
+    let mut failures = Failures::new(rt.alloc());
     for (section, empty) in HEADS {
-        let told = empty_container(section, 0).ok();
-        assert!(rt; told == *empty, "{told:?} at {section:?}");
+        failures.expect(section, empty_container(section, 0).ok() == *empty);
     }
+    failures.verdict()
 }
 
 #[test]

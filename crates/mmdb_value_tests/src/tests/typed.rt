@@ -1,26 +1,27 @@
 //! Values of one type.
-use super::told::{shown, told};
 use crate::probe::Probe;
 use mmdb_value::{Decode, Decoder, Double, Float, OwnedBytes, fuzzing};
-use std::alloc::{AllocError, Global};
+use mmdb_vectors::answer::shown;
+use mmdb_vectors::failures::Failures;
+use std::alloc::Global;
 use std::collections::BTreeMap;
 use std::fmt::Debug;
-use std::process::Abort;
-use std::test::Fail;
 
 type Rows = &'static [(&'static [u8], &'static str)];
 
-// Asserts what each section is read as: the value, as it is printed, or the refusal.
-fn assert_shown<'de, T: Decode<'de> + Debug>(
-    rt: &impl Abort,
+// Notes the sections that are read as something else: the value, as it is printed, or the refusal.
+fn expect_shown<'de, T: Decode<'de> + Debug>(
+    failures: &mut Failures,
     alloc: Global,
     rows: &[(&'de [u8], &str)],
-) -> Result<(), AllocError> {
+) {
     for (section, text) in rows {
-        let answer = shown(alloc, fuzzing::decode::<T>(alloc, section))?;
-        assert!(rt; answer.as_str() == *text, "{section:?}: {answer}");
+        failures.expect_text(
+            section,
+            shown(alloc, fuzzing::decode::<T>(alloc, section)),
+            text,
+        );
     }
-    Ok(())
 }
 
 #[rattlefmt::skip]
@@ -59,14 +60,15 @@ const I64: Rows = &[
 ];
 
 #[test]
-fn small_numbers(rt: HostRuntime) -> Result<(), Fail> {
-    let alloc = rt.alloc();
-    assert_shown::<u8>(&rt, alloc, U8)?;
-    assert_shown::<i16>(&rt, alloc, I16)?;
-    assert_shown::<i8>(&rt, alloc, I8)?;
-    assert_shown::<i64>(&rt, alloc, I64)?;
-    assert_shown::<Vec<u8>>(&rt, alloc, &[(b"\x02\x04\xA1\x07\xC1\x08", "[7, 8]")])?;
-    Ok(())
+fn small_numbers(rt: HostRuntime) -> Result<(), Failures> {
+    let (alloc, mut failures) = (rt.alloc(), Failures::new(rt.alloc()));
+    let it = &mut failures;
+    expect_shown::<u8>(it, alloc, U8);
+    expect_shown::<i16>(it, alloc, I16);
+    expect_shown::<i8>(it, alloc, I8);
+    expect_shown::<i64>(it, alloc, I64);
+    expect_shown::<Vec<u8>>(it, alloc, &[(b"\x02\x04\xA1\x07\xC1\x08", "[7, 8]")]);
+    failures.verdict()
 }
 
 #[rattlefmt::skip]
@@ -117,16 +119,17 @@ const I32: Rows = &[
 ];
 
 #[test]
-fn typed_numbers(rt: HostRuntime) -> Result<(), Fail> {
-    let alloc = rt.alloc();
-    assert_shown::<bool>(&rt, alloc, BOOL)?;
-    assert_shown::<u16>(&rt, alloc, U16)?;
-    assert_shown::<u32>(&rt, alloc, U32)?;
-    assert_shown::<u64>(&rt, alloc, U64)?;
-    assert_shown::<u128>(&rt, alloc, U128)?;
-    assert_shown::<i32>(&rt, alloc, I32)?;
-    assert_shown::<Option<u16>>(&rt, alloc, &[(b"\xA1\x07", "Some(7)")])?;
-    Ok(())
+fn typed_numbers(rt: HostRuntime) -> Result<(), Failures> {
+    let (alloc, mut failures) = (rt.alloc(), Failures::new(rt.alloc()));
+    let it = &mut failures;
+    expect_shown::<bool>(it, alloc, BOOL);
+    expect_shown::<u16>(it, alloc, U16);
+    expect_shown::<u32>(it, alloc, U32);
+    expect_shown::<u64>(it, alloc, U64);
+    expect_shown::<u128>(it, alloc, U128);
+    expect_shown::<i32>(it, alloc, I32);
+    expect_shown::<Option<u16>>(it, alloc, &[(b"\xA1\x07", "Some(7)")]);
+    failures.verdict()
 }
 
 #[rattlefmt::skip]
@@ -169,15 +172,16 @@ const PROBE: Rows = &[
 ];
 
 #[test]
-fn typed_reads(rt: HostRuntime) -> Result<(), Fail> {
-    let alloc = rt.alloc();
-    assert_shown::<&str>(&rt, alloc, STR)?;
-    assert_shown::<String>(&rt, alloc, &[(b"\x20\x02\x41x", "\"x\"")])?;
-    assert_shown::<&[u8]>(&rt, alloc, BYTES)?;
-    assert_shown::<Vec<u16>>(&rt, alloc, LIST)?;
-    assert_shown::<BTreeMap<String, u16>>(&rt, alloc, MAP)?;
-    assert_shown::<Probe<'_>>(&rt, alloc, PROBE)?;
-    Ok(())
+fn typed_reads(rt: HostRuntime) -> Result<(), Failures> {
+    let (alloc, mut failures) = (rt.alloc(), Failures::new(rt.alloc()));
+    let it = &mut failures;
+    expect_shown::<&str>(it, alloc, STR);
+    expect_shown::<String>(it, alloc, &[(b"\x20\x02\x41x", "\"x\"")]);
+    expect_shown::<&[u8]>(it, alloc, BYTES);
+    expect_shown::<Vec<u16>>(it, alloc, LIST);
+    expect_shown::<BTreeMap<String, u16>>(it, alloc, MAP);
+    expect_shown::<Probe<'_>>(it, alloc, PROBE);
+    failures.verdict()
 }
 
 #[rattlefmt::skip]
@@ -198,40 +202,38 @@ const NO_FLOAT: Rows = &[
 ];
 
 #[test]
-fn floating_point(rt: HostRuntime) -> Result<(), Fail> {
-    let alloc = rt.alloc();
-    let Double { bits } = fuzzing::decode(alloc, b"\x68\x40\x04\0\0\0\0\0\x01")?;
-    assert!(rt; bits == 0x4004_0000_0000_0001, "{bits}");
-    let Float { bits } = fuzzing::decode(alloc, b"\x04\x08\x40\x20\x00\x00")?;
-    assert!(rt; bits == 0x4020_0000, "{bits}");
-    for (section, text) in NO_DOUBLE {
-        let refusal = told(alloc, fuzzing::decode::<Double>(alloc, section))?;
-        assert!(rt; refusal.as_str() == *text, "{section:?}: {refusal}");
+fn floating_point(rt: HostRuntime) -> Result<(), Failures> {
+    let (alloc, mut failures) = (rt.alloc(), Failures::new(rt.alloc()));
+    let double = fuzzing::decode::<Double>(alloc, b"\x68\x40\x04\0\0\0\0\0\x01");
+    let is_read = double.is_ok_and(|double| double.bits == 0x4004_0000_0000_0001);
+    failures.expect(&"double", is_read);
+    let float = fuzzing::decode::<Float>(alloc, b"\x04\x08\x40\x20\x00\x00");
+    failures.expect(&"float", float.is_ok_and(|float| float.bits == 0x4020_0000));
+    expect_shown::<Double>(&mut failures, alloc, NO_DOUBLE);
+    expect_shown::<Float>(&mut failures, alloc, NO_FLOAT);
+    failures.verdict()
+}
+
+// Whether a section is a map of a to the number 2 alone.
+fn is_map_of_two(alloc: Global, section: &[u8]) -> bool {
+    match fuzzing::decode::<BTreeMap<String, u16>>(alloc, section) {
+        Ok(map) => map.len() == 1 && map.get("a") == Some(&2),
+        Err(_) => false,
     }
-    for (section, text) in NO_FLOAT {
-        let refusal = told(alloc, fuzzing::decode::<Float>(alloc, section))?;
-        assert!(rt; refusal.as_str() == *text, "{section:?}: {refusal}");
-    }
-    Ok(())
 }
 
 #[test]
-fn owned_reads(rt: HostRuntime) -> Result<(), Fail> {
-    let alloc = rt.alloc();
-    let OwnedBytes(bytes) = fuzzing::decode(alloc, b"\x82\xFF\xFE")?;
-    assert!(rt; bytes.as_slice() == b"\xFF\xFE".as_slice(), "{bytes:?}");
+fn owned_reads(rt: HostRuntime) {
+    let bytes = fuzzing::decode::<OwnedBytes>(rt.alloc(), b"\x82\xFF\xFE");
+    assert!(rt; bytes.is_ok_and(|bytes| bytes.0.as_slice() == b"\xFF\xFE".as_slice()));
     // Of equal keys the later value stays.
-    let map: BTreeMap<String, u16> = fuzzing::decode(alloc, b"\xE2\x41a\xA1\x01\x41a\xA1\x02")?;
-    assert!(rt; map.len() == 1);
-    assert!(rt; map.get("a") == Some(&2));
-    Ok(())
+    assert!(rt; is_map_of_two(rt.alloc(), b"\xE2\x41a\xA1\x01\x41a\xA1\x02"));
 }
 
 #[test]
-fn unknown_field_is_skipped(rt: HostRuntime) -> Result<(), Fail> {
+fn unknown_field_is_skipped(rt: HostRuntime) {
     let mut d = Decoder::new(b"\xE2\x41a\xA1\x07\x41z\x20\xFF", 0);
-    let Probe { a, k } = Probe::decode(rt.alloc(), &mut d)?;
-    assert!(rt; (a, k) == (Some(7), None));
+    let read = Probe::decode(rt.alloc(), &mut d);
+    assert!(rt; read.is_ok_and(|read| (read.a, read.k) == (Some(7), None)));
     assert!(rt; d.offset() == 9);
-    Ok(())
 }

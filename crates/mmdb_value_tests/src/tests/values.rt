@@ -1,10 +1,9 @@
 //! Any value.
-use super::told::told;
 use mmdb_value::fuzzing::{decode_raw_value, decode_value};
-use mmdb_value::{Double, Float, MaxMindDbError, RawValue, Value, fuzzing};
+use mmdb_value::{Double, Float, RawValue, Value, fuzzing};
+use mmdb_vectors::answer::told;
+use mmdb_vectors::failures::Failures;
 use std::alloc::Global;
-use std::process::Abort;
-use std::test::Fail;
 
 const SCALARS: [(&[u8], Value<'static>); 20] = [
     (b"\x04\x01\xFF\xFF\xFF\xFE", Value::I32(-2)),
@@ -43,86 +42,88 @@ const SCALARS: [(&[u8], Value<'static>); 20] = [
     (b"\x20\x02\x20\x04\x41x", Value::String("x")),
 ];
 
-#[test]
-fn scalars(rt: HostRuntime) -> Result<(), Fail> {
-    for (section, wanted) in SCALARS {
-        let value = fuzzing::decode::<Value<'_>>(rt.alloc(), section)?;
-        assert!(rt; value == wanted, "at {section:?}");
+// Whether a section is read so by the call for any type.
+fn is_read_as<'de>(alloc: Global, section: &'de [u8], wanted: &Value<'de>) -> bool {
+    match fuzzing::decode::<Value<'de>>(alloc, section) {
+        Ok(value) => value == *wanted,
+        Err(_) => false,
     }
-    Ok(())
 }
 
-// Asserts what a section is read as: by the call for any type, and by that for any value.
-fn assert_value<'de>(
-    rt: &impl Abort,
+#[test]
+fn scalars(rt: HostRuntime) -> Result<(), Failures> {
+    let mut failures = Failures::new(rt.alloc());
+    for (section, wanted) in &SCALARS {
+        failures.expect(section, is_read_as(rt.alloc(), section, wanted));
+    }
+    failures.verdict()
+}
+
+// Notes where a section is read as something else: by the call for any type, or by that for any value.
+fn expect_value<'de>(
+    failures: &mut Failures,
     alloc: Global,
     section: &'de [u8],
     wanted: Value<'de>,
-) -> Result<(), MaxMindDbError> {
-    let value = fuzzing::decode::<Value<'de>>(alloc, section)?;
-    assert!(rt; value == wanted, "at {section:?}");
-    let value = decode_value(alloc, section)?;
-    assert!(rt; value == wanted, "at {section:?}");
-    Ok(())
+) {
+    failures.expect(&section, is_read_as(alloc, section, &wanted));
+    match decode_value(alloc, section) {
+        Ok(value) => failures.expect(&section, value == wanted),
+        Err(error) => failures.note(&section, &error),
+    }
 }
 
 #[test]
-fn texts_and_pointers(rt: HostRuntime) -> Result<(), Fail> {
-    let alloc = rt.alloc();
-    for (section, pairs) in [
-        (
-            b"\x02\x00\x41a\x20\x0A\x41b\x41y\x41x".as_slice(),
-            [("a", Value::String("x")), ("b", Value::String("y"))],
-        ),
-        (
-            b"\xE2\x41a\xA1\x01\x41a\xA1\x02".as_slice(),
-            [("a", Value::U16(1)), ("a", Value::U16(2))],
-        ),
-    ] {
-        assert_value(
-            &rt,
-            alloc,
-            section,
-            Value::Map(Vec::from_array(alloc, pairs)?),
-        )?;
-    }
-    let pair = Vec::from_array(alloc, [("k", Value::String("y"))])?;
-    assert_value(&rt, alloc, b"\x01\x00\x20\x06\x41y\x41k", Value::Map(pair))?;
-    let elements = Vec::from_array(alloc, [Value::U16(1), Value::String("x")])?;
-    assert_value(&rt, alloc, b"\x02\x04\xA1\x01\x41x", Value::Array(elements))?;
-    assert_value(&rt, alloc, b"\xE0", Value::Map(Vec::new(alloc)))?;
-    assert_value(&rt, alloc, b"\x00\x04", Value::Array(Vec::new(alloc)))?;
-    Ok(())
+fn texts_and_pointers(rt: HostRuntime) -> Result<(), Failures> {
+    let (alloc, mut failures) = (rt.alloc(), Failures::new(rt.alloc()));
+    let it = &mut failures;
+    let pairs = Vec::from_array(
+        alloc,
+        [("a", Value::String("x")), ("b", Value::String("y"))],
+    );
+    let map = Value::Map(pairs.unwrap_or(Vec::new(alloc)));
+    expect_value(it, alloc, b"\x02\x00\x41a\x20\x0A\x41b\x41y\x41x", map);
+    let pairs = Vec::from_array(alloc, [("a", Value::U16(1)), ("a", Value::U16(2))]);
+    let map = Value::Map(pairs.unwrap_or(Vec::new(alloc)));
+    expect_value(it, alloc, b"\xE2\x41a\xA1\x01\x41a\xA1\x02", map);
+    let pairs = Vec::from_array(alloc, [("k", Value::String("y"))]);
+    let map = Value::Map(pairs.unwrap_or(Vec::new(alloc)));
+    expect_value(it, alloc, b"\x01\x00\x20\x06\x41y\x41k", map);
+    let elements = Vec::from_array(alloc, [Value::U16(1), Value::String("x")]);
+    let array = Value::Array(elements.unwrap_or(Vec::new(alloc)));
+    expect_value(it, alloc, b"\x02\x04\xA1\x01\x41x", array);
+    expect_value(it, alloc, b"\xE0", Value::Map(Vec::new(alloc)));
+    expect_value(it, alloc, b"\x00\x04", Value::Array(Vec::new(alloc)));
+    failures.verdict()
 }
 
-// Asserts what a section is read as where texts are not tested: by both calls.
-fn assert_raw_value<'de>(
-    rt: &impl Abort,
+// Notes where a section is read as something else where texts are not tested: by either call.
+fn expect_raw_value<'de>(
+    failures: &mut Failures,
     alloc: Global,
     section: &'de [u8],
     wanted: RawValue<'de>,
-) -> Result<(), MaxMindDbError> {
-    let value = fuzzing::decode::<RawValue<'de>>(alloc, section)?;
-    assert!(rt; value == wanted, "at {section:?}");
-    let value = decode_raw_value(alloc, section)?;
-    assert!(rt; value == wanted, "at {section:?}");
-    Ok(())
+) {
+    match fuzzing::decode::<RawValue<'de>>(alloc, section) {
+        Ok(value) => failures.expect(&section, value == wanted),
+        Err(error) => failures.note(&section, &error),
+    }
+    match decode_raw_value(alloc, section) {
+        Ok(value) => failures.expect(&section, value == wanted),
+        Err(error) => failures.note(&section, &error),
+    }
 }
 
 #[test]
-fn raw_values(rt: HostRuntime) -> Result<(), Fail> {
-    let alloc = rt.alloc();
-    assert_raw_value(&rt, alloc, b"\x42\xFF\xFE", RawValue::String(b"\xFF\xFE"))?;
-    assert_raw_value(&rt, alloc, b"\x82\xFF\xFE", RawValue::Bytes(b"\xFF\xFE"))?;
+fn raw_values(rt: HostRuntime) -> Result<(), Failures> {
+    let (alloc, mut failures) = (rt.alloc(), Failures::new(rt.alloc()));
+    let it = &mut failures;
+    expect_raw_value(it, alloc, b"\x42\xFF\xFE", RawValue::String(b"\xFF\xFE"));
+    expect_raw_value(it, alloc, b"\x82\xFF\xFE", RawValue::Bytes(b"\xFF\xFE"));
     let pair = (b"\xFF".as_slice(), RawValue::String(b"\xFF\xFE"));
-    let pairs = Vec::from_array(alloc, [pair])?;
-    assert_raw_value(
-        &rt,
-        alloc,
-        b"\xE1\x41\xFF\x42\xFF\xFE",
-        RawValue::Map(pairs),
-    )?;
-    Ok(())
+    let pairs = Vec::from_array(alloc, [pair]).unwrap_or(Vec::new(alloc));
+    expect_raw_value(it, alloc, b"\xE1\x41\xFF\x42\xFF\xFE", RawValue::Map(pairs));
+    failures.verdict()
 }
 
 /// Sections at whose beginning no value stands, and the refusal.
@@ -183,13 +184,12 @@ const REFUSED: &[(&[u8], &str)] = &[
 ];
 
 #[test]
-fn values_refused(rt: HostRuntime) -> Result<(), Fail> {
-    let alloc = rt.alloc();
+fn values_refused(rt: HostRuntime) -> Result<(), Failures> {
+    let (alloc, mut failures) = (rt.alloc(), Failures::new(rt.alloc()));
     for (section, text) in REFUSED {
-        let refusal = told(alloc, fuzzing::decode::<Value<'_>>(alloc, section))?;
-        assert!(rt; refusal.as_str() == *text, "{section:?}: {refusal}");
-        let refusal = told(alloc, decode_value(alloc, section))?;
-        assert!(rt; refusal.as_str() == *text, "{section:?}: {refusal}");
+        let refusal = told(alloc, fuzzing::decode::<Value<'_>>(alloc, section));
+        failures.expect_text(section, refusal, text);
+        failures.expect_text(section, told(alloc, decode_value(alloc, section)), text);
     }
-    Ok(())
+    failures.verdict()
 }
