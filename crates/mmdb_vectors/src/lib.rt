@@ -2,6 +2,7 @@
 //! the two operators of equality say, and a program's words.
 #![tactic(auto)]
 
+pub mod base;
 pub mod builder;
 pub mod equality;
 pub mod file;
