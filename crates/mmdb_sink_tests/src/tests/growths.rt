@@ -200,11 +200,9 @@ fn met_within(rt: &impl Abort, alloc: Global, call: &Call, given: &Given, budget
     requires { budget < 1000000 }
 {
     let mut sink = one_byte(rt, alloc, 100, End::Refuses);
-    let large = Hoard::of_large_blocks(alloc);
     let small = Hoard::of_all_but(alloc, budget);
     let met = met_by(alloc, call, given, &mut sink);
     drop(small);
-    drop(large);
     let wrote = match call {
         Call::List if met == Met::Answer => LEAF,
         _ => "",
@@ -215,15 +213,18 @@ fn met_within(rt: &impl Abort, alloc: Global, call: &Call, given: &Given, budget
 
 // How often a call is refused for want of memory, and what comes of it then.
 fn refusals(rt: &impl Abort, alloc: Global, call: &Call, given: &Given) -> (u32, Met) {
+    let large = Hoard::of_large_blocks(alloc);
     let mut refused = 0u32;
+    let mut met = Met::Memory;
     for step in 0..512usize {
-        let met = met_within(rt, alloc, call, given, budget_of(call, step));
+        met = met_within(rt, alloc, call, given, budget_of(call, step));
         if met != Met::Memory {
-            return (refused, met);
+            break;
         }
         refused = refused.saturating_add(1);
     }
-    (refused, Met::Memory)
+    drop(large);
+    (refused, met)
 }
 
 /// A call by name, what it meets with enough memory, and how often it is refused for it before, at least and at
