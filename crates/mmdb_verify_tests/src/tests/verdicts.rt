@@ -29,15 +29,18 @@ const TOO_MANY_96: &str =
 const TOO_MANY_351: &str =
     "invalid database: search tree appears to have a cycle or invalid structure (exceeded 351 iterations)";
 
-// Asserts what was found of a file: that it is whole, or the text of the refusal with its kind and its place.
-fn assert_found(rt: &impl Abort, alloc: Global, found: Result<(), MaxMindDbError>, text: &str) {
+// What was found of a file: that it is whole, or the text of the refusal with its kind and its place.
+fn found_text(alloc: Global, found: Result<(), MaxMindDbError>) -> Result<String, AllocError> {
     match found {
-        Ok(()) => assert!(rt; text == WHOLE, "whole, not {text}"),
-        Err(error) => {
-            let found = format!(in alloc; "{error}").expect(rt, text);
-            assert!(rt; found.as_str() == text, "{found}, not {text}");
-        }
+        Ok(()) => String::from_str(alloc, WHOLE),
+        Err(error) => format!(in alloc; "{error}"),
     }
+}
+
+// Asserts what was found of a file.
+fn assert_found(rt: &impl Abort, alloc: Global, found: Result<(), MaxMindDbError>, text: &str) {
+    let found = found_text(alloc, found).expect(rt, text);
+    assert!(rt; found.as_str() == text, "{found}, not {text}");
 }
 
 // Asserts the verdict of both calls on a file, and answers how many positions of the tree were taken.
