@@ -3,6 +3,7 @@
 #![tactic(auto)]
 
 pub mod answer;
+pub mod base;
 pub mod builder;
 pub mod equality;
 pub mod failures;

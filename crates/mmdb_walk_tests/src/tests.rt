@@ -1,6 +1,6 @@
 //! What no clause says: worked rows over public calls, printed texts, equalities, and want of memory.
+mod answers;
 mod decodes;
 mod equalities;
-mod found;
 mod memory;
 mod walks;

@@ -1,10 +1,10 @@
 //! The program's words, and the files that it opens.
 use super::runs::{assert_done, assert_done_both, assert_done_with};
-use mmdb_vectors::builder::{BASE, BASE_DATA, BASE_NODE, base_file, file};
+use mmdb_vectors::base::BASE_FILE;
+use mmdb_vectors::builder::{BASE, BASE_DATA, BASE_NODE, file};
 use mmdb_vectors::file::OneFile;
 use std::alloc::Global;
 use std::process::Abort;
-use std::test::Fail;
 use std::{fs, io};
 
 const USAGE: &str =
@@ -98,53 +98,48 @@ const BAD: &[&[&str]] = &[
 ];
 
 #[test]
-fn words_of_the_program(rt: HostRuntime) -> Result<(), Fail> {
-    let alloc = rt.alloc();
-    let base = base_file(alloc)?;
+fn words_of_the_program(rt: HostRuntime) {
     for (texts, status, out, err) in RUN {
-        let done = (*status, *out, *err);
-        assert_done_both(&rt, alloc, base.as_slice(), 1000, texts, done)?;
+        assert_done_both(
+            &rt,
+            rt.alloc(),
+            BASE_FILE,
+            1000,
+            texts,
+            (*status, *out, *err),
+        );
     }
-    Ok(())
 }
 
 #[test]
-fn bad_words(rt: HostRuntime) -> Result<(), Fail> {
-    let alloc = rt.alloc();
-    let base = base_file(alloc)?;
-    // No file, and one that can't be read: neither is told of.
-    for (bytes, fails_at) in [(base.as_slice(), 1000), (b"".as_slice(), 0)] {
-        for texts in BAD {
-            assert_done_both(&rt, alloc, bytes, fails_at, texts, (2, "", USAGE))?;
-        }
+fn bad_words(rt: HostRuntime) {
+    let done = (2, "", USAGE);
+    for texts in BAD {
+        assert_done_both(&rt, rt.alloc(), BASE_FILE, 1000, texts, done);
+        // No file, and one that can't be read: neither is told of.
+        assert_done_both(&rt, rt.alloc(), b"", 0, texts, done);
     }
-    Ok(())
 }
 
 // Asserts that a file which can't be opened, or is no database, is told of by `lookup` and by `verify`.
-fn assert_refused(
-    rt: &impl Abort,
-    alloc: Global,
-    files: &OneFile<'_>,
-    path: &str,
-    text: &str,
-) -> Result<(), Fail> {
+fn assert_refused(rt: &impl Abort, alloc: Global, files: &OneFile<'_>, path: &str, text: &str) {
     let lookup = ["lookup", path, "1.1.1.1"];
-    assert_done(rt, alloc, files, &lookup, (1, "", text))?;
-    assert_done(rt, alloc, files, &["verify", path], (1, "", text))
+    assert_done(rt, alloc, files, &lookup, (1, "", text));
+    assert_done(rt, alloc, files, &["verify", path], (1, "", text));
 }
 
+/// An empty file.
+const EMPTY: OneFile<'static> = OneFile {
+    bytes: b"",
+    step: 64,
+    fails_at: 1000,
+};
+
 #[test]
-fn refused_files(rt: HostRuntime) -> Result<(), Fail> {
-    let alloc = rt.alloc();
+fn refused_files(rt: HostRuntime) {
     let no_marker = "invalid database: could not find MaxMind DB metadata in file\n";
-    let empty = OneFile {
-        bytes: b"",
-        step: 64,
-        fails_at: 1000,
-    };
-    assert_refused(&rt, alloc, &empty, "here.mmdb", no_marker)?;
-    assert_done_with(&rt, alloc, b"", &FOUND, (1, "", no_marker))
+    assert_refused(&rt, rt.alloc(), &EMPTY, "here.mmdb", no_marker);
+    assert_done_with(&rt, rt.alloc(), b"", &FOUND, (1, "", no_marker));
 }
 
 /// A path, the read of the base file that is refused, and why the file can't be read.
@@ -153,20 +148,22 @@ const UNREAD: [(&str, u32, io::ErrorKind); 2] = [
     ("here.mmdb", 2, io::ErrorKind::InvalidData),
 ];
 
+// Asserts that the base file can't be read, and why.
+fn assert_unread(rt: &impl Abort, alloc: Global, path: &str, fails_at: u32, kind: io::ErrorKind) {
+    let text = format!(in alloc; "i/o error: {}\n", io::Error::from(kind)).expect(rt, path);
+    let files = OneFile {
+        bytes: BASE_FILE,
+        step: 64,
+        fails_at,
+    };
+    assert_refused(rt, alloc, &files, path, text.as_str());
+}
+
 #[test]
-fn unread_files(rt: HostRuntime) -> Result<(), Fail> {
-    let alloc = rt.alloc();
-    let base = base_file(alloc)?;
+fn unread_files(rt: HostRuntime) {
     for (path, fails_at, kind) in UNREAD {
-        let text = format!(in alloc; "i/o error: {}\n", io::Error::from(kind))?;
-        let files = OneFile {
-            bytes: base.as_slice(),
-            step: 64,
-            fails_at,
-        };
-        assert_refused(&rt, alloc, &files, path, text.as_str())?;
+        assert_unread(&rt, rt.alloc(), path, fails_at, kind);
     }
-    Ok(())
 }
 
 /// A node, data, and what is told of their file.
@@ -185,21 +182,17 @@ const DAMAGED: &[(&[u8], &[u8], &str)] = &[
 ];
 
 #[test]
-fn damaged_files(rt: HostRuntime) -> Result<(), Fail> {
-    let alloc = rt.alloc();
+fn damaged_files(rt: HostRuntime) {
     for (node, data, text) in DAMAGED {
-        let bytes = file(alloc, node, data, BASE)?;
+        let bytes = file(rt.alloc(), node, data, BASE).expect(&rt, text);
         let words = ["verify", "here.mmdb"];
-        assert_done_with(&rt, alloc, bytes.as_slice(), &words, (1, "", *text))?;
+        assert_done_with(&rt, rt.alloc(), bytes.as_slice(), &words, (1, "", *text));
     }
-    Ok(())
 }
 
 #[test]
-fn files_through_the_program(rt: HostRuntime) -> Result<(), Fail> {
-    let alloc = rt.alloc();
-    fs::write(&rt, "here.mmdb", base_file(alloc)?.as_slice())?;
-    assert_done(&rt, alloc, &rt, &FOUND, (0, "128.0.0.0/1 0\n", ""))?;
-    fs::remove_file(&rt, "here.mmdb")?;
-    Ok(())
+fn files_through_the_program(rt: HostRuntime) {
+    fs::write(&rt, "here.mmdb", BASE_FILE).expect(&rt, "a file");
+    assert_done(&rt, rt.alloc(), &rt, &FOUND, (0, "128.0.0.0/1 0\n", ""));
+    fs::remove_file(&rt, "here.mmdb").expect(&rt, "no file");
 }

@@ -2,10 +2,9 @@
 use mmdb_tool::{Out, run, run_bytes};
 use mmdb_vectors::file::OneFile;
 use mmdb_vectors::words::words_of;
-use std::alloc::Global;
+use std::alloc::{AllocError, Global};
 use std::process::Abort;
 use std::rt::Files;
-use std::test::Fail;
 
 /// What a run ends with: its status, and what it wrote on standard output and on standard error.
 pub type Done<'a> = (u8, &'a str, &'a str);
@@ -19,6 +18,11 @@ fn assert_written(rt: &impl Abort, sink: Out<Vec<u8>>, text: &str, case: &[&str]
     );
 }
 
+// Asserts a status.
+fn assert_status(rt: &impl Abort, status: u8, wanted: u8, case: &[&str]) {
+    assert!(rt; status == wanted, "at {case:?}: {status}");
+}
+
 /// Asserts what the program does with its words over files.
 pub fn assert_done<R: Files>(
     rt: &impl Abort,
@@ -26,15 +30,14 @@ pub fn assert_done<R: Files>(
     files: &R,
     texts: &[&str],
     done: Done<'_>,
-) -> Result<(), Fail> {
-    let words = words_of(alloc, texts)?;
+) {
+    let words = words_of(alloc, texts).expect(rt, "words");
     let mut out = Out::new(Vec::new(alloc));
     let mut err = Out::new(Vec::new(alloc));
     let status = run(files, alloc, words.as_slice(), &mut out, &mut err);
-    assert!(rt; status == done.0, "at {texts:?}: {status}");
+    assert_status(rt, status, done.0, texts);
     assert_written(rt, out, done.1, texts);
     assert_written(rt, err, done.2, texts);
-    Ok(())
 }
 
 /// Asserts what the program does with its words over the bytes of a file.
@@ -44,15 +47,14 @@ pub fn assert_done_with(
     bytes: &[u8],
     texts: &[&str],
     done: Done<'_>,
-) -> Result<(), Fail> {
-    let words = words_of(alloc, texts)?;
+) {
+    let words = words_of(alloc, texts).expect(rt, "words");
     let mut out = Out::new(Vec::new(alloc));
     let mut err = Out::new(Vec::new(alloc));
     let status = run_bytes(alloc, bytes, words.as_slice(), &mut out, &mut err);
-    assert!(rt; status == done.0, "at {texts:?}: {status}");
+    assert_status(rt, status, done.0, texts);
     assert_written(rt, out, done.1, texts);
     assert_written(rt, err, done.2, texts);
-    Ok(())
 }
 
 /// Asserts what the program does with its words over a file of these bytes, whose read number `fails_at` is
@@ -64,12 +66,28 @@ pub fn assert_done_both(
     fails_at: u32,
     texts: &[&str],
     done: Done<'_>,
-) -> Result<(), Fail> {
+) {
     let files = OneFile {
         bytes,
         step: 64,
         fails_at,
     };
-    assert_done(rt, alloc, &files, texts, done)?;
-    assert_done_with(rt, alloc, bytes, texts, done)
+    assert_done(rt, alloc, &files, texts, done);
+    assert_done_with(rt, alloc, bytes, texts, done);
+}
+
+/// Words that the program runs over a file, and what it writes.
+pub type Row<'a> = (&'a [&'a str], &'a str);
+
+/// Asserts what the program writes for each row.
+pub fn assert_rows(
+    rt: &impl Abort,
+    alloc: Global,
+    file: Result<Vec<u8>, AllocError>,
+    rows: &[Row<'_>],
+) {
+    let file = file.expect(rt, "a file");
+    for (texts, text) in rows {
+        assert_done_with(rt, alloc, file.as_slice(), texts, (0, *text, ""));
+    }
 }

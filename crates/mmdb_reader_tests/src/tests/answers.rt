@@ -1,27 +1,48 @@
 //! What a database answers, as text.
-use maxminddb::{IpNetwork, LookupResult, MaxMindDbError, Reader};
+use maxminddb::{LookupResult, MaxMindDbError, Reader};
 use std::alloc::{AllocError, Global};
 use std::convert::AsSlice;
-use std::net::{IpAddr, Ipv4Addr};
+use std::net::IpAddr;
 use std::process::Abort;
-use std::test::Fail;
 
-/// An address for which the base file has no data.
-pub fn low() -> IpAddr {
-    IpAddr::V4(Ipv4Addr::new(1, 1, 1, 1))
+/// Asserts what holds of a case.
+pub fn assert_holds(rt: &impl Abort, holds: bool, case: &str) {
+    assert!(rt; holds, "{case}");
 }
 
-/// An address for which the base file has data.
-pub fn high() -> IpAddr {
-    IpAddr::V4(Ipv4Addr::new(200, 0, 0, 1))
+/// Asserts a text.
+pub fn assert_text(rt: &impl Abort, text: Result<String, AllocError>, wanted: &str, case: &str) {
+    let text = text.expect(rt, case);
+    assert!(rt; text.as_str() == wanted, "{case}: {text}");
 }
 
-/// What a lookup tells: whether there is data, where it is, and for which network.
-pub fn told<S: AsSlice<u8> + Drop>(
-    found: LookupResult<'_, S>,
-) -> Result<(bool, Option<usize>, IpNetwork), MaxMindDbError> {
-    let again = found;
-    Ok((again.has_data(), found.offset(), found.network()?))
+/// A reader of a file that is accepted.
+pub fn opened(
+    rt: &impl Abort,
+    alloc: Global,
+    file: Result<Vec<u8>, AllocError>,
+) -> Reader<Vec<u8>> {
+    let file = file.expect(rt, "a file");
+    Reader::from_source(alloc, file).expect(rt, "a file that is accepted")
+}
+
+/// The address that a text spells.
+pub fn address(rt: &impl Abort, text: &str) -> IpAddr {
+    text.parse().expect(rt, text)
+}
+
+// A text, and an offset of data or `-`.
+fn line_of(
+    alloc: Global,
+    text: &str,
+    has_data: bool,
+    offset: Option<usize>,
+) -> Result<String, AllocError> {
+    match (has_data, offset) {
+        (true, Some(offset)) => format!(in alloc; "{text} {offset}"),
+        (false, None) => format!(in alloc; "{text} -"),
+        _ => format!(in alloc; "{text} ?"),
+    }
 }
 
 // The full text of a network, and the offset of its value or `-`.
@@ -30,28 +51,35 @@ fn text_of<S: AsSlice<u8> + Drop>(
     found: LookupResult<'_, S>,
 ) -> Result<String, MaxMindDbError> {
     let network = found.network()?.full_text(alloc)?;
-    Ok(match found.offset() {
-        Some(offset) => format!(in alloc; "{network} {offset}")?,
-        None => format!(in alloc; "{network} -")?,
-    })
+    let (has_data, offset) = (found.has_data(), found.offset());
+    Ok(line_of(alloc, network.as_str(), has_data, offset)?)
+}
+
+/// The text of an error.
+pub fn error_text(alloc: Global, error: MaxMindDbError) -> Result<String, AllocError> {
+    format!(in alloc; "{error}")
 }
 
 /// The network that was found and the offset of its value or `-`, or the text of the refusal.
 pub fn found_text<S: AsSlice<u8> + Drop>(
     alloc: Global,
     found: Result<LookupResult<'_, S>, MaxMindDbError>,
-) -> Result<String, MaxMindDbError> {
-    match found {
+) -> Result<String, AllocError> {
+    let text = match found {
         Ok(found) => text_of(alloc, found),
-        Err(error) => Ok(format!(in alloc; "{error}")?),
+        Err(error) => Err(error),
+    };
+    match text {
+        Ok(text) => Ok(text),
+        Err(error) => error_text(alloc, error),
     }
 }
 
 /// What an address is answered, or the refusal of the file.
-pub fn answer(alloc: Global, file: &[u8], address: IpAddr) -> Result<String, MaxMindDbError> {
+pub fn answer(alloc: Global, file: &[u8], address: IpAddr) -> Result<String, AllocError> {
     match Reader::from_source(alloc, file) {
         Ok(reader) => found_text(alloc, reader.lookup(address)),
-        Err(error) => Ok(format!(in alloc; "{error}")?),
+        Err(error) => error_text(alloc, error),
     }
 }
 
@@ -59,20 +87,20 @@ pub fn answer(alloc: Global, file: &[u8], address: IpAddr) -> Result<String, Max
 pub fn verdict(alloc: Global, file: &[u8]) -> Result<String, AllocError> {
     match Reader::from_source(alloc, file) {
         Ok(_) => String::from_str(alloc, "accepted"),
-        Err(error) => format!(in alloc; "{error}"),
+        Err(error) => error_text(alloc, error),
     }
 }
 
-/// Asserts what each address is answered.
+/// Asserts what each address of a file is answered.
 pub fn assert_answers(
     rt: &impl Abort,
     alloc: Global,
-    file: &[u8],
+    file: Result<Vec<u8>, AllocError>,
     rows: &[(&str, &str)],
-) -> Result<(), Fail> {
-    for (address, text) in rows {
-        let answered = answer(alloc, file, address.parse()?)?;
-        assert!(rt; answered.as_str() == *text, "{address}: {answered}");
+) {
+    let reader = opened(rt, alloc, file);
+    for (text, wanted) in rows {
+        let found = reader.lookup(address(rt, text));
+        assert_text(rt, found_text(alloc, found), wanted, text);
     }
-    Ok(())
 }

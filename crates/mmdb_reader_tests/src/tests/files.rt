@@ -1,74 +1,92 @@
 //! Files that can't be read, and files on disk.
-use super::answers::{found_text, high};
+use super::answers::{assert_text, error_text, found_text};
 use maxminddb::{MaxMindDbError, Reader};
-use mmdb_vectors::builder::base_file;
+use mmdb_vectors::base::{BASE_FILE, high};
 use mmdb_vectors::file::OneFile;
-use std::alloc::Global;
+use std::alloc::{AllocError, Global};
 use std::fs;
 use std::rt::Files;
-use std::test::Fail;
+
+const FOUND: &str = "128.0.0.0/1 0";
+
+const UNREAD: &str = "i/o error";
+
+const NO_MARKER: &str = "invalid database: could not find MaxMind DB metadata in file";
+
+// The kind of refusal of a file that can't be read, or another refusal.
+fn refusal_text(alloc: Global, error: MaxMindDbError) -> Result<String, AllocError> {
+    match error {
+        MaxMindDbError::Io(_) => String::from_str(alloc, UNREAD),
+        error => error_text(alloc, error),
+    }
+}
 
 // What a file at a path answers: what an address is told, the kind of refusal of a file that can't be
 // read, or another refusal.
-fn answer_at<R: Files>(rt: &R, alloc: Global, path: &str) -> Result<String, MaxMindDbError> {
+fn answer_at<R: Files>(rt: &R, alloc: Global, path: &str) -> Result<String, AllocError> {
     match Reader::open_readfile(rt, alloc, path) {
         Ok(reader) => found_text(alloc, reader.lookup(high())),
-        Err(MaxMindDbError::Io(_)) => Ok(String::from_str(alloc, "i/o error")?),
-        Err(error) => Ok(format!(in alloc; "{error}")?),
+        Err(error) => refusal_text(alloc, error),
     }
 }
 
+/// A path, the bytes of `here.mmdb`, its read that fails, and what the file answers. Of the base file there are ten
+/// reads, and those that find the end.
+#[rattlefmt::skip]
+const READS: &[(&str, &[u8], u32, &str)] = &[
+    ("here.mmdb", BASE_FILE, 1000, FOUND),
+    ("here.mmdb", BASE_FILE, 0, UNREAD),
+    ("here.mmdb", BASE_FILE, 1, UNREAD),
+    ("here.mmdb", BASE_FILE, 5, UNREAD),
+    ("here.mmdb", BASE_FILE, 10, UNREAD),
+    ("here.mmdb", BASE_FILE, 20, FOUND),
+    ("gone.mmdb", BASE_FILE, 1000, UNREAD),
+    ("here.mmdb", b"", 1000, NO_MARKER),
+];
+
+// What a file answers of which one read fails.
+fn answer_of_reads(
+    alloc: Global,
+    path: &str,
+    bytes: &[u8],
+    fails_at: u32,
+) -> Result<String, AllocError> {
+    let files = OneFile {
+        bytes,
+        step: 20,
+        fails_at,
+    };
+    answer_at(&files, alloc, path)
+}
+
 #[test]
-fn reads_that_fail(rt: HostRuntime) -> Result<(), Fail> {
-    let alloc = rt.alloc();
-    let base = base_file(alloc)?;
-    let (whole, empty) = (base.as_slice(), b"".as_slice());
-    let found = "128.0.0.0/1 0";
-    let no_marker = "invalid database: could not find MaxMind DB metadata in file";
-    // Ten reads, and those that find the end.
-    for (path, bytes, fails_at, text) in [
-        ("here.mmdb", whole, 1000, found),
-        ("here.mmdb", whole, 0, "i/o error"),
-        ("here.mmdb", whole, 1, "i/o error"),
-        ("here.mmdb", whole, 5, "i/o error"),
-        ("here.mmdb", whole, 10, "i/o error"),
-        ("here.mmdb", whole, 20, found),
-        ("gone.mmdb", whole, 1000, "i/o error"),
-        ("here.mmdb", empty, 1000, no_marker),
-    ] {
-        let files = OneFile {
-            bytes,
-            step: 20,
-            fails_at,
-        };
-        let answered = answer_at(&files, alloc, path)?;
+fn reads_that_fail(rt: HostRuntime) {
+    for (path, bytes, fails_at, wanted) in READS {
+        let text = answer_of_reads(rt.alloc(), path, bytes, *fails_at);
+        let text = text.expect(&rt, path);
         assert!(rt;
-            answered.as_str() == text,
-            "{path}, failing at {fails_at}: {answered}"
+            text.as_str() == *wanted,
+            "{path}, failing at {fails_at}: {text}"
         );
     }
-    Ok(())
 }
 
+/// Paths, and what their files answer.
+#[rattlefmt::skip]
+const ON_DISK: &[(&str, &str)] = &[
+    ("written.mmdb", FOUND),
+    ("empty.mmdb", NO_MARKER),
+    (".", UNREAD),
+    ("gone.mmdb", UNREAD),
+];
+
 #[test]
-fn files_on_disk(rt: HostRuntime) -> Result<(), Fail> {
-    let alloc = rt.alloc();
-    let base = base_file(alloc)?;
-    fs::write(&rt, "written.mmdb", base.as_slice())?;
-    fs::write(&rt, "empty.mmdb", b"".as_slice())?;
-    for (path, text) in [
-        ("written.mmdb", "128.0.0.0/1 0"),
-        (
-            "empty.mmdb",
-            "invalid database: could not find MaxMind DB metadata in file",
-        ),
-        (".", "i/o error"),
-        ("gone.mmdb", "i/o error"),
-    ] {
-        let answered = answer_at(&rt, alloc, path)?;
-        assert!(rt; answered.as_str() == text, "{path}: {answered}");
+fn files_on_disk(rt: HostRuntime) {
+    fs::write(&rt, "written.mmdb", BASE_FILE).expect(&rt, "a file");
+    fs::write(&rt, "empty.mmdb", b"".as_slice()).expect(&rt, "an empty file");
+    for (path, text) in ON_DISK {
+        assert_text(&rt, answer_at(&rt, rt.alloc(), path), text, path);
     }
-    fs::remove_file(&rt, "written.mmdb")?;
-    fs::remove_file(&rt, "empty.mmdb")?;
-    Ok(())
+    fs::remove_file(&rt, "written.mmdb").expect(&rt, "no file");
+    fs::remove_file(&rt, "empty.mmdb").expect(&rt, "no empty file");
 }

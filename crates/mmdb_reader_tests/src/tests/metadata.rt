@@ -1,10 +1,10 @@
 //! Which files are accepted, and what their metadata say.
-use super::answers::{answer, high, low, verdict};
-use maxminddb::{MaxMindDbError, Metadata, Reader};
+use super::answers::{answer, assert_holds, assert_text, error_text, opened, verdict};
+use maxminddb::{MaxMindDbError, Metadata};
+use mmdb_vectors::base::{BASE_FILE, high, low};
 use mmdb_vectors::builder::{BASE_DATA, BASE_NODE, Changes, Field, base_file, changed_file};
-use std::alloc::Global;
+use std::alloc::{AllocError, Global};
 use std::process::Abort;
-use std::test::Fail;
 
 const NO_MARKER: &str = "invalid database: could not find MaxMind DB metadata in file";
 
@@ -59,17 +59,21 @@ const CASES: &[Case] = &[
     ("no room", BASE_NODE, BASE_DATA, &[(Field::NodeCount, b"\xC1\x02")], NO_ROOM, NO_ROOM),
 ];
 
+// Asserts what both halves of a file are answered.
+fn assert_case(rt: &impl Abort, alloc: Global, row: &Case) {
+    let (case, nodes, data, changes, lower, upper) = row;
+    let file = changed_file(alloc, nodes, data, changes).expect(rt, case);
+    let answered = answer(alloc, file.as_slice(), low());
+    assert_text(rt, answered, lower, case);
+    let answered = answer(alloc, file.as_slice(), high());
+    assert_text(rt, answered, upper, case);
+}
+
 #[test]
-fn accepted_and_refused(rt: HostRuntime) -> Result<(), Fail> {
-    let alloc = rt.alloc();
-    for (case, nodes, data, changes, lower, upper) in CASES {
-        let file = changed_file(alloc, nodes, data, changes)?;
-        let answered = answer(alloc, file.as_slice(), low())?;
-        assert!(rt; answered.as_str() == *lower, "{case}: {answered}");
-        let answered = answer(alloc, file.as_slice(), high())?;
-        assert!(rt; answered.as_str() == *upper, "{case}: {answered}");
+fn accepted_and_refused(rt: HostRuntime) {
+    for case in CASES {
+        assert_case(&rt, rt.alloc(), case);
     }
-    Ok(())
 }
 
 /// The first bytes of the base file, and the refusal. The marker ends at 38, and the metadata begin there:
@@ -87,23 +91,23 @@ const BEGINNINGS: &[(usize, &str)] = &[
     (198, "invalid database at offset 197: u16 of size 1"),
 ];
 
+// Asserts that a text names the format.
+fn assert_of_database(rt: &impl Abort, refusal: Result<String, AllocError>, len: usize) {
+    let refusal = refusal.expect(rt, "a text");
+    let is_right = refusal.starts_with("invalid database");
+    assert!(rt; is_right, "{len} bytes: {refusal}");
+}
+
 #[test]
-fn beginnings_refused(rt: HostRuntime) -> Result<(), Fail> {
+fn beginnings_refused(rt: HostRuntime) {
     let alloc = rt.alloc();
-    let base = base_file(alloc)?;
-    for (len, _) in base.iter().enumerate() {
-        let refused = Reader::from_source(alloc, &base[..len]);
-        assert!(rt;
-            matches!(&refused, Err(MaxMindDbError::InvalidDatabase { .. })),
-            "{len} bytes"
-        );
+    for (len, _) in BASE_FILE.iter().enumerate() {
+        assert_of_database(&rt, verdict(alloc, &BASE_FILE[..len]), len);
     }
     for (len, text) in BEGINNINGS {
-        assert!(rt; *len <= base.len());
-        let refusal = verdict(alloc, &base[..*len])?;
-        assert!(rt; refusal.as_str() == *text, "{len} bytes: {refusal}");
+        let beginning = BASE_FILE.get(..*len).expect(&rt, text);
+        assert_text(&rt, verdict(alloc, beginning), text, "a beginning");
     }
-    Ok(())
 }
 
 const LATE: (Field, &[u8]) = (Field::BuildEpoch, b"\x08\x02\x80\0\0\0\0\0\0\0");
@@ -150,24 +154,17 @@ const FAULTS: Refusals = &[
     ),
 ];
 
-// Asserts with which texts files of these data and metadata are refused.
-fn assert_refusals(
-    rt: &impl Abort,
-    alloc: Global,
-    data: &[u8],
-    rows: Refusals,
-) -> Result<(), Fail> {
-    for (changes, text) in rows {
-        let file = changed_file(alloc, BASE_NODE, data, changes)?;
-        let refusal = verdict(alloc, file.as_slice())?;
-        assert!(rt; refusal.as_str() == *text, "{refusal}, not {text}");
-    }
-    Ok(())
+// Asserts with which text a file of these data and metadata is refused.
+fn assert_refusal(rt: &impl Abort, alloc: Global, data: &[u8], changes: Changes<'_>, text: &str) {
+    let file = changed_file(alloc, BASE_NODE, data, changes).expect(rt, text);
+    assert_text(rt, verdict(alloc, file.as_slice()), text, text);
 }
 
 #[test]
-fn earlier_fault_is_named(rt: HostRuntime) -> Result<(), Fail> {
-    assert_refusals(&rt, rt.alloc(), BASE_DATA, FAULTS)
+fn earlier_fault_is_named(rt: HostRuntime) {
+    for (changes, text) in FAULTS {
+        assert_refusal(&rt, rt.alloc(), BASE_DATA, changes, text);
+    }
 }
 
 /// Metadata whose values are not read, and the refusal. `InvalidDatabase` counts from the start of the
@@ -214,9 +211,13 @@ const UNREAD_LATER: Refusals = &[
 ];
 
 #[test]
-fn metadata_refused(rt: HostRuntime) -> Result<(), Fail> {
-    assert_refusals(&rt, rt.alloc(), BASE_DATA, UNREAD)?;
-    assert_refusals(&rt, rt.alloc(), b"\x48abcdefgh", UNREAD_LATER)
+fn metadata_refused(rt: HostRuntime) {
+    for (changes, text) in UNREAD {
+        assert_refusal(&rt, rt.alloc(), BASE_DATA, changes, text);
+    }
+    for (changes, text) in UNREAD_LATER {
+        assert_refusal(&rt, rt.alloc(), b"\x48abcdefgh", changes, text);
+    }
 }
 
 /// Metadata that are read, and name the type `T`.
@@ -231,14 +232,12 @@ const READ: &[(&str, Changes<'static>)] = &[
 ];
 
 #[test]
-fn metadata_read(rt: HostRuntime) -> Result<(), Fail> {
-    let alloc = rt.alloc();
+fn metadata_read(rt: HostRuntime) {
     for (case, changes) in READ {
-        let file = changed_file(alloc, BASE_NODE, BASE_DATA, changes)?;
-        let reader = Reader::from_source(alloc, file)?;
-        assert!(rt; reader.metadata().database_type.as_str() == "T", "{case}");
+        let file = changed_file(rt.alloc(), BASE_NODE, BASE_DATA, changes);
+        let reader = opened(&rt, rt.alloc(), file);
+        assert_holds(&rt, reader.metadata().database_type.as_str() == "T", case);
     }
-    Ok(())
 }
 
 // Asserts what the base file says of itself.
@@ -254,35 +253,44 @@ fn assert_base_metadata(rt: &impl Abort, metadata: &Metadata) {
         metadata.record_size,
     );
     assert!(rt; tree == (4, 1, 24), "{tree:?}");
-    assert!(rt; metadata.build_epoch == 1);
-    assert!(rt; metadata.database_type.as_str() == "T");
-    assert!(rt; metadata.languages.len() == 0);
-    assert!(rt; metadata.description.len() == 1);
+    assert_holds(rt, metadata.build_epoch == 1, "build epoch");
+    assert_holds(rt, metadata.database_type.as_str() == "T", "database type");
+    assert_holds(rt, metadata.languages.len() == 0, "languages");
+    assert_holds(rt, metadata.description.len() == 1, "description");
+}
+
+const LARGEST: (Field, &[u8]) = (
+    Field::BuildEpoch,
+    b"\x08\x02\x7F\xFF\xFF\xFF\xFF\xFF\xFF\xFF",
+);
+
+// The text of a time, or of its refusal.
+fn time_text(alloc: Global, time: Result<i64, MaxMindDbError>) -> Result<String, AllocError> {
+    match time {
+        Ok(time) => format!(in alloc; "{time}"),
+        Err(error) => error_text(alloc, error),
+    }
+}
+
+// Asserts the largest time, and that there is none after it.
+fn assert_largest(rt: &impl Abort, alloc: Global) {
+    let file = changed_file(alloc, BASE_NODE, BASE_DATA, &[LARGEST]);
+    let reader = opened(rt, alloc, file);
+    let time = time_text(alloc, reader.metadata().build_time(alloc));
+    assert_text(rt, time, "9223372036854775807", "the largest time");
+    let mut later = reader.metadata().clone().expect(rt, "a clone");
+    later.build_epoch = 9_223_372_036_854_775_808;
+    let time = time_text(alloc, later.build_time(alloc));
+    assert_text(rt, time, TOO_LATE, "a time after it");
 }
 
 #[test]
-fn build_epoch_at_the_limit(rt: HostRuntime) -> Result<(), Fail> {
+fn build_epoch_at_the_limit(rt: HostRuntime) {
     let alloc = rt.alloc();
-    let base = Reader::from_source(alloc, base_file(alloc)?)?;
+    let base = opened(&rt, alloc, base_file(alloc));
     assert_base_metadata(&rt, base.metadata());
-    assert!(rt; base.metadata().build_time(alloc)? == 1);
-    let refused = changed_file(alloc, BASE_NODE, BASE_DATA, &[LATE])?;
-    let refusal = verdict(alloc, refused.as_slice())?;
-    assert!(rt; refusal.as_str() == TOO_LATE, "{refusal}");
-    let largest = (
-        Field::BuildEpoch,
-        b"\x08\x02\x7F\xFF\xFF\xFF\xFF\xFF\xFF\xFF".as_slice(),
-    );
-    let bytes = changed_file(alloc, BASE_NODE, BASE_DATA, &[largest])?;
-    let reader = Reader::from_source(alloc, bytes)?;
-    let time = reader.metadata().build_time(alloc)?;
-    assert!(rt; time == 9_223_372_036_854_775_807, "{time}");
-    let mut later = reader.metadata().clone()?;
-    later.build_epoch = 9_223_372_036_854_775_808;
-    let refusal = match later.build_time(alloc) {
-        Ok(_) => String::new(alloc),
-        Err(error) => format!(in alloc; "{error}")?,
-    };
-    assert!(rt; refusal.as_str() == TOO_LATE, "{refusal}");
-    Ok(())
+    let time = time_text(alloc, base.metadata().build_time(alloc));
+    assert_text(&rt, time, "1", "the base file");
+    assert_refusal(&rt, alloc, BASE_DATA, &[LATE], TOO_LATE);
+    assert_largest(&rt, alloc);
 }

@@ -1,57 +1,70 @@
 //! Calls with more memory in turn, until none is refused.
 ghost use Rattle.std.specs.Prelude.{◌<◌};
 
-use super::sink::{End, OneByte};
-use maxminddb::{
-    Checked, IpNetwork, MaxMindDbError, Reader, WithinOptions, decoding, decoding_at,
-    decoding_at_path, invalid_database, invalid_database_at, invalid_input, resource_limit_at,
-};
+use super::asserts::{assert_holds, opened};
+use super::made::{Constructor, made};
+use super::sink::{End, OneByte, one_byte};
+use maxminddb::{Checked, IpNetwork, MaxMindDbError, Reader, WithinOptions};
 use mmdb_report::{ReportError, report_on};
 use mmdb_tool::{ListError, list_to, lookup_line};
-use mmdb_vectors::builder::{BASE_DATA, BASE_NODE, Field, base_file, changed_file};
+use mmdb_vectors::base::{BASE_FILE, high};
+use mmdb_vectors::builder::{BASE_DATA, BASE_NODE, Field, changed_file, push_node_24};
 use mmdb_vectors::hoard::Hoard;
-use std::alloc::Global;
+use std::alloc::{AllocError, Global};
 use std::net::{IpAddr, Ipv6Addr};
-use std::test::Fail;
+use std::process::Abort;
 
-/// A call, and where it is refused what its input is.
-#[derive(Clone, Copy, Debug, PartialEq, Eq)]
-enum Call {
+/// The line of an address of the base file that has data, which is the list of the file too.
+pub(crate) const LEAF: &str = "128.0.0.0/1 0\n";
+
+/// An address that no IPv4 file has.
+const IPV6: IpAddr = IpAddr::V6(Ipv6Addr::LOCALHOST);
+
+/// A call.
+pub(crate) enum Call {
     Within,
     WithinOfIpv6,
     Networks,
+    Line,
     LineOfIpv6,
+    List,
     ListOfIpv6,
+    Report,
     ReportOfIpv6,
     /// A file whose refusal names a number.
     RefusedSource,
     FullText,
     NewChecked,
-    InvalidDatabase,
-    InvalidDatabaseAt,
-    Decoding,
-    DecodingAt,
-    DecodingAtPath,
-    ResourceLimitAt,
-    InvalidInput,
+    Made(&'static Constructor),
 }
 
 /// What came of a call.
-#[derive(Clone, Copy, Debug, PartialEq, Eq)]
-enum Met {
+#[derive(Clone, Copy, PartialEq, Eq)]
+pub(crate) enum Met {
     Memory,
     Answer,
     Refusal,
+    Wrong,
 }
 
-fn error_met(error: &MaxMindDbError) -> Met {
+fn kind_met(error: &MaxMindDbError) -> Met {
     match error {
         MaxMindDbError::Memory => Met::Memory,
         _ => Met::Refusal,
     }
 }
 
-fn outcome<T>(answer: &Result<T, MaxMindDbError>) -> Met {
+/// What an error says of a call.
+pub(crate) fn error_met(error: MaxMindDbError) -> Met {
+    kind_met(&error)
+}
+
+fn answer_met(is_right: bool) -> Met {
+    if is_right { Met::Answer } else { Met::Wrong }
+}
+
+/// What an answer says of a call.
+pub(crate) fn outcome<T: Drop>(answer: Result<T, MaxMindDbError>) -> Met {
     match answer {
         Ok(_) => Met::Answer,
         Err(error) => error_met(error),
@@ -60,132 +73,202 @@ fn outcome<T>(answer: &Result<T, MaxMindDbError>) -> Met {
 
 /// What the calls are made on.
 #[derive(Drop)]
-struct Given<'a> {
-    reader: Reader<&'a [u8]>,
-    refused: &'a [u8],
+struct Given {
+    base: Reader<&'static [u8]>,
+    offsets: Reader<Vec<u8>>,
+    refused: Vec<u8>,
     ipv4: IpNetwork,
     ipv6: IpNetwork,
 }
 
-// What a constructor of errors made.
-fn made_met(alloc: Global, call: Call) -> Met {
-    error_met(&match call {
-        Call::InvalidDatabase => invalid_database(alloc, "text"),
-        Call::InvalidDatabaseAt => invalid_database_at(alloc, "text", 1),
-        Call::Decoding => decoding(alloc, "text"),
-        Call::DecodingAt => decoding_at(alloc, "text", 1),
-        Call::DecodingAtPath => decoding_at_path(alloc, "text", 1, "/path"),
-        Call::ResourceLimitAt => resource_limit_at(alloc, "text", 1),
-        _ => invalid_input(alloc, "text"),
-    })
-}
-
-fn list_met(alloc: Global, given: &Given<'_>, sink: &mut OneByte) -> Met {
-    match list_to(
+// An IPv4 file of twenty nodes: each leads to the next on the left, the last one to no data, and each to an
+// offset of its own on the right.
+fn file_of_twenty_offsets(alloc: Global) -> Result<Vec<u8>, AllocError> {
+    let mut nodes = Vec::new(alloc);
+    for node in 0..20u32 {
+        push_node_24(&mut nodes, node + 1, node + 36)?;
+    }
+    changed_file(
         alloc,
-        &given.reader,
-        given.ipv6,
-        WithinOptions::default(),
-        sink,
-    ) {
+        nodes.as_slice(),
+        &[0x40; 20],
+        &[(Field::NodeCount, b"\xC1\x14".as_slice())],
+    )
+}
+
+// A file with records of 16 bits.
+fn refused_file(alloc: Global) -> Result<Vec<u8>, AllocError> {
+    let record_size = [(Field::RecordSize, b"\xA1\x10".as_slice())];
+    changed_file(alloc, BASE_NODE, BASE_DATA, &record_size)
+}
+
+// A reader of a file of twenty offsets.
+fn reader_of_twenty_offsets(rt: &impl Abort, alloc: Global) -> Reader<Vec<u8>> {
+    let file = file_of_twenty_offsets(alloc).expect(rt, "a file");
+    Reader::from_source(alloc, file).expect(rt, "a file that is accepted")
+}
+
+impl Given {
+    /// The readers, files and ranges.
+    fn new(rt: &impl Abort, alloc: Global) -> Given {
+        Given {
+            base: opened(rt, alloc, BASE_FILE),
+            offsets: reader_of_twenty_offsets(rt, alloc),
+            refused: refused_file(alloc).expect(rt, "a file"),
+            ipv4: "0.0.0.0/0".parse().expect(rt, "a range"),
+            ipv6: "::/0".parse().expect(rt, "a range"),
+        }
+    }
+}
+
+fn line_met(alloc: Global, given: &Given, address: IpAddr) -> Met {
+    match lookup_line(alloc, &given.base, address) {
+        Ok(line) => answer_met(line.as_str() == LEAF),
+        Err(error) => error_met(error),
+    }
+}
+
+fn list_error_met(error: ListError) -> Met {
+    match error {
+        ListError::Database(error) => error_met(error),
+        _ => Met::Wrong,
+    }
+}
+
+fn list_met(alloc: Global, given: &Given, range: IpNetwork, sink: &mut OneByte) -> Met {
+    match list_to(alloc, &given.base, range, WithinOptions::default(), sink) {
         Ok(()) => Met::Answer,
-        Err(ListError::Database(error)) => error_met(&error),
-        Err(_) => Met::Refusal,
+        Err(error) => list_error_met(error),
     }
 }
 
-fn report_met(alloc: Global, given: &Given<'_>) -> Met {
-    match report_on(alloc, &given.reader, given.ipv6, WithinOptions::default()) {
+fn report_error_met(error: ReportError) -> Met {
+    match error {
+        ReportError::Database(error) => error_met(error),
+        ReportError::TooMany => Met::Wrong,
+    }
+}
+
+fn report_met(alloc: Global, given: &Given, range: IpNetwork) -> Met {
+    match report_on(alloc, &given.offsets, range, WithinOptions::default()) {
+        Ok(report) => answer_met(report.distinct_offsets == 20),
+        Err(error) => report_error_met(error),
+    }
+}
+
+fn text_met(alloc: Global, network: IpNetwork) -> Met {
+    match network.full_text(alloc) {
         Ok(_) => Met::Answer,
-        Err(ReportError::Database(error)) => error_met(&error),
-        Err(ReportError::TooMany) => Met::Refusal,
+        Err(_) => Met::Memory,
     }
 }
 
-// What came of a call where about so many bytes are left.
-fn met_within(
-    alloc: Global,
-    call: Call,
-    given: &Given<'_>,
-    sink: &mut OneByte,
-    budget: usize,
-) -> Met
+// What comes of a call.
+fn met_by(alloc: Global, call: &Call, given: &Given, sink: &mut OneByte) -> Met {
+    let options = WithinOptions::default();
+    match call {
+        Call::Within => outcome(given.base.within(alloc, given.ipv4, options)),
+        Call::WithinOfIpv6 => outcome(given.base.within(alloc, given.ipv6, options)),
+        Call::Networks => outcome(given.base.networks(alloc, options)),
+        Call::Line => line_met(alloc, given, high()),
+        Call::LineOfIpv6 => line_met(alloc, given, IPV6),
+        Call::List => list_met(alloc, given, given.ipv4, sink),
+        Call::ListOfIpv6 => list_met(alloc, given, given.ipv6, sink),
+        Call::Report => report_met(alloc, given, given.ipv4),
+        Call::ReportOfIpv6 => report_met(alloc, given, given.ipv6),
+        Call::RefusedSource => outcome(Reader::from_source(alloc, given.refused.as_slice())),
+        Call::FullText => text_met(alloc, given.ipv4),
+        Call::NewChecked => outcome(Checked::new(alloc, BASE_DATA)),
+        Call::Made(constructor) => error_met(made(alloc, constructor)),
+    }
+}
+
+// How much memory a call is left with: steps of 16 bytes. Of these the positions of a list take some; its lines
+// take 32 KiB, and it goes on in steps of 2 KiB.
+fn budget_of(call: &Call, step: usize) -> usize
+    requires { step < 512 }
+    ensures { result < 1000000 }
+{
+    match call {
+        Call::List if step >= 128 => (step - 127) * 2048,
+        _ => step * 16,
+    }
+}
+
+// What comes of a call where about so many bytes are left. Only a list writes something, and all of it or nothing.
+fn met_within(rt: &impl Abort, alloc: Global, call: &Call, given: &Given, budget: usize) -> Met
     requires { budget < 1000000 }
 {
-    let options = WithinOptions::default();
-    let reader = &given.reader;
+    let mut sink = one_byte(rt, alloc, 100, End::Refuses);
     let small = Hoard::of_all_but(alloc, budget);
-    let met = match call {
-        Call::Within => outcome(&reader.within(alloc, given.ipv4, options)),
-        Call::WithinOfIpv6 => outcome(&reader.within(alloc, given.ipv6, options)),
-        Call::Networks => outcome(&reader.networks(alloc, options)),
-        Call::LineOfIpv6 => {
-            outcome(&lookup_line(alloc, reader, IpAddr::V6(Ipv6Addr::LOCALHOST)))
-        }
-        Call::ListOfIpv6 => list_met(alloc, given, sink),
-        Call::ReportOfIpv6 => report_met(alloc, given),
-        Call::RefusedSource => outcome(&Reader::from_source(alloc, given.refused)),
-        Call::FullText => outcome(&given.ipv4.full_text(alloc).map_err(MaxMindDbError::from)),
-        Call::NewChecked => outcome(&Checked::new(alloc, BASE_DATA)),
-        _ => made_met(alloc, call),
-    };
+    let met = met_by(alloc, call, given, &mut sink);
     drop(small);
+    let wrote = match call {
+        Call::List if met == Met::Answer => LEAF,
+        _ => "",
+    };
+    assert_holds(rt, sink.bytes() == wrote.as_bytes(), "what a list wrote");
     met
 }
 
-/// The calls, what they meet with enough memory, and how often they are refused for it before, at least; one
-/// that takes none meets it at once.
+// How often a call is refused for want of memory, and what comes of it then.
+fn refusals(rt: &impl Abort, alloc: Global, call: &Call, given: &Given) -> (u32, Met) {
+    let large = Hoard::of_large_blocks(alloc);
+    let mut refused = 0u32;
+    let mut met = Met::Memory;
+    for step in 0..512usize {
+        met = met_within(rt, alloc, call, given, budget_of(call, step));
+        if met != Met::Memory {
+            break;
+        }
+        refused = refused.saturating_add(1);
+    }
+    drop(large);
+    (refused, met)
+}
+
+/// A call by name, what it meets with enough memory, and how often it is refused for it before, at least and at
+/// most.
+pub(crate) type Row = (&'static str, Call, Met, u32, u32);
+
+// Asserts what a call meets.
+fn assert_met(rt: &impl Abort, alloc: Global, given: &Given, row: &Row) {
+    let (name, call, last, least, most) = row;
+    let (refused, met) = refusals(rt, alloc, call, given);
+    let is_right = met == *last && refused >= *least && refused <= *most;
+    assert!(rt; is_right, "{name}: {refused} refusals");
+}
+
+/// Asserts what calls meet.
+pub(crate) fn assert_all_met(rt: &impl Abort, alloc: Global, rows: &[Row]) {
+    let given = Given::new(rt, alloc);
+    for row in rows {
+        assert_met(rt, alloc, &given, row);
+    }
+}
+
+/// The calls; one that takes no memory is never refused for it.
 #[rattlefmt::skip]
-const CALLS: &[(Call, Met, u32)] = &[
-    (Call::Within, Met::Answer, 1),
-    (Call::WithinOfIpv6, Met::Refusal, 0),
-    (Call::Networks, Met::Answer, 1),
-    (Call::LineOfIpv6, Met::Refusal, 0),
-    (Call::ListOfIpv6, Met::Refusal, 0),
-    (Call::ReportOfIpv6, Met::Refusal, 0),
-    (Call::RefusedSource, Met::Refusal, 1),
-    (Call::FullText, Met::Answer, 1),
-    (Call::NewChecked, Met::Answer, 1),
-    (Call::InvalidDatabase, Met::Refusal, 1),
-    (Call::InvalidDatabaseAt, Met::Refusal, 1),
-    (Call::Decoding, Met::Refusal, 1),
-    (Call::DecodingAt, Met::Refusal, 1),
-    (Call::DecodingAtPath, Met::Refusal, 1),
-    (Call::ResourceLimitAt, Met::Refusal, 1),
-    (Call::InvalidInput, Met::Refusal, 1),
+const CALLS: &[Row] = &[
+    ("within", Call::Within, Met::Answer, 1, 511),
+    ("within of IPv6", Call::WithinOfIpv6, Met::Refusal, 0, 0),
+    ("networks", Call::Networks, Met::Answer, 1, 511),
+    ("lookup_line of IPv6", Call::LineOfIpv6, Met::Refusal, 0, 0),
+    ("list_to of IPv6", Call::ListOfIpv6, Met::Refusal, 0, 0),
+    ("report_on of IPv6", Call::ReportOfIpv6, Met::Refusal, 0, 0),
+    ("from_source", Call::RefusedSource, Met::Refusal, 1, 511),
+    ("full_text", Call::FullText, Met::Answer, 1, 511),
+    ("Checked::new", Call::NewChecked, Met::Answer, 1, 511),
+    ("invalid_database", Call::Made(&Constructor::InvalidDatabase), Met::Refusal, 1, 511),
+    ("invalid_database_at", Call::Made(&Constructor::InvalidDatabaseAt), Met::Refusal, 1, 511),
+    ("decoding", Call::Made(&Constructor::Decoding), Met::Refusal, 1, 511),
+    ("decoding_at", Call::Made(&Constructor::DecodingAt), Met::Refusal, 1, 511),
+    ("decoding_at_path", Call::Made(&Constructor::DecodingAtPath), Met::Refusal, 1, 511),
+    ("resource_limit_at", Call::Made(&Constructor::ResourceLimitAt), Met::Refusal, 1, 511),
+    ("invalid_input", Call::Made(&Constructor::InvalidInput), Met::Refusal, 1, 511),
 ];
 
 #[test]
-fn growths_refused_in_turn(rt: HostRuntime) -> Result<(), Fail> {
-    let alloc = rt.alloc();
-    let base = base_file(alloc)?;
-    let record_size = [(Field::RecordSize, b"\xA1\x10".as_slice())];
-    let refused = changed_file(alloc, BASE_NODE, BASE_DATA, &record_size)?;
-    let given = Given {
-        reader: Reader::from_source(alloc, base.as_slice())?,
-        refused: refused.as_slice(),
-        ipv4: "0.0.0.0/0".parse()?,
-        ipv6: "::/0".parse()?,
-    };
-    let mut sink = OneByte::new(Vec::with_capacity(alloc, 16)?, 100, End::Refuses);
-    for (call, last, least) in CALLS {
-        let large = Hoard::of_large_blocks(alloc);
-        let mut refused = 0u32;
-        let mut met = Met::Memory;
-        for step in 0..512usize {
-            met = met_within(alloc, *call, &given, &mut sink, step * 16);
-            if met != Met::Memory {
-                break;
-            }
-            refused = refused.saturating_add(1);
-        }
-        drop(large);
-        assert!(rt; met == *last, "{call:?}: {met:?}");
-        assert!(rt;
-            refused >= *least && (*least > 0 || refused == 0),
-            "{call:?}: {refused}"
-        );
-    }
-    assert!(rt; sink.bytes().is_empty());
-    Ok(())
+fn growths_refused_in_turn(rt: HostRuntime) {
+    assert_all_met(&rt, rt.alloc(), CALLS);
 }

@@ -4,10 +4,12 @@ ghost use Rattle.std.specs.Io.{WritesAtMost};
 ghost use Rattle.std.specs.Io.KnownBytes.{WriteAppends};
 
 use mmdb_tool::{Fault, Sink};
+use std::alloc::Global;
 use std::io;
+use std::process::Abort;
 
 /// What a sink does at the call that it ends at.
-#[derive(Clone, Copy, Debug, PartialEq, Eq)]
+#[derive(Clone, Copy)]
 pub enum End {
     Refuses,
     TakesNone,
@@ -22,18 +24,18 @@ pub struct OneByte {
     fault: Fault,
 }
 
-impl OneByte {
-    /// `bytes` is empty and has the room that the sink may need.
-    pub fn new(bytes: Vec<u8>, ends_at: u32, end: End) -> OneByte {
-        OneByte {
-            bytes,
-            calls: 0,
-            ends_at,
-            end,
-            fault: Fault::Free,
-        }
+/// A sink that has the memory for all that it takes before it ends.
+pub fn one_byte(rt: &impl Abort, alloc: Global, ends_at: u32, end: End) -> OneByte {
+    OneByte {
+        bytes: Vec::with_capacity(alloc, 200).expect(rt, "memory for a sink"),
+        calls: 0,
+        ends_at,
+        end,
+        fault: Fault::Free,
     }
+}
 
+impl OneByte {
     pub fn bytes(&self) -> &[u8] {
         self.bytes.as_slice()
     }

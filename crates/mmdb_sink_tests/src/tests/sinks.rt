@@ -1,30 +1,17 @@
 //! Sinks that take one byte a call, and then no more.
-use super::sink::{End, OneByte};
-use maxminddb::{MaxMindDbError, Reader, WithinOptions};
-use mmdb_tool::{Fault, ListError, Out, list_to, run_bytes};
-use mmdb_vectors::builder::base_file;
+use super::asserts::{
+    OF_RANGE, assert_holds, assert_printed, assert_taken, assert_written, opened, run_on_base,
+};
+use super::sink::{End, one_byte};
+use maxminddb::{IpNetwork, WithinOptions};
+use mmdb_tool::{Fault, ListError, Out, list_to};
+use mmdb_vectors::base::BASE_FILE;
 use mmdb_vectors::equality::equality;
-use mmdb_vectors::words::words_of;
+use std::alloc::Global;
 use std::io;
 use std::process::Abort;
-use std::test::Fail;
 
 const FOUND: [&str; 3] = ["lookup", "here.mmdb", "200.0.0.1"];
-
-// Asserts what was written.
-fn assert_written(rt: &impl Abort, sink: Out<Vec<u8>>, text: &str, case: &[&str]) {
-    let bytes = sink.into_inner();
-    assert!(rt;
-        bytes.as_slice() == text.as_bytes(),
-        "at {case:?}: {bytes:?}"
-    );
-}
-
-// Asserts what a sink took, and what fault it met.
-fn assert_taken(rt: &impl Abort, sink: &OneByte, text: &str, fault: Fault) {
-    assert!(rt; sink.bytes() == text.as_bytes(), "{text}");
-    assert!(rt; sink.fault() == fault, "{text}");
-}
 
 /// Words, the call that a sink ends at and how, what it wrote till then, its fault, and the status.
 type Run = (&'static [&'static str], u32, End, &'static str, Fault, u8);
@@ -38,54 +25,58 @@ const RUNS: &[Run] = &[
     (&[], 7, End::TakesNone, "usage:", Fault::Stalled, 1),
 ];
 
-#[test]
-fn sinks_that_fail(rt: HostRuntime) -> Result<(), Fail> {
-    let alloc = rt.alloc();
-    let base = base_file(alloc)?;
-    let refused = io::Error::from(io::ErrorKind::InvalidData);
-    let refused = format!(in alloc; "write error: {refused}\n")?;
-    for (texts, ends_at, end, wrote, fault, status) in RUNS {
-        let words = words_of(alloc, texts)?;
-        let mut out = OneByte::new(Vec::with_capacity(alloc, 200)?, *ends_at, *end);
-        let mut err = Out::new(Vec::new(alloc));
-        let ended = run_bytes(alloc, base.as_slice(), words.as_slice(), &mut out, &mut err);
-        assert!(rt; ended == *status, "{wrote}: {ended}");
-        assert_taken(&rt, &out, wrote, *fault);
-        let text = match fault {
-            Fault::Free => "",
-            Fault::Refused => refused.as_str(),
-            Fault::Stalled => "write stopped\n",
-        };
-        assert_written(&rt, err, text, texts);
-    }
-    Ok(())
+// Asserts what a run writes, and what it tells of a sink that refuses.
+fn assert_run(rt: &impl Abort, alloc: Global, run: &Run, refused: &str) {
+    let (texts, ends_at, end, wrote, fault, status) = run;
+    let mut out = one_byte(rt, alloc, *ends_at, *end);
+    let mut err = Out::new(Vec::new(alloc));
+    run_on_base(rt, alloc, texts, &mut out, &mut err, *status);
+    assert_taken(rt, &out, wrote, *fault);
+    let text = match fault {
+        Fault::Free => "",
+        Fault::Refused => refused,
+        Fault::Stalled => "write stopped\n",
+    };
+    assert_written(rt, err, text, texts);
 }
 
 #[test]
-fn faults_of_err(rt: HostRuntime) -> Result<(), Fail> {
+fn sinks_that_fail(rt: HostRuntime) {
     let alloc = rt.alloc();
-    let base = base_file(alloc)?;
-    for (texts, ends_at, wrote, status) in [
-        (["frob"].as_slice(), 1, "", 2),
-        (["frob"].as_slice(), 3, "us", 2),
-        (["lookup", "here.mmdb", "::1"].as_slice(), 1, "", 1),
-        (["lookup", "here.mmdb", "::1"].as_slice(), 3, "in", 1),
-    ] {
-        for end in [End::Refuses, End::TakesNone] {
-            let words = words_of(alloc, texts)?;
-            let mut out = Out::new(Vec::new(alloc));
-            let mut err = OneByte::new(Vec::with_capacity(alloc, 200)?, ends_at, end);
-            let ended = run_bytes(alloc, base.as_slice(), words.as_slice(), &mut out, &mut err);
-            assert!(rt; ended == status, "{texts:?}: {ended}");
-            let fault = match end {
-                End::Refuses => Fault::Refused,
-                End::TakesNone => Fault::Stalled,
-            };
-            assert_taken(&rt, &err, wrote, fault);
-            assert_written(&rt, out, "", texts);
-        }
+    let refused = io::Error::from(io::ErrorKind::InvalidData);
+    let refused = format!(in alloc; "write error: {refused}\n").expect(&rt, "a text");
+    for run in RUNS {
+        assert_run(&rt, alloc, run, refused.as_str());
     }
-    Ok(())
+}
+
+/// Words, the call that the sink of errors ends at, what it wrote till then, and the status.
+type FaultOfErr = (&'static [&'static str], u32, &'static str, u8);
+
+#[rattlefmt::skip]
+const FAULTS_OF_ERR: &[FaultOfErr] = &[
+    (&["frob"], 1, "", 2),
+    (&["frob"], 3, "us", 2),
+    (&["lookup", "here.mmdb", "::1"], 1, "", 1),
+    (&["lookup", "here.mmdb", "::1"], 3, "in", 1),
+];
+
+// Asserts what a run does whose sink of errors ends so.
+fn assert_fault_of_err(rt: &impl Abort, alloc: Global, row: &FaultOfErr, end: End, fault: Fault) {
+    let (texts, ends_at, wrote, status) = row;
+    let mut out = Out::new(Vec::new(alloc));
+    let mut err = one_byte(rt, alloc, *ends_at, end);
+    run_on_base(rt, alloc, texts, &mut out, &mut err, *status);
+    assert_taken(rt, &err, wrote, fault);
+    assert_written(rt, out, "", texts);
+}
+
+#[test]
+fn faults_of_err(rt: HostRuntime) {
+    for row in FAULTS_OF_ERR {
+        assert_fault_of_err(&rt, rt.alloc(), row, End::Refuses, Fault::Refused);
+        assert_fault_of_err(&rt, rt.alloc(), row, End::TakesNone, Fault::Stalled);
+    }
 }
 
 const FAULTS: [Fault; 3] = [Fault::Free, Fault::Refused, Fault::Stalled];
@@ -94,53 +85,60 @@ const FAULTS: [Fault; 3] = [Fault::Free, Fault::Refused, Fault::Stalled];
 fn faults_that_are_equal(rt: HostRuntime) {
     for (i, a) in FAULTS.iter().enumerate() {
         for (j, b) in FAULTS.iter().enumerate() {
-            assert!(rt; equality(a, b) == Some(i == j), "{a:?} and {b:?}");
+            assert!(rt; equality(a, b) == Some(i == j), "{i} and {j}");
         }
     }
 }
 
-// The fault that a list was refused for.
-fn fault_of(done: Result<(), ListError>) -> Result<Fault, MaxMindDbError> {
+// The fault that a list was refused for; none where the database refused.
+fn fault_of(error: ListError) -> Option<Fault> {
+    match error {
+        ListError::Write(_) => Some(Fault::Refused),
+        ListError::Stopped => Some(Fault::Stalled),
+        ListError::Database(_) => None,
+    }
+}
+
+// The fault that a list met.
+fn fault_met(done: Result<(), ListError>) -> Option<Fault> {
     match done {
-        Ok(()) => Ok(Fault::Free),
-        Err(ListError::Write(_)) => Ok(Fault::Refused),
-        Err(ListError::Stopped) => Ok(Fault::Stalled),
-        Err(ListError::Database(error)) => Err(error),
+        Ok(()) => Some(Fault::Free),
+        Err(error) => fault_of(error),
     }
 }
 
-#[test]
-fn lists_to_sinks_that_end(rt: HostRuntime) -> Result<(), Fail> {
-    let alloc = rt.alloc();
-    let bytes = base_file(alloc)?;
-    let reader = Reader::from_source(alloc, bytes.as_slice())?;
-    let options = WithinOptions::default();
-    for (ends_at, end, fault, wrote) in [
-        (100, End::Refuses, Fault::Free, "128.0.0.0/1 0\n"),
-        (6, End::Refuses, Fault::Refused, "128.0"),
-        (6, End::TakesNone, Fault::Stalled, "128.0"),
-    ] {
-        let mut sink = OneByte::new(Vec::with_capacity(alloc, 16)?, ends_at, end);
-        let done = list_to(alloc, &reader, "0.0.0.0/0".parse()?, options, &mut sink);
-        assert_taken(&rt, &sink, wrote, fault);
-        assert!(rt; fault_of(done)? == fault, "{wrote}");
-    }
-    Ok(())
+// Asserts what a list of the base file writes to a sink that ends so.
+fn assert_list(rt: &impl Abort, alloc: Global, ends_at: u32, end: End, wrote: &str, fault: Fault) {
+    let reader = opened(rt, alloc, BASE_FILE);
+    let range: IpNetwork = "0.0.0.0/0".parse().expect(rt, "a range");
+    let mut sink = one_byte(rt, alloc, ends_at, end);
+    let done = list_to(alloc, &reader, range, WithinOptions::default(), &mut sink);
+    assert_holds(rt, fault_met(done) == Some(fault), wrote);
+    assert_taken(rt, &sink, wrote, fault);
 }
 
 #[test]
-fn list_of_a_range_of_another_kind(rt: HostRuntime) -> Result<(), Fail> {
+fn lists_to_sinks_that_end(rt: HostRuntime) {
     let alloc = rt.alloc();
-    let bytes = base_file(alloc)?;
-    let reader = Reader::from_source(alloc, bytes.as_slice())?;
-    let options = WithinOptions::default();
-    let mut sink = OneByte::new(Vec::with_capacity(alloc, 16)?, 100, End::Refuses);
-    let refused = list_to(alloc, &reader, "::/0".parse()?, options, &mut sink);
-    let of_range = matches!(
-        &refused,
-        Err(ListError::Database(MaxMindDbError::InvalidInput { .. }))
+    assert_list(
+        &rt,
+        alloc,
+        100,
+        End::Refuses,
+        "128.0.0.0/1 0\n",
+        Fault::Free,
     );
-    assert!(rt; of_range);
+    assert_list(&rt, alloc, 6, End::Refuses, "128.0", Fault::Refused);
+    assert_list(&rt, alloc, 6, End::TakesNone, "128.0", Fault::Stalled);
+}
+
+#[test]
+fn list_of_a_range_of_another_kind(rt: HostRuntime) {
+    let alloc = rt.alloc();
+    let reader = opened(&rt, alloc, BASE_FILE);
+    let range: IpNetwork = "::/0".parse().expect(&rt, "a range");
+    let mut sink = one_byte(&rt, alloc, 100, End::Refuses);
+    let done = list_to(alloc, &reader, range, WithinOptions::default(), &mut sink);
+    assert_printed(&rt, alloc, done.expect_err(&rt, "a refusal"), OF_RANGE);
     assert_taken(&rt, &sink, "", Fault::Free);
-    Ok(())
 }

@@ -1,13 +1,28 @@
 //! The files that are verified.
+ghost use Rattle.std.specs.Prelude.{◌<◌};
+
+use maxminddb::Reader;
+use mmdb_vectors::base::BASE_FILE;
 use mmdb_vectors::builder::{
-    BASE, BASE_DATA, BASE_NODE, Field, Fields, base_file, changed_file, file, push_node_24,
+    BASE, BASE_DATA, BASE_NODE, Field, base_file, changed_file, file, push_node_24,
 };
 use std::alloc::{AllocError, Global};
+use std::process::Abort;
 
 /// Where the description of the base file stands, and how many bytes it has.
 const DESCRIPTION: usize = 141;
 
 const DESCRIPTION_LEN: usize = 6;
+
+/// A reader of a file that is accepted.
+pub fn opened(
+    rt: &impl Abort,
+    alloc: Global,
+    file: Result<Vec<u8>, AllocError>,
+) -> Reader<Vec<u8>> {
+    let file = file.expect(rt, "a file");
+    Reader::from_source(alloc, file).expect(rt, "a file that is accepted")
+}
 
 /// The base file with other data.
 pub fn with_data(alloc: Global, data: &[u8]) -> Result<Vec<u8>, AllocError> {
@@ -16,13 +31,10 @@ pub fn with_data(alloc: Global, data: &[u8]) -> Result<Vec<u8>, AllocError> {
 
 /// The base file without a word of its description.
 pub fn undescribed(alloc: Global) -> Result<Vec<u8>, AllocError> {
-    let base = base_file(alloc)?;
     let mut bytes = Vec::new(alloc);
-    for (place, byte) in base.iter().enumerate() {
-        if place == DESCRIPTION {
-            bytes.push(0xE0)?;
-        } else if place < DESCRIPTION || place >= DESCRIPTION + DESCRIPTION_LEN {
-            bytes.push(*byte)?;
+    for (place, byte) in BASE_FILE.iter().enumerate() {
+        if place <= DESCRIPTION || place >= DESCRIPTION + DESCRIPTION_LEN {
+            bytes.push(if place == DESCRIPTION { 0xE0 } else { *byte })?;
         }
     }
     Ok(bytes)
@@ -52,25 +64,35 @@ pub fn ladder(alloc: Global, nodes: u8) -> Result<Vec<u8>, AllocError> {
     )
 }
 
+/// How many nodes the fan has.
+const FAN: u32 = 117;
+
+// Where a node of the fan leads to.
+fn node_of_fan(node: u32) -> (u32, u32)
+    requires { node < 117 }
+{
+    match node {
+        0 => (1, 97),
+        96 => (FAN, 133),
+        116 => (96, 96),
+        1..=95 => (node + 1, FAN),
+        _ => (node + 1, node + 1),
+    }
+}
+
 /// An IPv6 file whose first bit 1 leads to twenty nodes that lead both ways to the next one, the last one to
 /// the node where IPv4 begins: all ends of these are aliases.
 pub fn alias_fan(alloc: Global) -> Result<Vec<u8>, AllocError> {
     let mut tree = Vec::new(alloc);
-    push_node_24(&mut tree, 1, 97)?;
-    for node in 1..96u32 {
-        push_node_24(&mut tree, node + 1, 117)?;
+    for node in 0..FAN {
+        let (left, right) = node_of_fan(node);
+        push_node_24(&mut tree, left, right)?;
     }
-    push_node_24(&mut tree, 117, 133)?;
-    for node in 97..116u32 {
-        push_node_24(&mut tree, node + 1, node + 1)?;
-    }
-    push_node_24(&mut tree, 96, 96)?;
-    let fields = Fields {
-        ip_version: b"\xA1\x06",
-        node_count: b"\xC1\x75",
-        ..BASE
-    };
-    file(alloc, tree.as_slice(), BASE_DATA, fields)
+    let changes = [
+        (Field::IpVersion, b"\xA1\x06".as_slice()),
+        (Field::NodeCount, b"\xC1\x75".as_slice()),
+    ];
+    changed_file(alloc, tree.as_slice(), BASE_DATA, &changes)
 }
 
 /// An IPv4 file of three leaves, whose values stand at these offsets.
@@ -81,8 +103,12 @@ pub fn of_three_leaves(
 ) -> Result<Vec<u8>, AllocError> {
     let [first, second, third] = offsets;
     let mut tree = Vec::new(alloc);
-    push_node_24(&mut tree, 1, 18 + u32::from(third))?;
-    push_node_24(&mut tree, 18 + u32::from(first), 18 + u32::from(second))?;
+    for (left, right) in [
+        (1, 18 + u32::from(third)),
+        (18 + u32::from(first), 18 + u32::from(second)),
+    ] {
+        push_node_24(&mut tree, left, right)?;
+    }
     changed_file(
         alloc,
         tree.as_slice(),
@@ -91,32 +117,28 @@ pub fn of_three_leaves(
     )
 }
 
-// So many arrays of one element within each other.
-fn push_arrays(data: &mut Vec<u8>, arrays: usize) -> Result<(), AllocError> {
+// So many arrays of one element within each other, around these bytes.
+fn push_arrays(data: &mut Vec<u8>, arrays: usize, inner: &[u8]) -> Result<(), AllocError> {
     for _ in 0..arrays {
         data.extend_from_slice(b"\x01\x04")?;
     }
-    Ok(())
+    data.extend_from_slice(inner)
 }
 
 /// A hundred arrays within each other around a bool, from place 202 on so many arrays within each other around
 /// a pointer to the first of them, and a text.
 pub fn deep(alloc: Global, arrays: usize) -> Result<Vec<u8>, AllocError> {
     let mut data = Vec::new(alloc);
-    push_arrays(&mut data, 100)?;
-    data.extend_from_slice(b"\x00\x07")?;
-    push_arrays(&mut data, arrays)?;
-    data.extend_from_slice(b"\x20\x00\x41x")?;
+    push_arrays(&mut data, 100, b"\x00\x07")?;
+    push_arrays(&mut data, arrays, b"\x20\x00\x41x")?;
     Ok(data)
 }
 
 /// The same values, but so many arrays around the pointer first: the others stand at this place.
 pub fn deep_last(alloc: Global, arrays: usize, place: u8) -> Result<Vec<u8>, AllocError> {
     let mut data = Vec::new(alloc);
-    push_arrays(&mut data, arrays)?;
-    data.extend_from_slice(&[0x20, place])?;
-    push_arrays(&mut data, 100)?;
-    data.extend_from_slice(b"\x00\x07\x41x")?;
+    push_arrays(&mut data, arrays, &[0x20, place])?;
+    push_arrays(&mut data, 100, b"\x00\x07\x41x")?;
     Ok(data)
 }
 
@@ -128,8 +150,6 @@ pub fn overlap(alloc: Global) -> Result<Vec<u8>, AllocError> {
     for text in 87..129u8 {
         data.extend_from_slice(&[0x20, text])?;
     }
-    for _ in 0..70 {
-        data.push(0x5C)?;
-    }
+    data.resize(157, 0x5C)?;
     Ok(data)
 }

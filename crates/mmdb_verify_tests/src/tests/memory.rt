@@ -1,58 +1,79 @@
 //! Verifications where memory is refused.
 ghost use Rattle.std.specs.Prelude.{◌<◌};
 
-use super::files::ladder;
+use super::files::{ladder, opened};
 use maxminddb::{MaxMindDbError, Reader};
 use mmdb_vectors::builder::base_file;
 use mmdb_vectors::hoard::Hoard;
-use std::alloc::Global;
-use std::test::Fail;
+use std::alloc::{AllocError, Global};
+use std::process::Abort;
 
 /// What came of a verification.
-#[derive(Clone, Copy, Debug, PartialEq, Eq)]
+#[derive(Clone, Copy, PartialEq, Eq)]
 enum Met {
     Memory,
     Whole,
     Refusal,
 }
 
+fn kind_met(error: &MaxMindDbError) -> Met {
+    match error {
+        MaxMindDbError::Memory => Met::Memory,
+        _ => Met::Refusal,
+    }
+}
+
+fn outcome(answer: Result<(), MaxMindDbError>) -> Met {
+    match answer {
+        Ok(()) => Met::Whole,
+        Err(error) => kind_met(&error),
+    }
+}
+
 // What came of the verification of a file where about so many bytes are left.
-fn met_within(alloc: Global, reader: &Reader<&[u8]>, budget: usize) -> Met
+fn met_within(alloc: Global, reader: &Reader<Vec<u8>>, budget: usize) -> Met
     requires { budget < 1000000 }
 {
     let small = Hoard::of_all_but(alloc, budget);
     let answer = reader.verify(alloc);
     drop(small);
-    match answer {
-        Ok(()) => Met::Whole,
-        Err(MaxMindDbError::Memory) => Met::Memory,
-        Err(_) => Met::Refusal,
+    outcome(answer)
+}
+
+// How often a verification is refused for want of memory, and what comes of it then.
+fn refused_in_turn(alloc: Global, reader: &Reader<Vec<u8>>) -> (u32, Met) {
+    let large = Hoard::of_large_blocks(alloc);
+    let mut refused = 0u32;
+    let mut met = Met::Memory;
+    for step in 0..256usize {
+        met = met_within(alloc, reader, step * 16);
+        if met != Met::Memory {
+            break;
+        }
+        refused = refused.saturating_add(1);
     }
+    drop(large);
+    (refused, met)
+}
+
+// Asserts that the verification of a file is refused for want of memory at first, and what comes of it then.
+fn assert_in_turn(
+    rt: &impl Abort,
+    alloc: Global,
+    file: Result<Vec<u8>, AllocError>,
+    last: Met,
+    case: &str,
+) {
+    let reader = opened(rt, alloc, file);
+    let (refused, met) = refused_in_turn(alloc, &reader);
+    assert!(rt; met == last && refused > 2, "{case}: {refused}");
 }
 
 #[test]
-fn growths_refused_in_turn(rt: HostRuntime) -> Result<(), Fail> {
+fn growths_refused_in_turn(rt: HostRuntime) {
     let alloc = rt.alloc();
     // The base file takes the marks of the metadata, the points and the offsets of the walk, and the marks of the
     // data; the other is refused with a text that takes memory.
-    for (file, last) in [
-        (base_file(alloc)?, Met::Whole),
-        (ladder(alloc, 4)?, Met::Refusal),
-    ] {
-        let reader = Reader::from_source(alloc, file.as_slice())?;
-        let large = Hoard::of_large_blocks(alloc);
-        let mut refused = 0u32;
-        let mut then = Met::Memory;
-        for step in 0..256usize {
-            then = met_within(alloc, &reader, step * 16);
-            if then != Met::Memory {
-                break;
-            }
-            refused = refused.saturating_add(1);
-        }
-        drop(large);
-        assert!(rt; then == last, "{then:?}");
-        assert!(rt; refused > 2, "{refused}");
-    }
-    Ok(())
+    assert_in_turn(&rt, alloc, base_file(alloc), Met::Whole, "the base file");
+    assert_in_turn(&rt, alloc, ladder(alloc, 4), Met::Refusal, "a ladder");
 }

@@ -1,19 +1,19 @@
 //! What stands behind a lookup that is not read as it is asked for.
-use super::found::{high, low};
+use super::answers::{assert_holds, assert_text, opened, told};
 use maxminddb::geoip2::City;
 use maxminddb::{
-    Decode, Double, Float, MaxMindDbError, Metadata, OwnedBytes, RawValue, Reader, Value,
+    Decode, Double, Float, LookupResult, MaxMindDbError, Metadata, OwnedBytes, RawValue, Value,
 };
+use mmdb_vectors::base::{high, low};
 use mmdb_vectors::builder::{BASE, BASE_NODE, file};
 use std::alloc::Global;
 use std::collections::BTreeMap;
-use std::test::Fail;
+use std::process::Abort;
 
 /// The node of the base file with offset 1 on the right.
 const SECOND_NODE: &[u8] = b"\x00\x00\x01\x00\x00\x12";
 
 /// What is asked for.
-#[derive(Clone, Copy)]
 enum Wanted {
     U16,
     SmallNumber,
@@ -29,10 +29,13 @@ enum Wanted {
     Raw,
 }
 
-/// Data, what is asked for at its beginning, and the refusal. The data begin at 22 in the file:
+/// Data, what is asked for at its beginning, and the refusal.
+type Row = (&'static [u8], Wanted, &'static str);
+
+/// The data begin at 22 in the file:
 /// there an offset of `InvalidDatabase` counts from the start of the file, any other from that of the data.
 #[rattlefmt::skip]
-const ROWS: &[(&[u8], Wanted, &str)] = &[
+const ROWS: &[Row] = &[
     (b"\x41x", Wanted::U16, "decoding error at offset 0: expected u16, got type 2"),
     (b"\x41x", Wanted::SmallNumber, "decoding error at offset 0: expected a whole number"),
     (b"\xA2\x01\x00", Wanted::SmallNumber, "decoding error at offset 3: number out of range"),
@@ -80,42 +83,41 @@ const ROWS: &[(&[u8], Wanted, &str)] = &[
     (b"\x42x", Wanted::Raw, "invalid database at offset 22: string of size 2"),
 ];
 
-// The text of the refusal of what stands behind the upper half of a reader's file, or `read`.
+// What comes of decoding as a type, whose value is let go here.
 fn decoded<'a, T: Decode<'a>>(
     alloc: Global,
-    reader: &'a Reader<&'a [u8]>,
-) -> Result<String, MaxMindDbError> {
-    let found = reader.lookup(high())?;
+    found: LookupResult<'a, Vec<u8>>,
+) -> Result<(), MaxMindDbError> {
     match found.decode::<T>(alloc) {
-        Ok(_) => Ok(String::from_str(alloc, "read")?),
-        Err(error) => Ok(format!(in alloc; "{error}")?),
+        Ok(_) => Ok(()),
+        Err(error) => Err(error),
     }
 }
 
 fn decoded_as(
     alloc: Global,
-    reader: &Reader<&[u8]>,
-    wanted: Wanted,
-) -> Result<String, MaxMindDbError> {
+    found: LookupResult<'_, Vec<u8>>,
+    wanted: &Wanted,
+) -> Result<(), MaxMindDbError> {
     match wanted {
-        Wanted::U16 => decoded::<u16>(alloc, reader),
-        Wanted::SmallNumber => decoded::<u8>(alloc, reader),
-        Wanted::Double => decoded::<Double>(alloc, reader),
-        Wanted::Float => decoded::<Float>(alloc, reader),
-        Wanted::Text => decoded::<&str>(alloc, reader),
-        Wanted::Bytes => decoded::<OwnedBytes>(alloc, reader),
-        Wanted::List => decoded::<Vec<u16>>(alloc, reader),
-        Wanted::Map => decoded::<BTreeMap<String, u16>>(alloc, reader),
-        Wanted::Record => decoded::<Metadata>(alloc, reader),
-        Wanted::City => decoded::<City<'_>>(alloc, reader),
-        Wanted::Any => decoded::<Value<'_>>(alloc, reader),
-        Wanted::Raw => decoded::<RawValue<'_>>(alloc, reader),
+        Wanted::U16 => decoded::<u16>(alloc, found),
+        Wanted::SmallNumber => decoded::<u8>(alloc, found),
+        Wanted::Double => decoded::<Double>(alloc, found),
+        Wanted::Float => decoded::<Float>(alloc, found),
+        Wanted::Text => decoded::<&str>(alloc, found),
+        Wanted::Bytes => decoded::<OwnedBytes>(alloc, found),
+        Wanted::List => decoded::<Vec<u16>>(alloc, found),
+        Wanted::Map => decoded::<BTreeMap<String, u16>>(alloc, found),
+        Wanted::Record => decoded::<Metadata>(alloc, found),
+        Wanted::City => decoded::<City<'_>>(alloc, found),
+        Wanted::Any => decoded::<Value<'_>>(alloc, found),
+        Wanted::Raw => decoded::<RawValue<'_>>(alloc, found),
     }
 }
 
 /// Rows for a value at offset 1.
 #[rattlefmt::skip]
-const SECOND_ROWS: &[(&[u8], Wanted, &str)] = &[
+const SECOND_ROWS: &[Row] = &[
     (b"\xA0\xA1\x07", Wanted::U16, "read"),
     (b"\xA0\xA1\x07", Wanted::Text, "decoding error at offset 1: expected string, got type 5"),
     (b"\xA0\x42x", Wanted::Text, "invalid database at offset 23: string of size 2"),
@@ -127,42 +129,54 @@ const SECOND_ROWS: &[(&[u8], Wanted, &str)] = &[
     ),
 ];
 
-// The text of the refusal of what stands behind the upper half of a file of a node and data, or `read`.
-fn refusal(
-    alloc: Global,
-    node: &[u8],
-    data: &[u8],
-    wanted: Wanted,
-) -> Result<String, MaxMindDbError> {
-    let file = file(alloc, node, data, BASE)?;
-    let reader = Reader::from_source(alloc, file.as_slice())?;
-    decoded_as(alloc, &reader, wanted)
+// Asserts the text of the refusal of what stands behind the upper half of a file of a node and data, or `read`.
+fn assert_decoded(rt: &impl Abort, alloc: Global, node: &[u8], row: &Row) {
+    let (data, wanted, text) = row;
+    let reader = opened(rt, alloc, file(alloc, node, data, BASE));
+    let found = reader.lookup(high()).expect(rt, text);
+    assert_text(
+        rt,
+        told(alloc, decoded_as(alloc, found, wanted), "read"),
+        text,
+    );
 }
 
 #[test]
-fn values_refused(rt: HostRuntime) -> Result<(), Fail> {
-    let alloc = rt.alloc();
-    for (node, rows) in [(BASE_NODE, ROWS), (SECOND_NODE, SECOND_ROWS)] {
-        for (data, wanted, text) in rows {
-            let refusal = refusal(alloc, node, data, *wanted)?;
-            assert!(rt;
-                refusal.as_str() == *text,
-                "{data:?}: {refusal}, not {text}"
-            );
-        }
+fn values_refused(rt: HostRuntime) {
+    for row in ROWS {
+        assert_decoded(&rt, rt.alloc(), BASE_NODE, row);
     }
-    Ok(())
+    for row in SECOND_ROWS {
+        assert_decoded(&rt, rt.alloc(), SECOND_NODE, row);
+    }
+}
+
+// Asserts the name of a city in English, or that there is no city.
+fn assert_city(
+    rt: &impl Abort,
+    alloc: Global,
+    found: LookupResult<'_, Vec<u8>>,
+    name: Option<&str>,
+) {
+    let city: Option<City<'_>> = found.decode(alloc).expect(rt, "a city or none");
+    let told = match &city {
+        Some(city) => city.city.names.english,
+        None => None,
+    };
+    let is_right = told == name && city.is_some() == name.is_some();
+    assert_holds(rt, is_right, "the name of a city");
 }
 
 #[test]
-fn city_of_a_lookup(rt: HostRuntime) -> Result<(), Fail> {
+fn city_of_a_lookup(rt: HostRuntime) {
     let alloc = rt.alloc();
     let data = b"\xE1\x44city\xE1\x45names\xE1\x42en\x41A";
-    let file = file(alloc, BASE_NODE, data, BASE)?;
-    let reader = Reader::from_source(alloc, file.as_slice())?;
-    let city: Option<City<'_>> = reader.lookup(high())?.decode(alloc)?;
-    assert!(rt; matches!(&city, Some(city) if city.city.names.english == Some("A")));
-    let none: Option<City<'_>> = reader.lookup(low())?.decode(alloc)?;
-    assert!(rt; none.is_none());
-    Ok(())
+    let reader = opened(&rt, alloc, file(alloc, BASE_NODE, data, BASE));
+    assert_city(
+        &rt,
+        alloc,
+        reader.lookup(high()).expect(&rt, "lookup"),
+        Some("A"),
+    );
+    assert_city(&rt, alloc, reader.lookup(low()).expect(&rt, "lookup"), None);
 }

@@ -1,9 +1,10 @@
 //! Which options and metadata are equal, and which are not.
-use maxminddb::{MaxMindDbError, Metadata, Reader, WithinOptions};
+use super::answers::{assert_holds, opened};
+use maxminddb::{Metadata, WithinOptions};
 use mmdb_vectors::builder::{BASE_DATA, Field, base_file, changed_file};
 use mmdb_vectors::equality::equality;
 use std::alloc::{AllocError, Global};
-use std::test::Fail;
+use std::process::Abort;
 
 // The options that the bits of a number switch on.
 fn options_of(bits: u8) -> WithinOptions {
@@ -30,42 +31,45 @@ fn options(rt: HostRuntime) {
     }
 }
 
-/// Another value in one of the base file's fields.
+/// Another value in one of the base file's fields, by its name.
 #[rattlefmt::skip]
-const OTHERS: &[(Field, &[u8])] = &[
-    (Field::MinorVersion, b"\xA1\x01"),
-    (Field::BuildEpoch, b"\x01\x02\x02"),
-    (Field::DatabaseType, b"\x41U"),
-    (Field::IpVersion, b"\xA1\x06"),
-    (Field::NodeCount, b"\xC1\x02"),
-    (Field::RecordSize, b"\xA1\x1C"),
+const OTHERS: &[(&str, (Field, &[u8]))] = &[
+    ("minor version", (Field::MinorVersion, b"\xA1\x01")),
+    ("build epoch", (Field::BuildEpoch, b"\x01\x02\x02")),
+    ("database type", (Field::DatabaseType, b"\x41U")),
+    ("version of IP", (Field::IpVersion, b"\xA1\x06")),
+    ("node count", (Field::NodeCount, b"\xC1\x02")),
+    ("record size", (Field::RecordSize, b"\xA1\x1C")),
 ];
 
-// What equality says of the metadata of the base file and of another one.
-fn equality_to_base(alloc: Global, file: &[u8]) -> Result<Option<bool>, MaxMindDbError> {
-    let base = base_file(alloc)?;
-    let base = Reader::from_source(alloc, base.as_slice())?;
-    let other = Reader::from_source(alloc, file)?;
-    Ok(equality(base.metadata(), other.metadata()))
+/// The node of the base file, in fourteen bytes of nodes, which have room for each of the trees.
+const NODES: &[u8] = b"\x00\x00\x01\x00\x00\x11\0\0\0\0\0\0\0\0";
+
+// Asserts what equality says of the metadata of the base file and of another one.
+fn assert_equal_to_base(
+    rt: &impl Abort,
+    alloc: Global,
+    file: Result<Vec<u8>, AllocError>,
+    is_equal: bool,
+    case: &str,
+) {
+    let base = opened(rt, alloc, base_file(alloc));
+    let other = opened(rt, alloc, file);
+    let told = equality(base.metadata(), other.metadata());
+    assert_holds(rt, told == Some(is_equal), case);
 }
 
 #[test]
-fn metadata_of_files(rt: HostRuntime) -> Result<(), Fail> {
+fn metadata_of_files(rt: HostRuntime) {
     let alloc = rt.alloc();
-    let again = equality_to_base(alloc, base_file(alloc)?.as_slice())?;
-    assert!(rt; again == Some(true));
-    // Fourteen bytes of nodes have room for each of the trees.
-    let nodes = b"\x00\x00\x01\x00\x00\x11\0\0\0\0\0\0\0\0";
-    for change in OTHERS {
-        let file = changed_file(alloc, nodes, BASE_DATA, &[*change])?;
-        let told = equality_to_base(alloc, file.as_slice())?;
-        assert!(rt; told == Some(false), "{change:?}");
+    assert_equal_to_base(&rt, alloc, base_file(alloc), true, "the base file");
+    for (name, change) in OTHERS {
+        let file = changed_file(alloc, NODES, BASE_DATA, &[*change]);
+        assert_equal_to_base(&rt, alloc, file, false, name);
     }
-    Ok(())
 }
 
 /// What is changed by hand in a clone.
-#[derive(Clone, Copy, Debug)]
 enum Change {
     Nothing,
     MajorVersion,
@@ -73,39 +77,46 @@ enum Change {
     Description,
 }
 
-fn apply(metadata: &mut Metadata, alloc: Global, change: Change) -> Result<(), AllocError> {
+fn text(rt: &impl Abort, alloc: Global, text: &str) -> String {
+    String::from_str(alloc, text).expect(rt, text)
+}
+
+fn apply(rt: &impl Abort, alloc: Global, metadata: &mut Metadata, change: &Change) {
     match change {
         Change::Nothing => {}
         Change::MajorVersion => metadata.binary_format_major_version = 3,
-        Change::Languages => metadata.languages.push(String::from_str(alloc, "en")?)?,
+        Change::Languages => {
+            let language = text(rt, alloc, "en");
+            metadata.languages.push(language).expect(rt, "a language");
+        }
         Change::Description => {
-            let language = String::from_str(alloc, "de")?;
-            let text = String::from_str(alloc, "d")?;
-            metadata.description.insert(language, text)?;
+            let (language, text) = (text(rt, alloc, "de"), text(rt, alloc, "d"));
+            let before: Result<_, _> = metadata.description.insert(language, text);
+            assert_holds(rt, before.is_ok(), "a description");
         }
     }
-    Ok(())
 }
 
-// What equality says of the metadata of the base file and of a clone that is changed so.
-fn equality_to_changed(alloc: Global, by_hand: Change) -> Result<Option<bool>, MaxMindDbError> {
-    let base = base_file(alloc)?;
-    let base = Reader::from_source(alloc, base.as_slice())?;
-    let mut other: Metadata = base.metadata().clone()?;
-    apply(&mut other, alloc, by_hand)?;
-    Ok(equality(base.metadata(), &other))
+#[rattlefmt::skip]
+const CHANGES: &[(&str, Change, bool)] = &[
+    ("nothing", Change::Nothing, true),
+    ("major version", Change::MajorVersion, false),
+    ("languages", Change::Languages, false),
+    ("description", Change::Description, false),
+];
+
+// Asserts what equality says of metadata and of a clone that is changed by hand.
+fn assert_changed(rt: &impl Abort, alloc: Global, base: &Metadata, row: &(&str, Change, bool)) {
+    let (name, change, is_equal) = row;
+    let mut other = base.clone().expect(rt, "a clone");
+    apply(rt, alloc, &mut other, change);
+    assert_holds(rt, equality(base, &other) == Some(*is_equal), name);
 }
 
 #[test]
-fn metadata_made_by_hand(rt: HostRuntime) -> Result<(), Fail> {
-    for (by_hand, is_equal) in [
-        (Change::Nothing, true),
-        (Change::MajorVersion, false),
-        (Change::Languages, false),
-        (Change::Description, false),
-    ] {
-        let told = equality_to_changed(rt.alloc(), by_hand)?;
-        assert!(rt; told == Some(is_equal), "{by_hand:?}");
+fn metadata_made_by_hand(rt: HostRuntime) {
+    let base = opened(&rt, rt.alloc(), base_file(rt.alloc()));
+    for row in CHANGES {
+        assert_changed(&rt, rt.alloc(), base.metadata(), row);
     }
-    Ok(())
 }

@@ -1,14 +1,14 @@
 //! Calls where memory is refused.
 ghost use Rattle.std.specs.Prelude.{◌<◌};
 
-use super::found::{high, low, told};
-use maxminddb::{IpNetwork, MaxMindDbError, Metadata, Reader, fuzzing};
+use super::answers::{assert_text, opened, told};
+use maxminddb::{IpNetwork, LookupResult, MaxMindDbError, Metadata, Reader, fuzzing};
+use mmdb_vectors::base::BASE_FILE;
 use mmdb_vectors::builder::{BASE_DATA, BASE_NODE, Field, base_file, changed_file};
 use mmdb_vectors::hoard::Hoard;
 use std::alloc::{AllocError, Global};
-use std::net::{IpAddr, Ipv6Addr};
+use std::net::IpAddr;
 use std::process::Abort;
-use std::test::Fail;
 
 /// Where the metadata of the base file begin.
 const METADATA_AT: usize = 38;
@@ -17,7 +17,6 @@ const METADATA_AT: usize = 38;
 const NO_TABLE: usize = 65_536;
 
 /// A call that takes memory.
-#[derive(Clone, Copy, Debug, PartialEq, Eq)]
 enum Call {
     ReadMetadata,
     CloneOfMetadata,
@@ -26,7 +25,7 @@ enum Call {
 }
 
 /// What came of a call.
-#[derive(Clone, Copy, Debug, PartialEq, Eq)]
+#[derive(Clone, Copy, PartialEq, Eq)]
 enum Met {
     Refusal,
     Answer,
@@ -37,149 +36,147 @@ fn answer_met(is_right: bool) -> Met {
     if is_right { Met::Answer } else { Met::Wrong }
 }
 
-fn refusal_met(error: &MaxMindDbError) -> Met {
+// What an error says, where one of decoding is this.
+fn kind_met(error: &MaxMindDbError, of_decoding: Met) -> Met {
     match error {
         MaxMindDbError::Memory => Met::Refusal,
+        MaxMindDbError::Decoding { .. } => of_decoding,
         _ => Met::Wrong,
     }
 }
 
-fn metadata_met(alloc: Global, file: &[u8], budget: usize) -> Met
-    requires { budget < 1000000 }
-{
-    let Some(bytes) = file.get(METADATA_AT..) else {
+fn error_met(error: MaxMindDbError, of_decoding: Met) -> Met {
+    kind_met(&error, of_decoding)
+}
+
+fn metadata_met(alloc: Global) -> Met {
+    let Some(bytes) = BASE_FILE.get(METADATA_AT..) else {
         return Met::Wrong;
     };
-    let small = Hoard::of_all_but(alloc, budget);
-    let read = fuzzing::decode::<Metadata>(alloc, bytes);
-    drop(small);
-    match read {
+    match fuzzing::decode::<Metadata>(alloc, bytes) {
         Ok(metadata) => answer_met(metadata.node_count == 1),
-        Err(error) => refusal_met(&error),
+        Err(error) => error_met(error, Met::Wrong),
     }
 }
 
-fn clone_met(alloc: Global, reader: &Reader<&[u8]>, budget: usize) -> Met
-    requires { budget < 1000000 }
-{
-    let small = Hoard::of_all_but(alloc, budget);
-    let cloned: Result<Metadata, AllocError> = reader.metadata().clone();
-    drop(small);
-    match cloned {
-        Ok(cloned) => answer_met(cloned == *reader.metadata()),
+fn clone_met(metadata: &Metadata) -> Met {
+    match metadata.clone() {
+        Ok(cloned) => answer_met(cloned == *metadata),
         Err(_error) => Met::Refusal,
     }
 }
 
-fn refused_met(alloc: Global, budget: usize) -> Met
+fn refused_met(alloc: Global) -> Met {
+    match fuzzing::decode::<Metadata>(alloc, b"\xE0") {
+        Ok(_) => Met::Wrong,
+        Err(error) => error_met(error, Met::Answer),
+    }
+}
+
+// What comes of a call where about so many bytes are left.
+fn met_within(alloc: Global, call: &Call, metadata: &Metadata, budget: usize) -> Met
     requires { budget < 1000000 }
 {
     let small = Hoard::of_all_but(alloc, budget);
-    let read = fuzzing::decode::<Metadata>(alloc, b"\xE0");
+    let met = match call {
+        Call::ReadMetadata => metadata_met(alloc),
+        Call::CloneOfMetadata => clone_met(metadata),
+        Call::RefusedMetadata => refused_met(alloc),
+    };
     drop(small);
-    match read {
-        Ok(_) => Met::Wrong,
-        Err(MaxMindDbError::Decoding { .. }) => Met::Answer,
-        Err(error) => refusal_met(&error),
-    }
+    met
 }
 
 // How many runs met a refusal before the first that met none, and what that one met.
-fn refused_in_turn(alloc: Global, call: Call, reader: &Reader<&[u8]>, file: &[u8]) -> (u32, Met) {
+fn refused_in_turn(alloc: Global, call: &Call, metadata: &Metadata) -> (u32, Met) {
+    let large = Hoard::of_large_blocks(alloc);
     let mut refused = 0u32;
+    let mut met = Met::Refusal;
     for step in 0..256usize {
-        let budget = step * 16;
-        let met = match call {
-            Call::ReadMetadata => metadata_met(alloc, file, budget),
-            Call::CloneOfMetadata => clone_met(alloc, reader, budget),
-            Call::RefusedMetadata => refused_met(alloc, budget),
-        };
+        met = met_within(alloc, call, metadata, step * 16);
         if met != Met::Refusal {
-            return (refused, met);
+            break;
         }
         refused = refused.saturating_add(1);
     }
-    (refused, Met::Refusal)
+    drop(large);
+    (refused, met)
 }
 
-// What a call met in turn on the base file, with the large blocks held.
-fn met_in_turn(alloc: Global, call: Call) -> Result<(u32, Met), MaxMindDbError> {
-    let file = base_file(alloc)?;
-    let reader = Reader::from_source(alloc, file.as_slice())?;
-    let large = Hoard::of_large_blocks(alloc);
-    let met = refused_in_turn(alloc, call, &reader, file.as_slice());
-    drop(large);
-    Ok(met)
-}
+/// The calls by name, and how many runs of each meet a refusal at least.
+#[rattlefmt::skip]
+const CALLS: &[(&str, Call, u32)] = &[
+    ("reading metadata", Call::ReadMetadata, 4),
+    ("a clone of metadata", Call::CloneOfMetadata, 4),
+    ("metadata that are refused", Call::RefusedMetadata, 1),
+];
 
 #[test]
-fn growths_refused_in_turn(rt: HostRuntime) -> Result<(), Fail> {
-    for (call, least) in [
-        (Call::ReadMetadata, 4),
-        (Call::CloneOfMetadata, 4),
-        (Call::RefusedMetadata, 1),
-    ] {
-        let (refused, met) = met_in_turn(rt.alloc(), call)?;
-        println!(rt; "{call:?}: {refused} runs met a refusal")?;
-        assert!(rt; met == Met::Answer, "{call:?}");
-        assert!(rt; refused >= least, "{call:?}: {refused}");
+fn growths_refused_in_turn(rt: HostRuntime) {
+    let base = opened(&rt, rt.alloc(), base_file(rt.alloc()));
+    for (name, call, least) in CALLS {
+        let (refused, met) = refused_in_turn(rt.alloc(), call, base.metadata());
+        let is_right = met == Met::Answer && refused >= *least;
+        assert!(rt; is_right, "{name}: {refused} runs met a refusal");
     }
-    Ok(())
+}
+
+/// Whether there is data, where it is, and for which network.
+type Parts = (bool, Option<usize>, IpNetwork);
+
+fn parts(found: LookupResult<'_, Vec<u8>>) -> Result<Parts, MaxMindDbError> {
+    match found.network() {
+        Ok(network) => Ok((found.has_data(), found.offset(), network)),
+        Err(error) => Err(error),
+    }
 }
 
 // What an address is told where every growth is refused.
 fn found_without_memory(
     alloc: Global,
-    reader: &Reader<&[u8]>,
+    reader: &Reader<Vec<u8>>,
     address: IpAddr,
-) -> Result<(bool, Option<usize>, IpNetwork), MaxMindDbError> {
+) -> Result<Parts, MaxMindDbError> {
     let large = Hoard::of_large_blocks(alloc);
     let small = Hoard::of_all_left(alloc);
-    let found = reader.lookup(address);
-    let told = found.and_then(told);
+    let found = reader.lookup(address).and_then(parts);
     drop(small);
     drop(large);
-    told
+    found
 }
 
-// The text of what an address is told where every growth is refused.
-fn found_text(
-    alloc: Global,
-    reader: &Reader<&[u8]>,
-    address: IpAddr,
-) -> Result<String, AllocError> {
-    match found_without_memory(alloc, reader, address) {
+// The same as text.
+fn found_text(alloc: Global, found: Result<Parts, MaxMindDbError>) -> Result<String, AllocError> {
+    match found {
         Ok((has_data, offset, network)) => format!(in alloc; "{has_data} {offset:?} {network}"),
         Err(error) => format!(in alloc; "{error}"),
     }
 }
 
-// Asserts what an address of the base file is told where every growth is refused.
-fn assert_found(
-    rt: &impl Abort,
-    alloc: Global,
-    address: IpAddr,
-    text: &str,
-) -> Result<(), MaxMindDbError> {
-    let file = base_file(alloc)?;
-    let reader = Reader::from_source(alloc, file.as_slice())?;
-    let found = found_text(alloc, &reader, address)?;
-    assert!(rt; found.as_str() == text, "{found}, not {text}");
-    Ok(())
-}
+/// Addresses, and what each is told.
+#[rattlefmt::skip]
+const FOUND: &[(&str, &str)] = &[
+    ("1.1.1.1", "false None 0.0.0.0/1"),
+    ("200.0.0.1", "true Some(0) 128.0.0.0/1"),
+    (
+        "::1",
+        "invalid input: cannot look up IPv6 address in IPv4-only database",
+    ),
+];
 
 #[test]
-fn lookups_without_memory(rt: HostRuntime) -> Result<(), MaxMindDbError> {
+fn lookups_without_memory(rt: HostRuntime) {
     let alloc = rt.alloc();
-    assert_found(&rt, alloc, low(), "false None 0.0.0.0/1")?;
-    assert_found(&rt, alloc, high(), "true Some(0) 128.0.0.0/1")?;
-    let ipv6 = IpAddr::V6(Ipv6Addr::LOCALHOST);
-    let refusal = "invalid input: cannot look up IPv6 address in IPv4-only database";
-    assert_found(&rt, alloc, ipv6, refusal)
+    let reader = opened(&rt, alloc, base_file(alloc));
+    for (address, text) in FOUND {
+        let address: IpAddr = address.parse().expect(&rt, address);
+        let found = found_without_memory(alloc, &reader, address);
+        assert_text(&rt, found_text(alloc, found), text);
+    }
 }
 
 /// What is read where every growth is refused.
-#[derive(Clone, Copy, Debug, PartialEq, Eq)]
+#[derive(Clone, Copy, PartialEq, Eq)]
 enum Read {
     LetterX,
     Nothing,
@@ -187,33 +184,53 @@ enum Read {
     Wrong,
 }
 
-fn text_read(read: Result<Option<&str>, MaxMindDbError>) -> Read {
-    match read {
-        Ok(Some(text)) if text == "x" => Read::LetterX,
-        Ok(None) => Read::Nothing,
-        Err(MaxMindDbError::Memory) => Read::Memory,
+fn text_read(text: Option<&str>) -> Read {
+    match text {
+        Some("x") => Read::LetterX,
+        Some(_) => Read::Wrong,
+        None => Read::Nothing,
+    }
+}
+
+fn error_read(error: MaxMindDbError) -> Read {
+    match error_met(error, Met::Wrong) {
+        Met::Refusal => Read::Memory,
         _ => Read::Wrong,
     }
 }
 
-fn number_read(read: Result<Option<u16>, MaxMindDbError>) -> Read {
+fn text_or_error(read: Result<Option<&str>, MaxMindDbError>) -> Read {
     match read {
-        Err(MaxMindDbError::Memory) => Read::Memory,
-        _ => Read::Wrong,
+        Ok(text) => text_read(text),
+        Err(error) => error_read(error),
+    }
+}
+
+fn number_or_error(read: Result<Option<u16>, MaxMindDbError>) -> Read {
+    match read {
+        Ok(_) => Read::Wrong,
+        Err(error) => error_read(error),
+    }
+}
+
+fn read_of(alloc: Global, found: LookupResult<'_, Vec<u8>>, is_number: bool) -> Read {
+    if is_number {
+        number_or_error(found.decode(alloc))
+    } else {
+        text_or_error(found.decode(alloc))
     }
 }
 
 fn read_without_memory(
     alloc: Global,
-    reader: &Reader<&[u8]>,
+    reader: &Reader<Vec<u8>>,
     address: IpAddr,
     is_number: bool,
 ) -> Read {
     let large = Hoard::of_large_blocks(alloc);
     let small = Hoard::of_all_left(alloc);
     let read = match reader.lookup(address) {
-        Ok(found) if is_number => number_read(found.decode(alloc)),
-        Ok(found) => text_read(found.decode(alloc)),
+        Ok(found) => read_of(alloc, found, is_number),
         Err(_) => Read::Wrong,
     };
     drop(small);
@@ -221,20 +238,23 @@ fn read_without_memory(
     read
 }
 
+/// What is read of an address, as a number or as a text, and what comes of it.
+#[rattlefmt::skip]
+const READS: &[(&str, bool, Read)] = &[
+    ("200.0.0.1", false, Read::LetterX),
+    ("1.1.1.1", false, Read::Nothing),
+    ("200.0.0.1", true, Read::Memory),
+];
+
 #[test]
-fn reads_without_memory(rt: HostRuntime) -> Result<(), Fail> {
+fn reads_without_memory(rt: HostRuntime) {
     let alloc = rt.alloc();
-    let file = base_file(alloc)?;
-    let reader = Reader::from_source(alloc, file.as_slice())?;
-    for (address, is_number, wanted) in [
-        (high(), false, Read::LetterX),
-        (low(), false, Read::Nothing),
-        (high(), true, Read::Memory),
-    ] {
-        let read = read_without_memory(alloc, &reader, address, is_number);
-        assert!(rt; read == wanted, "{address}: {read:?}");
+    let reader = opened(&rt, alloc, base_file(alloc));
+    for (text, is_number, wanted) in READS {
+        let address: IpAddr = text.parse().expect(&rt, text);
+        let read = read_without_memory(alloc, &reader, address, *is_number);
+        assert!(rt; read == *wanted, "{text}, as a number: {is_number}");
     }
-    Ok(())
 }
 
 // What a file is told where about so many bytes are left, or the text of its refusal.
@@ -246,54 +266,49 @@ fn verdict_within(alloc: Global, file: &[u8], budget: usize) -> Result<String, A
     let opened = Reader::from_source(alloc, file);
     drop(small);
     drop(large);
-    match opened {
-        Ok(_) => String::from_str(alloc, "accepted"),
-        Err(error) => format!(in alloc; "{error}"),
-    }
+    told(alloc, opened, "accepted")
 }
 
-// The same of the base file with this record size.
-fn verdict_of_size(alloc: Global, size: &[u8], budget: usize) -> Result<String, AllocError>
+// Asserts the same of the base file with this record size.
+fn assert_verdict(rt: &impl Abort, alloc: Global, size: &[u8], budget: usize, text: &str)
     requires { budget < 1000000 }
 {
-    let file = changed_file(alloc, BASE_NODE, BASE_DATA, &[(Field::RecordSize, size)])?;
-    verdict_within(alloc, file.as_slice(), budget)
+    let changes = [(Field::RecordSize, size)];
+    let file = changed_file(alloc, BASE_NODE, BASE_DATA, &changes).expect(rt, "a file");
+    assert_text(rt, verdict_within(alloc, file.as_slice(), budget), text);
 }
 
 #[test]
-fn table_refused(rt: HostRuntime) -> Result<(), Fail> {
+fn table_refused(rt: HostRuntime) {
+    let alloc = rt.alloc();
     let wrong_size = "invalid database: record_size - Expected: 24, 28, or 32 Actual: 16";
     // What else refuses a file does so before the table is reserved.
-    for (size, budget, text) in [
-        (b"\xA1\x18".as_slice(), NO_TABLE, "out of memory"),
-        (b"\xA1\x18".as_slice(), 0, "out of memory"),
-        (b"\xA1\x10".as_slice(), NO_TABLE, wrong_size),
-    ] {
-        let met = verdict_of_size(rt.alloc(), size, budget)?;
-        assert!(rt; met.as_str() == text, "{size:?} with {budget}: {met}");
-    }
+    assert_verdict(&rt, alloc, b"\xA1\x18", NO_TABLE, "out of memory");
+    assert_verdict(&rt, alloc, b"\xA1\x18", 0, "out of memory");
+    assert_verdict(&rt, alloc, b"\xA1\x10", NO_TABLE, wrong_size);
     for page in 0..16usize {
-        let met = verdict_of_size(rt.alloc(), b"\xA1\x18", page * 4_096)?;
-        assert!(rt; met.as_str() == "out of memory", "{page} pages: {met}");
+        assert_verdict(&rt, alloc, b"\xA1\x18", page * 4_096, "out of memory");
     }
-    Ok(())
 }
 
-// Whether a file is refused for want of memory where every growth is refused.
-fn is_refused_without_memory(alloc: Global, file: &[u8]) -> bool {
+// What a file is told where every growth is refused.
+fn verdict_without_memory(alloc: Global, file: &[u8]) -> Result<String, AllocError> {
     let large = Hoard::of_large_blocks(alloc);
     let small = Hoard::of_all_left(alloc);
     let opened = Reader::from_source(alloc, file);
     drop(small);
     drop(large);
-    matches!(&opened, Err(MaxMindDbError::Memory))
+    told(alloc, opened, "accepted")
 }
 
 #[test]
-fn files_without_memory(rt: HostRuntime) -> Result<(), Fail> {
+fn files_without_memory(rt: HostRuntime) {
     let alloc = rt.alloc();
-    let file = base_file(alloc)?;
-    assert!(rt; is_refused_without_memory(alloc, file.as_slice()));
-    assert!(rt; Reader::from_source(alloc, file.as_slice()).is_ok());
-    Ok(())
+    assert_text(
+        &rt,
+        verdict_without_memory(alloc, BASE_FILE),
+        "out of memory",
+    );
+    let opened = Reader::from_source(alloc, BASE_FILE);
+    assert_text(&rt, told(alloc, opened, "accepted"), "accepted");
 }

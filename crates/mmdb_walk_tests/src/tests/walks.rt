@@ -1,68 +1,77 @@
 //! Walks over networks, one by one.
-use maxminddb::{IpNetwork, LookupResult, MaxMindDbError, Reader, Within, WithinOptions};
+use super::answers::{assert_text, opened, told};
+use maxminddb::{IpNetwork, LookupResult, MaxMindDbError, Within, WithinOptions};
 use mmdb_vectors::builder::{BASE, BASE_NODE, base_file, base_with_node, file};
 use mmdb_vectors::hoard::Hoard;
-use std::alloc::Global;
-use std::test::Fail;
+use std::alloc::{AllocError, Global};
+use std::process::Abort;
+
+// The text of a network and of its offset, or of a refusal.
+fn network_text(
+    alloc: Global,
+    network: Result<IpNetwork, MaxMindDbError>,
+    offset: Option<usize>,
+) -> Result<String, AllocError> {
+    match network {
+        Ok(network) => format!(in alloc; "{network} {offset:?}"),
+        Err(error) => format!(in alloc; "{error}"),
+    }
+}
+
+// What an item tells.
+fn item_text(
+    alloc: Global,
+    item: Result<LookupResult<'_, Vec<u8>>, MaxMindDbError>,
+) -> Result<String, AllocError> {
+    match item {
+        Ok(found) => network_text(alloc, found.network(), found.offset()),
+        Err(error) => network_text(alloc, Err(error), None),
+    }
+}
 
 // What a call of `next` tells: a network and its offset, or that no item is left.
 fn call_text(
     alloc: Global,
-    called: Option<Result<LookupResult<'_, &[u8]>, MaxMindDbError>>,
-) -> Result<String, MaxMindDbError> {
-    let Some(item) = called else {
-        return Ok(String::from_str(alloc, "end")?);
-    };
-    let found = item?;
-    let network = found.network()?;
-    Ok(format!(in alloc; "{network} {:?}", found.offset())?)
+    called: Option<Result<LookupResult<'_, Vec<u8>>, MaxMindDbError>>,
+) -> Result<String, AllocError> {
+    match called {
+        Some(item) => item_text(alloc, item),
+        None => String::from_str(alloc, "end"),
+    }
 }
 
-// What four calls of `next` tell of a walk over the whole space of a file, without data too.
-fn four_calls(alloc: Global, file: &[u8]) -> Result<Vec<String>, MaxMindDbError> {
-    let reader = Reader::from_source(alloc, file)?;
-    let whole = "0.0.0.0/0".parse()?;
+/// What the calls of `next` tell of a walk over the whole space of the base file, without data too.
+const WHOLE_SPACE: &[&str] = &["0.0.0.0/1 None", "128.0.0.0/1 Some(0)", "end", "end"];
+
+#[test]
+fn whole_space_and_its_end(rt: HostRuntime) {
+    let alloc = rt.alloc();
+    let reader = opened(&rt, alloc, base_file(alloc));
+    let whole: IpNetwork = "0.0.0.0/0".parse().expect(&rt, "a range");
     let options = WithinOptions::default().include_networks_without_data();
-    let mut walk = reader.within(alloc, whole, options)?;
-    let mut texts = Vec::new(alloc);
-    for _ in 0..4 {
-        texts.push(call_text(alloc, walk.next())?)?;
-    }
-    Ok(texts)
-}
-
-#[test]
-fn whole_space_and_its_end(rt: HostRuntime) -> Result<(), Fail> {
-    let alloc = rt.alloc();
-    let texts = four_calls(alloc, base_file(alloc)?.as_slice())?;
-    let told = format!(in alloc; "{texts:?}")?;
-    let wanted = "[\"0.0.0.0/1 None\", \"128.0.0.0/1 Some(0)\", \"end\", \"end\"]";
-    assert!(rt; told.as_str() == wanted, "{told}");
-    Ok(())
-}
-
-// The text of the refusal to walk over a range of a file, or `walked`.
-fn range_text(alloc: Global, file: &[u8], range: IpNetwork) -> Result<String, MaxMindDbError> {
-    let reader = Reader::from_source(alloc, file)?;
-    match reader.within(alloc, range, WithinOptions::default()) {
-        Ok(_) => Ok(String::from_str(alloc, "walked")?),
-        Err(error) => Ok(format!(in alloc; "{error}")?),
+    let mut walk = reader.within(alloc, whole, options).expect(&rt, "a walk");
+    for text in WHOLE_SPACE {
+        assert_text(&rt, call_text(alloc, walk.next()), text);
     }
 }
 
 #[test]
-fn ipv6_range_in_ipv4_database(rt: HostRuntime) -> Result<(), Fail> {
+fn ipv6_range_in_ipv4_database(rt: HostRuntime) {
     let alloc = rt.alloc();
-    let refusal = range_text(alloc, base_file(alloc)?.as_slice(), "::/0".parse()?)?;
+    let reader = opened(&rt, alloc, base_file(alloc));
+    let range: IpNetwork = "::/0".parse().expect(&rt, "a range");
+    let walk = reader.within(alloc, range, WithinOptions::default());
     let text = "invalid input: cannot iterate IPv6 network in IPv4-only database";
-    assert!(rt; refusal.as_str() == text, "{refusal}");
-    Ok(())
+    assert_text(&rt, told(alloc, walk, "walked"), text);
 }
 
-/// Nodes, data, and the first item of a walk that skips empty values. A fault of the tree has no place; a
-/// header that can't be read has that of the value in the file, where the data begin at 22.
+/// Nodes, data, and the first item of a walk that skips empty values.
+type FirstItem = (&'static [u8], &'static [u8], &'static str);
+
+/// A fault of the tree has no place; a header that can't be read has that of the value in the file, where the data
+/// begin at 22.
 #[rattlefmt::skip]
-const FIRST_ITEMS: &[(&[u8], &[u8], &str)] = &[
+const FIRST_ITEMS: &[FirstItem] = &[
     (BASE_NODE, b"\x41x", "found"),
     (
         b"\x00\x00\x10\x00\x00\x11",
@@ -89,30 +98,25 @@ const FIRST_ITEMS: &[(&[u8], &[u8], &str)] = &[
     ),
 ];
 
-// The text of the first item of a walk that skips empty values, or `found`.
-fn first_item(alloc: Global, nodes: &[u8], data: &[u8]) -> Result<String, MaxMindDbError> {
-    let bytes = file(alloc, nodes, data, BASE)?;
-    let reader = Reader::from_source(alloc, bytes.as_slice())?;
-    let mut walk = reader.networks(alloc, WithinOptions::default().skip_empty_values())?;
-    match walk.next() {
-        Some(Ok(_)) => Ok(String::from_str(alloc, "found")?),
-        Some(Err(error)) => Ok(format!(in alloc; "{error}")?),
-        None => Ok(String::from_str(alloc, "no item")?),
-    }
+// Asserts the text of the first item of a walk that skips empty values.
+fn assert_first_item(rt: &impl Abort, alloc: Global, row: &FirstItem) {
+    let (nodes, data, text) = row;
+    let reader = opened(rt, alloc, file(alloc, nodes, data, BASE));
+    let options = WithinOptions::default().skip_empty_values();
+    let mut walk = reader.networks(alloc, options).expect(rt, "a walk");
+    let item = walk.next().expect(rt, "an item");
+    assert_text(rt, told(alloc, item, "found"), text);
 }
 
 #[test]
-fn first_items(rt: HostRuntime) -> Result<(), Fail> {
-    let alloc = rt.alloc();
-    for (nodes, data, text) in FIRST_ITEMS {
-        let item = first_item(alloc, nodes, data)?;
-        assert!(rt; item.as_str() == *text, "{data:?}: {item}, not {text}");
+fn first_items(rt: HostRuntime) {
+    for row in FIRST_ITEMS {
+        assert_first_item(&rt, rt.alloc(), row);
     }
-    Ok(())
 }
 
 // How many items of a walk are faults and how many are networks, where every growth is refused.
-fn counts_without_memory(alloc: Global, walk: Within<'_, &[u8]>) -> (u32, u32) {
+fn counts_without_memory(alloc: Global, walk: Within<'_, Vec<u8>>) -> (u32, u32) {
     let large = Hoard::of_large_blocks(alloc);
     let small = Hoard::of_all_left(alloc);
     let mut faults = 0u32;
@@ -129,12 +133,11 @@ fn counts_without_memory(alloc: Global, walk: Within<'_, &[u8]>) -> (u32, u32) {
 }
 
 #[test]
-fn left_spine_without_memory(rt: HostRuntime) -> Result<(), Fail> {
+fn left_spine_without_memory(rt: HostRuntime) {
     let alloc = rt.alloc();
-    let bytes = base_with_node(alloc, b"\x00\x00\x00\x00\x00\x11")?;
-    let reader = Reader::from_source(alloc, bytes.as_slice())?;
-    let walk = reader.networks(alloc, WithinOptions::default())?;
-    let (faults, networks) = counts_without_memory(alloc, walk);
-    assert!(rt; (faults, networks) == (1, 32), "{faults} and {networks}");
-    Ok(())
+    let node = b"\x00\x00\x00\x00\x00\x11";
+    let reader = opened(&rt, alloc, base_with_node(alloc, node));
+    let walk = reader.networks(alloc, WithinOptions::default());
+    let counts = counts_without_memory(alloc, walk.expect(&rt, "a walk"));
+    assert!(rt; counts == (1, 32), "{counts:?}");
 }
