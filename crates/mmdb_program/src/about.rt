@@ -47,9 +47,39 @@ fn date_of(alloc: Global, seconds: u64) -> Result<Option<String>, AllocError> {
     }
 }
 
-// Adds a text that was made at the end of another, if there was memory for it.
-fn add(text: &mut String, made: Result<String, AllocError>) -> Result<(), AllocError> {
-    text.push_str(made?.as_str())
+/// Lines that a person reads, added one after another.
+#[derive(Drop)]
+struct Lines {
+    text: String,
+    /// Whether something was not added, as there was no memory.
+    is_cut: bool,
+}
+
+impl Lines {
+    fn new(alloc: Global) -> Lines {
+        Lines {
+            text: String::new(alloc),
+            is_cut: false,
+        }
+    }
+
+    // Adds a text that was made, if there was memory for it.
+    fn add(&mut self, made: Result<String, AllocError>) {
+        let added = match made {
+            Ok(made) => self.text.push_str(made.as_str()),
+            Err(error) => Err(error),
+        };
+        self.is_cut |= added.is_err();
+    }
+
+    // All that was added.
+    fn finish(self) -> Result<String, AllocError> {
+        if self.is_cut {
+            Err(AllocError)
+        } else {
+            Ok(self.text)
+        }
+    }
 }
 
 // When a database was built, by the number of seconds since 1970.
@@ -60,84 +90,36 @@ fn built_text(alloc: Global, seconds: u64) -> Result<String, AllocError> {
     }
 }
 
-// Adds the lines of the descriptions.
-fn add_descriptions(
-    alloc: Global,
-    descriptions: &BTreeMap<String, String>,
-    text: &mut String,
-) -> Result<(), AllocError> {
-    for (language, description) in descriptions {
-        add(
-            text,
-            format!(in alloc; "description: {description} ({language})\n"),
-        )?;
-    }
-    Ok(())
-}
-
-// Adds the line of the languages.
-fn add_languages(alloc: Global, languages: &[String], text: &mut String) -> Result<(), AllocError> {
-    text.push_str("languages:  ")?;
-    for language in languages {
-        add(text, format!(in alloc; " {language}"))?;
-    }
-    text.push_str("\n")
-}
-
-// Adds the lines of the kind, the descriptions and the languages.
-fn add_texts(alloc: Global, metadata: &Metadata, text: &mut String) -> Result<(), AllocError> {
-    let kind = &metadata.database_type;
-    add(text, format!(in alloc; "type:        {kind}\n"))?;
-    add_descriptions(alloc, &metadata.description, text)?;
-    add_languages(alloc, metadata.languages.as_slice(), text)
-}
-
-// Adds the lines of the versions and of the time.
-fn add_versions(alloc: Global, metadata: &Metadata, text: &mut String) -> Result<(), AllocError> {
-    let ip = metadata.ip_version;
-    let major = metadata.binary_format_major_version;
-    let minor = metadata.binary_format_minor_version;
-    add(text, format!(in alloc; "IP version:  {ip}\nbuilt:       "))?;
-    add(text, built_text(alloc, metadata.build_epoch))?;
-    add(text, format!(in alloc; "\nformat:      {major}.{minor}\n"))
-}
-
-// Adds the lines of the sizes.
-fn add_sizes(
-    alloc: Global,
-    metadata: &Metadata,
-    sizes: Sizes,
-    text: &mut String,
-) -> Result<(), AllocError> {
-    for (title, number, unit) in [
-        ("nodes:       ", u64::from(metadata.node_count), ""),
-        ("record size: ", u64::from(metadata.record_size), " bits"),
-        ("tree:        ", sizes.tree, " bytes"),
-        ("data:        ", sizes.data, " bytes"),
-        ("metadata:    ", sizes.metadata, " bytes"),
-    ] {
-        add(text, format!(in alloc; "{title}{number}{unit}\n"))?;
-    }
-    Ok(())
-}
-
-// Adds the lines that a person reads.
-fn add_lines(
-    alloc: Global,
-    metadata: &Metadata,
-    sizes: Sizes,
-    text: &mut String,
-) -> Result<(), AllocError> {
-    add_texts(alloc, metadata, text)?;
-    add_versions(alloc, metadata, text)?;
-    add_sizes(alloc, metadata, sizes, text)
-}
-
 // The lines that a person reads.
 fn text_of(alloc: Global, metadata: &Metadata, sizes: Sizes) -> Result<String, AllocError> {
-    let mut text = String::new(alloc);
-    add_lines(alloc, metadata, sizes, &mut text)?;
-    Ok(text)
+    let mut lines = Lines::new(alloc);
+    let kind = &metadata.database_type;
+    lines.add(format!(in alloc; "type:        {kind}\n"));
+    for (language, description) in &metadata.description {
+        lines.add(format!(in alloc; "description: {description} ({language})\n"));
+    }
+    lines.add(format!(in alloc; "languages:  "));
+    for language in &metadata.languages {
+        lines.add(format!(in alloc; " {language}"));
+    }
+    let ip = metadata.ip_version;
+    lines.add(format!(in alloc; "\nIP version:  {ip}\nbuilt:       "));
+    lines.add(built_text(alloc, metadata.build_epoch));
+    let major = metadata.binary_format_major_version;
+    let minor = metadata.binary_format_minor_version;
+    let (nodes, bits) = (metadata.node_count, metadata.record_size);
+    lines.add(format!(in alloc;
+        "\nformat:      {major}.{minor}\nnodes:       {nodes}\nrecord size: {bits} bits\n"
+    ));
+    let Sizes {
+        tree,
+        data,
+        metadata,
+    } = sizes;
+    lines.add(format!(in alloc;
+        "tree:        {tree} bytes\ndata:        {data} bytes\nmetadata:    {metadata} bytes\n"
+    ));
+    lines.finish()
 }
 
 fn put_text(out: &mut Pretty, key: &str, text: &str) -> Result<(), AllocError> {

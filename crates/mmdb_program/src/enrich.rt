@@ -10,7 +10,6 @@ use mmdb_reader::Reader;
 use std::alloc::{AllocError, Global};
 use std::convert::AsSlice;
 use std::io::{self, BufRead, Write};
-use std::rt::Files;
 
 // The first row, which may not be longer than a row's text that is seen.
 fn read_header<I: BufRead>(
@@ -189,8 +188,8 @@ fn enrich_rows<S: AsSlice<u8> + Drop, I: BufRead, O: Write, E: Write>(
     Ok(DONE)
 }
 
-// Copies rows with fields of a database behind each.
-fn enrich_from<S: AsSlice<u8> + Drop, I: BufRead, O: Write, E: Write>(
+/// Copies rows with fields behind each, and reports how they fared.
+pub(crate) fn enrich<S: AsSlice<u8> + Drop, I: BufRead, O: Write, E: Write>(
     alloc: Global,
     reader: &Reader<S>,
     wanted: EnrichTask<'_>,
@@ -208,18 +207,4 @@ fn enrich_from<S: AsSlice<u8> + Drop, I: BufRead, O: Write, E: Write>(
         paths: wanted.paths,
     };
     enrich_rows(&enrichment, is_terminal, input, out, err)
-}
-
-/// Copies rows with fields behind each, and reports how they fared.
-pub(crate) fn enrich<R: Files, I: BufRead, O: Write, E: Write>(
-    rt: &R,
-    alloc: Global,
-    wanted: EnrichTask<'_>,
-    is_terminal: bool,
-    input: &mut I,
-    out: &mut O,
-    err: &mut E,
-) -> Result<u8, ProgramError> {
-    let reader = Reader::open_readfile(rt, alloc, wanted.file)?;
-    enrich_from(alloc, &reader, wanted, is_terminal, input, out, err)
 }

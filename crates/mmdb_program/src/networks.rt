@@ -8,7 +8,6 @@ use mmdb_reader::{IpNetwork, LookupResult, MaxMindDbError, Reader, Within};
 use std::alloc::{AllocError, Global};
 use std::convert::AsSlice;
 use std::io::Write;
-use std::rt::Files;
 
 // What a report names for a network.
 fn name_of(alloc: Global, network: Option<IpNetwork>) -> Result<String, AllocError> {
@@ -39,27 +38,12 @@ fn export_one<S: AsSlice<u8> + Drop, O: Write, E: Write>(
     out: &mut O,
     err: &mut E,
 ) -> Result<bool, ProgramError> {
-    match rows.write(item, out)? {
-        Some(faulty) => report_faulty(alloc, &faulty, out, err),
-        None => Ok(true),
-    }
-}
-
-// Writes a line for each network, and answers how many could not be read.
-fn export_all<S: AsSlice<u8> + Drop, O: Write, E: Write>(
-    alloc: Global,
-    networks: Within<'_, S>,
-    rows: &mut Rows<'_>,
-    out: &mut O,
-    err: &mut E,
-) -> Result<u64, ProgramError> {
-    let mut faults = 0u64;
-    for item in networks {
-        if !export_one(alloc, item, rows, out, err)? {
-            faults = faults.saturating_add(1);
-        }
-    }
-    Ok(faults)
+    let Some(faulty) = rows.write(item, out)? else {
+        return Ok(true);
+    };
+    let reported = report_faulty(alloc, &faulty, out, err);
+    drop(faulty);
+    reported
 }
 
 // Writes the header, where the layout has one.
@@ -84,22 +68,39 @@ fn report_faults<E: Write>(alloc: Global, faults: u64, err: &mut E) -> Result<u8
     Ok(FAILED)
 }
 
+// Writes a line for each network, and answers how many could not be read.
+fn export_all<S: AsSlice<u8> + Drop, O: Write, E: Write>(
+    alloc: Global,
+    networks: Within<'_, S>,
+    rows: &mut Rows<'_>,
+    out: &mut O,
+    err: &mut E,
+) -> Result<u64, ProgramError> {
+    let mut faults = 0u64;
+    for item in networks {
+        if !export_one(alloc, item, rows, out, err)? {
+            faults = faults.saturating_add(1);
+        }
+    }
+    Ok(faults)
+}
+
 // Writes the header and a line for each network, and answers the status.
-fn export_networks<S: AsSlice<u8> + Drop, O: Write, E: Write>(
+fn export_rows<S: AsSlice<u8> + Drop, O: Write, E: Write>(
     alloc: Global,
     networks: Within<'_, S>,
     layout: &Layout<'_>,
+    rows: &mut Rows<'_>,
     out: &mut O,
     err: &mut E,
 ) -> Result<u8, ProgramError> {
-    let mut rows = Rows::new(alloc, layout)?;
     put_header(alloc, layout, out)?;
-    let faults = export_all(alloc, networks, &mut rows, out, err)?;
+    let faults = export_all(alloc, networks, rows, out, err)?;
     report_faults(alloc, faults, err)
 }
 
-// Writes the lines of a range of a database.
-fn export_from<S: AsSlice<u8> + Drop, O: Write, E: Write>(
+/// Writes a line for each network of a range, and reports each that can't be read.
+pub(crate) fn export<S: AsSlice<u8> + Drop, O: Write, E: Write>(
     alloc: Global,
     reader: &Reader<S>,
     wanted: &ExportTask<'_>,
@@ -107,17 +108,6 @@ fn export_from<S: AsSlice<u8> + Drop, O: Write, E: Write>(
     err: &mut E,
 ) -> Result<u8, ProgramError> {
     let networks = networks_in(alloc, reader, wanted.range)?;
-    export_networks(alloc, networks, &wanted.layout, out, err)
-}
-
-/// Writes a line for each network of a range, and reports each that can't be read.
-pub(crate) fn export<R: Files, O: Write, E: Write>(
-    rt: &R,
-    alloc: Global,
-    wanted: &ExportTask<'_>,
-    out: &mut O,
-    err: &mut E,
-) -> Result<u8, ProgramError> {
-    let reader = Reader::open_readfile(rt, alloc, wanted.file)?;
-    export_from(alloc, &reader, wanted, out, err)
+    let mut rows = Rows::new(alloc, &wanted.layout)?;
+    export_rows(alloc, networks, &wanted.layout, &mut rows, out, err)
 }

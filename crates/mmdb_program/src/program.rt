@@ -5,10 +5,12 @@ use crate::error::ProgramError;
 use crate::networks::export;
 use crate::output::{BAD_ARGUMENTS, DONE, FAILED, NO_MEMORY, report};
 use crate::show::show;
-use crate::task::{Task, task_of};
+use crate::task::{Query, Task, task_of};
 use crate::verify::verify;
 use mmdb_arguments::{Message, NoRequest};
+use mmdb_reader::Reader;
 use std::alloc::Global;
+use std::convert::AsSlice;
 use std::io::{BufRead, Write};
 use std::rt::Files;
 
@@ -17,6 +19,23 @@ use std::rt::Files;
 pub struct Terminals {
     pub output: bool,
     pub errors: bool,
+}
+
+// Does what is asked of an opened database.
+fn answered<S: AsSlice<u8> + Drop, I: BufRead, O: Write, E: Write>(
+    alloc: Global,
+    reader: &Reader<S>,
+    query: Query<'_>,
+    terminals: Terminals,
+    input: &mut I,
+    out: &mut O,
+    err: &mut E,
+) -> Result<u8, ProgramError> {
+    match query {
+        Query::Show(wanted) => show(alloc, reader, &wanted, terminals.output, out, err),
+        Query::Enrich(wanted) => enrich(alloc, reader, wanted, terminals.errors, input, out, err),
+        Query::Export(wanted) => export(alloc, reader, &wanted, out, err),
+    }
 }
 
 // Does a task.
@@ -30,11 +49,12 @@ fn done<R: Files, I: BufRead, O: Write, E: Write>(
     err: &mut E,
 ) -> Result<u8, ProgramError> {
     match task {
-        Task::Show(wanted) => show(rt, alloc, &wanted, terminals.output, out, err),
         Task::Info(wanted) => about(rt, alloc, wanted.file, wanted.json, out),
-        Task::Enrich(wanted) => enrich(rt, alloc, wanted, terminals.errors, input, out, err),
-        Task::Export(wanted) => export(rt, alloc, &wanted, out, err),
         Task::Verify(wanted) => verify(rt, alloc, wanted.files.as_slice(), out),
+        Task::Query { file, query } => {
+            let reader = Reader::open_readfile(rt, alloc, file)?;
+            answered(alloc, &reader, query, terminals, input, out, err)
+        }
     }
 }
 
@@ -75,7 +95,9 @@ fn ended<E: Write>(alloc: Global, file: &str, done: Result<u8, ProgramError>, er
         Ok(status) => status,
         Err(error) => {
             report(alloc, file, &error, err);
-            status_of(&error)
+            let status = status_of(&error);
+            drop(error);
+            status
         }
     }
 }

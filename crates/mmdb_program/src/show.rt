@@ -9,7 +9,6 @@ use std::alloc::{AllocError, Global};
 use std::convert::AsSlice;
 use std::io::Write;
 use std::net::IpAddr;
-use std::rt::Files;
 
 // The tokens of a key and of a text that was made, if there was memory for it.
 fn write_text<W: TokenSink>(
@@ -195,36 +194,27 @@ fn show_one<S: AsSlice<u8> + Drop, O: Write, E: Write>(
     let paths = wanted.paths.as_slice();
     match show_to(alloc, reader, address, paths, lines, &mut text) {
         Ok(is_found) => put_shown(text.as_slice(), is_found, status, out),
-        Err(error) => put_failed(alloc, address, text.as_slice(), &error, out, err),
+        Err(error) => {
+            let failed = put_failed(alloc, address, text.as_slice(), &error, out, err);
+            drop(error);
+            failed
+        }
     }
-}
-
-// Writes what a database has for all addresses.
-fn show_all<S: AsSlice<u8> + Drop, O: Write, E: Write>(
-    alloc: Global,
-    reader: &Reader<S>,
-    wanted: &ShowTask<'_>,
-    lines: bool,
-    out: &mut O,
-    err: &mut E,
-) -> Result<u8, ProgramError> {
-    let mut status = DONE;
-    for address in &wanted.arguments.addresses {
-        status = show_one(alloc, reader, wanted, lines, *address, status, out, err)?;
-    }
-    Ok(status)
 }
 
 /// Writes what a database has for addresses, and reports the error of each that has one.
-pub(crate) fn show<R: Files, O: Write, E: Write>(
-    rt: &R,
+pub(crate) fn show<S: AsSlice<u8> + Drop, O: Write, E: Write>(
     alloc: Global,
+    reader: &Reader<S>,
     wanted: &ShowTask<'_>,
     is_terminal: bool,
     out: &mut O,
     err: &mut E,
 ) -> Result<u8, ProgramError> {
-    let reader = Reader::open_readfile(rt, alloc, wanted.arguments.file)?;
-    let lines = wanted.arguments.lines || !is_terminal;
-    show_all(alloc, &reader, wanted, lines, out, err)
+    let lines = wanted.lines || !is_terminal;
+    let mut status = DONE;
+    for address in &wanted.addresses {
+        status = show_one(alloc, reader, wanted, lines, *address, status, out, err)?;
+    }
+    Ok(status)
 }

@@ -8,6 +8,7 @@ use mmdb_arguments::{
 use mmdb_filter::Rows;
 use mmdb_reader::{IpNetwork, PathElement};
 use std::alloc::Global;
+use std::net::IpAddr;
 
 /// A column of lines.
 #[derive(Clone, Copy)]
@@ -21,14 +22,14 @@ pub(crate) enum Column<'a> {
 /// What `show` is asked for.
 #[derive(Drop)]
 pub(crate) struct ShowTask<'a> {
-    pub(crate) arguments: ShowArguments<'a>,
+    pub(crate) addresses: Vec<IpAddr>,
     pub(crate) paths: Vec<Vec<PathElement<'a>>>,
+    pub(crate) lines: bool,
 }
 
 /// What `export` is asked for.
 #[derive(Drop)]
 pub(crate) struct ExportTask<'a> {
-    pub(crate) file: &'a str,
     pub(crate) range: Option<IpNetwork>,
     pub(crate) layout: Layout<'a>,
 }
@@ -36,7 +37,6 @@ pub(crate) struct ExportTask<'a> {
 /// What `enrich` is asked for.
 #[derive(Drop)]
 pub(crate) struct EnrichTask<'a> {
-    pub(crate) file: &'a str,
     pub(crate) rows: Rows,
     pub(crate) column: Column<'a>,
     pub(crate) names: Vec<&'a str>,
@@ -44,30 +44,35 @@ pub(crate) struct EnrichTask<'a> {
     pub(crate) header: bool,
 }
 
-/// A request whose texts are what they should be.
+/// What is asked of a database that is opened.
 #[derive(Drop)]
-pub(crate) enum Task<'a> {
+pub(crate) enum Query<'a> {
     /// The records of addresses, or their values at some paths.
     Show(ShowTask<'a>),
-    /// What a database says of itself.
-    Info(InfoArguments<'a>),
     /// Fields behind lines.
     Enrich(EnrichTask<'a>),
     /// Every network with its record.
     Export(ExportTask<'a>),
+}
+
+/// A request whose texts are what they should be.
+#[derive(Drop)]
+pub(crate) enum Task<'a> {
+    /// What a database says of itself.
+    Info(InfoArguments<'a>),
     /// Whether files are whole.
     Verify(VerifyArguments<'a>),
+    /// What is looked up in a file.
+    Query { file: &'a str, query: Query<'a> },
 }
 
 impl<'a> Task<'a> {
     /// What an error names: the file, or the command where there are several.
     pub(crate) fn file(&self) -> &'a str {
         match self {
-            Task::Show(show) => show.arguments.file,
             Task::Info(info) => info.file,
-            Task::Enrich(enrich) => enrich.file,
-            Task::Export(export) => export.file,
             Task::Verify(_) => "verify",
+            Task::Query { file, .. } => *file,
         }
     }
 }
@@ -122,23 +127,26 @@ fn rows_of(alloc: Global, delimiter: Option<&str>) -> Result<Rows, NoRequest> {
     }
 }
 
-fn show<'a>(alloc: Global, arguments: ShowArguments<'a>) -> Result<ShowTask<'a>, NoRequest> {
+fn show<'a>(alloc: Global, arguments: ShowArguments<'a>) -> Result<Query<'a>, NoRequest> {
     let paths = paths_of(alloc, arguments.paths.as_slice())?;
-    Ok(ShowTask { arguments, paths })
+    Ok(Query::Show(ShowTask {
+        addresses: arguments.addresses,
+        paths,
+        lines: arguments.lines,
+    }))
 }
 
-fn enrich<'a>(alloc: Global, arguments: EnrichArguments<'a>) -> Result<EnrichTask<'a>, NoRequest> {
+fn enrich<'a>(alloc: Global, arguments: EnrichArguments<'a>) -> Result<Query<'a>, NoRequest> {
     let rows = rows_of(alloc, arguments.delimiter)?;
     let column = column_of(alloc, arguments.column, arguments.header)?;
     let paths = paths_of(alloc, arguments.fields.as_slice())?;
-    Ok(EnrichTask {
-        file: arguments.file,
+    Ok(Query::Enrich(EnrichTask {
         rows,
         column,
         names: arguments.fields,
         paths,
         header: arguments.header,
-    })
+    }))
 }
 
 // How networks are written in a format with the values at the paths of these names.
@@ -160,23 +168,30 @@ fn layout_of<'a>(
     }
 }
 
-fn export<'a>(alloc: Global, arguments: ExportArguments<'a>) -> Result<ExportTask<'a>, NoRequest> {
-    let (file, range) = (arguments.file, arguments.range);
+fn export<'a>(alloc: Global, arguments: ExportArguments<'a>) -> Result<Query<'a>, NoRequest> {
+    let range = arguments.range;
     let layout = layout_of(alloc, arguments.format, arguments.fields)?;
-    Ok(ExportTask {
-        file,
+    Ok(Query::Export(ExportTask {
         range: range_of(alloc, range)?,
         layout,
+    }))
+}
+
+// The task of a file and what is asked of it.
+fn of_file<'a>(file: &'a str, query: Result<Query<'a>, NoRequest>) -> Result<Task<'a>, NoRequest> {
+    Ok(Task::Query {
+        file,
+        query: query?,
     })
 }
 
 /// What a command line asks for, the program's name first.
 pub(crate) fn task_of<'a>(alloc: Global, arguments: &'a [String]) -> Result<Task<'a>, NoRequest> {
     match request_of(alloc, arguments)? {
-        Request::Show(arguments) => Ok(Task::Show(show(alloc, arguments)?)),
+        Request::Show(arguments) => of_file(arguments.file, show(alloc, arguments)),
         Request::Info(arguments) => Ok(Task::Info(arguments)),
-        Request::Enrich(arguments) => Ok(Task::Enrich(enrich(alloc, arguments)?)),
-        Request::Export(arguments) => Ok(Task::Export(export(alloc, arguments)?)),
+        Request::Enrich(arguments) => of_file(arguments.file, enrich(alloc, arguments)),
+        Request::Export(arguments) => of_file(arguments.file, export(alloc, arguments)),
         Request::Verify(arguments) => Ok(Task::Verify(arguments)),
     }
 }

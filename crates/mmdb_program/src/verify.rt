@@ -46,7 +46,11 @@ fn verify_one<R: Files, O: Write>(
 ) -> Result<u8, ProgramError> {
     match verified(rt, alloc, file) {
         Ok(()) => put_whole(alloc, file, status, out),
-        Err(error) => put_error(alloc, file, &error, out),
+        Err(error) => {
+            let put = put_error(alloc, file, &error, out);
+            drop(error);
+            put
+        }
     }
 }
 

@@ -1,11 +1,20 @@
 //! Networks with what their records have.
-use super::program::run_of;
+use super::program::{Run, assert_of, run_of};
 use mmdb_vectors::builder::{Field, changed_file, push_node_24};
 use std::alloc::{AllocError, Global};
 use std::test::Fail;
 
-/// The records of the eight networks of /3: offset o is 23 + o, 7 is none, and 4096 lies past the data.
-const LEAVES: [u32; 8] = [23, 42, 23, 7, 4096, 44, 56, 64];
+/// The records of the nodes: of three that lead to others, and of the eight networks of /3, where offset o is 23 + o,
+/// 7 is none, and 4096 lies past the data.
+const NODES: &[(u32, u32)] = &[
+    (1, 2),
+    (3, 4),
+    (5, 6),
+    (23, 42),
+    (23, 7),
+    (4096, 44),
+    (56, 64),
+];
 
 /// At 0 the record {"a": "x,\"y\"", "n": 7, "l": ["z"]}, at 19 a text that is not UTF-8, at 21 the record
 /// {"a": {"b": 1}, "n": T} with that text as T, at 33 {"a": {"b": true}}, at 41 an empty one.
@@ -71,21 +80,47 @@ const ROWS: &[Row<'static>] = &[
     (&["65.0.0.1", "--field", "n"], "{\"network\":\"64.0.0.0/3\",\"n\":7}\n", &[]),
 ];
 
-/// A file with those networks.
-pub(crate) fn file_of_eight(alloc: Global) -> Result<Vec<u8>, AllocError> {
-    let mut nodes = Vec::new(alloc);
-    for node in 0..3u32 {
-        push_node_24(&mut nodes, 2 * node + 1, 2 * node + 2)?;
+// The tree of nodes with these records.
+fn tree_of(alloc: Global, nodes: &[(u32, u32)]) -> Result<Vec<u8>, AllocError> {
+    let mut tree = Vec::new(alloc);
+    for (left, right) in nodes {
+        push_node_24(&mut tree, *left, *right)?;
     }
-    for pair in 0..4usize {
-        push_node_24(&mut nodes, LEAVES[2 * pair], LEAVES[2 * pair + 1])?;
-    }
+    Ok(tree)
+}
+
+// A file with those networks.
+fn file_of_eight(alloc: Global) -> Result<Vec<u8>, AllocError> {
+    let tree = tree_of(alloc, NODES)?;
     changed_file(
         alloc,
-        nodes.as_slice(),
+        tree.as_slice(),
         DATA,
         &[(Field::NodeCount, b"\xC1\x07".as_slice())],
     )
+}
+
+// A run of `export` over a file, on words after it.
+fn export_of(alloc: Global, bytes: &[u8], texts: &[&str]) -> Result<Run, Fail> {
+    let mut words: Vec<&str> = vec![in alloc; "export", "here.mmdb"]?;
+    words.extend_from_slice(texts)?;
+    run_of(alloc, bytes, words.as_slice(), "")
+}
+
+// Whether there are as many lines as parts, and each holds its own.
+fn lines_hold(text: &str, parts: &[&str]) -> bool {
+    for (line, part) in text.lines().zip(parts.iter()) {
+        if !line.contains(part) {
+            return false;
+        }
+    }
+    text.lines().count() == parts.len()
+}
+
+// Whether a run wrote a text, and reported lines that hold some parts.
+fn is_as_wanted(run: &Run, written: &str, told: &[&str]) -> bool {
+    let status = u8::from(!told.is_empty());
+    run.out.as_str() == written && run.status == status && lines_hold(run.err.as_str(), told)
 }
 
 #[test]
@@ -93,18 +128,8 @@ fn networks_with_fields(rt: HostRuntime) -> Result<(), Fail> {
     let alloc = rt.alloc();
     let bytes = file_of_eight(alloc)?;
     for (texts, written, told) in ROWS {
-        let mut words: Vec<&str> = vec![in alloc; "export", "here.mmdb"]?;
-        words.extend_from_slice(texts)?;
-        let run = run_of(alloc, bytes.as_slice(), words.as_slice(), "")?;
-        assert!(rt; run.out.as_str() == *written, "{texts:?}: {run:?}");
-        assert!(rt;
-            run.status == u8::from(!told.is_empty()),
-            "{texts:?}: {run:?}"
-        );
-        assert!(rt; run.err.lines().count() == told.len(), "{texts:?}: {run:?}");
-        for (line, told) in run.err.lines().zip(told.iter()) {
-            assert!(rt; line.contains(told), "{texts:?}: {run:?}");
-        }
+        let run = export_of(alloc, bytes.as_slice(), texts)?;
+        assert_of(&rt, texts, &run, is_as_wanted(&run, written, told));
     }
     Ok(())
 }
@@ -117,23 +142,39 @@ const LONG_AND_SHORT: &[(&str, usize)] = &[
     ("{\"network\":\"192.0.0.0/2\",\"record\":\"s\"}", 38),
 ];
 
-#[test]
-fn rows_too_long_to_be_kept(rt: HostRuntime) -> Result<(), Fail> {
-    let alloc = rt.alloc();
+// A text of 5,000 bytes, and one of one byte.
+fn long_and_short_data(alloc: Global) -> Result<Vec<u8>, AllocError> {
     let mut data = Vec::new(alloc);
     data.extend_from_slice(b"\x5E\x12\x6B")?;
     data.resize(5003, b'l')?;
     data.extend_from_slice(b"\x41s")?;
-    let mut nodes = Vec::new(alloc);
-    push_node_24(&mut nodes, 1, 2)?;
-    push_node_24(&mut nodes, 19, 5022)?;
-    push_node_24(&mut nodes, 19, 5022)?;
+    Ok(data)
+}
+
+// A file whose four networks have the long and the short text in turn.
+fn long_and_short_file(alloc: Global) -> Result<Vec<u8>, AllocError> {
+    let tree = tree_of(alloc, &[(1, 2), (19, 5022), (19, 5022)])?;
+    let data = long_and_short_data(alloc)?;
     let count = [(Field::NodeCount, b"\xC1\x03".as_slice())];
-    let bytes = changed_file(alloc, nodes.as_slice(), data.as_slice(), &count)?;
-    let run = run_of(alloc, bytes.as_slice(), &["export", "here.mmdb"], "")?;
-    assert!(&rt; run.status == 0 && run.out.lines().count() == 4, "{run:?}");
-    for (line, (begins, length)) in run.out.lines().zip(LONG_AND_SHORT.iter()) {
-        assert!(&rt; line.starts_with(begins) && line.len() == *length, "{line}");
+    changed_file(alloc, tree.as_slice(), data.as_slice(), &count)
+}
+
+// Whether the lines of a text begin so, and are so long.
+fn are_long_and_short(text: &str) -> bool {
+    for (line, (begins, length)) in text.lines().zip(LONG_AND_SHORT.iter()) {
+        if !line.starts_with(begins) || line.len() != *length {
+            return false;
+        }
     }
+    text.lines().count() == LONG_AND_SHORT.len()
+}
+
+#[test]
+fn rows_too_long_to_be_kept(rt: HostRuntime) -> Result<(), Fail> {
+    let alloc = rt.alloc();
+    let bytes = long_and_short_file(alloc)?;
+    let run = export_of(alloc, bytes.as_slice(), &[])?;
+    let holds = run.status == 0 && are_long_and_short(run.out.as_str());
+    assert_of(&rt, &["export"], &run, holds);
     Ok(())
 }

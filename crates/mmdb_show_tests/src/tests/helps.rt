@@ -1,6 +1,5 @@
 //! Helps, and what a terminal gets.
-use super::program::{file_of, run_of, words_with};
-use mmdb_program::run;
+use super::program::{assert_of, file_of, run_of, run_over};
 use mmdb_vectors::builder::base_file;
 use std::test::Fail;
 
@@ -43,15 +42,23 @@ const HELPS: &[(&[&str], &[&str])] = &[
     (&["verify", "--help"], &["Example:\n  mmdb verify "]),
 ];
 
+// Whether a text holds all parts.
+fn holds_all(text: &str, parts: &[&str]) -> bool {
+    for part in parts {
+        if !text.contains(part) {
+            return false;
+        }
+    }
+    true
+}
+
 #[test]
 fn helps_have_examples(rt: HostRuntime) -> Result<(), Fail> {
     let alloc = rt.alloc();
     for (texts, held) in HELPS {
         let run = run_of(alloc, b"", texts, "")?;
-        assert!(rt; run.status == 0 && run.err.is_empty(), "{texts:?}: {run:?}");
-        for part in *held {
-            assert!(rt; run.out.contains(part), "{texts:?}: no {part} in {run:?}");
-        }
+        let holds = run.status == 0 && run.err.is_empty() && holds_all(run.out.as_str(), held);
+        assert_of(&rt, texts, &run, holds);
     }
     Ok(())
 }
@@ -65,32 +72,20 @@ const PRETTY: &str = "{
 
 const LINE: &str = "{\"address\":\"200.0.0.1\",\"network\":\"128.0.0.0/1\",\"record\":\"x\"}\n";
 
+/// Words, and what they get on a terminal.
+const ON_A_TERMINAL: &[(&[&str], &str)] = &[
+    (&["show", "here.mmdb", "200.0.0.1"], PRETTY),
+    (&["show", "here.mmdb", "200.0.0.1", "--lines"], LINE),
+];
+
 #[test]
 fn a_terminal_gets_several_lines(rt: HostRuntime) -> Result<(), Fail> {
     let alloc = rt.alloc();
     let base = base_file(alloc)?;
-    for (texts, wanted) in [
-        (["show", "here.mmdb", "200.0.0.1"].as_slice(), PRETTY),
-        (
-            ["show", "here.mmdb", "200.0.0.1", "--lines"].as_slice(),
-            LINE,
-        ),
-    ] {
-        let words = words_with(alloc, texts)?;
-        let mut input: &[u8] = b"";
-        let mut out: Vec<u8> = Vec::new(alloc);
-        let mut err: Vec<u8> = Vec::new(alloc);
-        let status = run(
-            &file_of(base.as_slice()),
-            alloc,
-            words.as_slice(),
-            true,
-            &mut input,
-            &mut out,
-            &mut err,
-        );
-        assert!(&rt; status == 0 && err.is_empty(), "{texts:?}");
-        assert!(&rt; out.as_slice() == wanted.as_bytes(), "{texts:?}: {out:?}");
+    for (texts, wanted) in ON_A_TERMINAL {
+        let run = run_over(alloc, &file_of(base.as_slice()), texts, "", true)?;
+        let holds = run.status == 0 && run.err.is_empty() && run.out.as_str() == *wanted;
+        assert_of(&rt, texts, &run, holds);
     }
     Ok(())
 }

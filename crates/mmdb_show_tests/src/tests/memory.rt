@@ -7,6 +7,7 @@ use mmdb_vectors::builder::base_file;
 use mmdb_vectors::hoard::Hoard;
 use std::alloc::{AllocError, Global};
 use std::io::ErrorKind;
+use std::process::Abort;
 use std::test::Fail;
 
 /// How many bytes a run may write or tell.
@@ -67,24 +68,48 @@ const COMMANDS: &[&[&str]] = &[
     &["enrich", "here.mmdb", "--field", ""],
 ];
 
+// Asserts that a run wrote nothing and reported that there was no memory.
+fn assert_out_of_memory(rt: &impl Abort, texts: &[&str], step: usize, met: &Met) {
+    let told = met.err.bytes.as_slice();
+    let holds = met.status == 1 && met.out.bytes.is_empty() && told.ends_with(b"out of memory\n");
+    assert!(rt; holds, "{texts:?} with {step} steps: {told:?}");
+}
+
+// Asserts that runs on words are out of memory with each budget.
+fn assert_budgets(
+    rt: &impl Abort,
+    alloc: Global,
+    bytes: &[u8],
+    texts: &[&str],
+    words: &[String],
+) -> Result<(), AllocError> {
+    for step in 0..STEPS {
+        let met = with_budget(alloc, bytes, words, step * STEP)?;
+        assert_out_of_memory(rt, texts, step, &met);
+    }
+    Ok(())
+}
+
+// The same where no large block is left.
+fn assert_without_large_blocks(
+    rt: &impl Abort,
+    alloc: Global,
+    bytes: &[u8],
+    texts: &[&str],
+) -> Result<(), AllocError> {
+    let words = words_with(alloc, texts)?;
+    let large = Hoard::of_large_blocks(alloc);
+    let done = assert_budgets(rt, alloc, bytes, texts, words.as_slice());
+    drop(large);
+    done
+}
+
 #[test]
 fn runs_without_memory(rt: HostRuntime) -> Result<(), Fail> {
     let alloc = rt.alloc();
     let bytes = base_file(alloc)?;
     for texts in COMMANDS {
-        let words = words_with(alloc, texts)?;
-        let large = Hoard::of_large_blocks(alloc);
-        for step in 0..STEPS {
-            let met = with_budget(alloc, bytes.as_slice(), words.as_slice(), step * STEP)?;
-            let told = String::from_utf8(met.err.bytes)?;
-            assert!(&rt; met.status == 1, "{texts:?} with {step} steps: {told}");
-            assert!(&rt; met.out.bytes.is_empty(), "{texts:?} with {step} steps");
-            assert!(&rt;
-                told.ends_with("out of memory\n"),
-                "{texts:?} with {step} steps: {told}"
-            );
-        }
-        drop(large);
+        assert_without_large_blocks(&rt, alloc, bytes.as_slice(), texts)?;
     }
     Ok(())
 }

@@ -4,6 +4,7 @@ use mmdb_vectors::file::OneFile;
 use mmdb_vectors::words::words_of;
 use std::alloc::{AllocError, Global};
 use std::io::{self, Write};
+use std::process::Abort;
 use std::test::Fail;
 
 /// Reads enough for each file of a test.
@@ -56,6 +57,51 @@ pub(crate) fn file_of(bytes: &[u8]) -> OneFile<'_> {
     }
 }
 
+// What a run left that wrote texts.
+fn run_with(status: u8, out: Vec<u8>, err: Vec<u8>) -> Result<Run, Fail> {
+    let out = String::from_utf8(out)?;
+    Ok(Run {
+        status,
+        out,
+        err: String::from_utf8(err)?,
+    })
+}
+
+// A run on words.
+fn run_on_words(
+    alloc: Global,
+    files: &OneFile<'_>,
+    words: &[String],
+    lines: &str,
+    is_terminal: bool,
+) -> Result<Run, Fail> {
+    let mut input = lines.as_bytes();
+    let mut out: Vec<u8> = Vec::new(alloc);
+    let mut err: Vec<u8> = Vec::new(alloc);
+    let status = run(
+        files,
+        alloc,
+        words,
+        is_terminal,
+        &mut input,
+        &mut out,
+        &mut err,
+    );
+    run_with(status, out, err)
+}
+
+/// A run over a file, and lines on standard input.
+pub(crate) fn run_over(
+    alloc: Global,
+    files: &OneFile<'_>,
+    texts: &[&str],
+    lines: &str,
+    is_terminal: bool,
+) -> Result<Run, Fail> {
+    let words = words_with(alloc, texts)?;
+    run_on_words(alloc, files, words.as_slice(), lines, is_terminal)
+}
+
 /// A run over the file `here.mmdb`, and lines on standard input.
 pub(crate) fn run_of(
     alloc: Global,
@@ -63,22 +109,10 @@ pub(crate) fn run_of(
     texts: &[&str],
     lines: &str,
 ) -> Result<Run, Fail> {
-    let words = words_with(alloc, texts)?;
-    let mut input = lines.as_bytes();
-    let mut out: Vec<u8> = Vec::new(alloc);
-    let mut err: Vec<u8> = Vec::new(alloc);
-    let status = run(
-        &file_of(bytes),
-        alloc,
-        words.as_slice(),
-        false,
-        &mut input,
-        &mut out,
-        &mut err,
-    );
-    Ok(Run {
-        status,
-        out: String::from_utf8(out)?,
-        err: String::from_utf8(err)?,
-    })
+    run_over(alloc, &file_of(bytes), texts, lines, false)
+}
+
+/// Asserts what a run is to have left, and shows the run if it has not.
+pub(crate) fn assert_of(rt: &impl Abort, texts: &[&str], run: &Run, holds: bool) {
+    assert!(rt; holds, "{texts:?}: {run:?}");
 }

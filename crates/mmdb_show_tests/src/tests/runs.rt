@@ -1,7 +1,7 @@
 //! Runs of the program.
-use super::program::run_of;
+use super::program::{Run, assert_of, run_of};
 use mmdb_vectors::builder::{BASE, BASE_NODE, base_file, base_with_node, file};
-use std::alloc::Global;
+use std::alloc::{AllocError, Global};
 use std::process::Abort;
 use std::test::Fail;
 
@@ -119,60 +119,84 @@ const NO_LINES: &[Row<'static>] = &[
     ),
 ];
 
+/// Runs over a file in which one network's record lies past the data.
+const FAULT_RUNS: &[Row<'static>] = &[
+    (
+        &["export", "here.mmdb"],
+        1,
+        "{\"network\":\"128.0.0.0/1\",\"record\":\"x\"}\n",
+        "a network: invalid database",
+    ),
+    (
+        &["verify", "here.mmdb"],
+        1,
+        "here.mmdb: invalid database: the MaxMind DB file's data pointer resolves to an invalid location\n",
+        "",
+    ),
+    (
+        &["show", "here.mmdb", "1.1.1.1", "200.0.0.1"],
+        1,
+        FOUND,
+        "1.1.1.1: invalid database",
+    ),
+];
+
 #[test]
 fn lines_with_fields(rt: HostRuntime) -> Result<(), Fail> {
     let alloc = rt.alloc();
     let base = base_file(alloc)?;
     for (words, lines, written, told) in LINES {
         let run = run_of(alloc, base.as_slice(), words, lines)?;
-        assert!(&rt; run.status == 0, "{words:?}: {run:?}");
-        assert!(&rt; run.out.as_str() == *written, "{words:?}: {run:?}");
-        assert!(&rt; run.err.contains(told), "{words:?}: {run:?}");
+        let holds = run.status == 0 && run.out.as_str() == *written && run.err.contains(told);
+        assert_of(&rt, words, &run, holds);
     }
     assert_runs(&rt, alloc, base.as_slice(), NO_LINES)
+}
+
+// Whether a run ended with a status, wrote a text, and reported one or nothing.
+fn is_as_wanted(run: &Run, status: u8, written: &str, told: &str) -> bool {
+    run.status == status
+        && run.out.as_str() == written
+        && run.err.contains(told)
+        && run.err.is_empty() == told.is_empty()
 }
 
 // Asserts what the program does with its words over a file.
 fn assert_runs(rt: &impl Abort, alloc: Global, bytes: &[u8], rows: &[Row<'_>]) -> Result<(), Fail> {
     for (words, status, written, told) in rows {
         let run = run_of(alloc, bytes, words, "")?;
-        assert!(rt; run.status == *status, "{words:?}: {run:?}");
-        assert!(rt; run.out.as_str() == *written, "{words:?}: {run:?}");
-        assert!(rt;
-            run.err.contains(told) && run.err.is_empty() == told.is_empty(),
-            "{words:?}: {run:?}"
-        );
+        let holds = is_as_wanted(&run, *status, written, told);
+        assert_of(rt, words, &run, holds);
     }
     Ok(())
+}
+
+// The same over a file that was made.
+fn assert_runs_over(
+    rt: &impl Abort,
+    alloc: Global,
+    bytes: Result<Vec<u8>, AllocError>,
+    rows: &[Row<'_>],
+) -> Result<(), Fail> {
+    let bytes = bytes?;
+    assert_runs(rt, alloc, bytes.as_slice(), rows)
 }
 
 #[test]
 fn runs_over_small_files(rt: HostRuntime) -> Result<(), Fail> {
     let alloc = rt.alloc();
-    assert_runs(&rt, alloc, base_file(alloc)?.as_slice(), BASE_RUNS)?;
-    let nested = file(alloc, BASE_NODE, NESTED, BASE)?;
-    assert_runs(&rt, alloc, nested.as_slice(), NESTED_RUNS)?;
-    let fault = base_with_node(alloc, b"\x00\x00\x10\x00\x00\x11")?;
-    let rows: [Row<'_>; 3] = [
-        (
-            &["export", "here.mmdb"],
-            1,
-            "{\"network\":\"128.0.0.0/1\",\"record\":\"x\"}\n",
-            "a network: invalid database",
-        ),
-        (
-            &["verify", "here.mmdb"],
-            1,
-            "here.mmdb: invalid database: the MaxMind DB file's data pointer resolves to an invalid location\n",
-            "",
-        ),
-        (
-            &["show", "here.mmdb", "1.1.1.1", "200.0.0.1"],
-            1,
-            FOUND,
-            "1.1.1.1: invalid database",
-        ),
-    ];
-    assert_runs(&rt, alloc, fault.as_slice(), &rows)?;
+    assert_runs_over(&rt, alloc, base_file(alloc), BASE_RUNS)?;
+    assert_runs_over(
+        &rt,
+        alloc,
+        file(alloc, BASE_NODE, NESTED, BASE),
+        NESTED_RUNS,
+    )?;
+    assert_runs_over(
+        &rt,
+        alloc,
+        base_with_node(alloc, b"\x00\x00\x10\x00\x00\x11"),
+        FAULT_RUNS,
+    )?;
     assert_runs(&rt, alloc, b"", EMPTY_RUNS)
 }

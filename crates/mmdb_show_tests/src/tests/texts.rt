@@ -1,9 +1,9 @@
 //! The JSON of small values.
 use json::{Token, Writer};
-use maxminddb::{LookupResult, PathElement, Reader, Value};
 use mmdb_json::{compact, found_json, pretty, write_found, write_value};
+use mmdb_reader::{LookupResult, PathElement, Reader, Value};
 use mmdb_vectors::builder::{BASE, BASE_NODE, file};
-use std::alloc::Global;
+use std::alloc::{AllocError, Global};
 use std::process::Abort;
 use std::test::Fail;
 
@@ -62,17 +62,54 @@ fn found_of<'a>(reader: &'a Reader<&'a [u8]>) -> Result<LookupResult<'a, &'a [u8
     Ok(reader.lookup("200.0.0.1".parse()?)?)
 }
 
+// The JSON of what a lookup in a file finds along a path.
+fn json_in(alloc: Global, bytes: &[u8], path: &[PathElement<'_>]) -> Result<Option<Vec<u8>>, Fail> {
+    let reader = Reader::from_source(alloc, bytes)?;
+    let found = found_of(&reader)?;
+    Ok(found_json(alloc, &found, path)?)
+}
+
+// Asserts what a text is, where there is one.
+fn assert_text(rt: &impl Abort, text: Option<&[u8]>, wanted: Option<&str>) {
+    let wanted = wanted.map(|wanted| wanted.as_bytes());
+    assert!(rt; text == wanted, "{wanted:?}: {text:?}");
+}
+
+fn assert_json(
+    rt: &impl Abort,
+    alloc: Global,
+    bytes: &[u8],
+    path: &[PathElement<'_>],
+    wanted: Option<&str>,
+) -> Result<(), Fail> {
+    let text = json_in(alloc, bytes, path)?;
+    assert_text(rt, text.as_ref().map(|text| text.as_slice()), wanted);
+    Ok(())
+}
+
 #[test]
 fn texts_of_values(rt: HostRuntime) -> Result<(), Fail> {
     let alloc = rt.alloc();
     for (data, wanted) in ROWS {
         let bytes = file(alloc, BASE_NODE, data, BASE)?;
-        let reader = Reader::from_source(alloc, bytes.as_slice())?;
-        let found = found_of(&reader)?;
-        let text = found_json(alloc, &found, &[])?;
-        let text = text.as_ref().map(|text| text.as_slice());
-        assert!(&rt; text == Some(wanted.as_bytes()), "{wanted}: {text:?}");
+        assert_json(&rt, alloc, bytes.as_slice(), &[], Some(*wanted))?;
     }
+    Ok(())
+}
+
+// Asserts what the tokens of what a lookup finds along a path are, written out.
+fn assert_written(
+    rt: &impl Abort,
+    alloc: Global,
+    found: &LookupResult<'_, &[u8]>,
+    path: &[PathElement<'_>],
+    wanted: Option<&str>,
+) -> Result<(), Fail> {
+    let mut out = Writer::new(Vec::new(alloc));
+    let is_found = write_found(alloc, found, path, &mut out)?;
+    let written = out.into_inner();
+    assert!(rt; is_found == wanted.is_some());
+    assert_text(rt, Some(written.as_slice()), Some(wanted.unwrap_or("null")));
     Ok(())
 }
 
@@ -83,22 +120,41 @@ fn texts_along_paths(rt: HostRuntime) -> Result<(), Fail> {
     let reader = Reader::from_source(alloc, bytes.as_slice())?;
     let found = found_of(&reader)?;
     for (path, wanted) in PATHS {
-        let text = found_json(alloc, &found, path)?;
-        let text = text.as_ref().map(|text| text.as_slice());
-        assert!(&rt;
-            text == wanted.map(|wanted| wanted.as_bytes()),
-            "{path:?}: {text:?}"
-        );
-        let mut out = Writer::new(Vec::new(alloc));
-        let is_found = write_found(alloc, &found, path, &mut out)?;
-        let written = out.into_inner();
-        assert!(&rt; is_found == wanted.is_some(), "{path:?}");
-        assert!(&rt;
-            written.as_slice() == wanted.unwrap_or("null").as_bytes(),
-            "{path:?}: {written:?}"
-        );
+        assert_json(&rt, alloc, bytes.as_slice(), path, *wanted)?;
+        assert_written(&rt, alloc, &found, path, *wanted)?;
     }
     Ok(())
+}
+
+// Asserts what a text that was made is.
+fn assert_made(
+    rt: &impl Abort,
+    text: Result<Vec<u8>, AllocError>,
+    wanted: &str,
+) -> Result<(), AllocError> {
+    let text = text?;
+    assert_text(rt, Some(text.as_slice()), Some(wanted));
+    Ok(())
+}
+
+// An array that has a value twice.
+fn twice(alloc: Global, value: &Value<'_>) -> Result<Vec<u8>, AllocError> {
+    let mut out = Writer::new(Vec::new(alloc));
+    out.token(Token::BeginArray)?;
+    write_value(alloc, value, &mut out)?;
+    write_value(alloc, value, &mut out)?;
+    out.token(Token::EndArray)?;
+    Ok(out.into_inner())
+}
+
+fn assert_texts_of(rt: &impl Abort, alloc: Global, value: &Value<'_>) -> Result<(), AllocError> {
+    assert_made(rt, compact(alloc, value), "{\"a\":[5,6]}")?;
+    assert_made(
+        rt,
+        pretty(alloc, value),
+        "{\n  \"a\": [\n    5,\n    6\n  ]\n}",
+    )?;
+    assert_made(rt, twice(alloc, value), "[{\"a\":[5,6]},{\"a\":[5,6]}]")
 }
 
 #[test]
@@ -110,15 +166,6 @@ fn texts_of_a_value(rt: HostRuntime) -> Result<(), Fail> {
     let value = found
         .decode::<Value<'_>>(alloc)?
         .expect(&rt, "a record stands at the offset");
-    assert!(&rt; compact(alloc, &value)?.as_slice() == b"{\"a\":[5,6]}".as_slice());
-    assert!(&rt;
-        pretty(alloc, &value)?.as_slice() == b"{\n  \"a\": [\n    5,\n    6\n  ]\n}".as_slice()
-    );
-    let mut out = Writer::new(Vec::new(alloc));
-    out.token(Token::BeginArray)?;
-    write_value(alloc, &value, &mut out)?;
-    write_value(alloc, &value, &mut out)?;
-    out.token(Token::EndArray)?;
-    assert!(&rt; out.into_inner().as_slice() == b"[{\"a\":[5,6]},{\"a\":[5,6]}]".as_slice());
+    assert_texts_of(&rt, alloc, &value)?;
     Ok(())
 }
