@@ -1,7 +1,7 @@
 //! What paths into small records find, and how they are refused.
 use super::vectors::{RECORD, Wanted, file_of, high, low, told_at};
 use maxminddb::PathElement::{Index, IndexFromEnd, Key};
-use maxminddb::{LookupResult, PathElement, Reader, Value, path};
+use maxminddb::{LookupResult, MaxMindDbError, PathElement, Reader, Value, path};
 use mmdb_vectors::failures::Failures;
 use std::alloc::Global;
 
@@ -120,13 +120,13 @@ fn paths(rt: HostRuntime) -> Result<(), Failures> {
 }
 
 // Whether the empty path reads a value, and the one that stands there.
-fn is_whole_by_empty_path(alloc: Global, found: LookupResult<'_, &[u8]>) -> bool {
-    match found.decode_path::<Value<'_>>(alloc, &[]) {
-        Ok(Some(by_path)) => found
-            .decode::<Value<'_>>(alloc)
-            .is_ok_and(|whole| whole == Some(by_path)),
-        _ => false,
-    }
+fn is_whole_by_empty_path(
+    alloc: Global,
+    found: LookupResult<'_, &[u8]>,
+) -> Result<bool, MaxMindDbError> {
+    let by_path: Option<Value<'_>> = found.decode_path(alloc, &[])?;
+    let whole: Option<Value<'_>> = found.decode(alloc)?;
+    Ok(by_path.is_some() && by_path == whole)
 }
 
 fn is_nothing(alloc: Global, found: LookupResult<'_, &[u8]>, path: &[PathElement<'_>]) -> bool {
@@ -137,7 +137,7 @@ fn is_nothing(alloc: Global, found: LookupResult<'_, &[u8]>, path: &[PathElement
 fn is_whole(alloc: Global, reader: &Reader<&[u8]>) -> bool {
     match (reader.lookup(high()), reader.lookup(low())) {
         (Ok(found), Ok(without)) => {
-            is_whole_by_empty_path(alloc, found)
+            is_whole_by_empty_path(alloc, found).unwrap_or(false)
                 && is_nothing(alloc, without, &path!["a"])
                 && is_nothing(alloc, without, &[])
         }
