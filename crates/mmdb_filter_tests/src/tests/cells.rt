@@ -1,10 +1,11 @@
 //! Columns, addresses in them, and cells of CSV.
-use super::streams::Told;
+use super::streams::{Told, around};
 use maxminddb::{PathElement, Reader};
 use mmdb_enrich::{Cache, Enrichment, put_csv_cell};
 use mmdb_filter::{Rows, filter_rows};
 use mmdb_vectors::builder::{BASE, BASE_NODE, file};
-use std::alloc::{AllocError, Global};
+use std::alloc::Global;
+use std::process::Abort;
 use std::test::Fail;
 
 const CSV: Rows = Rows::Csv { delimiter: b',' };
@@ -63,12 +64,23 @@ fn enriched(alloc: Global, rows: Rows, column: usize, mut input: &[u8]) -> Resul
     Ok(out)
 }
 
+// Whether this is written of an input.
+fn is_enriched(
+    alloc: Global,
+    rows: Rows,
+    column: usize,
+    input: &[u8],
+    want: &[u8],
+) -> Result<bool, Fail> {
+    let out = enriched(alloc, rows, column, input)?;
+    Ok(out.as_slice() == want)
+}
+
 #[test]
 fn columns_of_rows(rt: HostRuntime) -> Result<(), Fail> {
-    let alloc = rt.alloc();
     for (rows, column, input, want) in ROWS {
-        let out = enriched(alloc, *rows, *column, input)?;
-        assert!(&rt; out.as_slice() == *want, "{input:?} {rows:?}");
+        let is_right = is_enriched(rt.alloc(), *rows, *column, input, want)?;
+        assert!(rt; is_right, "{input:?} {rows:?}");
     }
     Ok(())
 }
@@ -85,33 +97,29 @@ const CUTS: &[(usize, &[u8], bool)] = &[
     (70_000, b"", false),
 ];
 
-// A line with an address behind so many bytes, of which the last is a tab, and what is written of it.
-fn line_with(
+// Asserts what is written of a line with an address behind so many bytes, of which the last is a tab.
+fn assert_cut(
+    rt: &impl Abort,
     alloc: Global,
     before: usize,
     behind: &[u8],
     added: &[u8],
-) -> Result<(Vec<u8>, Vec<u8>), AllocError> {
-    let mut line = Vec::new(alloc);
-    line.resize(before.saturating_sub(1), b'x')?;
-    line.extend_from_slice(b"\t200.0.0.1")?;
-    line.extend_from_slice(behind)?;
-    let mut want = Vec::new(alloc);
-    want.extend_from_slice(line.as_slice())?;
-    want.extend_from_slice(added)?;
-    line.push(b'\n')?;
-    want.push(b'\n')?;
-    Ok((line, want))
+) -> Result<(), Fail> {
+    let letters = before.saturating_sub(1);
+    let line = around(alloc, b"", letters, &[b"\t200.0.0.1", behind, b"\n"]);
+    let line = line.expect(rt, "a line");
+    let want = around(alloc, b"", letters, &[b"\t200.0.0.1", behind, added, b"\n"]);
+    let want = want.expect(rt, "what is written");
+    let is_right = is_enriched(alloc, Rows::Lines, 1, line.as_slice(), want.as_slice())?;
+    assert!(rt; is_right, "{before} {behind:?}");
+    Ok(())
 }
 
 #[test]
 fn addresses_at_the_end_of_what_is_seen(rt: HostRuntime) -> Result<(), Fail> {
-    let alloc = rt.alloc();
     for (before, behind, is_seen) in CUTS {
         let added: &[u8] = if *is_seen { b"\ta\"b,c" } else { b"\t" };
-        let (line, want) = line_with(alloc, *before, behind, added)?;
-        let out = enriched(alloc, Rows::Lines, 1, line.as_slice())?;
-        assert!(&rt; out.as_slice() == want.as_slice(), "{before} {behind:?}");
+        assert_cut(&rt, rt.alloc(), *before, behind, added)?;
     }
     Ok(())
 }
@@ -128,13 +136,16 @@ const CELLS: &[(&[u8], &[u8])] = &[
     (b"a\rb", b"\"a\rb\""),
 ];
 
+// Asserts a cell.
+fn assert_cell(rt: &impl Abort, alloc: Global, value: &[u8], want: &[u8]) {
+    let mut out: Vec<u8> = Vec::new(alloc);
+    let is_put = put_csv_cell(b',', value, &mut out).is_ok();
+    assert!(rt; is_put && out.as_slice() == want, "{value:?}");
+}
+
 #[test]
-fn cells_in_quotes(rt: HostRuntime) -> Result<(), Fail> {
-    let alloc = rt.alloc();
+fn cells_in_quotes(rt: HostRuntime) {
     for (value, want) in CELLS {
-        let mut out: Vec<u8> = Vec::new(alloc);
-        put_csv_cell(b',', value, &mut out)?;
-        assert!(&rt; out.as_slice() == *want, "{value:?}");
+        assert_cell(&rt, rt.alloc(), value, want);
     }
-    Ok(())
 }

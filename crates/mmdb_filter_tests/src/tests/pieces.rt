@@ -1,9 +1,9 @@
 //! Rows around the length of a piece.
-use super::streams::{Chopped, Lengths, Told, filtered};
+use super::streams::{Chopped, Lengths, Told, around, assert_holds, filtered};
 use mmdb_filter::{Counts, Rows, filter_rows};
-use std::alloc::{AllocError, Global};
-use std::io::{self, BufReader, Read, Write};
-use std::test::Fail;
+use std::alloc::Global;
+use std::io::{self, BufRead, BufReader, Read, Write};
+use std::process::Abort;
 
 /// How long a text is, what stands at its back, its end, and what is added.
 type Row = (usize, &'static [u8], &'static [u8], &'static [u8]);
@@ -46,48 +46,61 @@ const STEPS: &[(usize, usize)] = &[
     (200_000, 300_000),
 ];
 
-// Such a row between two others, and what is to be written of that.
-fn row_texts(alloc: Global, row: &Row) -> Result<(Vec<u8>, Vec<u8>), AllocError> {
+// Asserts what is written of an input that is read in these steps.
+fn assert_filtered(
+    rt: &impl Abort,
+    alloc: Global,
+    rows: Rows,
+    steps: (usize, usize),
+    input: &[u8],
+    want: &[u8],
+    row: &Row,
+) {
+    let (step, capacity) = steps;
+    let chopped = Chopped {
+        bytes: input,
+        step,
+        reads: 0,
+        fails_at: u32::MAX,
+    };
+    let mut out: Vec<u8> = Vec::new(alloc);
+    let done = filtered(alloc, rows, chopped, capacity, &mut out);
+    let is_right = done.is_ok() && out.as_slice() == want;
+    assert!(rt; is_right, "{row:?} with {step} {capacity} {rows:?}");
+}
+
+// Asserts what is written of such a row between two others.
+fn assert_row(rt: &impl Abort, alloc: Global, row: &Row) {
     let (len, back, end, added) = *row;
-    let mut text = Vec::new(alloc);
-    text.resize(len, b'x')?;
-    text.extend_from_slice(back)?;
-    let (mut input, mut output) = (Vec::new(alloc), Vec::new(alloc));
-    input.extend_from_slice(b"ab\r\n")?;
-    output.extend_from_slice(b"ab|00002\r\n")?;
-    input.extend_from_slice(text.as_slice())?;
-    output.extend_from_slice(text.as_slice())?;
-    output.extend_from_slice(added)?;
-    input.extend_from_slice(end)?;
-    output.extend_from_slice(end)?;
-    if !end.is_empty() {
-        input.extend_from_slice(b"\nlast")?;
-        output.extend_from_slice(b"|00000\nlast|00004")?;
+    let (last, of_last): (&[u8], &[u8]) = if end.is_empty() {
+        (b"", b"")
+    } else {
+        (b"\nlast", b"|00000\nlast|00004")
+    };
+    let input = around(alloc, b"ab\r\n", len, &[back, end, last]);
+    let input = input.expect(rt, "an input");
+    let want = around(alloc, b"ab|00002\r\n", len, &[back, added, end, of_last]);
+    let want = want.expect(rt, "an output");
+    for steps in STEPS {
+        for rows in [Rows::Lines, Rows::Csv { delimiter: b',' }] {
+            assert_filtered(
+                rt,
+                alloc,
+                rows,
+                *steps,
+                input.as_slice(),
+                want.as_slice(),
+                row,
+            );
+        }
     }
-    Ok((input, output))
 }
 
 #[test]
-fn rows_around_a_piece(rt: HostRuntime) -> Result<(), Fail> {
-    let alloc = rt.alloc();
+fn rows_around_a_piece(rt: HostRuntime) {
     for row in ROWS {
-        let (input, want) = row_texts(alloc, row)?;
-        for (step, capacity) in STEPS {
-            for rows in [Rows::Lines, Rows::Csv { delimiter: b',' }] {
-                let mut out: Vec<u8> = Vec::new(alloc);
-                let chopped = Chopped {
-                    bytes: input.as_slice(),
-                    step: *step,
-                    reads: 0,
-                    fails_at: u32::MAX,
-                };
-                filtered(alloc, rows, chopped, *capacity, &mut out)?;
-                let is_right = out.as_slice() == want.as_slice();
-                assert!(&rt; is_right, "{row:?} with {step} {capacity} {rows:?}");
-            }
-        }
+        assert_row(&rt, rt.alloc(), row);
     }
-    Ok(())
 }
 
 /// An input of so many bytes, of which the last is a line feed.
@@ -125,10 +138,8 @@ impl Write for Counting {
     }
 }
 
-#[test]
-fn a_row_of_a_hundred_million_bytes(rt: HostRuntime) -> Result<(), Fail> {
-    let alloc = rt.alloc();
-    let mut input = BufReader::with_capacity(alloc, 65_536, Endless { left: 100_000_000 })?;
+// What the filter counts, how many bytes it writes, and the number of rows that was told last.
+fn counted<R: BufRead + Drop>(rt: &impl Abort, alloc: Global, mut input: R) -> (Counts, u64, u64) {
     let mut out = Counting { bytes: 0 };
     let mut told = Told(0);
     let counts = filter_rows(
@@ -139,37 +150,30 @@ fn a_row_of_a_hundred_million_bytes(rt: HostRuntime) -> Result<(), Fail> {
         &mut input,
         &mut out,
         &mut told,
-    )?;
+    );
+    (counts.expect(rt, "counts"), out.bytes, told.0)
+}
+
+#[test]
+fn a_row_of_a_hundred_million_bytes(rt: HostRuntime) {
+    let input = BufReader::with_capacity(rt.alloc(), 65_536, Endless { left: 100_000_000 });
+    let (counts, bytes, _) = counted(&rt, rt.alloc(), input.expect(&rt, "a buffer"));
     let one = Counts {
         found: 0,
         absent: 0,
         unreadable: 0,
         refused: 1,
     };
-    assert_eq!(rt; counts, one);
-    assert_eq!(rt; out.bytes, 100_000_007);
-    Ok(())
+    assert!(rt; counts == one, "{counts:?}");
+    assert!(rt; bytes == 100_000_007, "{bytes}");
 }
 
 #[test]
-fn many_rows_are_told(rt: HostRuntime) -> Result<(), Fail> {
-    let alloc = rt.alloc();
-    let mut lines = Vec::new(alloc);
-    lines.resize(131_073, b'\n')?;
-    let mut told = Told(0);
-    let mut out = Counting { bytes: 0 };
-    let mut input = lines.as_slice();
-    let counts = filter_rows(
-        alloc,
-        Rows::Lines,
-        &Lengths,
-        &mut (),
-        &mut input,
-        &mut out,
-        &mut told,
-    )?;
-    assert_eq!(rt; counts.found, 131_073);
-    assert_eq!(rt; told.0, 131_072);
-    assert_eq!(rt; out.bytes, 131_073 * 7);
-    Ok(())
+fn many_rows_are_told(rt: HostRuntime) {
+    let mut lines = Vec::new(rt.alloc());
+    lines.resize(131_073, b'\n').expect(&rt, "lines");
+    let (counts, bytes, told) = counted(&rt, rt.alloc(), lines.as_slice());
+    assert_holds(&rt, counts.found == 131_073, "what is found");
+    assert_holds(&rt, told == 131_072, "what is told");
+    assert_holds(&rt, bytes == 131_073 * 7, "what is written");
 }
