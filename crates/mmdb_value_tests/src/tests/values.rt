@@ -42,8 +42,8 @@ const SCALARS: [(&[u8], Value<'static>); 20] = [
     (b"\x20\x02\x20\x04\x41x", Value::String("x")),
 ];
 
-// Whether a section is read so by the call for any type.
-fn is_read_as<'de>(alloc: Global, section: &'de [u8], wanted: &Value<'de>) -> bool {
+/// Whether a section is read so by the call for any type.
+pub fn is_read_as<'de>(alloc: Global, section: &'de [u8], wanted: &Value<'de>) -> bool {
     match fuzzing::decode::<Value<'de>>(alloc, section) {
         Ok(value) => value == *wanted,
         Err(_) => false,
