@@ -4,9 +4,11 @@
 mod commands;
 mod rejected;
 mod request;
+mod shown;
 
 pub use rejected::{Message, NoRequest};
 pub use request::{
     EnrichArguments, ExportArguments, Format, InfoArguments, Request, ShowArguments,
     VerifyArguments, request_of,
 };
+pub use shown::shown_text;

@@ -1,4 +1,5 @@
 //! Arguments that make no request.
+use crate::shown::shown_text;
 use clap::Error;
 use clap::error::ErrorKind;
 use std::alloc::{AllocError, AllocFailed, Global};
@@ -39,10 +40,16 @@ fn with_text(text: Result<String, AllocError>, is_error: bool) -> NoRequest {
     }
 }
 
+// The line on an argument that is not what is wanted in its place.
+fn bad_line(alloc: Global, argument: &str, wanted: &str) -> Result<String, AllocError> {
+    let argument = shown_text(alloc, argument)?;
+    format!(in alloc; "mmdb: {argument}: {wanted}\n")
+}
+
 impl NoRequest {
     /// An argument that is not what is wanted in its place.
     pub fn bad_argument(alloc: Global, argument: &str, wanted: &str) -> NoRequest {
-        with_text(format!(in alloc; "mmdb: {argument}: {wanted}\n"), true)
+        with_text(bad_line(alloc, argument, wanted), true)
     }
 
     /// What clap answers, unless it is out of memory.

@@ -1,9 +1,10 @@
 //! What a database says of itself.
 use crate::error::ProgramError;
-use crate::output::{DONE, put};
+use crate::output::{DONE, line_of, put};
 use jiff::Timestamp;
 use json::{Pretty, Token};
 use memchr::memmem;
+use mmdb_arguments::shown_text;
 use mmdb_json::write_value;
 use mmdb_reader::{MaxMindDbError, Metadata, Reader, Value};
 use std::alloc::{AllocError, Global};
@@ -72,6 +73,11 @@ impl Lines {
         self.is_cut |= added.is_err();
     }
 
+    // Adds a line of a text that was made, in which no text of the file begins another one.
+    fn add_line(&mut self, alloc: Global, made: Result<String, AllocError>) {
+        self.add(line_of(alloc, made));
+    }
+
     // All that was added.
     fn finish(self) -> Result<String, AllocError> {
         if self.is_cut {
@@ -94,13 +100,17 @@ fn built_text(alloc: Global, seconds: u64) -> Result<String, AllocError> {
 fn text_of(alloc: Global, metadata: &Metadata, sizes: Sizes) -> Result<String, AllocError> {
     let mut lines = Lines::new(alloc);
     let kind = &metadata.database_type;
-    lines.add(format!(in alloc; "type:        {kind}\n"));
+    lines.add_line(alloc, format!(in alloc; "type:        {kind}"));
     for (language, description) in &metadata.description {
-        lines.add(format!(in alloc; "description: {description} ({language})\n"));
+        lines.add_line(
+            alloc,
+            format!(in alloc; "description: {description} ({language})"),
+        );
     }
     lines.add(format!(in alloc; "languages:  "));
     for language in &metadata.languages {
-        lines.add(format!(in alloc; " {language}"));
+        lines.add(format!(in alloc; " "));
+        lines.add(shown_text(alloc, language.as_str()));
     }
     let ip = metadata.ip_version;
     lines.add(format!(in alloc; "\nIP version:  {ip}\nbuilt:       "));

@@ -25,16 +25,17 @@ fn read_header<I: BufRead>(
     Ok(row)
 }
 
-// Takes the end off a row, and gives it.
-fn take_end(alloc: Global, row: &mut Vec<u8>) -> Result<Vec<u8>, AllocError> {
-    let mut end = Vec::new(alloc);
-    for byte in [b'\n', b'\r'] {
-        if row.last() == Some(&byte) {
-            row.pop();
-            end.insert(0, byte)?;
-        }
+// Takes the end off a row, and gives it. A carriage return alone ends no row.
+fn take_end(row: &mut Vec<u8>) -> &'static [u8] {
+    if row.last() != Some(&b'\n') {
+        return b"";
     }
-    Ok(end)
+    row.pop();
+    if row.last() != Some(&b'\r') {
+        return b"\n";
+    }
+    row.pop();
+    b"\r\n"
 }
 
 // Adds a name behind a delimiter.
@@ -47,17 +48,12 @@ fn put_name(rows: Rows, name: &str, row: &mut Vec<u8>) -> Result<(), AllocError>
 }
 
 // Adds the names of the fields to the first row.
-fn put_names(
-    alloc: Global,
-    rows: Rows,
-    names: &[&str],
-    row: &mut Vec<u8>,
-) -> Result<(), AllocError> {
-    let end = take_end(alloc, row)?;
+fn put_names(rows: Rows, names: &[&str], row: &mut Vec<u8>) -> Result<(), AllocError> {
+    let end = take_end(row);
     for name in names {
         put_name(rows, *name, row)?;
     }
-    row.extend_from_slice(end.as_slice())
+    row.extend_from_slice(end)
 }
 
 // The place of a name among the cells of a row of CSV.
@@ -86,7 +82,7 @@ fn place_in(
 ) -> Result<Option<usize>, ProgramError> {
     let mut text = Vec::new(alloc);
     text.extend_from_slice(header)?;
-    take_end(alloc, &mut text)?;
+    take_end(&mut text);
     match rows {
         Rows::Lines => Ok(
             text.as_slice()
@@ -114,7 +110,7 @@ fn place_of(
     }
 }
 
-// Copies the first row with the names of the fields, and answers the place of the column.
+// Copies the first row, where there is one, with the names of the fields, and answers the place of the column.
 fn copy_header<I: BufRead, O: Write>(
     alloc: Global,
     wanted: &EnrichTask<'_>,
@@ -124,8 +120,10 @@ fn copy_header<I: BufRead, O: Write>(
     let rows = wanted.rows;
     let mut header = read_header(alloc, rows, input)?;
     let column = place_of(alloc, rows, wanted.column, header.as_slice())?;
-    put_names(alloc, rows, wanted.names.as_slice(), &mut header)?;
-    out.write_all(header.as_slice())?;
+    if !header.is_empty() {
+        put_names(rows, wanted.names.as_slice(), &mut header)?;
+        out.write_all(header.as_slice())?;
+    }
     Ok(column)
 }
 

@@ -13,10 +13,21 @@ const PLACES: usize = 8192;
 /// The most bytes of a row that is kept among them.
 const MOST_BYTES: usize = 4096;
 
-/// What could not be written of a database, and of which network, where that is known.
+/// Where something could not be written of a database.
+#[derive(Clone, Copy)]
+pub(crate) enum Where {
+    /// At this network.
+    At(IpNetwork),
+    /// At one that comes somewhere behind this network in the list.
+    Behind(IpNetwork),
+    /// At one that comes before any other of the list.
+    First,
+}
+
+/// What could not be written of a database, and where.
 #[derive(Drop)]
 pub(crate) struct Faulty {
-    pub(crate) network: Option<IpNetwork>,
+    pub(crate) place: Where,
     pub(crate) error: ProgramError,
 }
 
@@ -51,6 +62,8 @@ pub(crate) struct Rows<'a> {
     kept: Vec<Row>,
     /// The last one that was too long to be kept there.
     long: Row,
+    /// Where a network comes that is not named.
+    next: Where,
 }
 
 // As many empty rows as are kept.
@@ -95,6 +108,7 @@ impl<'a> Rows<'a> {
             layout,
             kept: empty_rows(alloc)?,
             long: Row::empty(alloc),
+            next: Where::First,
         })
     }
 
@@ -149,6 +163,7 @@ impl<'a> Rows<'a> {
     ) -> Result<Option<Faulty>, ProgramError> {
         let (alloc, place) = (self.alloc, self.layout.place_of_network());
         let network = found.network()?;
+        self.next = Where::Behind(network);
         match self.row(found) {
             Ok(row) => {
                 write_row(alloc, row, place, network, out)?;
@@ -156,7 +171,7 @@ impl<'a> Rows<'a> {
             }
             Err(MaxMindDbError::Memory) => Err(ProgramError::Memory),
             Err(error) => Ok(Some(Faulty {
-                network: Some(network),
+                place: Where::At(network),
                 error: ProgramError::Database(error),
             })),
         }
@@ -171,7 +186,7 @@ impl<'a> Rows<'a> {
         match item {
             Ok(found) => self.write_found(&found, out),
             Err(error) => Ok(Some(Faulty {
-                network: None,
+                place: self.next,
                 error: ProgramError::Database(error),
             })),
         }

@@ -1,19 +1,20 @@
 //! Every network of a range, written out.
 use crate::error::ProgramError;
-use crate::export::{Faulty, Rows, networks_in};
+use crate::export::{Faulty, Rows, Where, networks_in};
 use crate::layout::Layout;
 use crate::output::{DONE, FAILED, flush, put, report};
 use crate::task::ExportTask;
-use mmdb_reader::{IpNetwork, LookupResult, MaxMindDbError, Reader, Within};
+use mmdb_reader::{LookupResult, MaxMindDbError, Reader, Within};
 use std::alloc::{AllocError, Global};
 use std::convert::AsSlice;
 use std::io::Write;
 
 // What a report names for a network.
-fn name_of(alloc: Global, network: Option<IpNetwork>) -> Result<String, AllocError> {
-    match network {
-        Some(network) => network.to_string(alloc),
-        None => String::from_str(alloc, "a network"),
+fn name_of(alloc: Global, place: Where) -> Result<String, AllocError> {
+    match place {
+        Where::At(network) => network.to_string(alloc),
+        Where::Behind(network) => format!(in alloc; "a network behind {network}"),
+        Where::First => String::from_str(alloc, "a network before any other"),
     }
 }
 
@@ -25,7 +26,7 @@ fn report_faulty<O: Write, E: Write>(
     err: &mut E,
 ) -> Result<bool, ProgramError> {
     flush(out)?;
-    let name = name_of(alloc, faulty.network)?;
+    let name = name_of(alloc, faulty.place)?;
     report(alloc, name.as_str(), &faulty.error, err);
     Ok(false)
 }

@@ -1,5 +1,6 @@
 //! What goes to standard output and standard error.
 use crate::error::ProgramError;
+use mmdb_arguments::shown_text;
 use std::alloc::{AllocError, Global};
 use std::io::{self, Write};
 
@@ -52,15 +53,25 @@ fn is_closed(error: &ProgramError) -> bool {
     }
 }
 
+/// A line of a text, in which no text of a file or an argument begins another one.
+pub(crate) fn line_of(
+    alloc: Global,
+    text: Result<String, AllocError>,
+) -> Result<String, AllocError> {
+    let mut line = shown_text(alloc, text?.as_str())?;
+    line.push('\n')?;
+    Ok(line)
+}
+
 /// Reports an error, with the file or the address that it is of. A fault of standard error changes nothing. Of an
 /// output that was closed nothing is reported.
 pub(crate) fn report<E: Write>(alloc: Global, of: &str, error: &ProgramError, err: &mut E) {
     if is_closed(error) {
         return;
     }
-    let text: Result<String, AllocError> = format!(in alloc; "mmdb: {of}: {error}\n");
-    let _ = match text {
-        Ok(text) => err.write_all(text.as_bytes()),
+    let text: Result<String, AllocError> = format!(in alloc; "mmdb: {of}: {error}");
+    let _ = match line_of(alloc, text) {
+        Ok(line) => err.write_all(line.as_bytes()),
         Err(_) => err.write_all(NO_MEMORY.as_bytes()),
     };
 }

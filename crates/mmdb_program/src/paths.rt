@@ -2,11 +2,29 @@
 use mmdb_reader::PathElement;
 use std::alloc::{AllocError, Global};
 
-// The step that a part between dots stands for.
-fn step_of(part: &str) -> PathElement<'_> {
+// Whether a part is digits, behind a sign or none.
+fn is_integer(part: &str) -> bool {
+    let digits = part.strip_prefix('-').or(part.strip_prefix('+'));
+    let digits = digits.unwrap_or(part).as_bytes();
+    !digits.is_empty() && digits.iter().all(|byte| byte.is_ascii_digit())
+}
+
+// Whether digits are written as one would: without a plus, a minus before zero or zeros in front.
+fn is_as_written(part: &str) -> bool {
+    match part.strip_prefix('-') {
+        Some(digits) => !digits.starts_with('0'),
+        None => part == "0" || !(part.starts_with('0') || part.starts_with('+')),
+    }
+}
+
+// The step that a part between dots stands for, or none where it is digits that stand for no index.
+fn step_of(part: &str) -> Option<PathElement<'_>> {
+    if !is_integer(part) {
+        return Some(PathElement::Key(part));
+    }
     match part.parse::<isize>() {
-        Ok(index) => PathElement::from(index),
-        Err(_) => PathElement::Key(part),
+        Ok(index) if is_as_written(part) => Some(PathElement::from(index)),
+        _ => None,
     }
 }
 
@@ -28,11 +46,12 @@ fn plain(text: &str) -> (&str, Option<&str>) {
     }
 }
 
-/// The steps of a path: parts between dots, as `subdivisions.0.names.en`. A whole number is an index,
+/// The steps of a path: parts between dots, as `subdivisions.0.names.en`. An integer is an index,
 /// counted from the end if it is negative, and any other part a key; in quotes `"` a part is a key whatever
 /// it holds, a dot or digits alone too. An empty text is the path to the whole record.
 ///
-/// None where something else than a dot follows quotes, or quotes are not ended.
+/// None where something else than a dot follows quotes, or quotes are not ended, and where an integer is not of 64 bits
+/// or not as one writes it (`+1`, `-0`, `00`).
 pub fn path_of<'a>(
     alloc: Global,
     text: &'a str,
@@ -54,7 +73,10 @@ pub fn path_of<'a>(
             left = rest;
         } else {
             let (part, rest) = plain(here);
-            steps.push(step_of(part))?;
+            let Some(step) = step_of(part) else {
+                return Ok(None);
+            };
+            steps.push(step)?;
             left = rest;
         }
     }

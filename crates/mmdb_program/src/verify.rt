@@ -1,6 +1,6 @@
 //! Whether files are whole.
 use crate::error::ProgramError;
-use crate::output::{DONE, FAILED, put_made};
+use crate::output::{DONE, FAILED, line_of, put_made};
 use mmdb_reader::{MaxMindDbError, Reader};
 use std::alloc::{AllocError, Global};
 use std::io::Write;
@@ -19,8 +19,8 @@ fn put_whole<O: Write>(
     status: u8,
     out: &mut O,
 ) -> Result<u8, ProgramError> {
-    let line: Result<String, AllocError> = format!(in alloc; "{file}: ok\n");
-    put_made(line, out)?;
+    let text: Result<String, AllocError> = format!(in alloc; "{file}: ok");
+    put_made(line_of(alloc, text), out)?;
     Ok(status)
 }
 
@@ -31,8 +31,8 @@ fn put_error<O: Write>(
     error: &MaxMindDbError,
     out: &mut O,
 ) -> Result<u8, ProgramError> {
-    let line: Result<String, AllocError> = format!(in alloc; "{file}: {error}\n");
-    put_made(line, out)?;
+    let text: Result<String, AllocError> = format!(in alloc; "{file}: {error}");
+    put_made(line_of(alloc, text), out)?;
     Ok(FAILED)
 }
 

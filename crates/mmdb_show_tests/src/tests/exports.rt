@@ -44,7 +44,7 @@ const VALUES: &str = "{\"network\":\"192.0.0.0/3\",\"a\":{\"b\":true},\"l.-1\":n
 
 const THREE: &[&str] = &[
     "32.0.0.0/3: ",
-    "a network: invalid database",
+    "a network behind 64.0.0.0/3: invalid database",
     "160.0.0.0/3: ",
     "3 networks could not be read",
 ];

@@ -1,6 +1,8 @@
 //! Runs of the program.
 use super::program::{Run, assert_of, run_of};
-use mmdb_vectors::builder::{BASE, BASE_NODE, base_file, base_with_node, file};
+use mmdb_vectors::builder::{
+    BASE, BASE_DATA, BASE_NODE, Changes, Field, base_file, base_with_node, changed_file, file,
+};
 use std::alloc::{AllocError, Global};
 use std::process::Abort;
 use std::test::Fail;
@@ -28,6 +30,14 @@ const BASE_RUNS: &[Row<'static>] = &[
     (&["show", "gone.mmdb", "nowhere"], 2, "", "nowhere: not an IP address"),
     (&["show", "gone.mmdb", "1.1.1.1", "--path", "a.\"b"], 2, "", "a.\"b: not a path"),
     (&["show", "gone.mmdb", "1.1.1.1", "--path", "\"a\"b"], 2, "", "\"a\"b: not a path"),
+    (&["show", "gone.mmdb", "1.1.1.1", "--path", "9223372036854775808"], 2, "", "9223372036854775808: not a path"),
+    (&["show", "gone.mmdb", "1.1.1.1", "--path", "a.-9223372036854775809"], 2, "", "not a path"),
+    (&["show", "gone.mmdb", "1.1.1.1", "--path", "+1"], 2, "", "+1: not a path"),
+    (&["show", "gone.mmdb", "1.1.1.1", "--path", "-0"], 2, "", "-0: not a path"),
+    (&["show", "gone.mmdb", "1.1.1.1", "--path", "a.00"], 2, "", "a.00: not a path"),
+    (&["show", "here.mmdb", "200.0.0.1", "--path", "\"00\""], 1, "", "path: /00"),
+    (&["show", "gone.mmdb", "no\n\u{1b}[2J\u{9b}"], 2, "", "mmdb: no\\n\\u001b[2J\\u009b: not an IP address\n"),
+    (&["show", "gone\n.mmdb", "1.1.1.1"], 1, "", "mmdb: gone\\n.mmdb: i/o error: "),
     (&["show", "gone.mmdb"], 2, "", "ADDR"),
     (&["show"], 2, "", "FILE"),
     (&["verify", "here.mmdb", "here.mmdb"], 0, "here.mmdb: ok\nhere.mmdb: ok\n", ""),
@@ -95,6 +105,9 @@ const LINES: &[Lines<'static>] = &[
         "1 lines with a record, 0 without, 0 without an address, 0 refused",
     ),
     (&["enrich", "here.mmdb", "--field", ""], "", "", "0 lines with a record, 0 without, 0 without"),
+    // nothing in, nothing out; a carriage return alone ends no header
+    (&["enrich", "here.mmdb", "--header", "--field", "a"], "", "", "0 lines with a record, 0 without, 0 without"),
+    (&["enrich", "here.mmdb", "--header", "--field", "a"], "ip\r", "ip\r\ta", "0 lines with a record, 0 without, 0 without"),
 ];
 
 const NO_LINES: &[Row<'static>] = &[
@@ -125,7 +138,7 @@ const FAULT_RUNS: &[Row<'static>] = &[
         &["export", "here.mmdb"],
         1,
         "{\"network\":\"128.0.0.0/1\",\"record\":\"x\"}\n",
-        "a network: invalid database",
+        "a network before any other: invalid database",
     ),
     (
         &["verify", "here.mmdb"],
@@ -140,6 +153,17 @@ const FAULT_RUNS: &[Row<'static>] = &[
         "1.1.1.1: invalid database",
     ),
 ];
+
+/// A type of a database that would clear a terminal.
+const HOSTILE_TYPE: Changes<'static> = &[(Field::DatabaseType, b"\x46T\n\x1B[2J")];
+
+/// Runs over a file of that type.
+const HOSTILE_RUNS: &[Row<'static>] = &[(
+    &["info", "here.mmdb"],
+    0,
+    "type:        T\\n\\u001b[2J\ndescription: d (en)\nlanguages:  \nIP version:  4\nbuilt:       1970-01-01T00:00:01Z (1 s)\nformat:      2.0\nnodes:       1\nrecord size: 24 bits\ntree:        6 bytes\ndata:        2 bytes\nmetadata:    166 bytes\n",
+    "",
+)];
 
 #[test]
 fn lines_with_fields(rt: HostRuntime) -> Result<(), Fail> {
@@ -197,6 +221,12 @@ fn runs_over_small_files(rt: HostRuntime) -> Result<(), Fail> {
         alloc,
         base_with_node(alloc, b"\x00\x00\x10\x00\x00\x11"),
         FAULT_RUNS,
+    )?;
+    assert_runs_over(
+        &rt,
+        alloc,
+        changed_file(alloc, BASE_NODE, BASE_DATA, HOSTILE_TYPE),
+        HOSTILE_RUNS,
     )?;
     assert_runs(&rt, alloc, b"", EMPTY_RUNS)
 }
