@@ -1,4 +1,5 @@
 //! What no clause says: worked rows over public calls, printed texts, and want of memory.
+mod calls;
 mod equalities;
 mod fields;
 mod laws;

@@ -1,8 +1,8 @@
 //! Columns, addresses in them, and cells of CSV.
 use super::streams::{Told, around};
-use maxminddb::{PathElement, Reader};
 use mmdb_enrich::{Cache, Enrichment, put_csv_cell};
 use mmdb_filter::{Rows, filter_rows};
+use mmdb_reader::{PathElement, Reader};
 use mmdb_vectors::builder::{BASE, BASE_NODE, file};
 use std::alloc::Global;
 use std::process::Abort;

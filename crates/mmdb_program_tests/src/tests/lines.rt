@@ -1,5 +1,5 @@
 //! The lines of addresses.
-use maxminddb::{MaxMindDbError, Reader};
+use mmdb_reader::{MaxMindDbError, Reader};
 use mmdb_tool::laws::{faults_equal_where_same, leaf_texts_show_networks};
 use mmdb_tool::lookup_line;
 use mmdb_vectors::builder::{base_file, base_with_node, file_with_alias, file_without_subtree};

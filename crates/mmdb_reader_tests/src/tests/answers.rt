@@ -1,5 +1,5 @@
 //! What a database answers, as text.
-use maxminddb::{LookupResult, MaxMindDbError, Reader};
+use mmdb_reader::{LookupResult, MaxMindDbError, Reader};
 use std::alloc::{AllocError, Global};
 use std::convert::AsSlice;
 use std::net::IpAddr;

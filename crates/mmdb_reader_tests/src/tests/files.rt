@@ -1,6 +1,6 @@
 //! Files that can't be read, and files on disk.
 use super::answers::{assert_text, error_text, found_text};
-use maxminddb::{MaxMindDbError, Reader};
+use mmdb_reader::{MaxMindDbError, Reader};
 use mmdb_vectors::base::{BASE_FILE, high};
 use mmdb_vectors::file::OneFile;
 use std::alloc::{AllocError, Global};

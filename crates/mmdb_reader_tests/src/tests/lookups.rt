@@ -1,11 +1,11 @@
 //! Lookups.
 use super::answers::{address, assert_answers, assert_holds, opened};
-use maxminddb::laws::{
+use mmdb_reader::laws::{
     items_agree_with_lookups, leaves_partition, listed_agrees, metadata_equal_where_same,
     network_holds_address, networks_equal_where_same, range_walk, same_leaf_same_answer,
     source_decides, whole_walk,
 };
-use maxminddb::{IpNetwork, LookupResult, read_node};
+use mmdb_reader::{IpNetwork, LookupResult, read_node};
 use mmdb_vectors::base::BASE_FILE;
 use mmdb_vectors::builder::{
     BASE_DATA, Field, base_file as make_base_file, base_with_node, changed_file, file_with_alias,

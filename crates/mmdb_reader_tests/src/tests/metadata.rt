@@ -1,6 +1,6 @@
 //! Which files are accepted, and what their metadata say.
 use super::answers::{answer, assert_holds, assert_text, error_text, opened, verdict};
-use maxminddb::{MaxMindDbError, Metadata};
+use mmdb_reader::{MaxMindDbError, Metadata};
 use mmdb_vectors::base::{BASE_FILE, high, low};
 use mmdb_vectors::builder::{BASE_DATA, BASE_NODE, Changes, Field, base_file, changed_file};
 use std::alloc::{AllocError, Global};

@@ -1,6 +1,6 @@
 //! Lookups that begin from a table, and the nodes that they read.
 use super::answers::{address, assert_holds, assert_text, found_text, opened};
-use maxminddb::{LookupResult, MaxMindDbError, Reader, Steps};
+use mmdb_reader::{LookupResult, MaxMindDbError, Reader, Steps};
 use mmdb_vectors::builder::{
     BASE_DATA, Field, changed_file, file_of_shared_nodes, file_of_twenty_nodes, file_with_alias,
 };

@@ -1,6 +1,6 @@
 //! What several tests assert.
 use super::sink::OneByte;
-use maxminddb::Reader;
+use mmdb_reader::Reader;
 use mmdb_tool::{Fault, Out, Sink, run_bytes};
 use mmdb_vectors::base::BASE_FILE;
 use mmdb_vectors::words::words_of;

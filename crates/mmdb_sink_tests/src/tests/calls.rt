@@ -2,9 +2,8 @@
 use super::asserts::{assert_holds, opened};
 use super::growths::{Met, error_met};
 use super::made::{CONSTRUCTORS, made};
-use super::reads::{EMPTY, PAIRS, is_done, of_decoders, of_types};
-use maxminddb::geoip2::{City, Enterprise};
-use maxminddb::{
+use super::reads::{PAIRS, is_done, of_decoders, of_types};
+use mmdb_reader::{
     Checked, IpNetwork, Ipv4Network, Ipv6Network, Metadata, PathElement, Reader, Steps,
     WithinOptions, check_value, fuzzing, render_path,
 };
@@ -49,24 +48,10 @@ fn checks_value(rt: &impl Abort, alloc: Global) -> bool {
     is_done(check_value(alloc, &mut checked, 0))
 }
 
-// Whether a city is cloned.
-fn clones_city(rt: &impl Abort, alloc: Global) -> bool {
-    let city = fuzzing::decode::<City<'_>>(alloc, EMPTY).expect(rt, "City");
-    is_done(city.clone())
-}
-
-// Whether a record of an enterprise is cloned.
-fn clones_enterprise(rt: &impl Abort, alloc: Global) -> bool {
-    let found = fuzzing::decode::<Enterprise<'_>>(alloc, EMPTY).expect(rt, "Enterprise");
-    is_done(found.clone())
-}
-
 fn of_checks(rt: &impl Abort, alloc: Global) {
     assert_holds(rt, is_done(Checked::new(alloc, PAIRS)), "Checked::new");
     assert_holds(rt, checks_value(rt, alloc), "check_value");
     assert_holds(rt, is_done(fuzzing::verify(alloc, PAIRS)), "verify");
-    assert_holds(rt, clones_city(rt, alloc), "City::clone");
-    assert_holds(rt, clones_enterprise(rt, alloc), "Enterprise::clone");
 }
 
 // Whether a path is rendered.

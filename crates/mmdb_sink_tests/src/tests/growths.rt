@@ -4,7 +4,7 @@ ghost use Rattle.std.specs.Prelude.{◌<◌};
 use super::asserts::{assert_holds, opened};
 use super::made::{Constructor, made};
 use super::sink::{End, OneByte, one_byte};
-use maxminddb::{Checked, IpNetwork, MaxMindDbError, Reader, WithinOptions};
+use mmdb_reader::{Checked, IpNetwork, MaxMindDbError, Reader, WithinOptions};
 use mmdb_report::{ReportError, report_on};
 use mmdb_tool::{ListError, list_to, lookup_line};
 use mmdb_vectors::base::{BASE_FILE, high};

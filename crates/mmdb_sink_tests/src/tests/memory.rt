@@ -1,7 +1,7 @@
 //! Lines, lists and reports where memory is refused.
 use super::asserts::{OF_RANGE, assert_holds, assert_printed, opened};
 use super::growths::{Call, Met, Row, assert_all_met, outcome};
-use maxminddb::{IpNetwork, Reader, WithinOptions};
+use mmdb_reader::{IpNetwork, Reader, WithinOptions};
 use mmdb_report::report_on;
 use mmdb_tool::lookup_line;
 use mmdb_vectors::base::{BASE_FILE, high};

@@ -1,10 +1,6 @@
 //! The types and the calls that read values.
 use super::asserts::assert_holds;
-use maxminddb::geoip2::{
-    AnonymousIp, Asn, City, ConnectionType, Country, DensityIncome, Domain, Enterprise, Isp, Names,
-    city, country, enterprise,
-};
-use maxminddb::{
+use mmdb_reader::{
     Decode, Decoder, Double, Float, OwnedBytes, RawValue, Value, empty_container, fuzzing,
 };
 use std::alloc::Global;
@@ -24,9 +20,6 @@ const DOUBLE: &[u8] = b"\x68\x00\x00\x00\x00\x00\x00\x00\x00";
 
 /// The number zero as a float.
 const FLOAT: &[u8] = b"\x04\x08\x00\x00\x00\x00";
-
-/// A map without a pair.
-pub(crate) const EMPTY: &[u8] = b"\xE0";
 
 /// A call of a decoder that reads one value, or tells of it.
 enum Scalar {
@@ -210,101 +203,6 @@ fn reads_type(alloc: Global, wanted: &Type, section: &[u8]) -> bool {
     }
 }
 
-/// A record.
-enum Record {
-    Names,
-    Country,
-    City,
-    Enterprise,
-    Isp,
-    ConnectionType,
-    AnonymousIp,
-    DensityIncome,
-    Domain,
-    Asn,
-}
-
-/// The records by name.
-const RECORDS: &[(&str, Record)] = &[
-    ("Names", Record::Names),
-    ("Country", Record::Country),
-    ("City", Record::City),
-    ("Enterprise", Record::Enterprise),
-    ("Isp", Record::Isp),
-    ("ConnectionType", Record::ConnectionType),
-    ("AnonymousIp", Record::AnonymousIp),
-    ("DensityIncome", Record::DensityIncome),
-    ("Domain", Record::Domain),
-    ("Asn", Record::Asn),
-];
-
-fn reads_record(alloc: Global, record: &Record) -> bool {
-    match record {
-        Record::Names => reads::<Names<'_>>(alloc, EMPTY),
-        Record::Country => reads::<Country<'_>>(alloc, EMPTY),
-        Record::City => reads::<City<'_>>(alloc, EMPTY),
-        Record::Enterprise => reads::<Enterprise<'_>>(alloc, EMPTY),
-        Record::Isp => reads::<Isp<'_>>(alloc, EMPTY),
-        Record::ConnectionType => reads::<ConnectionType<'_>>(alloc, EMPTY),
-        Record::AnonymousIp => reads::<AnonymousIp>(alloc, EMPTY),
-        Record::DensityIncome => reads::<DensityIncome>(alloc, EMPTY),
-        Record::Domain => reads::<Domain<'_>>(alloc, EMPTY),
-        Record::Asn => reads::<Asn<'_>>(alloc, EMPTY),
-    }
-}
-
-/// A part of a record.
-enum Part {
-    Continent,
-    Country,
-    RepresentedCountry,
-    CountryTraits,
-    City,
-    Location,
-    Postal,
-    Subdivision,
-    EnterpriseCity,
-    EnterpriseCountry,
-    EnterprisePostal,
-    EnterpriseSubdivision,
-    EnterpriseTraits,
-}
-
-/// The parts by name.
-const PARTS: &[(&str, Part)] = &[
-    ("country::Continent", Part::Continent),
-    ("country::Country", Part::Country),
-    ("country::RepresentedCountry", Part::RepresentedCountry),
-    ("country::Traits", Part::CountryTraits),
-    ("city::City", Part::City),
-    ("city::Location", Part::Location),
-    ("city::Postal", Part::Postal),
-    ("city::Subdivision", Part::Subdivision),
-    ("enterprise::City", Part::EnterpriseCity),
-    ("enterprise::Country", Part::EnterpriseCountry),
-    ("enterprise::Postal", Part::EnterprisePostal),
-    ("enterprise::Subdivision", Part::EnterpriseSubdivision),
-    ("enterprise::Traits", Part::EnterpriseTraits),
-];
-
-fn reads_part(alloc: Global, part: &Part) -> bool {
-    match part {
-        Part::Continent => reads::<country::Continent<'_>>(alloc, EMPTY),
-        Part::Country => reads::<country::Country<'_>>(alloc, EMPTY),
-        Part::RepresentedCountry => reads::<country::RepresentedCountry<'_>>(alloc, EMPTY),
-        Part::CountryTraits => reads::<country::Traits>(alloc, EMPTY),
-        Part::City => reads::<city::City<'_>>(alloc, EMPTY),
-        Part::Location => reads::<city::Location<'_>>(alloc, EMPTY),
-        Part::Postal => reads::<city::Postal<'_>>(alloc, EMPTY),
-        Part::Subdivision => reads::<city::Subdivision<'_>>(alloc, EMPTY),
-        Part::EnterpriseCity => reads::<enterprise::City<'_>>(alloc, EMPTY),
-        Part::EnterpriseCountry => reads::<enterprise::Country<'_>>(alloc, EMPTY),
-        Part::EnterprisePostal => reads::<enterprise::Postal<'_>>(alloc, EMPTY),
-        Part::EnterpriseSubdivision => reads::<enterprise::Subdivision<'_>>(alloc, EMPTY),
-        Part::EnterpriseTraits => reads::<enterprise::Traits<'_>>(alloc, EMPTY),
-    }
-}
-
 /// The calls of a decoder.
 pub(crate) fn of_decoders(rt: &impl Abort, alloc: Global) {
     for (call, scalar, section) in SCALARS {
@@ -323,11 +221,5 @@ pub(crate) fn of_decoders(rt: &impl Abort, alloc: Global) {
 pub(crate) fn of_types(rt: &impl Abort, alloc: Global) {
     for (name, wanted, section) in TYPES {
         assert_holds(rt, reads_type(alloc, wanted, section), name);
-    }
-    for (name, record) in RECORDS {
-        assert_holds(rt, reads_record(alloc, record), name);
-    }
-    for (name, part) in PARTS {
-        assert_holds(rt, reads_part(alloc, part), name);
     }
 }

@@ -3,7 +3,7 @@ use super::asserts::{
     OF_RANGE, assert_holds, assert_printed, assert_taken, assert_written, opened, run_on_base,
 };
 use super::sink::{End, one_byte};
-use maxminddb::{IpNetwork, WithinOptions};
+use mmdb_reader::{IpNetwork, WithinOptions};
 use mmdb_tool::{Fault, ListError, Out, list_to};
 use mmdb_vectors::base::BASE_FILE;
 use mmdb_vectors::equality::equality;

@@ -1,7 +1,7 @@
 //! The files that are verified.
 ghost use Rattle.std.specs.Prelude.{◌<◌};
 
-use maxminddb::Reader;
+use mmdb_reader::Reader;
 use mmdb_vectors::base::BASE_FILE;
 use mmdb_vectors::builder::{
     BASE, BASE_DATA, BASE_NODE, Field, base_file, changed_file, file, push_node_24,

@@ -2,7 +2,7 @@
 ghost use Rattle.std.specs.Prelude.{◌<◌};
 
 use super::files::{ladder, opened};
-use maxminddb::{MaxMindDbError, Reader};
+use mmdb_reader::{MaxMindDbError, Reader};
 use mmdb_vectors::builder::base_file;
 use mmdb_vectors::hoard::Hoard;
 use std::alloc::{AllocError, Global};

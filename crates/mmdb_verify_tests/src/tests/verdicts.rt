@@ -3,8 +3,8 @@ use super::files::{
     alias_fan, badly_separated, deep, deep_last, ladder, of_three_leaves, opened, overlap,
     undescribed, with_data,
 };
-use maxminddb::laws::{aliases_lead_to_ipv4, few_positions_wait, walk_stops, whole_file_answers};
-use maxminddb::{MaxMindDbError, Steps};
+use mmdb_reader::laws::{aliases_lead_to_ipv4, few_positions_wait, walk_stops, whole_file_answers};
+use mmdb_reader::{MaxMindDbError, Steps};
 use mmdb_vectors::builder::{
     BASE_DATA, BASE_NODE, Changes, Field, base_file, base_with_node, changed_file, file_with_alias,
     file_without_subtree,
