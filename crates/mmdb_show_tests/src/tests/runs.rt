@@ -33,7 +33,7 @@ const BASE_RUNS: &[Row<'static>] = &[
     (&["show", "gone.mmdb", "1.1.1.1", "--path", "9223372036854775808"], 2, "", "9223372036854775808: not a path"),
     (&["show", "gone.mmdb", "1.1.1.1", "--path", "a.-9223372036854775809"], 2, "", "not a path"),
     (&["show", "gone.mmdb", "1.1.1.1", "--path", "+1"], 2, "", "+1: not a path"),
-    (&["show", "gone.mmdb", "1.1.1.1", "--path", "-0"], 2, "", "-0: not a path"),
+    (&["show", "gone.mmdb", "1.1.1.1", "--path", "a.-0"], 2, "", "a.-0: not a path"),
     (&["show", "gone.mmdb", "1.1.1.1", "--path", "a.00"], 2, "", "a.00: not a path"),
     (&["show", "here.mmdb", "200.0.0.1", "--path", "\"00\""], 1, "", "path: /00"),
     (&["show", "gone.mmdb", "no\n\u{1b}[2J\u{9b}"], 2, "", "mmdb: no\\n\\u001b[2J\\u009b: not an IP address\n"),
