@@ -86,6 +86,10 @@ list_not_read read σ τ items h k = decoded-list read σ ∙ rw (h, k) refl
 pub kept_list : (σ τ ρ π : State) (items spent : Items) → Enters σ τ items → Kept τ ρ → spent ≡ record items { remaining = 0 } → π ≡ left_array spent ρ → Kept σ π
 kept_list σ τ ρ π items spent h k s e = rw (e, s) (record { section = k.section ∙ h.section; levels = h.levels; charges = back_trans σ.budget τ.budget ρ.budget h.charges k.charges })
 
+-- a list that is given up on its own levels
+pub given_up_in_list : (σ τ ρ : State) (items : Items) → Enters σ τ items → GivenUp τ ρ → GivenUp σ ρ
+given_up_in_list σ τ ρ items h k = record { section = k.section ∙ h.section; charges = back_trans σ.budget τ.budget ρ.budget h.charges k.charges }
+
 pub given_up_list : (σ τ ρ π : State) (items : Items) (levels : ℕ) → Enters σ τ items → GivenUp τ ρ → π ≡ record ρ { levels = levels } → GivenUp σ π
 given_up_list σ τ ρ π items levels h k e = rw e (record { section = k.section ∙ h.section; charges = back_trans σ.budget τ.budget ρ.budget h.charges k.charges })
 

@@ -149,6 +149,10 @@ kept_map σ τ ρ π entries spent h k s e = rw (e, s) (record { section = k.sec
 pub given_up_map : (σ τ ρ π : State) (entries : Entries) (levels : ℕ) → Enters σ τ entries → GivenUp τ ρ → π ≡ record ρ { levels = levels } → GivenUp σ π
 given_up_map σ τ ρ π entries levels h k e = rw e (record { section = k.section ∙ h.section; charges = back_trans σ.budget τ.budget ρ.budget h.charges k.charges })
 
+-- a map that is given up on its own levels
+pub given_up_in_map : (σ τ ρ : State) (entries : Entries) → Enters σ τ entries → GivenUp τ ρ → GivenUp σ ρ
+given_up_in_map σ τ ρ entries h k = record { section = k.section ∙ h.section; charges = back_trans σ.budget τ.budget ρ.budget h.charges k.charges }
+
 pub some_left_to_read : (n : ℕ) → 0 < n → n ≡ suc (n - 1)
 some_left_to_read n h = omega arith
 

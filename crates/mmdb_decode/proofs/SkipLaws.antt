@@ -10,7 +10,7 @@ use Rattle.mmdb_decode.specs.Records.{FieldRead, skipped}
 use Rattle.mmdb_decode.specs.Refusal.{Reads, Takes, Kept}
 use Rattle.mmdb_decode.specs.Skipping.{skip_at, parts_of, passes, counted, skip_within, scalar_passed, entered_inline}
 use Rattle.mmdb_decode.specs.State.{State, charged, spent_of, begun, settled, after, decoded, Within, NoneBack, GivenUp}
-use Rattle.mmdb_decode.proofs.StepLaws.{refuses, decoded_begun}
+use Rattle.mmdb_decode.proofs.StepLaws.{still_begun, kept_decoded, refuses, decoded_begun}
 use Rattle.mmdb_decode.proofs.ReadingLaws.{decoded-mapped, seen}
 use Rattle.std.proofs.Common.{◌≡◌, ℕ, suc, zero, List, Option, Some, None, Bool, true, false, option_map, refl, sym, ap, ◌∙◌, subst}
 use Rattle.mmdb_decode.specs.declared.budget.Charges.{Charges}
@@ -159,6 +159,15 @@ skipped_as p σ s = decoded-mapped false (λ (x : Unit {0}). p) skip_at σ ∙ a
 pub skipped_read : {P : Type 0} (free : Bool) (p : P) (σ τ : State) (r : Result (Unit {0}) MaxMindDbError) → IsSome σ.budget → Reads (λ x. tt) true (decoded true skip_at σ) σ τ r → FieldRead free (decoded false (skipped p) σ) p σ τ r
 skipped_read free p σ τ (Ok x) s h = record { ok = skipped_as p σ s ∙ rw h refl; err = tt; given_up = tt }
 skipped_read free p σ τ (Err e) s h = record { ok = tt; err = refuses free e (decoded false (skipped p) σ) (skipped_as p σ s ∙ rw h.1 refl); given_up = h.0 }
+
+-- a budget that had begun has still begun
+pub skip_begun : {E : Type 0} (σ τ : State) (r : Result (Unit {0}) E) → Takes (λ x. tt) (decoded true skip_at σ) σ τ r → IsSome σ.budget → IsSome τ.budget
+skip_begun σ τ (Ok x) h s = still_begun σ.budget τ.budget (kept_decoded true skip_at σ τ tt h).charges s
+skip_begun σ τ (Err e) h s = still_begun σ.budget τ.budget h.0.charges s
+
+pub begun_there : (budget : Option Charges) → IsSome budget → ((x : Charges) → budget ≡ Some x → ⊥) → ⊥
+begun_there None s n = absurd (cc)
+begun_there (Some x) s n = n x refl
 
 -- a scalar is passed, however deep containers may nest
 pub scalar_skipped : (n : ℕ) (s : List ℕ) (p levels next : ℕ) (header : Header) → header_at s p ≡ Some header → parts_of header ≡ None → passed_end s header ≡ Some next → skip_within n s p levels ≡ Some (free_of_charge (tt, next))

@@ -4,7 +4,7 @@ use Rattle.std.proofs.lemmas.Bool.Decides.{nat_tests}
 use Rattle.mmdb_format.specs.Header.{◌>>=◌}
 use Rattle.mmdb_decode.specs.Arrays.{array_at, entered_array}
 use Rattle.mmdb_decode.specs.Reading.{Reading, Meaning}
-use Rattle.mmdb_decode.specs.Refusal.{Refuses, Reads, Kept, answer}
+use Rattle.mmdb_decode.specs.Refusal.{Refuses, Declines, Reads, Kept, answer}
 use Rattle.mmdb_decode.specs.State.{State, charged, spent_of, begun, settled, after, decoded, Within, NoneBack, GivenUp, most_values, most_bytes}
 use Rattle.mmdb_decode.specs.declared.budget.Charges.{Charges}
 use Rattle.mmdb_decode.specs.declared.direct.Entered.{Entered}
@@ -12,6 +12,8 @@ use Rattle.std.specs.Result.{OnOk, IfOk, IfErr}
 use Rattle.std.specs.Option.{IsSome}
 use Rattle.mmdb_format.specs.declared.error.MaxMindDbError.{MaxMindDbError}
 use Rattle.mmdb_format.specs.declared.error.MaxMindDbError.TheVariants.{InvalidDatabase, Io, Decoding, ResourceLimit, InvalidNetwork, InvalidInput, Memory}
+use Rattle.mmdb_decode.specs.declared.refused.Refused.{Refused}
+use Rattle.mmdb_decode.specs.declared.refused.Refused.TheVariants.{OutOfMemory, Unreadable}
 
 abbrev pub state : List ℕ → ℕ → ℕ → Option Charges → State
 state s p d budget = record { section = s; place = p; levels = d; budget = budget }
@@ -40,7 +42,7 @@ unread_gives_up free starts e read σ h = (record { section = refl; charges = no
 nothing_charged : (c : Charges) → (c.values ≤ most_values) × (c.bytes ≤ most_bytes) → charged c 0 0 ≡ Some c
 nothing_charged c h = simp add-zero (grind (arith, nat_tests))
 
-nothing_spent : (budget : Option Charges) → Within budget → spent_of budget 0 0 ≡ Some budget
+pub nothing_spent : (budget : Option Charges) → Within budget → spent_of budget 0 0 ≡ Some budget
 nothing_spent None h = refl
 nothing_spent (Some c) h = ap (option_map Some) (nothing_charged c h)
 
@@ -57,6 +59,26 @@ read_past starts read σ r h k = rw (h, k) refl
 -- a reading with no cost
 pub read_free : {A : Type 0} (read : Meaning A) (σ : State) (v : A) (next : ℕ) → Within σ.budget → read σ.section σ.place σ.levels ≡ Some (record { value = v; next = next; values = 0; bytes = 0 }) → decoded false read σ ≡ Some (v, state σ.section next σ.levels σ.budget)
 read_free read σ v next w h = read_at false read σ (record { value = v; next = next; values = 0; bytes = 0 }) σ.budget h (nothing_spent σ.budget w)
+
+pub declines : {A : Type 0} (free : Bool) (r : Refused) (read : Option A) → read ≡ None → Declines free r read
+declines true r read h = h
+declines false OutOfMemory read h = tt
+declines false Unreadable read h = h
+
+pub declines_more : {A B : Type 0} (free : Bool) (r : Refused) (p : Option A) (q : Option B) → (p ≡ None → q ≡ None) → Declines free r p → Declines free r q
+declines_more true r p q k h = k h
+declines_more false OutOfMemory p q k h = tt
+declines_more false Unreadable p q k h = k h
+
+pub declines_weaker : {A B : Type 0} (free : Bool) (r : Refused) (p : Option A) (q : Option B) → (p ≡ None → q ≡ None) → Declines free r p → Declines false r q
+declines_weaker true r p q k h = declines false r q (k h)
+declines_weaker false r p q k h = declines_more false r p q k h
+
+-- the error that is made of a refusal
+pub refuses_as : {A : Type 0} (free : Bool) (r : Refused) (e : MaxMindDbError) (read : Option A) → (r ≡ OutOfMemory → e ≡ Memory) → Declines free r read → Refuses free e read
+refuses_as true r e read k h = h
+refuses_as false OutOfMemory e read k h = rw (k refl) tt
+refuses_as false Unreadable e read k h = refuses false e read h
 
 pub refuses_more : {A B : Type 0} (free : Bool) (e : MaxMindDbError) (r : Option A) (q : Option B) → (r ≡ None → q ≡ None) → Refuses free e r → Refuses free e q
 refuses_more true e r q k h = k h

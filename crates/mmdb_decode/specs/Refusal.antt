@@ -4,6 +4,8 @@ use Rattle.mmdb_decode.specs.State.{State, GivenUp, NoneBack, decoded}
 use Rattle.mmdb_decode.specs.Reading.{Meaning}
 use Rattle.mmdb_format.specs.declared.error.MaxMindDbError.{MaxMindDbError}
 use Rattle.mmdb_format.specs.declared.error.MaxMindDbError.TheVariants.{Memory}
+use Rattle.mmdb_decode.specs.declared.refused.Refused.{Refused}
+use Rattle.mmdb_decode.specs.declared.refused.Refused.TheVariants.{OutOfMemory, Unreadable}
 
 -- what every success keeps: the section, the levels and the charges, of which none is given back
 pub record Kept (old new : State) : Type 0 where
@@ -16,6 +18,12 @@ abbrev pub Refuses : {A : Type 0} → Bool → MaxMindDbError → Option A → T
 Refuses true e read = read ≡ None
 Refuses false Memory read = Unit {0}
 Refuses false e read = read ≡ None
+
+-- the same of a reading that keeps aside why
+abbrev pub Declines : {A : Type 0} → Bool → Refused → Option A → Type 0
+Declines true r read = read ≡ None
+Declines false OutOfMemory read = Unit {0}
+Declines false Unreadable read = read ≡ None
 
 -- what one step did that takes no memory: it gave what the meaning says, or there is nothing to give
 abbrev pub Takes : {X A E : Type 0} → (X → A) → Option (A × State) → State → State → Result X E → Type 0

@@ -1,83 +1,111 @@
-//! Values that are read without a refusal: who reads many makes none, and reads again where one is wanted.
-ghost use Rattle.std.specs.Prelude.{◌≡◌, true, false, Some, IfSome, IsSome, option_map};
-ghost use Rattle.mmdb_decode.specs.State.{decoded};
-ghost use Rattle.mmdb_decode.specs.Records.{once};
+//! Types whose values are read as parts of records: why a reading is refused is kept aside.
+ghost use Rattle.std.specs.Prelude.{◌≡◌, true, false, Some, IfOk, IfErr, OnOk, OnErr, IsSome, map, option_map};
+ghost use Rattle.mmdb_decode.specs.State.{decoded, GivenUp};
+ghost use Rattle.mmdb_decode.specs.Refusal.{Declines, Kept};
+ghost use Rattle.mmdb_decode.specs.Arrays.{elements, items_left, with_items_left};
+ghost use Rattle.mmdb_decode.specs.Records.{once, FieldTaken};
 
 use crate::decode::Decode;
 use crate::decoder::Decoder;
+use crate::fields::{Attempts, read_into};
+use crate::items::Items;
+use crate::refused::Refused;
 use mmdb_format::content::Double;
 use std::alloc::Global;
 
 /// A type whose values can be read so.
 pub trait Attempt<'de>: Decode<'de> {
-    /// Reads a value under a budget that has begun. After a refusal the decoder is given up.
-    fn attempt(alloc: Global, d: &mut Decoder<'de>) -> Option<Self>
+    /// Reads a value under a budget that has begun.
+    fn attempt(alloc: Global, d: &mut Decoder<'de>) -> Result<Self, Refused>
         requires { IsSome d.old.budget }
-        ensures { IfSome result (λ v. decoded false Self.meaning d.old ≡ Some (Self.datum v, d.new)) };
+        ensures ok { IfOk result (λ v. decoded Self.starts Self.meaning d.old ≡ Some (Self.datum v, d.new)) }
+        ensures err { IfErr result (λ e. Declines Self.free e (decoded Self.starts Self.meaning d.old)) }
+        ensures given_up { OnErr result (GivenUp d.old d.new) };
 }
 
 impl<'de> Attempt<'de> for u16 {
     #[inline(always)]
-    fn attempt(_alloc: Global, d: &mut Decoder<'de>) -> Option<u16> {
+    fn attempt(_alloc: Global, d: &mut Decoder<'de>) -> Result<u16, Refused> {
         d.attempt_u16()
     }
 }
 
 impl<'de> Attempt<'de> for u32 {
     #[inline(always)]
-    fn attempt(_alloc: Global, d: &mut Decoder<'de>) -> Option<u32> {
+    fn attempt(_alloc: Global, d: &mut Decoder<'de>) -> Result<u32, Refused> {
         d.attempt_u32()
     }
 }
 
 impl<'de> Attempt<'de> for bool {
     #[inline(always)]
-    fn attempt(_alloc: Global, d: &mut Decoder<'de>) -> Option<bool> {
+    fn attempt(_alloc: Global, d: &mut Decoder<'de>) -> Result<bool, Refused> {
         d.attempt_bool()
     }
 }
 
 impl<'de> Attempt<'de> for Double {
     #[inline(always)]
-    fn attempt(_alloc: Global, d: &mut Decoder<'de>) -> Option<Double> {
+    fn attempt(_alloc: Global, d: &mut Decoder<'de>) -> Result<Double, Refused> {
         d.attempt_double()
     }
 }
 
 impl<'de> Attempt<'de> for u8 {
-    fn attempt(alloc: Global, d: &mut Decoder<'de>) -> Option<u8> {
-        if let Ok(number) = u8::decode(alloc, d) {
-            return Some(number);
-        }
-        None
+    fn attempt(_alloc: Global, d: &mut Decoder<'de>) -> Result<u8, Refused> {
+        Ok(d.attempt_between(0, 255)? as u8)
     }
 }
 
 impl<'de> Attempt<'de> for &'de str {
     #[inline(always)]
-    fn attempt(_alloc: Global, d: &mut Decoder<'de>) -> Option<&'de str> {
+    fn attempt(_alloc: Global, d: &mut Decoder<'de>) -> Result<&'de str, Refused> {
         d.attempt_str()
     }
 }
 
-/// Reads a field that stands at most once, and says whether it did.
+impl<'de, R: Attempts<'de>> Attempt<'de> for R {
+    fn attempt(alloc: Global, d: &mut Decoder<'de>) -> Result<R, Refused> {
+        let mut record = R::empty(alloc);
+        read_into(alloc, d, &mut record)?;
+        Ok(record)
+    }
+}
+
+/// Reads the elements that are left of an array.
+pub fn attempt_items<'de, T: Attempt<'de>>(
+    alloc: Global,
+    d: &mut Decoder<'de>,
+    items: &mut Items,
+) -> Result<Vec<T>, Refused>
+    requires { IsSome d.old.budget }
+    ensures ok { IfOk result (λ v. decoded false (elements T.meaning (items_left items.old)) d.old ≡ Some (map T.datum v.items, d.new)) }
+    ensures spent { OnOk result (items.new ≡ with_items_left 0 items.old) }
+    ensures kept { OnOk result (Kept d.old d.new) }
+    ensures err { IfErr result (λ e. Declines false e (decoded false (elements T.meaning (items_left items.old)) d.old)) }
+    ensures given_up { OnErr result (GivenUp d.old d.new) }
+{
+    let mut out = Vec::new(alloc);
+    while d.next_item(items) {
+        out.push(T::attempt(alloc, d)?)?;
+    }
+    Ok(out)
+}
+
+/// Reads a field that stands at most once. One that stands again is refused before its value is read.
 #[inline(always)]
 pub fn attempt_once<'de, T: Attempt<'de>>(
     alloc: Global,
     d: &mut Decoder<'de>,
+    name: &'de [u8],
     slot: &mut Option<T>,
-) -> bool
+) -> Result<(), Refused>
     requires { IsSome d.old.budget }
-    ensures { result ≡ true → decoded false (once T.meaning (option_map T.datum slot.old)) d.old ≡ Some (option_map T.datum slot.new, d.new) }
+    ensures { FieldTaken T.free (decoded false (once T.meaning (option_map T.datum slot.old)) d.old) (option_map T.datum slot.new) d.old d.new result }
 {
     if slot.is_some() {
-        return false;
+        return Err(d.refuse_repeated(name));
     }
-    match T::attempt(alloc, d) {
-        Some(value) => {
-            *slot = Some(value);
-            true
-        }
-        None => false,
-    }
+    *slot = Some(T::attempt(alloc, d)?);
+    Ok(())
 }

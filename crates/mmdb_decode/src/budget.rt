@@ -1,5 +1,5 @@
 //! What a reading has cost.
-ghost use Rattle.std.specs.Prelude.{◌≡◌, ◌<◌, ◌^◌, true};
+ghost use Rattle.std.specs.Prelude.{◌≡◌, ◌<◌, ◌^◌, ◌-◌, true};
 ghost use Rattle.std.specs.Result.{result_ok};
 ghost use Rattle.mmdb_decode.specs.State.{spent_of, begun as spec_begun, Within};
 
@@ -45,6 +45,44 @@ pub(crate) fn spent(
         values: values as u32,
         bytes: bytes as u32,
     }))
+}
+
+/// The budget with so many more bytes charged.
+#[inline(always)]
+pub(crate) fn spent_bytes(budget: Option<Charges>, bytes: usize) -> Result<Option<Charges>, Fault>
+    requires within { Within budget }
+    requires short { bytes < 2 ^ 32 }
+    ensures value { result_ok result ≡ spent_of budget 0 bytes }
+{
+    let Some(charges) = budget else {
+        return Ok(None);
+    };
+    let bytes = charges.bytes as usize + bytes;
+    if bytes > MAX_BYTES {
+        return Err(Fault::TooManyBytes);
+    }
+    Ok(Some(Charges {
+        values: charges.values,
+        bytes: bytes as u32,
+    }))
+}
+
+/// The budget with the bytes charged that are more than the free ones. Where all are free it stays as it is.
+#[inline(always)]
+#[tactic(auto, using(crate::proofs::StepLaws::nothing_spent))]
+pub(crate) fn spent_past(
+    budget: Option<Charges>,
+    bytes: usize,
+    free: usize,
+) -> Result<Option<Charges>, Fault>
+    requires within { Within budget }
+    requires short { bytes < 2 ^ 32 }
+    ensures value { result_ok result ≡ spent_of budget 0 (bytes - free) }
+{
+    if bytes <= free {
+        return Ok(budget);
+    }
+    spent_bytes(budget, bytes - free)
 }
 
 /// The budget, begun with one value where it has not begun.

@@ -8,6 +8,7 @@ ghost use Rattle.mmdb_decode.specs.Peeking.{kind_at};
 mod attempts;
 mod containers;
 mod keys;
+mod refusals;
 mod scalars;
 mod selecting;
 mod skipping;
@@ -15,6 +16,7 @@ mod stepping;
 
 use crate::budget::{Charges, begun};
 use crate::peek::kind_of_value;
+use crate::refused::Step;
 use mmdb_format::error::DecodeResult;
 use mmdb_format::fault::Fault;
 use mmdb_format::header::{Header, header_at};
@@ -31,6 +33,10 @@ pub struct Decoder<'de> {
     place: usize,
     levels: u16,
     budget: Option<Charges>,
+    // What was to be read where a reading was refused, and the name of a field that stood a second time. No contract
+    // sees them.
+    step: Step,
+    repeated: &'de [u8],
 }
 
 impl<'de> Model for Decoder<'de> {
@@ -53,6 +59,8 @@ impl<'de> Decoder<'de> {
             place,
             levels: 0,
             budget: None,
+            step: Step::Name,
+            repeated: section,
         }
     }
 

@@ -1,15 +1,14 @@
 //! Records that are read in place, field by field, as a table of their fields tells.
-ghost use Rattle.std.specs.Prelude.{◌≡◌, Bool, true, false, Some, IfErr, OnOk, OnErr, IsSome};
-ghost use Rattle.mmdb_decode.specs.Maps.{pairs_from, name_at, pairs_left, with_pairs_left};
-ghost use Rattle.mmdb_decode.specs.State.{decoded, GivenUp};
-ghost use Rattle.mmdb_decode.specs.Refusal.{Refuses, Kept};
-ghost use Rattle.mmdb_decode.specs.Records.{FieldRead};
+ghost use Rattle.std.specs.Prelude.{◌≡◌, Bool, true, false, Some, IsSome};
+ghost use Rattle.mmdb_decode.specs.Maps.{pairs_from, name_at, pairs_left};
+ghost use Rattle.mmdb_decode.specs.State.{decoded};
+ghost use Rattle.mmdb_decode.specs.Records.{FieldTaken, RestTaken};
 ghost use Rattle.mmdb_decode.specs.Tables.{Table, Data, data_of, no_data, parts_met, flags, fields_of, record_of, part_once};
 
 use crate::decode::Decode;
 use crate::decoder::Decoder;
 use crate::items::Entries;
-use crate::record::duplicate_field;
+use crate::refused::Refused;
 use mmdb_format::error::DecodeResult;
 use std::alloc::Global;
 
@@ -47,154 +46,103 @@ pub trait Fields<'de>: Sized + Drop {
         alloc: Global,
         name: &'de [u8],
         d: &mut Decoder<'de>,
-    ) -> DecodeResult<()>
+    ) -> Result<(), Refused>
         requires { IsSome d.old.budget }
-        ensures { FieldRead free (decoded false (fields_of table (parts_met table (flags met.old) self.old) name.now) d.old) (parts_met table (flags met.new) self.new) d.old d.new result };
-
-    /// Reads or skips the value after a name as `read_field` does, and says whether it did. After a refusal the
-    /// record and the decoder are given up.
-    fn attempt_field(
-        &mut self,
-        met: &mut Met,
-        alloc: Global,
-        name: &'de [u8],
-        d: &mut Decoder<'de>,
-    ) -> bool
-        requires { IsSome d.old.budget }
-        ensures { result ≡ true → decoded false (fields_of table (parts_met table (flags met.old) self.old) name.now) d.old ≡ Some (parts_met table (flags met.new) self.new, d.new) };
+        ensures { FieldTaken free (decoded false (fields_of table (parts_met table (flags met.old) self.old) name.now) d.old) (parts_met table (flags met.new) self.new) d.old d.new result };
 }
 
-/// A record that attempts its fields one after the other.
+/// A record that reads its fields one after the other.
 pub trait Attempts<'de>: Fields<'de> {
-    /// Reads the fields that are left of a map, and says whether it did. After a refusal the record and the decoder are
-    /// given up.
-    fn attempt_rest(
+    /// Reads the fields that are left of a map.
+    fn read_rest(
         &mut self,
         met: &mut Met,
         alloc: Global,
         d: &mut Decoder<'de>,
         entries: &mut Entries,
-    ) -> bool
+    ) -> Result<(), Refused>
         requires { IsSome d.old.budget }
-        ensures ok { result ≡ true → decoded false (pairs_from name_at (fields_of Self.table) (parts_met Self.table (flags met.old) self.old) (pairs_left entries.old)) d.old ≡ Some (parts_met Self.table (flags met.new) self.new, d.new) }
-        ensures rest { entries.new ≡ with_pairs_left (pairs_left entries.new) entries.old }
-        ensures spent { result ≡ true → pairs_left entries.new ≡ 0 };
+        ensures { RestTaken Self.free (decoded false (pairs_from name_at (fields_of Self.table) (parts_met Self.table (flags met.old) self.old) (pairs_left entries.old)) d.old) (parts_met Self.table (flags met.new) self.new) d.old d.new entries.old entries.new result };
 }
 
-// Reads the fields that are left of a map, each by itself, and says whether it did.
+// Reads the fields that are left of a map, each by itself.
 #[inline(always)]
-fn attempt_each<'de, R: Fields<'de>>(
+fn read_each<'de, R: Fields<'de>>(
     alloc: Global,
     d: &mut Decoder<'de>,
     entries: &mut Entries,
     fields: &mut R,
     met: &mut Met,
-) -> bool
+) -> Result<(), Refused>
     requires { IsSome d.old.budget }
-    ensures ok { result ≡ true → decoded false (pairs_from name_at (fields_of R.table) (parts_met R.table (flags met.old) fields.old) (pairs_left entries.old)) d.old ≡ Some (parts_met R.table (flags met.new) fields.new, d.new) }
-    ensures rest { entries.new ≡ with_pairs_left (pairs_left entries.new) entries.old }
-    ensures spent { result ≡ true → pairs_left entries.new ≡ 0 }
+    ensures { RestTaken R.free (decoded false (pairs_from name_at (fields_of R.table) (parts_met R.table (flags met.old) fields.old) (pairs_left entries.old)) d.old) (parts_met R.table (flags met.new) fields.new) d.old d.new entries.old entries.new result }
 {
-    d.stays_within();
-    while entries.remaining != 0 {
-        let Some(name) = d.attempt_name() else {
-            return false;
-        };
-        entries.remaining -= 1;
-        if !fields.attempt_field(met, alloc, name, d) {
-            return false;
-        }
-    }
-    d.stays_within();
-    true
-}
-
-/// A record whose fields are attempted each by itself.
-pub trait EachByItself {}
-
-impl<'de, R: Fields<'de> + EachByItself> Attempts<'de> for R {
-    #[inline(always)]
-    fn attempt_rest(
-        &mut self,
-        met: &mut Met,
-        alloc: Global,
-        d: &mut Decoder<'de>,
-        entries: &mut Entries,
-    ) -> bool {
-        attempt_each(alloc, d, entries, self, met)
-    }
-}
-
-// Reads a map into a record of which no field was met, and says whether it did; else the decoder stays. The
-// decoder that reads is one of its own, which can stay in registers.
-fn attempt_into<'de, R: Attempts<'de>>(alloc: Global, d: &mut Decoder<'de>, fields: &mut R) -> bool
-    requires { data_of R.table fields.old ≡ no_data R.table }
-    ensures ok { result ≡ true → decoded true (record_of R.table) d.old ≡ Some (data_of R.table fields.new, d.new) }
-    ensures same { result ≡ false → d.new ≡ d.old }
-{
-    let mut here = d.again();
-    let mut met = Met(
-        false, false, false, false, false, false, false, false, false,
-    );
-    let Some(mut entries) = here.attempt_map() else {
-        return false;
-    };
-    if !fields.attempt_rest(&mut met, alloc, &mut here, &mut entries) {
-        entries.give_up(&mut here);
-        return false;
-    }
-    here.end_map(entries);
-    *d = here;
-    true
-}
-
-// Reads the fields that are left of a map.
-fn read_rest<'de, R: Fields<'de>>(
-    alloc: Global,
-    d: &mut Decoder<'de>,
-    entries: &mut Entries,
-    fields: &mut R,
-    met: &mut Met,
-) -> DecodeResult<()>
-    requires { IsSome d.old.budget }
-    ensures ok { OnOk result (decoded false (pairs_from name_at (fields_of R.table) (parts_met R.table (flags met.old) fields.old) (pairs_left entries.old)) d.old ≡ Some (parts_met R.table (flags met.new) fields.new, d.new)) }
-    ensures rest { entries.new ≡ with_pairs_left (pairs_left entries.new) entries.old }
-    ensures spent { OnOk result (pairs_left entries.new ≡ 0) }
-    ensures kept { OnOk result (Kept d.old d.new) }
-    ensures err { IfErr result (λ e. Refuses R.free e (decoded false (pairs_from name_at (fields_of R.table) (parts_met R.table (flags met.old) fields.old) (pairs_left entries.old)) d.old)) }
-    ensures given_up { OnErr result (GivenUp d.old d.new) }
-{
-    while let Some(name) = d.next_field(alloc, entries)? {
+    while let Some(name) = d.attempt_next(entries)? {
         fields.read_field(met, alloc, name, d)?;
     }
     Ok(())
 }
 
-// Reads a map into a record, which is emptied before.
-#[inline(never)]
-fn read_into<'de, R: Fields<'de>>(
+/// A record whose fields are read each by itself.
+pub trait EachByItself {}
+
+impl<'de, R: Fields<'de> + EachByItself> Attempts<'de> for R {
+    #[inline(always)]
+    fn read_rest(
+        &mut self,
+        met: &mut Met,
+        alloc: Global,
+        d: &mut Decoder<'de>,
+        entries: &mut Entries,
+    ) -> Result<(), Refused> {
+        read_each(alloc, d, entries, self, met)
+    }
+}
+
+// Reads a map into a record of which no field was met.
+#[inline(always)]
+fn read_map_into<'de, R: Attempts<'de>>(
     alloc: Global,
     d: &mut Decoder<'de>,
     fields: &mut R,
-) -> DecodeResult<()>
-    ensures ok { OnOk result (decoded true (record_of R.table) d.old ≡ Some (data_of R.table fields.new, d.new)) }
-    ensures kept { OnOk result (Kept d.old d.new) }
-    ensures err { IfErr result (λ e. Refuses R.free e (decoded true (record_of R.table) d.old)) }
-    ensures given_up { OnErr result (GivenUp d.old d.new) }
+) -> Result<(), Refused>
+    requires { data_of R.table fields.old ≡ no_data R.table }
+    ensures { FieldTaken R.free (decoded true (record_of R.table) d.old) (data_of R.table fields.new) d.old d.new result }
 {
-    *fields = R::empty(alloc);
     let mut met = Met(
         false, false, false, false, false, false, false, false, false,
     );
-    let mut entries = d.begin_map(alloc)?;
-    match read_rest(alloc, d, &mut entries, fields, &mut met) {
+    let mut entries = d.attempt_map()?;
+    match fields.read_rest(&mut met, alloc, d, &mut entries) {
         Ok(()) => {
             d.end_map(entries);
             Ok(())
         }
-        Err(e) => {
-            entries.give_up(d);
-            Err(e)
+        Err(refused) => {
+            entries.forget();
+            Err(refused)
+        }
+    }
+}
+
+// The same by a decoder of its own, which can stay in registers.
+pub(crate) fn read_into<'de, R: Attempts<'de>>(
+    alloc: Global,
+    d: &mut Decoder<'de>,
+    fields: &mut R,
+) -> Result<(), Refused>
+    requires { data_of R.table fields.old ≡ no_data R.table }
+    ensures { FieldTaken R.free (decoded true (record_of R.table) d.old) (data_of R.table fields.new) d.old d.new result }
+{
+    let mut here = d.again();
+    match read_map_into(alloc, &mut here, fields) {
+        Ok(()) => {
+            d.go_to(&here);
+            Ok(())
+        }
+        Err(refused) => {
+            *d = here;
+            Err(refused)
         }
     }
 }
@@ -212,50 +160,29 @@ impl<'de, R: Attempts<'de>> Decode<'de> for R {
 
     fn decode(alloc: Global, d: &mut Decoder<'de>) -> DecodeResult<R> {
         let mut fields = R::empty(alloc);
-        if attempt_into(alloc, d, &mut fields) {
-            return Ok(fields);
+        match read_into(alloc, d, &mut fields) {
+            Ok(()) => Ok(fields),
+            Err(refused) => Err(d.refusal(alloc, refused)),
         }
-        read_into(alloc, d, &mut fields)?;
-        Ok(fields)
     }
 }
 
 /// Reads a part that stands at most once. One that stands again is refused before its value is read.
-pub fn read_part<'de, R: Fields<'de>>(
+pub fn read_part<'de, R: Attempts<'de>>(
     alloc: Global,
     d: &mut Decoder<'de>,
-    name: &str,
+    name: &'de [u8],
     met: &mut bool,
     part: &mut R,
-) -> DecodeResult<()>
+) -> Result<(), Refused>
     requires { IsSome d.old.budget }
-    ensures { FieldRead R.free (decoded false (part_once (record_of R.table) (met.old, data_of R.table part.old)) d.old) (met.new, data_of R.table part.new) d.old d.new result }
+    ensures { FieldTaken R.free (decoded false (part_once (record_of R.table) (met.old, data_of R.table part.old)) d.old) (met.new, data_of R.table part.new) d.old d.new result }
 {
     if *met {
-        return Err(duplicate_field(alloc, name, d.offset()));
+        return Err(d.refuse_repeated(name));
     }
+    *part = R::empty(alloc);
     read_into(alloc, d, part)?;
     *met = true;
     Ok(())
-}
-
-/// Reads a part that stands at most once as `read_part` does, and says whether it did.
-pub fn attempt_part<'de, R: Attempts<'de>>(
-    alloc: Global,
-    d: &mut Decoder<'de>,
-    met: &mut bool,
-    part: &mut R,
-) -> bool
-    requires { IsSome d.old.budget }
-    ensures { result ≡ true → decoded false (part_once (record_of R.table) (met.old, data_of R.table part.old)) d.old ≡ Some ((met.new, data_of R.table part.new), d.new) }
-{
-    if *met {
-        return false;
-    }
-    *part = R::empty(alloc);
-    if !attempt_into(alloc, d, part) {
-        return false;
-    }
-    *met = true;
-    true
 }

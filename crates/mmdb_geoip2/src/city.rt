@@ -5,14 +5,14 @@ ghost use Rattle.std.specs.Prelude.{◌≡◌};
 ghost use Rattle.mmdb_decode.specs.Tables.{absent};
 ghost use Rattle.mmdb_geoip2.specs.CityTables.{city_table, location_table, postal_table, subdivision_table};
 
-use crate::fields::{attempt_by_name, read_by_name};
+use crate::fields::fields_by_name;
 use crate::names::Names;
 use mmdb_decode::attempt::attempt_once;
 use mmdb_decode::decoder::Decoder;
-use mmdb_decode::fields::{EachByItself, Fields, Met, attempt_part, read_part};
-use mmdb_decode::record::{named, read_once};
+use mmdb_decode::fields::{EachByItself, Fields, Met, read_part};
+use mmdb_decode::record::named;
+use mmdb_decode::refused::Refused;
 use mmdb_format::content::Double;
-use mmdb_format::error::DecodeResult;
 use std::alloc::Global;
 
 /// A city.
@@ -33,30 +33,17 @@ impl<'de> Fields<'de> for City<'de> {
         City::default()
     }
 
+    #[inline(always)]
     fn read_field(
         &mut self,
         met: &mut Met,
         alloc: Global,
         name: &'de [u8],
         d: &mut Decoder<'de>,
-    ) -> DecodeResult<()> {
-        read_by_name!(alloc, name, d;
-            "geoname_id" => read_once(&mut self.geoname_id),
-            "names" => read_part(&mut met.0, &mut self.names),
-        )
-    }
-
-    #[inline(always)]
-    fn attempt_field(
-        &mut self,
-        met: &mut Met,
-        alloc: Global,
-        name: &'de [u8],
-        d: &mut Decoder<'de>,
-    ) -> bool {
-        attempt_by_name!(alloc, name, d;
+    ) -> Result<(), Refused> {
+        fields_by_name!(alloc, name, d;
             "geoname_id" => attempt_once(&mut self.geoname_id),
-            "names" => attempt_part(&mut met.0, &mut self.names),
+            "names" => read_part(&mut met.0, &mut self.names),
             _ => attempt_skip(),
         )
     }
@@ -95,31 +82,15 @@ impl<'de> Fields<'de> for Location<'de> {
         Location::default()
     }
 
+    #[inline(always)]
     fn read_field(
         &mut self,
         _met: &mut Met,
         alloc: Global,
         name: &'de [u8],
         d: &mut Decoder<'de>,
-    ) -> DecodeResult<()> {
-        read_by_name!(alloc, name, d;
-            "accuracy_radius" => read_once(&mut self.accuracy_radius),
-            "latitude" => read_once(&mut self.latitude),
-            "longitude" => read_once(&mut self.longitude),
-            "metro_code" => read_once(&mut self.metro_code),
-            "time_zone" => read_once(&mut self.time_zone),
-        )
-    }
-
-    #[inline(always)]
-    fn attempt_field(
-        &mut self,
-        _met: &mut Met,
-        alloc: Global,
-        name: &'de [u8],
-        d: &mut Decoder<'de>,
-    ) -> bool {
-        attempt_by_name!(alloc, name, d;
+    ) -> Result<(), Refused> {
+        fields_by_name!(alloc, name, d;
             "accuracy_radius" => attempt_once(&mut self.accuracy_radius),
             "latitude" => attempt_once(&mut self.latitude),
             "longitude" => attempt_once(&mut self.longitude),
@@ -159,27 +130,15 @@ impl<'de> Fields<'de> for Postal<'de> {
         Postal::default()
     }
 
+    #[inline(always)]
     fn read_field(
         &mut self,
         _met: &mut Met,
         alloc: Global,
         name: &'de [u8],
         d: &mut Decoder<'de>,
-    ) -> DecodeResult<()> {
-        read_by_name!(alloc, name, d;
-            "code" => read_once(&mut self.code),
-        )
-    }
-
-    #[inline(always)]
-    fn attempt_field(
-        &mut self,
-        _met: &mut Met,
-        alloc: Global,
-        name: &'de [u8],
-        d: &mut Decoder<'de>,
-    ) -> bool {
-        attempt_by_name!(alloc, name, d;
+    ) -> Result<(), Refused> {
+        fields_by_name!(alloc, name, d;
             "code" => attempt_once(&mut self.code),
             _ => attempt_skip_scalar(),
         )
@@ -215,32 +174,18 @@ impl<'de> Fields<'de> for Subdivision<'de> {
         Subdivision::default()
     }
 
+    #[inline(always)]
     fn read_field(
         &mut self,
         met: &mut Met,
         alloc: Global,
         name: &'de [u8],
         d: &mut Decoder<'de>,
-    ) -> DecodeResult<()> {
-        read_by_name!(alloc, name, d;
-            "geoname_id" => read_once(&mut self.geoname_id),
-            "iso_code" => read_once(&mut self.iso_code),
-            "names" => read_part(&mut met.0, &mut self.names),
-        )
-    }
-
-    #[inline(always)]
-    fn attempt_field(
-        &mut self,
-        met: &mut Met,
-        alloc: Global,
-        name: &'de [u8],
-        d: &mut Decoder<'de>,
-    ) -> bool {
-        attempt_by_name!(alloc, name, d;
+    ) -> Result<(), Refused> {
+        fields_by_name!(alloc, name, d;
             "geoname_id" => attempt_once(&mut self.geoname_id),
             "iso_code" => attempt_once(&mut self.iso_code),
-            "names" => attempt_part(&mut met.0, &mut self.names),
+            "names" => read_part(&mut met.0, &mut self.names),
             _ => attempt_skip(),
         )
     }

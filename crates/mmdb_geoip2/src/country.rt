@@ -5,13 +5,13 @@ ghost use Rattle.std.specs.Prelude.{◌≡◌};
 ghost use Rattle.mmdb_decode.specs.Tables.{absent};
 ghost use Rattle.mmdb_geoip2.specs.CountryTables.{continent_table, country_table, represented_table, country_traits_table};
 
-use crate::fields::{attempt_by_name, read_by_name};
+use crate::fields::fields_by_name;
 use crate::names::Names;
 use mmdb_decode::attempt::attempt_once;
 use mmdb_decode::decoder::Decoder;
-use mmdb_decode::fields::{EachByItself, Fields, Met, attempt_part, read_part};
-use mmdb_decode::record::{named, read_once};
-use mmdb_format::error::DecodeResult;
+use mmdb_decode::fields::{EachByItself, Fields, Met, read_part};
+use mmdb_decode::record::named;
+use mmdb_decode::refused::Refused;
 use std::alloc::Global;
 
 /// A continent.
@@ -34,32 +34,18 @@ impl<'de> Fields<'de> for Continent<'de> {
         Continent::default()
     }
 
+    #[inline(always)]
     fn read_field(
         &mut self,
         met: &mut Met,
         alloc: Global,
         name: &'de [u8],
         d: &mut Decoder<'de>,
-    ) -> DecodeResult<()> {
-        read_by_name!(alloc, name, d;
-            "code" => read_once(&mut self.code),
-            "geoname_id" => read_once(&mut self.geoname_id),
-            "names" => read_part(&mut met.0, &mut self.names),
-        )
-    }
-
-    #[inline(always)]
-    fn attempt_field(
-        &mut self,
-        met: &mut Met,
-        alloc: Global,
-        name: &'de [u8],
-        d: &mut Decoder<'de>,
-    ) -> bool {
-        attempt_by_name!(alloc, name, d;
+    ) -> Result<(), Refused> {
+        fields_by_name!(alloc, name, d;
             "code" => attempt_once(&mut self.code),
             "geoname_id" => attempt_once(&mut self.geoname_id),
-            "names" => attempt_part(&mut met.0, &mut self.names),
+            "names" => read_part(&mut met.0, &mut self.names),
             _ => attempt_skip(),
         )
     }
@@ -96,34 +82,19 @@ impl<'de> Fields<'de> for Country<'de> {
         Country::default()
     }
 
+    #[inline(always)]
     fn read_field(
         &mut self,
         met: &mut Met,
         alloc: Global,
         name: &'de [u8],
         d: &mut Decoder<'de>,
-    ) -> DecodeResult<()> {
-        read_by_name!(alloc, name, d;
-            "geoname_id" => read_once(&mut self.geoname_id),
-            "is_in_european_union" => read_once(&mut self.is_in_european_union),
-            "iso_code" => read_once(&mut self.iso_code),
-            "names" => read_part(&mut met.0, &mut self.names),
-        )
-    }
-
-    #[inline(always)]
-    fn attempt_field(
-        &mut self,
-        met: &mut Met,
-        alloc: Global,
-        name: &'de [u8],
-        d: &mut Decoder<'de>,
-    ) -> bool {
-        attempt_by_name!(alloc, name, d;
+    ) -> Result<(), Refused> {
+        fields_by_name!(alloc, name, d;
             "geoname_id" => attempt_once(&mut self.geoname_id),
             "is_in_european_union" => attempt_once(&mut self.is_in_european_union),
             "iso_code" => attempt_once(&mut self.iso_code),
-            "names" => attempt_part(&mut met.0, &mut self.names),
+            "names" => read_part(&mut met.0, &mut self.names),
             _ => attempt_skip(),
         )
     }
@@ -165,35 +136,19 @@ impl<'de> Fields<'de> for RepresentedCountry<'de> {
         RepresentedCountry::default()
     }
 
+    #[inline(always)]
     fn read_field(
         &mut self,
         met: &mut Met,
         alloc: Global,
         name: &'de [u8],
         d: &mut Decoder<'de>,
-    ) -> DecodeResult<()> {
-        read_by_name!(alloc, name, d;
-            "geoname_id" => read_once(&mut self.geoname_id),
-            "is_in_european_union" => read_once(&mut self.is_in_european_union),
-            "iso_code" => read_once(&mut self.iso_code),
-            "names" => read_part(&mut met.0, &mut self.names),
-            "type" => read_once(&mut self.representation_type),
-        )
-    }
-
-    #[inline(always)]
-    fn attempt_field(
-        &mut self,
-        met: &mut Met,
-        alloc: Global,
-        name: &'de [u8],
-        d: &mut Decoder<'de>,
-    ) -> bool {
-        attempt_by_name!(alloc, name, d;
+    ) -> Result<(), Refused> {
+        fields_by_name!(alloc, name, d;
             "geoname_id" => attempt_once(&mut self.geoname_id),
             "is_in_european_union" => attempt_once(&mut self.is_in_european_union),
             "iso_code" => attempt_once(&mut self.iso_code),
-            "names" => attempt_part(&mut met.0, &mut self.names),
+            "names" => read_part(&mut met.0, &mut self.names),
             "type" => attempt_once(&mut self.representation_type),
             _ => attempt_skip(),
         )
@@ -229,27 +184,15 @@ impl<'de> Fields<'de> for Traits {
         Traits::default()
     }
 
+    #[inline(always)]
     fn read_field(
         &mut self,
         _met: &mut Met,
         alloc: Global,
         name: &'de [u8],
         d: &mut Decoder<'de>,
-    ) -> DecodeResult<()> {
-        read_by_name!(alloc, name, d;
-            "is_anycast" => read_once(&mut self.is_anycast),
-        )
-    }
-
-    #[inline(always)]
-    fn attempt_field(
-        &mut self,
-        _met: &mut Met,
-        alloc: Global,
-        name: &'de [u8],
-        d: &mut Decoder<'de>,
-    ) -> bool {
-        attempt_by_name!(alloc, name, d;
+    ) -> Result<(), Refused> {
+        fields_by_name!(alloc, name, d;
             "is_anycast" => attempt_once(&mut self.is_anycast),
             _ => attempt_skip_scalar(),
         )

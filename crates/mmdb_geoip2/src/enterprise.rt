@@ -5,13 +5,13 @@ ghost use Rattle.std.specs.Prelude.{◌≡◌};
 ghost use Rattle.mmdb_decode.specs.Tables.{absent};
 ghost use Rattle.mmdb_geoip2.specs.EnterpriseTables.{enterprise_city_table, enterprise_country_table, enterprise_postal_table, enterprise_subdivision_table, enterprise_traits_table};
 
-use crate::fields::{attempt_by_name, read_by_name};
+use crate::fields::fields_by_name;
 use crate::names::Names;
 use mmdb_decode::attempt::attempt_once;
 use mmdb_decode::decoder::Decoder;
-use mmdb_decode::fields::{EachByItself, Fields, Met, attempt_part, read_part};
-use mmdb_decode::record::{named, read_once};
-use mmdb_format::error::DecodeResult;
+use mmdb_decode::fields::{EachByItself, Fields, Met, read_part};
+use mmdb_decode::record::named;
+use mmdb_decode::refused::Refused;
 use std::alloc::Global;
 
 /// A city.
@@ -34,32 +34,18 @@ impl<'de> Fields<'de> for City<'de> {
         City::default()
     }
 
+    #[inline(always)]
     fn read_field(
         &mut self,
         met: &mut Met,
         alloc: Global,
         name: &'de [u8],
         d: &mut Decoder<'de>,
-    ) -> DecodeResult<()> {
-        read_by_name!(alloc, name, d;
-            "confidence" => read_once(&mut self.confidence),
-            "geoname_id" => read_once(&mut self.geoname_id),
-            "names" => read_part(&mut met.0, &mut self.names),
-        )
-    }
-
-    #[inline(always)]
-    fn attempt_field(
-        &mut self,
-        met: &mut Met,
-        alloc: Global,
-        name: &'de [u8],
-        d: &mut Decoder<'de>,
-    ) -> bool {
-        attempt_by_name!(alloc, name, d;
+    ) -> Result<(), Refused> {
+        fields_by_name!(alloc, name, d;
             "confidence" => attempt_once(&mut self.confidence),
             "geoname_id" => attempt_once(&mut self.geoname_id),
-            "names" => attempt_part(&mut met.0, &mut self.names),
+            "names" => read_part(&mut met.0, &mut self.names),
             _ => attempt_skip(),
         )
     }
@@ -98,36 +84,20 @@ impl<'de> Fields<'de> for Country<'de> {
         Country::default()
     }
 
+    #[inline(always)]
     fn read_field(
         &mut self,
         met: &mut Met,
         alloc: Global,
         name: &'de [u8],
         d: &mut Decoder<'de>,
-    ) -> DecodeResult<()> {
-        read_by_name!(alloc, name, d;
-            "confidence" => read_once(&mut self.confidence),
-            "geoname_id" => read_once(&mut self.geoname_id),
-            "is_in_european_union" => read_once(&mut self.is_in_european_union),
-            "iso_code" => read_once(&mut self.iso_code),
-            "names" => read_part(&mut met.0, &mut self.names),
-        )
-    }
-
-    #[inline(always)]
-    fn attempt_field(
-        &mut self,
-        met: &mut Met,
-        alloc: Global,
-        name: &'de [u8],
-        d: &mut Decoder<'de>,
-    ) -> bool {
-        attempt_by_name!(alloc, name, d;
+    ) -> Result<(), Refused> {
+        fields_by_name!(alloc, name, d;
             "confidence" => attempt_once(&mut self.confidence),
             "geoname_id" => attempt_once(&mut self.geoname_id),
             "is_in_european_union" => attempt_once(&mut self.is_in_european_union),
             "iso_code" => attempt_once(&mut self.iso_code),
-            "names" => attempt_part(&mut met.0, &mut self.names),
+            "names" => read_part(&mut met.0, &mut self.names),
             _ => attempt_skip(),
         )
     }
@@ -164,28 +134,15 @@ impl<'de> Fields<'de> for Postal<'de> {
         Postal::default()
     }
 
+    #[inline(always)]
     fn read_field(
         &mut self,
         _met: &mut Met,
         alloc: Global,
         name: &'de [u8],
         d: &mut Decoder<'de>,
-    ) -> DecodeResult<()> {
-        read_by_name!(alloc, name, d;
-            "code" => read_once(&mut self.code),
-            "confidence" => read_once(&mut self.confidence),
-        )
-    }
-
-    #[inline(always)]
-    fn attempt_field(
-        &mut self,
-        _met: &mut Met,
-        alloc: Global,
-        name: &'de [u8],
-        d: &mut Decoder<'de>,
-    ) -> bool {
-        attempt_by_name!(alloc, name, d;
+    ) -> Result<(), Refused> {
+        fields_by_name!(alloc, name, d;
             "code" => attempt_once(&mut self.code),
             "confidence" => attempt_once(&mut self.confidence),
             _ => attempt_skip_scalar(),
@@ -224,34 +181,19 @@ impl<'de> Fields<'de> for Subdivision<'de> {
         Subdivision::default()
     }
 
+    #[inline(always)]
     fn read_field(
         &mut self,
         met: &mut Met,
         alloc: Global,
         name: &'de [u8],
         d: &mut Decoder<'de>,
-    ) -> DecodeResult<()> {
-        read_by_name!(alloc, name, d;
-            "confidence" => read_once(&mut self.confidence),
-            "geoname_id" => read_once(&mut self.geoname_id),
-            "iso_code" => read_once(&mut self.iso_code),
-            "names" => read_part(&mut met.0, &mut self.names),
-        )
-    }
-
-    #[inline(always)]
-    fn attempt_field(
-        &mut self,
-        met: &mut Met,
-        alloc: Global,
-        name: &'de [u8],
-        d: &mut Decoder<'de>,
-    ) -> bool {
-        attempt_by_name!(alloc, name, d;
+    ) -> Result<(), Refused> {
+        fields_by_name!(alloc, name, d;
             "confidence" => attempt_once(&mut self.confidence),
             "geoname_id" => attempt_once(&mut self.geoname_id),
             "iso_code" => attempt_once(&mut self.iso_code),
-            "names" => attempt_part(&mut met.0, &mut self.names),
+            "names" => read_part(&mut met.0, &mut self.names),
             _ => attempt_skip(),
         )
     }
@@ -321,38 +263,26 @@ impl<'de> Fields<'de> for Traits<'de> {
         alloc: Global,
         name: &'de [u8],
         d: &mut Decoder<'de>,
-    ) -> DecodeResult<()> {
-        read_by_name!(alloc, name, d;
-            "autonomous_system_number" => read_once(&mut self.autonomous_system_number),
-            "autonomous_system_organization" => read_once(&mut self.autonomous_system_organization),
-            "connection_type" => read_once(&mut self.connection_type),
-            "domain" => read_once(&mut self.domain),
-            "is_anonymous" => read_once(&mut self.is_anonymous),
-            "is_anonymous_vpn" => read_once(&mut self.is_anonymous_vpn),
-            "is_anycast" => read_once(&mut self.is_anycast),
-            "is_hosting_provider" => read_once(&mut self.is_hosting_provider),
-            "isp" => read_once(&mut self.isp),
-            "is_public_proxy" => read_once(&mut self.is_public_proxy),
-            "is_residential_proxy" => read_once(&mut self.is_residential_proxy),
-            "is_tor_exit_node" => read_once(&mut self.is_tor_exit_node),
-            "mobile_country_code" => read_once(&mut self.mobile_country_code),
-            "mobile_network_code" => read_once(&mut self.mobile_network_code),
-            "organization" => read_once(&mut self.organization),
-            "user_type" => read_once(&mut self.user_type),
+    ) -> Result<(), Refused> {
+        fields_by_name!(alloc, name, d;
+            "autonomous_system_number" => attempt_once(&mut self.autonomous_system_number),
+            "autonomous_system_organization" => attempt_once(&mut self.autonomous_system_organization),
+            "connection_type" => attempt_once(&mut self.connection_type),
+            "domain" => attempt_once(&mut self.domain),
+            "is_anonymous" => attempt_once(&mut self.is_anonymous),
+            "is_anonymous_vpn" => attempt_once(&mut self.is_anonymous_vpn),
+            "is_anycast" => attempt_once(&mut self.is_anycast),
+            "is_hosting_provider" => attempt_once(&mut self.is_hosting_provider),
+            "isp" => attempt_once(&mut self.isp),
+            "is_public_proxy" => attempt_once(&mut self.is_public_proxy),
+            "is_residential_proxy" => attempt_once(&mut self.is_residential_proxy),
+            "is_tor_exit_node" => attempt_once(&mut self.is_tor_exit_node),
+            "mobile_country_code" => attempt_once(&mut self.mobile_country_code),
+            "mobile_network_code" => attempt_once(&mut self.mobile_network_code),
+            "organization" => attempt_once(&mut self.organization),
+            "user_type" => attempt_once(&mut self.user_type),
+            _ => attempt_skip_scalar(),
         )
-    }
-
-    fn attempt_field(
-        &mut self,
-        met: &mut Met,
-        alloc: Global,
-        name: &'de [u8],
-        d: &mut Decoder<'de>,
-    ) -> bool {
-        match self.read_field(met, alloc, name, d) {
-            Ok(()) => true,
-            Err(_) => false,
-        }
     }
 }
 

@@ -4,12 +4,12 @@
 ghost use Rattle.std.specs.Prelude.{◌≡◌};
 ghost use Rattle.mmdb_geoip2.specs.NetworkTables.{isp_table, connection_type_table, anonymous_ip_table, density_income_table, domain_table, asn_table};
 
-use crate::fields::{attempt_by_name, read_by_name};
+use crate::fields::fields_by_name;
 use mmdb_decode::attempt::attempt_once;
 use mmdb_decode::decoder::Decoder;
 use mmdb_decode::fields::{EachByItself, Fields, Met};
-use mmdb_decode::record::{named, read_once};
-use mmdb_format::error::DecodeResult;
+use mmdb_decode::record::named;
+use mmdb_decode::refused::Refused;
 use std::alloc::Global;
 
 /// The provider of an address.
@@ -45,32 +45,15 @@ impl<'de> Fields<'de> for Isp<'de> {
         }
     }
 
+    #[inline(always)]
     fn read_field(
         &mut self,
         _met: &mut Met,
         alloc: Global,
         name: &'de [u8],
         d: &mut Decoder<'de>,
-    ) -> DecodeResult<()> {
-        read_by_name!(alloc, name, d;
-            "autonomous_system_number" => read_once(&mut self.autonomous_system_number),
-            "autonomous_system_organization" => read_once(&mut self.autonomous_system_organization),
-            "isp" => read_once(&mut self.isp),
-            "mobile_country_code" => read_once(&mut self.mobile_country_code),
-            "mobile_network_code" => read_once(&mut self.mobile_network_code),
-            "organization" => read_once(&mut self.organization),
-        )
-    }
-
-    #[inline(always)]
-    fn attempt_field(
-        &mut self,
-        _met: &mut Met,
-        alloc: Global,
-        name: &'de [u8],
-        d: &mut Decoder<'de>,
-    ) -> bool {
-        attempt_by_name!(alloc, name, d;
+    ) -> Result<(), Refused> {
+        fields_by_name!(alloc, name, d;
             "autonomous_system_number" => attempt_once(&mut self.autonomous_system_number),
             "autonomous_system_organization" => attempt_once(&mut self.autonomous_system_organization),
             "isp" => attempt_once(&mut self.isp),
@@ -100,27 +83,15 @@ impl<'de> Fields<'de> for ConnectionType<'de> {
         }
     }
 
+    #[inline(always)]
     fn read_field(
         &mut self,
         _met: &mut Met,
         alloc: Global,
         name: &'de [u8],
         d: &mut Decoder<'de>,
-    ) -> DecodeResult<()> {
-        read_by_name!(alloc, name, d;
-            "connection_type" => read_once(&mut self.connection_type),
-        )
-    }
-
-    #[inline(always)]
-    fn attempt_field(
-        &mut self,
-        _met: &mut Met,
-        alloc: Global,
-        name: &'de [u8],
-        d: &mut Decoder<'de>,
-    ) -> bool {
-        attempt_by_name!(alloc, name, d;
+    ) -> Result<(), Refused> {
+        fields_by_name!(alloc, name, d;
             "connection_type" => attempt_once(&mut self.connection_type),
             _ => attempt_skip_scalar(),
         )
@@ -160,32 +131,15 @@ impl<'de> Fields<'de> for AnonymousIp {
         }
     }
 
+    #[inline(always)]
     fn read_field(
         &mut self,
         _met: &mut Met,
         alloc: Global,
         name: &'de [u8],
         d: &mut Decoder<'de>,
-    ) -> DecodeResult<()> {
-        read_by_name!(alloc, name, d;
-            "is_anonymous" => read_once(&mut self.is_anonymous),
-            "is_anonymous_vpn" => read_once(&mut self.is_anonymous_vpn),
-            "is_hosting_provider" => read_once(&mut self.is_hosting_provider),
-            "is_public_proxy" => read_once(&mut self.is_public_proxy),
-            "is_residential_proxy" => read_once(&mut self.is_residential_proxy),
-            "is_tor_exit_node" => read_once(&mut self.is_tor_exit_node),
-        )
-    }
-
-    #[inline(always)]
-    fn attempt_field(
-        &mut self,
-        _met: &mut Met,
-        alloc: Global,
-        name: &'de [u8],
-        d: &mut Decoder<'de>,
-    ) -> bool {
-        attempt_by_name!(alloc, name, d;
+    ) -> Result<(), Refused> {
+        fields_by_name!(alloc, name, d;
             "is_anonymous" => attempt_once(&mut self.is_anonymous),
             "is_anonymous_vpn" => attempt_once(&mut self.is_anonymous_vpn),
             "is_hosting_provider" => attempt_once(&mut self.is_hosting_provider),
@@ -218,28 +172,15 @@ impl<'de> Fields<'de> for DensityIncome {
         }
     }
 
+    #[inline(always)]
     fn read_field(
         &mut self,
         _met: &mut Met,
         alloc: Global,
         name: &'de [u8],
         d: &mut Decoder<'de>,
-    ) -> DecodeResult<()> {
-        read_by_name!(alloc, name, d;
-            "average_income" => read_once(&mut self.average_income),
-            "population_density" => read_once(&mut self.population_density),
-        )
-    }
-
-    #[inline(always)]
-    fn attempt_field(
-        &mut self,
-        _met: &mut Met,
-        alloc: Global,
-        name: &'de [u8],
-        d: &mut Decoder<'de>,
-    ) -> bool {
-        attempt_by_name!(alloc, name, d;
+    ) -> Result<(), Refused> {
+        fields_by_name!(alloc, name, d;
             "average_income" => attempt_once(&mut self.average_income),
             "population_density" => attempt_once(&mut self.population_density),
             _ => attempt_skip_scalar(),
@@ -263,27 +204,15 @@ impl<'de> Fields<'de> for Domain<'de> {
         Domain { domain: None }
     }
 
+    #[inline(always)]
     fn read_field(
         &mut self,
         _met: &mut Met,
         alloc: Global,
         name: &'de [u8],
         d: &mut Decoder<'de>,
-    ) -> DecodeResult<()> {
-        read_by_name!(alloc, name, d;
-            "domain" => read_once(&mut self.domain),
-        )
-    }
-
-    #[inline(always)]
-    fn attempt_field(
-        &mut self,
-        _met: &mut Met,
-        alloc: Global,
-        name: &'de [u8],
-        d: &mut Decoder<'de>,
-    ) -> bool {
-        attempt_by_name!(alloc, name, d;
+    ) -> Result<(), Refused> {
+        fields_by_name!(alloc, name, d;
             "domain" => attempt_once(&mut self.domain),
             _ => attempt_skip_scalar(),
         )
@@ -311,28 +240,15 @@ impl<'de> Fields<'de> for Asn<'de> {
         }
     }
 
+    #[inline(always)]
     fn read_field(
         &mut self,
         _met: &mut Met,
         alloc: Global,
         name: &'de [u8],
         d: &mut Decoder<'de>,
-    ) -> DecodeResult<()> {
-        read_by_name!(alloc, name, d;
-            "autonomous_system_number" => read_once(&mut self.autonomous_system_number),
-            "autonomous_system_organization" => read_once(&mut self.autonomous_system_organization),
-        )
-    }
-
-    #[inline(always)]
-    fn attempt_field(
-        &mut self,
-        _met: &mut Met,
-        alloc: Global,
-        name: &'de [u8],
-        d: &mut Decoder<'de>,
-    ) -> bool {
-        attempt_by_name!(alloc, name, d;
+    ) -> Result<(), Refused> {
+        fields_by_name!(alloc, name, d;
             "autonomous_system_number" => attempt_once(&mut self.autonomous_system_number),
             "autonomous_system_organization" => attempt_once(&mut self.autonomous_system_organization),
             _ => attempt_skip_scalar(),

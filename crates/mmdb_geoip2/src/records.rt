@@ -6,14 +6,14 @@ ghost use Rattle.std.specs.Vec.{vec_capacity};
 ghost use Rattle.mmdb_decode.specs.Tables.{data_of, no_data};
 ghost use Rattle.mmdb_geoip2.specs.RecordTables.{top_country_table, top_city_table, top_enterprise_table};
 
-use crate::fields::{attempt_by_name, attempt_few_once, read_by_name, read_few_once};
+use crate::fields::{fields_by_name, read_few_once};
 use crate::{city, country, enterprise};
 use mmdb_decode::decoder::Decoder;
-use mmdb_decode::fields::{Attempts, Fields, Met, attempt_part, read_part};
+use mmdb_decode::fields::{Attempts, Fields, Met, read_part};
 use mmdb_decode::items::Entries;
 use mmdb_decode::record::named;
-use mmdb_decode::remembered::{Recalls, Remembered, attempt_part_or_recall, attempt_recalling};
-use mmdb_format::error::DecodeResult;
+use mmdb_decode::refused::Refused;
+use mmdb_decode::remembered::{Recalls, Remembered, read_part_or_recall, read_recalling};
 use std::alloc::Global;
 
 /// The country of an address.
@@ -44,51 +44,35 @@ impl<'de> Fields<'de> for Country<'de> {
         }
     }
 
+    #[inline(always)]
     fn read_field(
         &mut self,
         met: &mut Met,
         alloc: Global,
         name: &'de [u8],
         d: &mut Decoder<'de>,
-    ) -> DecodeResult<()> {
-        read_by_name!(alloc, name, d;
-            "continent" => read_part(&mut met.0, &mut self.continent),
-            "country" => read_part(&mut met.1, &mut self.country),
-            "registered_country" => read_part(&mut met.2, &mut self.registered_country),
-            "represented_country" => read_part(&mut met.3, &mut self.represented_country),
-            "traits" => read_part(&mut met.4, &mut self.traits),
-        )
-    }
-
-    #[inline(always)]
-    fn attempt_field(
-        &mut self,
-        met: &mut Met,
-        alloc: Global,
-        name: &'de [u8],
-        d: &mut Decoder<'de>,
-    ) -> bool {
+    ) -> Result<(), Refused> {
         let mut remembered = None;
-        self.attempt_field_or_recall(met, &mut remembered, alloc, name, d)
+        self.read_field_or_recall(met, &mut remembered, alloc, name, d)
     }
 }
 
 impl<'de> Recalls<'de, country::Country<'de>> for Country<'de> {
     #[inline(always)]
-    fn attempt_field_or_recall(
+    fn read_field_or_recall(
         &mut self,
         met: &mut Met,
         remembered: &mut Option<Remembered<'de, country::Country<'de>>>,
         alloc: Global,
         name: &'de [u8],
         d: &mut Decoder<'de>,
-    ) -> bool {
-        attempt_by_name!(alloc, name, d;
-            "continent" => attempt_part(&mut met.0, &mut self.continent),
-            "country" => attempt_part_or_recall(&mut met.1, &mut self.country, remembered),
-            "registered_country" => attempt_part_or_recall(&mut met.2, &mut self.registered_country, remembered),
-            "represented_country" => attempt_part(&mut met.3, &mut self.represented_country),
-            "traits" => attempt_part(&mut met.4, &mut self.traits),
+    ) -> Result<(), Refused> {
+        fields_by_name!(alloc, name, d;
+            "continent" => read_part(&mut met.0, &mut self.continent),
+            "country" => read_part_or_recall(&mut met.1, &mut self.country, remembered),
+            "registered_country" => read_part_or_recall(&mut met.2, &mut self.registered_country, remembered),
+            "represented_country" => read_part(&mut met.3, &mut self.represented_country),
+            "traits" => read_part(&mut met.4, &mut self.traits),
             _ => attempt_skip(),
         )
     }
@@ -96,14 +80,14 @@ impl<'de> Recalls<'de, country::Country<'de>> for Country<'de> {
 
 impl<'de> Attempts<'de> for Country<'de> {
     #[inline(always)]
-    fn attempt_rest(
+    fn read_rest(
         &mut self,
         met: &mut Met,
         alloc: Global,
         d: &mut Decoder<'de>,
         entries: &mut Entries,
-    ) -> bool {
-        attempt_recalling(alloc, d, entries, self, met)
+    ) -> Result<(), Refused> {
+        read_recalling(alloc, d, entries, self, met)
     }
 }
 
@@ -139,59 +123,39 @@ impl<'de> Fields<'de> for City<'de> {
         City::empty(alloc)
     }
 
+    #[inline(always)]
     fn read_field(
         &mut self,
         met: &mut Met,
         alloc: Global,
         name: &'de [u8],
         d: &mut Decoder<'de>,
-    ) -> DecodeResult<()> {
-        read_by_name!(alloc, name, d;
-            "city" => read_part(&mut met.0, &mut self.city),
-            "continent" => read_part(&mut met.1, &mut self.continent),
-            "country" => read_part(&mut met.2, &mut self.country),
-            "location" => read_part(&mut met.3, &mut self.location),
-            "postal" => read_part(&mut met.4, &mut self.postal),
-            "registered_country" => read_part(&mut met.5, &mut self.registered_country),
-            "represented_country" => read_part(&mut met.6, &mut self.represented_country),
-            "subdivisions" => read_few_once(&mut met.7, &mut self.subdivisions),
-            "traits" => read_part(&mut met.8, &mut self.traits),
-        )
-    }
-
-    #[inline(always)]
-    fn attempt_field(
-        &mut self,
-        met: &mut Met,
-        alloc: Global,
-        name: &'de [u8],
-        d: &mut Decoder<'de>,
-    ) -> bool {
+    ) -> Result<(), Refused> {
         let mut remembered = None;
-        self.attempt_field_or_recall(met, &mut remembered, alloc, name, d)
+        self.read_field_or_recall(met, &mut remembered, alloc, name, d)
     }
 }
 
 impl<'de> Recalls<'de, city::Country<'de>> for City<'de> {
     #[inline(always)]
-    fn attempt_field_or_recall(
+    fn read_field_or_recall(
         &mut self,
         met: &mut Met,
         remembered: &mut Option<Remembered<'de, city::Country<'de>>>,
         alloc: Global,
         name: &'de [u8],
         d: &mut Decoder<'de>,
-    ) -> bool {
-        attempt_by_name!(alloc, name, d;
-            "city" => attempt_part(&mut met.0, &mut self.city),
-            "continent" => attempt_part(&mut met.1, &mut self.continent),
-            "country" => attempt_part_or_recall(&mut met.2, &mut self.country, remembered),
-            "location" => attempt_part(&mut met.3, &mut self.location),
-            "postal" => attempt_part(&mut met.4, &mut self.postal),
-            "registered_country" => attempt_part_or_recall(&mut met.5, &mut self.registered_country, remembered),
-            "represented_country" => attempt_part(&mut met.6, &mut self.represented_country),
-            "subdivisions" => attempt_few_once(&mut met.7, &mut self.subdivisions),
-            "traits" => attempt_part(&mut met.8, &mut self.traits),
+    ) -> Result<(), Refused> {
+        fields_by_name!(alloc, name, d;
+            "city" => read_part(&mut met.0, &mut self.city),
+            "continent" => read_part(&mut met.1, &mut self.continent),
+            "country" => read_part_or_recall(&mut met.2, &mut self.country, remembered),
+            "location" => read_part(&mut met.3, &mut self.location),
+            "postal" => read_part(&mut met.4, &mut self.postal),
+            "registered_country" => read_part_or_recall(&mut met.5, &mut self.registered_country, remembered),
+            "represented_country" => read_part(&mut met.6, &mut self.represented_country),
+            "subdivisions" => read_few_once(&mut met.7, &mut self.subdivisions),
+            "traits" => read_part(&mut met.8, &mut self.traits),
             _ => attempt_skip(),
         )
     }
@@ -199,14 +163,14 @@ impl<'de> Recalls<'de, city::Country<'de>> for City<'de> {
 
 impl<'de> Attempts<'de> for City<'de> {
     #[inline(always)]
-    fn attempt_rest(
+    fn read_rest(
         &mut self,
         met: &mut Met,
         alloc: Global,
         d: &mut Decoder<'de>,
         entries: &mut Entries,
-    ) -> bool {
-        attempt_recalling(alloc, d, entries, self, met)
+    ) -> Result<(), Refused> {
+        read_recalling(alloc, d, entries, self, met)
     }
 }
 
@@ -242,59 +206,39 @@ impl<'de> Fields<'de> for Enterprise<'de> {
         Enterprise::empty(alloc)
     }
 
+    #[inline(always)]
     fn read_field(
         &mut self,
         met: &mut Met,
         alloc: Global,
         name: &'de [u8],
         d: &mut Decoder<'de>,
-    ) -> DecodeResult<()> {
-        read_by_name!(alloc, name, d;
-            "city" => read_part(&mut met.0, &mut self.city),
-            "continent" => read_part(&mut met.1, &mut self.continent),
-            "country" => read_part(&mut met.2, &mut self.country),
-            "location" => read_part(&mut met.3, &mut self.location),
-            "postal" => read_part(&mut met.4, &mut self.postal),
-            "registered_country" => read_part(&mut met.5, &mut self.registered_country),
-            "represented_country" => read_part(&mut met.6, &mut self.represented_country),
-            "subdivisions" => read_few_once(&mut met.7, &mut self.subdivisions),
-            "traits" => read_part(&mut met.8, &mut self.traits),
-        )
-    }
-
-    #[inline(always)]
-    fn attempt_field(
-        &mut self,
-        met: &mut Met,
-        alloc: Global,
-        name: &'de [u8],
-        d: &mut Decoder<'de>,
-    ) -> bool {
+    ) -> Result<(), Refused> {
         let mut remembered = None;
-        self.attempt_field_or_recall(met, &mut remembered, alloc, name, d)
+        self.read_field_or_recall(met, &mut remembered, alloc, name, d)
     }
 }
 
 impl<'de> Recalls<'de, enterprise::Country<'de>> for Enterprise<'de> {
     #[inline(always)]
-    fn attempt_field_or_recall(
+    fn read_field_or_recall(
         &mut self,
         met: &mut Met,
         remembered: &mut Option<Remembered<'de, enterprise::Country<'de>>>,
         alloc: Global,
         name: &'de [u8],
         d: &mut Decoder<'de>,
-    ) -> bool {
-        attempt_by_name!(alloc, name, d;
-            "city" => attempt_part(&mut met.0, &mut self.city),
-            "continent" => attempt_part(&mut met.1, &mut self.continent),
-            "country" => attempt_part_or_recall(&mut met.2, &mut self.country, remembered),
-            "location" => attempt_part(&mut met.3, &mut self.location),
-            "postal" => attempt_part(&mut met.4, &mut self.postal),
-            "registered_country" => attempt_part_or_recall(&mut met.5, &mut self.registered_country, remembered),
-            "represented_country" => attempt_part(&mut met.6, &mut self.represented_country),
-            "subdivisions" => attempt_few_once(&mut met.7, &mut self.subdivisions),
-            "traits" => attempt_part(&mut met.8, &mut self.traits),
+    ) -> Result<(), Refused> {
+        fields_by_name!(alloc, name, d;
+            "city" => read_part(&mut met.0, &mut self.city),
+            "continent" => read_part(&mut met.1, &mut self.continent),
+            "country" => read_part_or_recall(&mut met.2, &mut self.country, remembered),
+            "location" => read_part(&mut met.3, &mut self.location),
+            "postal" => read_part(&mut met.4, &mut self.postal),
+            "registered_country" => read_part_or_recall(&mut met.5, &mut self.registered_country, remembered),
+            "represented_country" => read_part(&mut met.6, &mut self.represented_country),
+            "subdivisions" => read_few_once(&mut met.7, &mut self.subdivisions),
+            "traits" => read_part(&mut met.8, &mut self.traits),
             _ => attempt_skip(),
         )
     }
@@ -302,14 +246,14 @@ impl<'de> Recalls<'de, enterprise::Country<'de>> for Enterprise<'de> {
 
 impl<'de> Attempts<'de> for Enterprise<'de> {
     #[inline(always)]
-    fn attempt_rest(
+    fn read_rest(
         &mut self,
         met: &mut Met,
         alloc: Global,
         d: &mut Decoder<'de>,
         entries: &mut Entries,
-    ) -> bool {
-        attempt_recalling(alloc, d, entries, self, met)
+    ) -> Result<(), Refused> {
+        read_recalling(alloc, d, entries, self, met)
     }
 }
 

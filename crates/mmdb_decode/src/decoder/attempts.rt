@@ -1,18 +1,22 @@
-//! Readings that say nothing of a refusal. None is made, so a loop over many values holds no memory for one; who
-//! wants to know it reads again.
-ghost use Rattle.std.specs.Prelude.{◌≡◌, ℕ, true, false, Some, IfSome, IsSome};
+//! Readings that keep aside why they are refused, so that a loop over many values holds no memory for an error.
+ghost use Rattle.std.specs.Prelude.{◌≡◌, ℕ, true, false, Some, IfSome, IsSome, IfOk, ◌≤ℤ◌};
+ghost use Rattle.mmdb_decode.specs.Refusal.{Takes};
 ghost use Rattle.mmdb_decode.specs.State.{decoded};
 ghost use Rattle.mmdb_decode.specs.Scalars.{u16_at, u32_at, bool_at, double_at, text_at, free_of_charge};
-ghost use Rattle.mmdb_decode.specs.Maps.{name_at, entered_map};
+ghost use Rattle.mmdb_decode.specs.Maps.{name_at, entered_map, NextKey, pairs_left, with_pairs_left};
+ghost use Rattle.mmdb_decode.specs.SmallNumbers.{small_at, whole_at};
+ghost use Rattle.mmdb_decode.specs.Arrays.{entered_array};
 ghost use Rattle.mmdb_decode.specs.Skipping.{skip_at};
 ghost use Rattle.mmdb_decode.specs.Remembering.{Repeats};
 
 use super::Decoder;
 use super::keys::FREE_NAME;
 use super::skipping::{MAX_NESTED, parts_of};
-use crate::budget::spent;
-use crate::items::Entries;
+use crate::budget::{Charges, spent};
+use crate::items::{Entries, Items};
+use crate::refused::{Refused, Step};
 use mmdb_format::content::{Double, passed_end};
+use mmdb_format::fault::Fault;
 use mmdb_format::header::header_at;
 use mmdb_format::kind::{DOUBLE, U16, U32};
 
@@ -27,7 +31,21 @@ impl<'de> Decoder<'de> {
             place: self.place,
             levels: self.levels,
             budget: self.budget,
+            step: Step::Name,
+            repeated: self.section,
         }
+    }
+
+    // Goes to where another decoder of the section stands.
+    #[inline(always)]
+    pub(crate) fn go_to(&mut self, there: &Decoder<'de>)
+        requires { there.now.section ≡ self.old.section }
+        ensures { self.new ≡ there.now }
+    {
+        there.stays_within();
+        self.place = there.place;
+        self.levels = there.levels;
+        self.budget = there.budget;
     }
 
     // Goes from where a decoder of the section stood to where it stands that read on from there, and charges what was
@@ -58,107 +76,165 @@ impl<'de> Decoder<'de> {
 
     // The number of 16 bits that is read.
     #[inline(always)]
-    pub(crate) fn attempt_u16(&mut self) -> Option<u16>
-        ensures { IfSome result (λ n. decoded false u16_at self.old ≡ Some (n, self.new)) }
+    pub(crate) fn attempt_u16(&mut self) -> Result<u16, Refused>
+        ensures { Takes (λ n. n) (decoded false u16_at self.old) self.old self.new result }
     {
         match self.take_number(U16, 2) {
-            Ok(n) => Some(n as u16),
-            Err(_) => None,
+            Ok(n) => Ok(n as u16),
+            Err(_) => Err(self.refuse(Step::U16)),
         }
     }
 
     // The number of 32 bits that is read.
     #[inline(always)]
-    pub(crate) fn attempt_u32(&mut self) -> Option<u32>
-        ensures { IfSome result (λ n. decoded false u32_at self.old ≡ Some (n, self.new)) }
+    pub(crate) fn attempt_u32(&mut self) -> Result<u32, Refused>
+        ensures { Takes (λ n. n) (decoded false u32_at self.old) self.old self.new result }
     {
         match self.take_number(U32, 4) {
-            Ok(n) => Some(n as u32),
-            Err(_) => None,
+            Ok(n) => Ok(n as u32),
+            Err(_) => Err(self.refuse(Step::U32)),
         }
     }
 
     // The truth value that is read.
     #[inline(always)]
-    pub(crate) fn attempt_bool(&mut self) -> Option<bool>
-        ensures { IfSome result (λ b. decoded false bool_at self.old ≡ Some (b, self.new)) }
+    pub(crate) fn attempt_bool(&mut self) -> Result<bool, Refused>
+        ensures { Takes (λ b. b) (decoded false bool_at self.old) self.old self.new result }
     {
         match self.take_bool() {
-            Ok(b) => Some(b),
-            Err(_) => None,
+            Ok(b) => Ok(b),
+            Err(_) => Err(self.refuse(Step::Bool)),
         }
     }
 
     // The number of double precision that is read.
     #[inline(always)]
-    pub(crate) fn attempt_double(&mut self) -> Option<Double>
-        ensures { IfSome result (λ x. decoded false double_at self.old ≡ Some (x.bits, self.new)) }
+    pub(crate) fn attempt_double(&mut self) -> Result<Double, Refused>
+        ensures { Takes (λ x. x.bits) (decoded false double_at self.old) self.old self.new result }
     {
         match self.take_bits(DOUBLE, 8) {
-            Ok(bits) => Some(Double { bits: bits as u64 }),
-            Err(_) => None,
+            Ok(bits) => Ok(Double { bits: bits as u64 }),
+            Err(_) => Err(self.refuse(Step::Double)),
         }
     }
 
     // The text that is read.
     #[inline(always)]
-    pub(crate) fn attempt_str(&mut self) -> Option<&'de str>
-        ensures { IfSome result (λ text. decoded false text_at self.old ≡ Some (text.now, self.new)) }
+    pub(crate) fn attempt_str(&mut self) -> Result<&'de str, Refused>
+        ensures { Takes (λ x. x.now) (decoded false text_at self.old) self.old self.new result }
     {
         match self.take_text() {
-            Ok(text) => Some(text),
-            Err(_) => None,
+            Ok(text) => Ok(text),
+            Err(fault) => Err(self.refuse(step_of(Step::Text, fault))),
         }
     }
 
-    // The field's name that is read.
+    // The name of the next field, where one is left.
     #[inline(always)]
-    pub(crate) fn attempt_name(&mut self) -> Option<&'de [u8]>
-        ensures { IfSome result (λ name. decoded false name_at self.old ≡ Some (name.now, self.new)) }
+    pub(crate) fn attempt_next(
+        &mut self,
+        entries: &mut Entries,
+    ) -> Result<Option<&'de [u8]>, Refused>
+        ensures key { NextKey name_at self.old self.new entries.old entries.new result }
+        ensures rest { entries.new ≡ with_pairs_left (pairs_left entries.new) entries.old }
     {
-        match self.take_key(FREE_NAME) {
-            Ok(name) => Some(name),
-            Err(_) => None,
+        match self.step_key(entries, FREE_NAME) {
+            Ok(key) => Ok(key),
+            Err(_) => Err(self.refuse(Step::Name)),
+        }
+    }
+
+    // A whole number of whatever type.
+    fn attempt_whole(&mut self) -> Result<i128, Refused>
+        ensures { Takes (λ z. z) (decoded true whole_at self.old) self.old self.new result }
+    {
+        match self.take_whole() {
+            Ok(number) => Ok(number),
+            Err(_) => Err(self.refuse(Step::Whole)),
+        }
+    }
+
+    // A whole number of whatever type from low to high.
+    pub(crate) fn attempt_between(&mut self, low: i128, high: i128) -> Result<i128, Refused>
+        ensures read { Takes (λ z. z) (decoded true (small_at low high) self.old) self.old self.new result }
+        ensures low { IfOk result (λ z. low ≤ℤ z) }
+        ensures high { IfOk result (λ z. z ≤ℤ high) }
+    {
+        let number = self.attempt_whole()?;
+        if low <= number && number <= high {
+            return Ok(number);
+        }
+        Err(self.refuse(Step::Range))
+    }
+
+    /// Enters an array, and charges its elements.
+    pub fn attempt_array(&mut self) -> Result<Items, Refused>
+        ensures { Takes (λ items. items) (entered_array self.old) self.old self.new result }
+    {
+        match self.enter_array() {
+            Ok(items) => Ok(items),
+            Err(_) => Err(self.refuse(Step::Array)),
         }
     }
 
     // The map that is entered.
     #[inline(always)]
-    pub(crate) fn attempt_map(&mut self) -> Option<Entries>
-        ensures { IfSome result (λ entries. entered_map self.old ≡ Some (entries, self.new)) }
+    pub(crate) fn attempt_map(&mut self) -> Result<Entries, Refused>
+        ensures { Takes (λ entries. entries) (entered_map self.old) self.old self.new result }
     {
         match self.enter_map() {
-            Ok(entries) => Some(entries),
-            Err(_) => None,
+            Ok(entries) => Ok(entries),
+            Err(_) => Err(self.refuse(Step::Map)),
         }
     }
 
-    /// Passes one inline value as `skip_value` does, and says whether it did. After a refusal the decoder is given up.
+    /// Passes one inline value as `skip_value` does.
     #[inline(never)]
-    pub fn attempt_skip(&mut self) -> bool
-        ensures { result ≡ true → decoded true skip_at self.old ≡ Some (tt, self.new) }
+    pub fn attempt_skip(&mut self) -> Result<(), Refused>
+        ensures { Takes (λ x. tt) (decoded true skip_at self.old) self.old self.new result }
     {
         self.start();
         match self.pass(MAX_NESTED) {
-            Ok(()) => true,
-            Err(_) => false,
+            Ok(()) => Ok(()),
+            Err(fault) => Err(self.refuse(step_of(Step::Skip, fault))),
         }
     }
 
-    /// Passes one inline value that holds no others, and says whether it did. A container is left to `attempt_skip`.
+    /// The same, for a reader that mostly meets values that hold no others: its decoder can stay in registers.
     #[inline(always)]
-    pub fn attempt_skip_scalar(&mut self) -> bool
+    pub fn attempt_skip_scalar(&mut self) -> Result<(), Refused>
         requires { IsSome self.old.budget }
-        ensures { result ≡ true → decoded true skip_at self.old ≡ Some (tt, self.new) }
+        ensures { Takes (λ x. tt) (decoded true skip_at self.old) self.old self.new result }
     {
         self.stays_within();
         match passed_scalar(self.section, self.place) {
             Some(next) => {
                 self.place = next;
-                true
+                Ok(())
             }
-            None => false,
+            None => {
+                let mut here = self.again();
+                let passed = here.attempt_skip();
+                let Some(charges) = here.budget else {
+                    unreachable!();
+                };
+                *self = here;
+                self.budget = Some(Charges {
+                    values: charges.values,
+                    bytes: charges.bytes,
+                });
+                passed
+            }
         }
+    }
+}
+
+// The step that is refused for a fault: one that is found behind the place where the step began is told by itself.
+fn step_of(step: Step, fault: Fault) -> Step {
+    match fault {
+        Fault::InvalidUtf8 => Step::Encoding,
+        Fault::TooDeep => Step::Nested,
+        _ => step,
     }
 }
 

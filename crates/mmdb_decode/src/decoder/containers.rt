@@ -166,6 +166,15 @@ impl Items {
         } = self;
         d.leave(None, levels);
     }
+
+    /// Lets go of an array of which nothing more is read.
+    pub fn forget(self) {
+        let Items {
+            remaining: _,
+            after: _,
+            levels: _,
+        } = self;
+    }
 }
 
 impl Entries {
@@ -179,5 +188,14 @@ impl Entries {
             levels,
         } = self;
         d.leave(None, levels);
+    }
+
+    // Lets go of a map of which nothing more is read.
+    pub(crate) fn forget(self) {
+        let Entries {
+            remaining: _,
+            after: _,
+            levels: _,
+        } = self;
     }
 }

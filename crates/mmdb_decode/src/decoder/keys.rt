@@ -5,7 +5,7 @@ ghost use Rattle.mmdb_decode.specs.Maps.{key_past, name_at, raw_key_at, key_at, 
 ghost use Rattle.mmdb_decode.specs.Refusal.{Reads, Takes};
 
 use super::Decoder;
-use crate::budget::spent;
+use crate::budget::spent_past;
 use crate::direct::text_of;
 use crate::items::Entries;
 use mmdb_format::content::key_bytes_at;
@@ -23,7 +23,7 @@ impl<'de> Decoder<'de> {
         ensures { Takes (λ x. x.now) (decoded false (key_past free) self.old) self.old self.new result }
     {
         let (key, next) = key_bytes_at(self.section, self.place)?;
-        self.budget = spent(self.budget, 0, key.len().saturating_sub(free))?;
+        self.budget = spent_past(self.budget, key.len(), free)?;
         self.place = next;
         Ok(key)
     }

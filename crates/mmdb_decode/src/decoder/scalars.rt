@@ -6,7 +6,7 @@ ghost use Rattle.mmdb_decode.specs.SmallNumbers.{whole_at as spec_whole_at};
 ghost use Rattle.mmdb_decode.specs.Refusal.{Reads, Takes};
 
 use super::Decoder;
-use crate::budget::{begun, spent};
+use crate::budget::{begun, spent_bytes};
 use crate::direct::{bits_at, bool_at, content_bytes_at, number_at, text_of};
 use crate::whole::whole_at;
 use mmdb_format::content::{Double, Float};
@@ -60,7 +60,7 @@ impl<'de> Decoder<'de> {
     }
 
     // A whole number of whatever type, behind any number of pointers.
-    fn take_whole(&mut self) -> Result<i128, Fault>
+    pub(super) fn take_whole(&mut self) -> Result<i128, Fault>
         ensures { Takes (λ z. z) (decoded true spec_whole_at self.old) self.old self.new result }
     {
         let (number, next) = whole_at(self.section, self.place, self.levels)?;
@@ -75,7 +75,7 @@ impl<'de> Decoder<'de> {
         ensures { Takes (λ x. x.now) (decoded false (bytes_of wanted) self.old) self.old self.new result }
     {
         let (bytes, next) = content_bytes_at(self.section, self.place, self.levels, wanted)?;
-        self.budget = spent(self.budget, 0, bytes.len())?;
+        self.budget = spent_bytes(self.budget, bytes.len())?;
         self.place = next;
         Ok(bytes)
     }

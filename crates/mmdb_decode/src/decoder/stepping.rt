@@ -6,7 +6,7 @@ ghost use Rattle.mmdb_decode.specs.Levels.{content_of, entered_pointer, entered_
 ghost use Rattle.mmdb_decode.specs.Refusal.{Reads, Takes};
 
 use super::Decoder;
-use crate::budget::spent;
+use crate::budget::{spent, spent_bytes};
 use crate::steps::Steps;
 use mmdb_format::content::{Content, content_at, content_end};
 use mmdb_format::error::DecodeResult;
@@ -21,7 +21,7 @@ impl<'de> Decoder<'de> {
         ensures { Takes content_view (decoded false (content_of header) self.old) self.old self.new result }
     {
         let content = content_at(self.section, header)?;
-        self.budget = spent(self.budget, 0, content.payload())?;
+        self.budget = spent_bytes(self.budget, content.payload())?;
         self.place = content_end(header);
         Ok(content)
     }

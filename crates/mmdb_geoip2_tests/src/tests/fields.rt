@@ -1,6 +1,6 @@
 //! Each record over a section that has all its fields, in another order than the struct, with unknown
 //! fields of every type between them.
-use super::memory::{expect_no_record, expect_none};
+use super::memory::{expect_empty, expect_no_record, expect_none};
 use super::section::{Row, with_unknown};
 use mmdb_decode::decode::Decode;
 use mmdb_decode::fuzzing::decode;
@@ -13,8 +13,8 @@ use mmdb_vectors::failures::Failures;
 use std::alloc::{AllocError, Global};
 use std::fmt::Debug;
 
-// A row's section is read as a record where every growth is refused, and `Debug` shows the record so; a text
-// is read as none.
+// A row's section is read as a record where every growth is refused, and `Debug` shows the record so; so is a map
+// without a pair, and a text is read as none.
 fn expect_read<'de, T: Decode<'de> + Debug>(
     failures: &mut Failures,
     alloc: Global,
@@ -24,6 +24,7 @@ fn expect_read<'de, T: Decode<'de> + Debug>(
     *room = with_unknown(alloc, row);
     let section = room.as_slice();
     expect_none::<T>(failures, alloc, section);
+    expect_empty::<T>(failures, alloc);
     expect_no_record::<T>(failures, alloc);
     failures.expect_text(
         &section,
@@ -190,6 +191,7 @@ fn parts_told<'de, T: Decode<'de> + Parts>(
 fn country_of_all_parts(rt: HostRuntime) -> Result<(), Failures> {
     let (alloc, row) = (rt.alloc(), TOP_COUNTRY);
     let (mut failures, section) = (Failures::new(alloc), with_unknown(alloc, &row));
+    expect_empty::<Country<'_>>(&mut failures, alloc);
     let text = parts_told::<Country<'_>>(alloc, section.as_slice());
     failures.expect_text(&"country", text, row.shown);
     failures.verdict()
@@ -199,6 +201,7 @@ fn country_of_all_parts(rt: HostRuntime) -> Result<(), Failures> {
 fn city_of_all_parts(rt: HostRuntime) -> Result<(), Failures> {
     let (alloc, row) = (rt.alloc(), TOP_CITY);
     let (mut failures, section) = (Failures::new(alloc), with_unknown(alloc, &row));
+    expect_empty::<City<'_>>(&mut failures, alloc);
     let text = parts_told::<City<'_>>(alloc, section.as_slice());
     failures.expect_text(&"city", text, row.shown);
     failures.verdict()
@@ -208,6 +211,7 @@ fn city_of_all_parts(rt: HostRuntime) -> Result<(), Failures> {
 fn enterprise_of_all_parts(rt: HostRuntime) -> Result<(), Failures> {
     let (alloc, row) = (rt.alloc(), TOP_ENTERPRISE);
     let (mut failures, section) = (Failures::new(alloc), with_unknown(alloc, &row));
+    expect_empty::<Enterprise<'_>>(&mut failures, alloc);
     let text = parts_told::<Enterprise<'_>>(alloc, section.as_slice());
     failures.expect_text(&"enterprise", text, row.shown);
     failures.verdict()

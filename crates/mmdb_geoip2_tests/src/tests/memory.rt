@@ -29,6 +29,12 @@ fn expect_turns<'de, T: Decode<'de>>(
     failures.expect(&(section, refused, then), then == last && refused > 0);
 }
 
+/// A map without a pair is read as a record.
+pub fn expect_empty<'de, T: Decode<'de>>(failures: &mut Failures, alloc: Global) {
+    let met = outcome(decode::<T>(alloc, b"\xE0"));
+    failures.expect(&"an empty map", met == Met::Value);
+}
+
 /// A record is read where every growth is refused.
 pub fn expect_none<'de, T: Decode<'de>>(
     failures: &mut Failures,

@@ -3,7 +3,7 @@ use Rattle.mmdb_decode.specs.Maps.{pairs_from, name_at}
 use Rattle.mmdb_decode.specs.Refusal.{Kept}
 use Rattle.mmdb_decode.specs.State.{decoded}
 use Rattle.mmdb_decode.specs.Tables.{fields_of, parts_met, flags}
-use Rattle.mmdb_decode.proofs.fields.read_rest.Given as goal
+use Rattle.mmdb_decode.proofs.fields.read_each.Given as goal
 
 -- what is left to read, with the fields so far, is the whole
 abbrev pub invariant-loop-name : goal.invariant-loop-name

@@ -1,0 +1,118 @@
+//! Refusals: the step is kept aside, and taken once more where the error is wanted.
+ghost use Rattle.std.specs.Prelude.{◌≡◌};
+ghost use Rattle.mmdb_format.specs.declared.error.MaxMindDbError.TheVariants.{Memory};
+ghost use Rattle.mmdb_decode.specs.declared.refused.Refused.TheVariants.{OutOfMemory, Unreadable};
+
+use super::Decoder;
+use super::keys::FREE_NAME;
+use super::skipping::MAX_NESTED;
+use crate::budget::{begun, spent};
+use crate::direct::container_at;
+use crate::record::duplicate_field;
+use crate::refused::{Refused, Step};
+use mmdb_format::error::MaxMindDbError;
+use mmdb_format::fault::Fault;
+use mmdb_format::kind::{ARRAY, DOUBLE, MAP, U16, U32};
+use mmdb_format::message::{Message, Text};
+use std::alloc::Global;
+
+impl<'de> Decoder<'de> {
+    // Refuses a step.
+    #[inline(always)]
+    pub(super) fn refuse(&mut self, step: Step) -> Refused
+        ensures told { result ≡ Unreadable }
+        ensures same { self.new ≡ self.old }
+    {
+        self.step = step;
+        Refused::Unreadable
+    }
+
+    /// Refuses the value of a field that stands a second time.
+    #[inline(always)]
+    pub fn refuse_repeated(&mut self, name: &'de [u8]) -> Refused
+        ensures told { result ≡ Unreadable }
+        ensures same { self.new ≡ self.old }
+    {
+        self.step = Step::Repeated;
+        self.repeated = name;
+        Refused::Unreadable
+    }
+
+    /// Refuses a list that has more elements than are allowed.
+    pub fn refuse_list(&mut self) -> Refused
+        ensures told { result ≡ Unreadable }
+        ensures same { self.new ≡ self.old }
+    {
+        self.refuse(Step::List)
+    }
+
+    // The error of a reading that was refused.
+    #[cold]
+    #[inline(never)]
+    pub(crate) fn refusal(&self, alloc: Global, refused: Refused) -> MaxMindDbError
+        ensures { refused ≡ OutOfMemory → result ≡ Memory }
+    {
+        match refused {
+            Refused::OutOfMemory => MaxMindDbError::Memory,
+            Refused::Unreadable => self.error_here(alloc),
+        }
+    }
+
+    // The error of the step that was refused.
+    fn error_here(&self, alloc: Global) -> MaxMindDbError {
+        match self.step {
+            Step::Repeated => {
+                let name = std::str::from_utf8(self.repeated).unwrap_or_default();
+                duplicate_field(alloc, name, self.place)
+            }
+            Step::List => {
+                MaxMindDbError::Decoding {
+                    message: Message::Fixed(Text::TooManySubdivisions),
+                    offset: Some(self.place),
+                    path: None,
+                }
+            }
+            step => {
+                let fault = self.fault_of(step).unwrap_or(Fault::EndOfBuffer);
+                fault.refusal(alloc, self.place)
+            }
+        }
+    }
+
+    // What is wrong with the value that a step was to read.
+    fn fault_of(&self, step: Step) -> Option<Fault> {
+        let mut here = self.again();
+        match step {
+            Step::Name => here.take_key(FREE_NAME).err(),
+            Step::Map => self.fault_of_map(),
+            Step::Array => self.fault_of_array(),
+            Step::U16 => here.take_number(U16, 2).err(),
+            Step::U32 => here.take_number(U32, 4).err(),
+            Step::Bool => here.take_bool().err(),
+            Step::Double => here.take_bits(DOUBLE, 8).err(),
+            Step::Text => here.take_text().err(),
+            Step::Whole => here.take_whole().err(),
+            Step::Skip => here.pass(MAX_NESTED).err(),
+            Step::Range => Some(Fault::OutOfRange),
+            Step::Encoding => Some(Fault::InvalidUtf8),
+            Step::Nested => Some(Fault::TooDeep),
+            Step::Repeated | Step::List => None,
+        }
+    }
+
+    // What is wrong with the map at the place.
+    fn fault_of_map(&self) -> Option<Fault> {
+        match container_at(self.section, self.place, self.levels, MAP) {
+            Ok(at) => spent(begun(self.budget), 2 * at.count, 0).err(),
+            Err(fault) => Some(fault),
+        }
+    }
+
+    // What is wrong with the array at the place.
+    fn fault_of_array(&self) -> Option<Fault> {
+        match container_at(self.section, self.place, self.levels, ARRAY) {
+            Ok(at) => spent(begun(self.budget), at.count, 0).err(),
+            Err(fault) => Some(fault),
+        }
+    }
+}

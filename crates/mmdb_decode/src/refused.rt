@@ -1,0 +1,58 @@
+//! Readings that were refused: what is handed on is small, and the decoder stays where it was refused.
+ghost use Rattle.std.specs.Prelude.{◌≡◌};
+
+use std::alloc::AllocFailed;
+
+/// A reading was refused. The decoder stands where it was.
+#[derive(Clone, Copy, Debug)]
+pub enum Refused {
+    /// There was no memory.
+    OutOfMemory,
+    /// What stands there cannot be read.
+    Unreadable,
+}
+
+/// What was to be read where a reading was refused, or what is wrong where that can be read.
+#[derive(Clone, Copy)]
+pub(crate) enum Step {
+    /// The name of a field.
+    Name,
+    /// A map.
+    Map,
+    /// An array.
+    Array,
+    /// An unsigned number of 16 bits.
+    U16,
+    /// An unsigned number of 32 bits.
+    U32,
+    /// A truth value.
+    Bool,
+    /// A number of double precision.
+    Double,
+    /// A text.
+    Text,
+    /// A whole number of whatever type.
+    Whole,
+    /// A value that is passed.
+    Skip,
+    /// A whole number in a range, which it is out of.
+    Range,
+    /// A text that is read, whose bytes are not UTF-8.
+    Encoding,
+    /// A value that is passed, in which too many containers nest.
+    Nested,
+    /// The value of a field that stands a second time.
+    Repeated,
+    /// A list, which has more elements than are allowed.
+    List,
+}
+
+impl<T: Drop> From<AllocFailed<T>> for Refused {
+    ghost use Rattle.mmdb_decode.specs.declared.refused.Refused.TheVariants.{OutOfMemory};
+
+    ghost from_gives = { λ _ e. e ≡ OutOfMemory };
+
+    fn from(_error: AllocFailed<T>) -> Refused {
+        Refused::OutOfMemory
+    }
+}
