@@ -1,5 +1,5 @@
 -- What a check had done when it was refused.
-use Rattle.std.specs.Prelude.{◌≡◌, ℕ, zero, suc, ◌+◌, ◌≤◌, List, [], ◌∷◌, Some, Bool, true, false, ◌||◌, ◌==◌}
+use Rattle.std.specs.Prelude.{◌≡◌, ◌⊎◌, ℕ, suc, ◌+◌, ◌≤◌, List, [], ◌∷◌, length, Some, Bool, true, false, ◌||◌, ◌==◌}
 use Rattle.mmdb_check.specs.declared.inline.Inline.TheVariants.{Scalar, Parts, Pointer}
 use Rattle.mmdb_check.specs.Inline.{inline_at}
 use Rattle.mmdb_check.specs.Checking.{Costs}
@@ -17,6 +17,11 @@ pub data Passes : List ℕ → ℕ → ℕ → ℕ → ℕ → ℕ → Type 0 wh
 abbrev pub CostOfPart : List ℕ → ℕ → ℕ → ℕ → Type 0
 CostOfPart s p n cost = (q : ℕ) × (left : ℕ) × Passes s p n q left cost
 
+-- of these values a part of this cost was passed, and a pointer to the target was passed last
+abbrev pub EndsAtPointer : List ℕ → ℕ → ℕ → ℕ → ℕ → Type 0
+EndsAtPointer s p n cost target =
+    (q : ℕ) × (left : ℕ) × (end : ℕ) × (before : ℕ) × Passes s p n q (suc left) before × (inline_at s q ≡ Some (Pointer target end)) × (cost ≡ before + 1)
+
 -- a place under check, and what the part of its value cost that was passed
 pub record Part : Type 0 where
   pub place : ℕ
@@ -31,6 +36,17 @@ abbrev pub Once : List Part → Type 0
 Once [] = Unit {0}
 Once (x ∷ parts) = (is_under parts x.place ≡ false) × Once parts
 
+-- each of these places is the target of the pointer that was passed last before it, the first of one from p
+abbrev pub GoesOn : List ℕ → ℕ → ℕ → ℕ → List Part → Type 0
+GoesOn s p n cost [] = Unit {0}
+GoesOn s p n cost (x ∷ parts) = EndsAtPointer s p n cost x.place × GoesOn s x.place 1 x.cost parts
+
+-- the places under check: p, and in turn the targets of the pointers that are followed; none where p is no place to
+-- be checked
+abbrev pub IsWay : List ℕ → Type 0 → ℕ → List Part → Type 0
+IsWay s NoPlace p [] = NoPlace
+IsWay s NoPlace p (x ∷ parts) = (x.place ≡ p) × GoesOn s x.place 1 x.cost parts
+
 abbrev pub ArePassed : List ℕ → List Part → Type 0
 ArePassed s [] = Unit {0}
 ArePassed s (x ∷ parts) = CostOfPart s x.place 1 x.cost × ArePassed s parts
@@ -39,10 +55,11 @@ abbrev pub parts_cost : List Part → ℕ
 parts_cost [] = 0
 parts_cost (x ∷ parts) = x.cost + parts_cost parts
 
--- What was charged is the cost of the good places, and of the parts passed of the places under check, none of
--- which is good.
-pub record IsHalted (s : List ℕ) (good : ℕ → Bool) (charged : ℕ) : Type 0 where
+-- What was charged is the cost of the good places, and of the parts passed of the places under check, from the place
+-- p on, none of which is good.
+pub record IsHalted (s : List ℕ) (good : ℕ → Bool) (p charged : ℕ) : Type 0 where
   pub parts : List Part
+  pub way : IsWay s ((good p ≡ true) ⊎ (length s ≤ p)) p parts
   pub passed : ArePassed s parts
   pub once : Once parts
   pub under : (q : ℕ) → is_under parts q ≡ true → good q ≡ false
@@ -61,8 +78,14 @@ pub record Halted (s m : List ℕ) (l cost : ℕ) (m' : List ℕ) (l' : ℕ) : T
   pub sound : Sound s m'
   pub spent : l' + (cost + parts_cost parts) + work_of s (is_good m') ≡ l + work_of s (is_good m)
 
+-- the same of the check of the place p
+pub record HaltedAt (s m : List ℕ) (l p : ℕ) (m' : List ℕ) (l' : ℕ) : Type 0 where
+  pub rest : Halted s m l 0 m' l'
+  pub way : IsWay s ((1 ≤ mark m p) ⊎ (length s ≤ p)) p rest.parts
+
 -- n values from p were being passed
 pub record Halts (s m : List ℕ) (l n p : ℕ) (m' : List ℕ) (l' : ℕ) : Type 0 where
   pub cost : ℕ
   pub part : CostOfPart s p n cost
   pub rest : Halted s m l cost m' l'
+  pub way : GoesOn s p n cost rest.parts

@@ -74,7 +74,7 @@ pub fn check_value(alloc: Global, c: &mut Checked, place: usize) -> Result<(), M
     ensures charged { OnOk result (Costs c.new.section (holds c.new.good) c.new.charged) }
     ensures going { OnOk result (c.new.failed ≡ false) }
     ensures err { OnErr result (c.new.failed ≡ true) }
-    ensures halted { OnErr result (c.old.failed ≡ false → IsHalted c.new.section (holds c.new.good) c.new.charged) }
+    ensures halted { OnErr result (c.old.failed ≡ false → IsHalted c.new.section (holds c.new.good) place c.new.charged) }
     ensures after_err { IsRefusedAs OfInput result ↔ (c.old.failed ≡ true) }
 {
     if c.failed {

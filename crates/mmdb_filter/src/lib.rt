@@ -3,6 +3,7 @@
 
 mod counts;
 mod filter;
+pub mod laws;
 mod pass;
 mod piece;
 mod put;

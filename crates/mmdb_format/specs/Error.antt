@@ -66,3 +66,7 @@ IsMadeOf p (InvalidInput message) =
 IsMadeOf p (Io e) = ⊥
 IsMadeOf p (InvalidNetwork e) = ⊥
 IsMadeOf p Memory = Unit {0}
+
+-- an error that is made of a cause is of this variant, and holds that cause
+abbrev pub HoldsCause : {C : Type 0} → (C → MaxMindDbError) → (C → MaxMindDbError → Type 0) → Type 0
+HoldsCause {C = C} variant gives = (cause : C) (e : MaxMindDbError) → gives cause e → e ≡ variant cause

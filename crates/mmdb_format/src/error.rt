@@ -1,6 +1,6 @@
 //! What a call of any layer may refuse with.
 ghost use Rattle.std.specs.Prelude.{◌≡◌, Some, None, IfOk};
-ghost use Rattle.mmdb_format.specs.Error.{OfDatabase, OfIo, OfDecoding, OfLimit, OfNetwork, OfInput, kind_of, IsMadeOf, parts};
+ghost use Rattle.mmdb_format.specs.Error.{OfDatabase, OfDecoding, OfLimit, OfInput, IsMadeOf, parts};
 
 use crate::message::Message;
 use mmdb_net::IpNetworkError;
@@ -80,7 +80,9 @@ impl fmt::Display for Along<'_> {
 }
 
 impl From<io::Error> for MaxMindDbError {
-    ghost from_gives = { λ _ e. kind_of e ≡ OfIo };
+    ghost use Rattle.mmdb_format.specs.declared.error.MaxMindDbError.TheVariants.{Io};
+
+    ghost from_gives = { λ error e. e ≡ Io error };
 
     fn from(error: io::Error) -> MaxMindDbError {
         MaxMindDbError::Io(error)
@@ -88,7 +90,9 @@ impl From<io::Error> for MaxMindDbError {
 }
 
 impl From<IpNetworkError> for MaxMindDbError {
-    ghost from_gives = { λ _ e. kind_of e ≡ OfNetwork };
+    ghost use Rattle.mmdb_format.specs.declared.error.MaxMindDbError.TheVariants.{InvalidNetwork};
+
+    ghost from_gives = { λ error e. e ≡ InvalidNetwork error };
 
     fn from(error: IpNetworkError) -> MaxMindDbError {
         MaxMindDbError::InvalidNetwork(error)

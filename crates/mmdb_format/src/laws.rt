@@ -1,11 +1,18 @@
 //! Laws of data and of the format: each is the contract of a function that does nothing.
+ghost use Rattle.mmdb_net.specs.Clones.{IsCloneSame, IsNeverRefused};
 ghost use Rattle.mmdb_format.specs.Equality.{IsEqualityOf};
+ghost use Rattle.mmdb_format.specs.Error.{HoldsCause};
 ghost use Rattle.mmdb_format.specs.Unfolding.{OneTreeUnfolds};
+ghost use Rattle.mmdb_format.specs.declared.error.MaxMindDbError.TheVariants.{InvalidNetwork, Io};
 
-use crate::content::{Double, Float};
+use crate::content::{Content, Double, Float};
+use crate::error::MaxMindDbError;
 use crate::fault::Fault;
+use crate::header::{Direct, Header, Pointer};
 use crate::kind::Kind;
 use crate::message::Text;
+use mmdb_net::IpNetworkError;
+use std::io;
 
 /// `==` is equality of data: of numbers that are not whole it compares the bits, so that it tells apart the
 /// zeros, and no number from itself.
@@ -15,6 +22,35 @@ pub fn scalars_equal_where_same()
     ensures kind { IsEqualityOf ⟦<Kind as PartialEq>⟧.eq (λ kind. kind) }
     ensures fault { IsEqualityOf ⟦<Fault as PartialEq>⟧.eq (λ fault. fault) }
     ensures text { IsEqualityOf ⟦<Text as PartialEq>⟧.eq (λ text. text) }
+{}
+
+/// A clone of a number, a kind, a fault, a fixed text, a header, a pointer or a content is its source, and is
+/// never refused.
+pub fn scalar_clones_are_same()
+    ensures double { IsCloneSame ⟦<Double as Clone>⟧.is_clone }
+    ensures float { IsCloneSame ⟦<Float as Clone>⟧.is_clone }
+    ensures kind { IsCloneSame ⟦<Kind as Clone>⟧.is_clone }
+    ensures fault { IsCloneSame ⟦<Fault as Clone>⟧.is_clone }
+    ensures text { IsCloneSame ⟦<Text as Clone>⟧.is_clone }
+    ensures header { IsCloneSame ⟦<Header as Clone>⟧.is_clone }
+    ensures pointer { IsCloneSame ⟦<Pointer as Clone>⟧.is_clone }
+    ensures direct { IsCloneSame ⟦<Direct as Clone>⟧.is_clone }
+    ensures content { IsCloneSame ⟦<Content<'static> as Clone>⟧.is_clone }
+    ensures double_given { IsNeverRefused ⟦<Double as Clone>⟧.is_infallible }
+    ensures float_given { IsNeverRefused ⟦<Float as Clone>⟧.is_infallible }
+    ensures kind_given { IsNeverRefused ⟦<Kind as Clone>⟧.is_infallible }
+    ensures fault_given { IsNeverRefused ⟦<Fault as Clone>⟧.is_infallible }
+    ensures text_given { IsNeverRefused ⟦<Text as Clone>⟧.is_infallible }
+    ensures header_given { IsNeverRefused ⟦<Header as Clone>⟧.is_infallible }
+    ensures pointer_given { IsNeverRefused ⟦<Pointer as Clone>⟧.is_infallible }
+    ensures direct_given { IsNeverRefused ⟦<Direct as Clone>⟧.is_infallible }
+    ensures content_given { IsNeverRefused ⟦<Content<'static> as Clone>⟧.is_infallible }
+{}
+
+/// An error made of a refusal of the system, or of a network's, holds the error that was handed in.
+pub fn errors_hold_their_causes()
+    ensures io { HoldsCause Io ⟦<MaxMindDbError as From<io::Error>>⟧.from_gives }
+    ensures network { HoldsCause InvalidNetwork ⟦<MaxMindDbError as From<IpNetworkError>>⟧.from_gives }
 {}
 
 /// At most one tree unfolds at a place, and it has one end.

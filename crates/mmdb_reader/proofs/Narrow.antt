@@ -1,11 +1,12 @@
 -- How few positions wait while a walk is under way, and how few stops it takes.
-use Rattle.std.proofs.Common.{◌≡◌, ℕ, ◌+◌, ◌-◌, ◌*◌, ◌<◌, ◌≤◌, zero, suc, Bool, true, false, ◌||◌, nat_lt, List, [], ◌∷◌, ◌++◌, take, length, arith, ap, ◌∙◌, refl, inl, inr, length-append}
-use Rattle.std.proofs.lemmas.Bool.{cases_Bool, cases_lt}
+use Rattle.std.proofs.Common.{◌≡◌, ◌⊎◌, ℕ, ◌+◌, ◌-◌, ◌*◌, ◌<◌, ◌≤◌, zero, suc, Bool, true, false, ◌||◌, nat_lt, List, [], ◌∷◌, ◌++◌, take, length, arith, ap, ◌∙◌, sym, refl, inl, inr, length-append}
+use Rattle.std.proofs.lemmas.Bool.{cases_Bool, cases_lt, false≢true}
 use Rattle.std.proofs.lemmas.List.{take-append-le}
 use Rattle.std.proofs.Math.Seq.{take-append-add}
 use Rattle.mmdb_reader.specs.File.{Database, tree_of, width}
 use Rattle.mmdb_reader.specs.Tree.{step}
-use Rattle.mmdb_reader.specs.Stops.{Stop, stops, shared, cost, cut, is_fault, most_stops}
+use Rattle.mmdb_reader.specs.Stops.{Stop, stops, shared, cost, cut, is_fault, EndsAtFault, AreFirst, most_stops}
+use Rattle.mmdb_reader.specs.declared.walked.End.TheVariants.{Alias}
 use Rattle.mmdb_reader.specs.Walked.{goes_on_from}
 use Rattle.mmdb_reader.specs.WholeLaws.{FewPositionsWait, FewStopsAreTaken}
 use Rattle.mmdb_reader.proofs.PositionLemmas.{width-le}
@@ -121,14 +122,73 @@ few_wait db n less =
     ap (λ (vs : List Visit). total (take (suc n) vs)) all ∙ ap total (take-visits_of (suc n) (stops db)) ∙ total-visits_of (take (suc n) (stops db)) in
     omega (arith, costs, width-le db, first-below db (width db) 0 false n (omega (arith, long, less)))
 
-cut-few : (most : ℕ) (ms : List Stop) → length (cut most ms) ≤ most
+no-stop : Stop
+no-stop = record { bits = []; end = Alias }
+
+first-of : List Stop → Stop
+first-of [] = no-stop
+first-of (m ∷ ms) = m
+
+after-first : List Stop → List Stop
+after-first [] = []
+after-first (m ∷ ms) = ms
+
+-- a faulty leaf stands last in a list whose first one is faulty and alone
+fault-alone : (m : Stop) (before after : List Stop) (x : Stop) → m ∷ [] ≡ before ++ x ∷ after → after ≡ []
+unfolding after-first
+fault-alone m [] after x e = sym (ap after-first e)
+fault-alone m (y ∷ []) after x e = absurd (let l = ap length e in let k : length (y ∷ [] ++ x ∷ after) ≡ suc (suc (length after)) = refl in omega (arith, l, k))
+fault-alone m (y ∷ z ∷ before) after x e = absurd (let l = ap length e in omega (arith, l))
+
+fault-later : (m : Stop) (ms : List Stop) → is_fault m.end ≡ false → ((before after : List Stop) (x : Stop) → ms ≡ before ++ x ∷ after → is_fault x.end ≡ true → after ≡ []) → (before after : List Stop) (x : Stop) → m ∷ ms ≡ before ++ x ∷ after → is_fault x.end ≡ true → after ≡ []
+unfolding first-of after-first
+fault-later m ms fine last [] after x e bad = absurd (false≢true (sym fine ∙ ap (λ l. is_fault (first-of l).end) e ∙ bad))
+fault-later m ms fine last (y ∷ before) after x e bad = last before after x (ap after-first e) bad
+
+fault-here : (m : Stop) (most : ℕ) (ms : List Stop) → is_fault m.end ≡ true → AreFirst (suc most) (m ∷ ms) (m ∷ [])
+fault-here m most ms bad = record {
+  rest = ms;
+  parts = refl;
+  few = omega arith;
+  last = λ before after x e _. fault-alone m before after x e;
+  ends = inr (inr ([], m, refl, bad));
+}
+
+ends-later : (m : Stop) (most : ℕ) (rest taken : List Stop) → (rest ≡ []) ⊎ (length taken ≡ most) ⊎ EndsAtFault taken → (rest ≡ []) ⊎ (length (m ∷ taken) ≡ suc most) ⊎ EndsAtFault (m ∷ taken)
+ends-later m most rest taken (inl e) = inl e
+ends-later m most rest taken (inr (inl e)) = inr (inl (ap suc e))
+ends-later m most rest taken (inr (inr (before, x, e, bad))) = inr (inr (m ∷ before, x, ap (λ l. m ∷ l) e, bad))
+
+no-fault-here : (m : Stop) (most : ℕ) (ms taken : List Stop) → is_fault m.end ≡ false → AreFirst most ms taken → AreFirst (suc most) (m ∷ ms) (m ∷ taken)
+no-fault-here m most ms taken fine h = record {
+  rest = h.rest;
+  parts = ap (λ l. m ∷ l) h.parts;
+  few = omega (arith, h.few);
+  last = fault-later m taken fine h.last;
+  ends = ends-later m most h.rest taken h.ends;
+}
+
+none-taken : (most : ℕ) (ms : List Stop) → (ms ≡ []) ⊎ (0 ≡ most) → AreFirst most ms []
+none-taken most ms why = record {
+  rest = ms;
+  parts = refl;
+  few = omega arith;
+  last = λ before after x e _. absurd (no-split before after x e);
+  ends = elim why [ inl e ↦ inl e | inr e ↦ inr (inl e) ];
+}
+  where
+    no-split : (before after : List Stop) (x : Stop) → [] ≡ before ++ x ∷ after → ⊥
+    no-split [] after x e = let l = ap length e in omega (arith, l)
+    no-split (y ∷ before) after x e = let l = ap length e in omega (arith, l)
+
+cut-first : (most : ℕ) (ms : List Stop) → AreFirst most ms (cut most ms)
 unfolding cut
-cut-few zero ms = omega arith
-cut-few (suc most) [] = omega arith
-cut-few (suc most) (m ∷ ms) = elim (cases_Bool (is_fault m.end)) [
-  | inl bad ↦ rw bad (omega arith)
-  | inr fine ↦ rw fine (let h = cut-few most ms in omega (arith, h))
+cut-first zero ms = none-taken zero ms (inr refl)
+cut-first (suc most) [] = none-taken (suc most) [] (inl refl)
+cut-first (suc most) (m ∷ ms) = elim (cases_Bool (is_fault m.end)) [
+  | inl bad ↦ rw bad (fault-here m most ms bad)
+  | inr fine ↦ rw fine (no-fault-here m most ms (cut most ms) fine (cut-first most ms))
 ]
 
 pub few_taken : FewStopsAreTaken
-few_taken db = cut-few (most_stops db + 1) (stops db)
+few_taken db = cut-first (most_stops db + 1) (stops db)

@@ -25,7 +25,7 @@ module _ {S : Type 0} {G : Ghosts S ℕ} where
   unfoldable pub items_to_come : Within S G → List Item
   items_to_come w = items_of w.reader.now (listed_of_stack w.reader.now w.options w.stack.items)
 
-  -- one step: the first of the items to come, of the same database; no memory is taken for it
+  -- one step: the first of the items to come, of the same database; the positions reserved stay all that there are
   abbrev pub YieldsItem : Within S G → Option (Result (LookupResult S G) MaxMindDbError) → Within S G → Type 0
   YieldsItem s r t =
       YieldsFirstBy item_view items_to_come s r t

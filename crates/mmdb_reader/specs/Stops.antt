@@ -1,6 +1,6 @@
 -- What a walk of the whole tree stops at, ascending, and how many positions it takes to get there ("Binary
 -- Search Tree Section" and "IPv4 addresses in an IPv6 tree" of the MaxMind DB File Format Specification 2.0).
-use Rattle.std.specs.Prelude.{ℕ, ◌+◌, ◌-◌, ◌*◌, zero, suc, Bool, true, false, not, ◌&&◌, List, [], ◌∷◌, ◌++◌, length, if◌then◌else◌, nat_lt}
+use Rattle.std.specs.Prelude.{◌≡◌, ◌≤◌, ◌⊎◌, ℕ, ◌+◌, ◌-◌, ◌*◌, zero, suc, Bool, true, false, not, ◌&&◌, List, [], ◌∷◌, ◌++◌, length, if◌then◌else◌, nat_lt}
 use Rattle.mmdb_reader.specs.declared.walked.End.{End}
 use Rattle.mmdb_reader.specs.declared.walked.End.TheVariants.{Alias, Fault, Absent, Found}
 use Rattle.mmdb_reader.specs.File.{Database, tree_of, width}
@@ -90,6 +90,19 @@ unfoldable pub cut : ℕ → List Stop → List Stop
 cut zero ms = []
 cut (suc most) [] = []
 cut (suc most) (m ∷ ms) = m ∷ (if is_fault m.end then [] else cut most ms)
+
+-- the last one of these stops is a faulty leaf
+abbrev pub EndsAtFault : List Stop → Type 0
+EndsAtFault taken = (before : List Stop) × (m : Stop) × (taken ≡ before ++ m ∷ []) × (is_fault m.end ≡ true)
+
+-- The stops that are taken are the first ones: a faulty leaf is the last, and they end at one, or after so many, or where
+-- all are taken.
+pub record AreFirst (most : ℕ) (ms taken : List Stop) : Type 0 where
+  pub rest : List Stop
+  pub parts : ms ≡ taken ++ rest
+  pub few : length taken ≤ most
+  pub last : (before after : List Stop) (m : Stop) → taken ≡ before ++ m ∷ after → is_fault m.end ≡ true → after ≡ []
+  pub ends : (rest ≡ []) ⊎ (length taken ≡ most) ⊎ EndsAtFault taken
 
 -- how many stops a tree may have
 abbrev pub most_stops : Database → ℕ

@@ -13,7 +13,7 @@ use Rattle.mmdb_reader.specs.Lookup.{CanAsk, Answers, Offset, IsRefusedAt}
 use Rattle.mmdb_reader.specs.Alias.{IsAlias}
 use Rattle.mmdb_reader.specs.Listing.{HasValueAt, IsFaulty, Ascends}
 use Rattle.mmdb_reader.specs.Options.{default_options}
-use Rattle.mmdb_reader.specs.Stops.{Stop, stops, offsets, cost, cut, most_stops}
+use Rattle.mmdb_reader.specs.Stops.{Stop, stops, offsets, cost, cut, AreFirst, most_stops}
 use Rattle.mmdb_reader.specs.Whole.{IsWalked, IsTopmost, HasNoFault, IsWhole}
 
 -- How many inner nodes a walk has taken when it comes to the stop that follows the first n.
@@ -24,9 +24,9 @@ inner_before db n = cost (take (suc n) (stops db)) - suc n
 abbrev pub FewPositionsWait : Type 0
 FewPositionsWait = (db : Database) (n : ℕ) → n < length (stops db) → 1 + inner_before db n - n ≤ 129
 
--- A walk takes at most one stop more than a tree may have.
+-- A walk takes the first stops, up to a faulty leaf, and at most one more than a tree may have.
 abbrev pub FewStopsAreTaken : Type 0
-FewStopsAreTaken = (db : Database) → length (cut (most_stops db + 1) (stops db)) ≤ most_stops db + 1
+FewStopsAreTaken = (db : Database) → AreFirst (most_stops db + 1) (stops db) (cut (most_stops db + 1) (stops db))
 
 -- what a leaf has: a fault, no data, or a value at an offset
 abbrev pub HasEnd : Database → List Bool → End → Type 0

@@ -1,5 +1,6 @@
 //! Laws of leaves, answers and paths, each the contract of a function that does nothing.
 ghost use Rattle.std.specs.Prelude.{◌↔◌, IsTrue};
+ghost use Rattle.mmdb_net.specs.Clones.{IsCloneSame, IsNeverRefused};
 ghost use Rattle.mmdb_format.specs.Equality.{IsEqualityOf};
 ghost use Rattle.mmdb_reader.specs.Source.{SourceDecides};
 ghost use Rattle.mmdb_reader.specs.Metadata.{metadata_datum};
@@ -14,7 +15,8 @@ ghost use Rattle.mmdb_reader.specs.ListingLaws.{RangeWalkLists, ListingsAreUniqu
 use crate::metadata::Metadata;
 use crate::options::WithinOptions;
 use crate::path::PathElement;
-pub use mmdb_net::laws::networks_equal_where_same;
+pub use mmdb_format::laws::{errors_hold_their_causes, scalar_clones_are_same};
+pub use mmdb_net::laws::{network_clones_are_same, networks_equal_where_same};
 pub use mmdb_value::laws::{
     answer_is_whole_value, answer_is_within_limits, any_value_is_exact, how_containers_are_read,
     how_owned_bytes_are_read, how_scalars_are_read, how_small_numbers_are_read,
@@ -89,8 +91,8 @@ pub fn walk_stops()
     ensures offsets { OffsetsAreExact }
 {}
 
-/// While such a walk is under way at most 129 positions wait, and it takes at most one stop more than three for
-/// each node.
+/// While such a walk is under way at most 129 positions wait. It takes the first stops, up to a faulty leaf, and at
+/// most one more than three for each node.
 pub fn few_positions_wait()
     ensures wait { FewPositionsWait }
     ensures stops { FewStopsAreTaken }
@@ -121,4 +123,12 @@ pub fn path_selects()
 /// Steps of a path are equal exactly where they are of one kind and have the same index or spelling.
 pub fn steps_equal_where_same()
     ensures { (a b : SpecPathElement) → IsTrue (⟦<PathElement<'static> as PartialEq>⟧.eq a b) ↔ IsSameStep a b }
+{}
+
+/// A clone of options, or of a step of a path, is its source, and is never refused.
+pub fn step_clones_are_same()
+    ensures options { IsCloneSame ⟦<WithinOptions as Clone>⟧.is_clone }
+    ensures step { IsCloneSame ⟦<PathElement<'static> as Clone>⟧.is_clone }
+    ensures options_given { IsNeverRefused ⟦<WithinOptions as Clone>⟧.is_infallible }
+    ensures step_given { IsNeverRefused ⟦<PathElement<'static> as Clone>⟧.is_infallible }
 {}

@@ -128,8 +128,10 @@ impl<S: AsSlice<u8> + Drop> Reader<S> {
     ///
     /// They are at most six for each node and 130 more: each node and each leaf on the way, and each alias, behind
     /// which it does not go. Where the metadata are whole, or `verify` succeeds, they are exactly those up to the
-    /// last leaf or alias, or up to the one at which it is refused. Not counted is a sweep of at most three nodes for
-    /// each node, which comes first: where it finds a whole tree, no walk comes after it.
+    /// last leaf or alias, or up to the one at which it is refused. The tree is swept first, over at most three nodes
+    /// for each node: where the sweep finds a whole tree, its positions are those that are counted, and no walk comes
+    /// after it. Of a tree that is refused only the positions of the walk in order are counted; with those of the
+    /// sweep at most twelve for each node and 130 are looked at.
     pub fn verify_counted(&self, alloc: Global, steps: &mut Steps) -> Result<(), MaxMindDbError>
         requires { steps.old + (6 * self.now.metadata.node_count + 130) < 2 ^ 64 }
         ensures whole { OnOk result (IsWhole self.now) }

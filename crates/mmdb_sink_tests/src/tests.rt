@@ -8,3 +8,4 @@ mod memory;
 mod reads;
 mod sink;
 mod sinks;
+mod writes;

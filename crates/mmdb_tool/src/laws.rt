@@ -1,4 +1,5 @@
 //! Laws of lines and sinks, each the contract of a function that does nothing.
+ghost use Rattle.mmdb_net.specs.Clones.{IsCloneSame, IsNeverRefused};
 ghost use Rattle.mmdb_format.specs.Equality.{IsEqualityOf};
 ghost use Rattle.mmdb_tool.specs.Lines.{LeafTextsShowNetworks};
 
@@ -12,4 +13,10 @@ pub fn leaf_texts_show_networks()
 /// Faults of a sink are equal exactly where they are the same one.
 pub fn faults_equal_where_same()
     ensures { IsEqualityOf ⟦<Fault as PartialEq>⟧.eq (λ fault. fault) }
+{}
+
+/// A clone of a sink's fault is its source, and is never refused.
+pub fn fault_clones_are_same()
+    ensures same { IsCloneSame ⟦<Fault as Clone>⟧.is_clone }
+    ensures given { IsNeverRefused ⟦<Fault as Clone>⟧.is_infallible }
 {}

@@ -4,4 +4,5 @@
 //! start, or the place to which a pointer leads. What is wrong with the tree or the separator has no place.
 mod files;
 mod memory;
+mod orders;
 mod verdicts;
