@@ -1,7 +1,7 @@
 #!/usr/bin/env python3
 """python_tests.py TESTS LIBRARY: runs python3-maxminddb's own tests (tests/reader_test.py of its sources, whose folder
 tests is TESTS) and says whether its C extension ran over LIBRARY. Two of them look for a text of libmaxminddb's
-errors: there they are given the text that this library has."""
+errors; over the extension, those are given the texts of this library."""
 import os
 import sys
 import unittest
@@ -19,7 +19,7 @@ TEXTS = {
 def with_our_texts(check):
     def checked(self, error, pattern, *args, **named):
         for theirs, ours in TEXTS.items():
-            if "Extension" in type(self).__name__:
+            if any(it in type(self).__name__ for it in ("Extension", "Auto")):
                 pattern = pattern.replace(theirs, ours)
         return check(self, error, pattern, *args, **named)
     return checked

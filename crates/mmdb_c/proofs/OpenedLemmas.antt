@@ -1,5 +1,5 @@
 -- From what C holds to the answers of the database.
-use Rattle.std.proofs.Common.{◌≡◌, ◌≢◌, ℕ, ◌+◌, ◌*◌, ◌^◌, ◌<◌, ◌≤◌, ◌==◌, Bool, List, [], ◌∷◌, ◌++◌, take, length, if◌then◌else◌, arith, sym, ap, ◌∙◌, refl, subst, inl, inr, length-append}
+use Rattle.std.proofs.Common.{◌≡◌, ◌≢◌, ℕ, ◌+◌, ◌<◌, ◌≤◌, ◌==◌, List, [], ◌∷◌, ◌++◌, take, length, if◌then◌else◌, arith, sym, ap, ◌∙◌, refl, subst, inl, inr, length-append}
 use Rattle.std.proofs.lemmas.Bool.{cases_Bool}
 use Rattle.std.proofs.lemmas.List.{length-take-le}
 use Rattle.std.specs.declared.net.ip_addr.IpAddr.TheVariants.{V4, V6}
@@ -8,15 +8,14 @@ use Rattle.std.specs.declared.net.ipv6_addr.Ipv6Addr.{Ipv6Addr}
 use Rattle.std.specs.Net.Addr.{ipv4_bits, ipv6_bits}
 use Rattle.mmdb_net.specs.Bits.{bits_of}
 use Rattle.mmdb_net.proofs.BitLaws.{length-bits_of, length-zero_bits}
-use Rattle.mmdb_reader.specs.Tree.{SearchTree}
 use Rattle.mmdb_reader.specs.File.{Database, tree_of, has_ipv6, before_ipv4}
-use Rattle.mmdb_reader.specs.Source.{IsDatabaseOf, IsNoDatabase, SourceDecides}
+use Rattle.mmdb_reader.specs.Source.{IsDatabaseOf, SourceDecides}
 use Rattle.mmdb_reader.specs.Whole.{IsWhole}
 use Rattle.mmdb_format.specs.declared.error.MaxMindDbError.{MaxMindDbError}
 use Rattle.mmdb_format.specs.declared.error.MaxMindDbError.TheVariants.{InvalidDatabase, Io, Decoding, ResourceLimit, InvalidNetwork, InvalidInput, Memory}
 use Rattle.mmdb_format.specs.Error.{MemoryApart, OfMemory, kind_of}
 use Rattle.mmdb_reader.specs.Descents.{Descends}
-use Rattle.mmdb_reader.specs.Lookup.{IsLeafAt, block_at, outcome_of}
+use Rattle.mmdb_reader.specs.Lookup.{block_at, outcome_of}
 use Rattle.mmdb_reader.proofs.LeafLemmas.{Descends-same, depth-le, IsLeafAt-v4, IsLeafAt-v6, IsLeafAt-none, ipv6_bits-unspecified}
 use Rattle.mmdb_c.specs.declared.db.Facts.{Facts}
 use Rattle.mmdb_c.specs.declared.db.Found.{Found}

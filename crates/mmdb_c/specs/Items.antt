@@ -60,3 +60,7 @@ key_leads key = leads (at_key key)
 -- where an element leads, counted from the front, of the array at an offset ("array - 11")
 abbrev pub element_leads : ℕ → List ℕ → ℕ → Option (Option ℕ)
 element_leads index = leads (at_element (from_front index))
+
+-- the statuses of a step: it leads somewhere, it meets an error, it leads nowhere
+abbrev pub is_step_status : ℕ → Bool
+is_step_status n = nat_eq n 0 || nat_eq n 7 || nat_eq n 9

@@ -1,4 +1,4 @@
-use Rattle.std.proofs.Common.{◌≡◌, ◌+◌, ap, ◌∙◌}
+use Rattle.std.proofs.Common.{◌+◌, ap, ◌∙◌}
 use Rattle.mmdb_c.proofs.OpenedLemmas.{Reports-v4, Reports-none}
 use Rattle.mmdb_c.proofs.db.mmdb_c_lookup_v4.Goals as goal
 

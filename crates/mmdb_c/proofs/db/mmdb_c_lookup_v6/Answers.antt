@@ -1,4 +1,4 @@
-use Rattle.std.proofs.Common.{◌≡◌, ◌+◌, ◌*◌, ◌^◌, arith, ap, ◌∙◌}
+use Rattle.std.proofs.Common.{◌≡◌, ◌+◌, ◌*◌, ◌^◌, arith, ◌∙◌}
 use Rattle.mmdb_c.proofs.OpenedLemmas.{Reports-v6}
 use Rattle.mmdb_c.proofs.db.mmdb_c_lookup_v6.Goals as goal
 
