@@ -34,7 +34,8 @@ pub use mmdb_value::{
 };
 pub use options::WithinOptions;
 pub use path::{PathElement, render_path};
-pub use reader::Reader;
+pub use reader::{Kept, Reader};
 pub use steps::Steps;
-pub use tree::read_node;
+pub use table::Entry;
+pub use tree::{Descent, Nodes, read_node};
 pub use walking::Within;

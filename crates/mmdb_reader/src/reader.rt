@@ -31,6 +31,18 @@ struct Leaf {
     ghost is_prefix: { prefix ≤ address_width address },
 }
 
+/// What a reader keeps beside its source: where the parts of the file begin, where IPv4 begins in the
+/// tree and after how many bits, and where the first sixteen bits of addresses lead.
+#[derive(Clone, Copy)]
+pub struct Kept<'a> {
+    pub data_start: usize,
+    pub marker: usize,
+    pub ipv4_start: usize,
+    pub ipv4_depth: u8,
+    pub ipv4_table: &'a [Entry],
+    pub ipv6_table: &'a [Entry],
+}
+
 /// A database over the bytes that a source holds or lends.
 #[derive(Drop)]
 pub struct Reader<S: AsSlice<u8> + Drop> {
@@ -59,6 +71,7 @@ impl<S: AsSlice<u8> + Drop> Model for Reader<S> {
 impl<S: AsSlice<u8> + Drop> Reader<S> {
     ghost use Rattle.mmdb_reader.specs.Found.{database_asked, leaf_of, offset_found, shown_as_ipv4};
     ghost use Rattle.mmdb_reader.specs.Counting.{CountsNodes};
+    ghost use Rattle.mmdb_reader.specs.Kept.{IsReader};
     ghost use Rattle.mmdb_reader.specs.Lookup.{CanAsk, Outcome, Answers, IsRefusedAt, IsLeafAt, Refused, outcome_of, outcome_at, block_at};
     ghost use Rattle.mmdb_reader.specs.Shown.{is_shown_as_ipv4, has_ipv4_subtree, ipv4_start};
     ghost use Rattle.mmdb_reader.specs.Tree.{search_tree};
@@ -116,6 +129,21 @@ impl<S: AsSlice<u8> + Drop> Reader<S> {
         ensures { metadata_datum result.now ≡ self.now.metadata }
     {
         &self.metadata
+    }
+
+    /// What it keeps beside its source, for lookups in the same bytes without a reader.
+    pub fn kept(&self) -> Kept<'_>
+        ensures marker { result.marker ≡ self.now.marker }
+        ensures kept { IsReader self.now result.data_start result.ipv4_start result.ipv4_depth result.ipv4_table.now result.ipv6_table.now }
+    {
+        Kept {
+            data_start: self.data_start,
+            marker: self.marker,
+            ipv4_start: self.ipv4_start,
+            ipv4_depth: self.ipv4_depth,
+            ipv4_table: &self.ipv4_table,
+            ipv6_table: &self.ipv6_table,
+        }
     }
 
     // Where the data section begins.

@@ -10,10 +10,11 @@ const TABLE_BITS: u8 = 16;
 
 /// Where the walk of an address stands after its first sixteen bits, or where it left the nodes, and
 /// after how many bits.
+#[repr(C)]
 #[derive(Clone, Copy)]
-pub(crate) struct Entry {
-    pub(crate) number: u32,
-    pub(crate) taken: u8,
+pub struct Entry {
+    pub number: u32,
+    pub taken: u8,
 }
 
 impl Nodes<'_> {
@@ -64,7 +65,7 @@ impl Nodes<'_> {
 
     /// Walks along the bits of an IPv4 address, for whose first sixteen a table has where they lead.
     #[inline(always)]
-    pub(crate) fn descend_ipv4(&self, table: &[Entry], bits: u32) -> Descent
+    pub fn descend_ipv4(&self, table: &[Entry], bits: u32) -> Descent
         requires { length table.now ≡ 65536 }
         ensures reached { let tree = search_tree self.now.bytes.now self.now.node_count self.now.record_size in (start : ℕ) → IsFull tree start table.now → Descends tree start (bits_of 32 bits) result.taken result.number }
         ensures read { let tree = search_tree self.now.bytes.now self.now.node_count self.now.record_size in (start : ℕ) → IsFull tree start table.now → result.read ≡ result.taken - 16 }
@@ -80,7 +81,7 @@ impl Nodes<'_> {
 
     /// The same of an IPv6 address.
     #[inline(always)]
-    pub(crate) fn descend_ipv6(&self, table: &[Entry], bits: u128) -> Descent
+    pub fn descend_ipv6(&self, table: &[Entry], bits: u128) -> Descent
         requires { length table.now ≡ 65536 }
         ensures reached { let tree = search_tree self.now.bytes.now self.now.node_count self.now.record_size in (start : ℕ) → IsFull tree start table.now → Descends tree start (bits_of 128 bits) result.taken result.number }
         ensures read { let tree = search_tree self.now.bytes.now self.now.node_count self.now.record_size in (start : ℕ) → IsFull tree start table.now → result.read ≡ result.taken - 16 }

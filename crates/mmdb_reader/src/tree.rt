@@ -53,20 +53,20 @@ fn word_at(bytes: &[u8], at: usize) -> u32
 
 /// The nodes of a tree, in the bytes that begin with them; the separator's sixteen bytes follow.
 #[derive(Clone, Copy)]
-pub(crate) struct Nodes<'a> {
-    pub(crate) bytes: &'a [u8],
-    pub(crate) node_count: usize,
-    pub(crate) record_size: u16,
-    ghost size: { IsTrue (is_record_size record_size) },
-    ghost room: { node_count * node_bytes record_size + 16 ≤ length bytes.now },
+pub struct Nodes<'a> {
+    pub bytes: &'a [u8],
+    pub node_count: usize,
+    pub record_size: u16,
+    pub ghost size: { IsTrue (is_record_size record_size) },
+    pub ghost room: { node_count * node_bytes record_size + 16 ≤ length bytes.now },
 }
 
 /// Where a walk ended, after how many bits, and how many nodes were read for it.
 #[derive(Clone, Copy)]
-pub(crate) struct Descent {
-    pub(crate) number: usize,
-    pub(crate) taken: usize,
-    pub(crate) read: usize,
+pub struct Descent {
+    pub number: usize,
+    pub taken: usize,
+    pub read: usize,
 }
 
 impl Nodes<'_> {
@@ -106,7 +106,7 @@ impl Nodes<'_> {
     /// three, or before it, is one of the tree or of the separator.
     #[tactic(auto, unfolding(crate::specs::Tree::step, crate::specs::Tree::child))]
     #[inline(always)]
-    pub(crate) fn child(&self, node: usize, right: bool) -> usize
+    pub fn child(&self, node: usize, right: bool) -> usize
         requires { node < self.now.node_count }
         ensures bound { result < 2 ^ 32 }
         ensures value { result ≡ step (search_tree self.now.bytes.now self.now.node_count self.now.record_size) node right }

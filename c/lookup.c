@@ -1,0 +1,61 @@
+/* Lookups of addresses, and the nodes of the search tree. */
+#define _GNU_SOURCE
+#include "shim.h"
+#include <arpa/inet.h>
+#include <endian.h>
+#include <netdb.h>
+#include <string.h>
+#include <sys/socket.h>
+
+static void look_up(const struct mmdb_c_db *db, const struct sockaddr *address, struct mmdb_c_found *found) {
+    if (address->sa_family == AF_INET6) {
+        uint64_t halves[2];
+        memcpy(halves, ((const struct sockaddr_in6 *)address)->sin6_addr.s6_addr, sizeof halves);
+        mmdb_c_lookup_v6(db, be64toh(halves[0]), be64toh(halves[1]), found);
+    } else {
+        mmdb_c_lookup_v4(db, ntohl(((const struct sockaddr_in *)address)->sin_addr.s_addr), found);
+    }
+}
+
+MMDB_lookup_result_s MMDB_lookup_sockaddr(const MMDB_s *const m, const struct sockaddr *const address,
+                                          int *const error) {
+    struct mmdb_c_found found;
+    look_up(&state_of(m)->db, address, &found);
+    *error = found.status == MMDB_C_NO_DATA ? MMDB_SUCCESS : (int)found.status;
+    return (MMDB_lookup_result_s){.found_entry = found.status == MMDB_SUCCESS,
+                                  .netmask = (uint16_t)found.netmask,
+                                  .entry = {.mmdb = m, .offset = (uint32_t)found.offset}};
+}
+
+MMDB_lookup_result_s MMDB_lookup_string(const MMDB_s *const m, const char *const text, int *const gai_error,
+                                        int *const error) {
+    MMDB_lookup_result_s result = {.entry = {.mmdb = m}};
+    struct addrinfo hints = {.ai_family = AF_UNSPEC, .ai_flags = AI_NUMERICHOST, .ai_socktype = SOCK_STREAM};
+    struct addrinfo *all = NULL;
+    *gai_error = getaddrinfo(text, NULL, &hints, &all);
+    if (!*gai_error) result = MMDB_lookup_sockaddr(m, all->ai_addr, error);
+    if (all) freeaddrinfo(all);
+    return result;
+}
+
+/* A record that is 0 or past the data section is invalid: no lookup ends there with a value. */
+static uint8_t type_of_record(const struct mmdb_c_facts *facts, uint64_t record) {
+    if (record == 0) return MMDB_RECORD_TYPE_INVALID;
+    if (record < facts->node_count) return MMDB_RECORD_TYPE_SEARCH_NODE;
+    if (record == facts->node_count) return MMDB_RECORD_TYPE_EMPTY;
+    if (record - facts->node_count - 16 < facts->marker - facts->data_start) return MMDB_RECORD_TYPE_DATA;
+    return MMDB_RECORD_TYPE_INVALID;
+}
+
+int MMDB_read_node(const MMDB_s *const m, uint32_t number, MMDB_search_node_s *const node) {
+    const struct mmdb_c_db *db = &state_of(m)->db;
+    if (number >= db->facts.node_count) return MMDB_INVALID_NODE_NUMBER_ERROR;
+    node->left_record = mmdb_c_child(db, number, false);
+    node->right_record = mmdb_c_child(db, number, true);
+    node->left_record_type = type_of_record(&db->facts, node->left_record);
+    node->right_record_type = type_of_record(&db->facts, node->right_record);
+    uint32_t before_data = (uint32_t)db->facts.node_count + 16;
+    node->left_record_entry = (MMDB_entry_s){.mmdb = m, .offset = (uint32_t)node->left_record - before_data};
+    node->right_record_entry = (MMDB_entry_s){.mmdb = m, .offset = (uint32_t)node->right_record - before_data};
+    return MMDB_SUCCESS;
+}

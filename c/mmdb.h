@@ -1,0 +1,26 @@
+/* Viedolive's additions to libmaxminddb's interface (maxminddb.h), and what a program promises that uses either.
+ *
+ * The reader is proved for bytes that stay as they are. So, while a database is open or is being verified:
+ *  - No one writes to the file or cuts it. A new version is written beside it and takes its name by rename(2); the
+ *    open database goes on with the old bytes, and is then closed and opened anew. A mapped file that is cut ends
+ *    the process by SIGBUS, as it does with libmaxminddb.
+ *  - No field of MMDB_s is changed, nor what it points to, and none is used after MMDB_close.
+ *  - Pointers that are handed in are not null; an MMDB_entry_s comes from a lookup, from MMDB_read_node, or has an
+ *    open database and any offset.
+ *  - MMDB_open and mmdb_verify allocate: not in a signal handler, nor in a forked child of a process with threads.
+ * Any number of threads may look up and read values in one open database at once. */
+#ifndef VIEDOLIVE_MMDB_H
+#define VIEDOLIVE_MMDB_H
+#ifdef __cplusplus
+extern "C" {
+#endif
+
+/* Whether a file is a whole database: its metadata are valid, no network's leaf leads outside the data section, the
+ * separator is zero, and the values of all networks end and have valid texts. 0 (MMDB_SUCCESS) where it is; else a
+ * status code of maxminddb.h says why not. So a damaged update can be refused before it is opened. */
+extern int mmdb_verify(const char *filename);
+
+#ifdef __cplusplus
+}
+#endif
+#endif

@@ -1,0 +1,67 @@
+/* What the static library of crates/mmdb_c exports. A slice is a pointer, which is never null, and a length. */
+#ifndef MMDB_C_H
+#define MMDB_C_H
+#include <stdbool.h>
+#include <stddef.h>
+#include <stdint.h>
+
+#define MMDB_C_TABLE 65536
+
+/* Status codes beside those of maxminddb.h: what a lookup without data has, and a key that is not UTF-8. */
+#define MMDB_C_NO_DATA 1
+#define MMDB_C_NOT_UTF8 8
+
+struct mmdb_c_facts {
+    size_t node_count, ipv4_start, data_start, marker;
+    uint64_t build_epoch;
+    uint16_t record_size, ip_version, major_version, minor_version;
+    uint8_t ipv4_depth;
+};
+
+struct mmdb_c_entry {
+    uint32_t number;
+    uint8_t taken;
+};
+
+/* As `mmdb_c_open` left it: nothing in it, nor in what it points to, may be changed. */
+struct mmdb_c_db {
+    struct mmdb_c_facts facts;
+    const uint8_t *file;
+    size_t file_len;
+    const struct mmdb_c_entry *ipv4;
+    size_t ipv4_len;
+    const struct mmdb_c_entry *ipv6;
+    size_t ipv6_len;
+};
+
+struct mmdb_c_found {
+    uint32_t status, netmask;
+    size_t offset;
+};
+
+struct mmdb_c_item {
+    uint32_t kind, size;
+    size_t offset, body, next;
+    uint64_t low, high;
+};
+
+/* Laid out as MMDB_entry_data_list_s on a machine of 64 bits, the lowest byte first. */
+struct mmdb_c_part {
+    uint64_t has_data, unused, low, high;
+    uint32_t offset, next, size, kind;
+    void *link, *pool;
+};
+
+uint32_t mmdb_c_open(const uint8_t *file, size_t file_len, struct mmdb_c_entry *ipv4, size_t ipv4_len,
+                     struct mmdb_c_entry *ipv6, size_t ipv6_len, struct mmdb_c_facts *facts);
+uint32_t mmdb_c_verify(const uint8_t *file, size_t file_len);
+void mmdb_c_lookup_v4(const struct mmdb_c_db *db, uint32_t bits, struct mmdb_c_found *found);
+void mmdb_c_lookup_v6(const struct mmdb_c_db *db, uint64_t high, uint64_t low, struct mmdb_c_found *found);
+size_t mmdb_c_child(const struct mmdb_c_db *db, size_t node, bool right);
+bool mmdb_c_value(const uint8_t *section, size_t len, size_t offset, struct mmdb_c_item *item);
+uint32_t mmdb_c_to_key(const uint8_t *section, size_t len, size_t offset, const char *key, size_t key_len,
+                       size_t *to);
+uint32_t mmdb_c_to_element(const uint8_t *section, size_t len, size_t offset, size_t index, size_t *to);
+uint32_t mmdb_c_list(const uint8_t *section, size_t len, size_t offset, struct mmdb_c_part *out, size_t room,
+                     size_t *count);
+#endif

@@ -1,0 +1,34 @@
+/* What the files of the shim share. The shim reads no byte of a database: it maps the file, hands pointers and
+ * lengths to the proved exports, and copies numbers. */
+#ifndef SHIM_H
+#define SHIM_H
+#include "mmdb_c.h"
+#include <stddef.h>
+
+/* Only what these two headers declare is seen from outside. */
+#pragma GCC visibility push(default)
+#include "mmdb.h"
+#include <maxminddb.h>
+#pragma GCC visibility pop
+
+/* What stands behind an MMDB_s, which is the caller's and may not grow: `filename` points into it. */
+struct state {
+    struct mmdb_c_db db;
+    struct mmdb_c_entry *tables;
+    char name[];
+};
+
+static inline const struct state *state_of(const MMDB_s *mmdb) {
+    return (const struct state *)(mmdb->filename - offsetof(struct state, name));
+}
+
+/* Maps a file for reading: MMDB_SUCCESS, or why not, with errno as the failing call left it. */
+int map_file(const char *name, const uint8_t **bytes, size_t *len);
+
+/* Fills the texts of the metadata, and frees them. */
+int fill_texts(MMDB_s *mmdb);
+void free_texts(MMDB_metadata_s *metadata);
+
+/* The metadata section in the place of the data section. */
+MMDB_s metadata_as_data(const MMDB_s *mmdb);
+#endif

@@ -1,0 +1,87 @@
+//! Opening a database over bytes that C holds, and whether a file is whole.
+ghost use Rattle.std.specs.Prelude.{◌≡◌, ◌≢◌, length, OnOk, IfErr};
+ghost use Rattle.mmdb_format.specs.Error.{MemoryApart};
+ghost use Rattle.mmdb_reader.specs.Source.{IsNoDatabase};
+ghost use Rattle.mmdb_c.specs.Opened.{HasDatabase, IsOpened, IsOfFile, IsWholeFile};
+
+use crate::db::Facts;
+use crate::status::{FOUND, code_of};
+use mmdb_reader::laws::source_decides;
+use mmdb_reader::reader::Reader;
+use mmdb_reader::{Entry, MaxMindDbError};
+use std::alloc::Global;
+
+/// Opens the database that the bytes of a file are: fills the tables and writes its numbers.
+///
+/// 0 exactly where the bytes are those of a database, unless out of memory, which is 5. Else the code says
+/// what is wrong: 2 the search tree, 3 the metadata, 6 the version of the format or the size of records,
+/// 7 the bytes of the metadata section. The IPv6 table of an IPv4 database is left as it is, and so is
+/// the IPv4 table where IPv4 begins on no node.
+#[unsafe(no_mangle)]
+pub extern "C" fn mmdb_c_open(
+    alloc: Global,
+    file: &[u8],
+    ipv4_table: &mut [Entry],
+    ipv6_table: &mut [Entry],
+    facts: &mut Facts,
+) -> u32
+    requires ipv4_room { length ipv4_table.old ≡ 65536 }
+    requires ipv6_room { length ipv6_table.old ≡ 65536 }
+    ensures is_database { result ≡ 0 → HasDatabase file.now }
+    ensures is_no_database { result ≢ 0 → result ≢ 5 → IsNoDatabase file.now }
+    ensures is_of { result ≡ 0 → IsOfFile file.now facts.new }
+    ensures opened { result ≡ 0 → IsOpened file.now facts.new ipv4_table.new ipv6_table.new }
+{
+    let reader = match Reader::from_source(alloc, file) {
+        Ok(reader) => reader,
+        Err(error) => return code_of(&error),
+    };
+    source_decides();
+    let metadata = reader.metadata();
+    let kept = reader.kept();
+    *facts = Facts {
+        node_count: metadata.node_count as usize,
+        ipv4_start: kept.ipv4_start,
+        data_start: kept.data_start,
+        marker: kept.marker,
+        build_epoch: metadata.build_epoch,
+        record_size: metadata.record_size,
+        ip_version: metadata.ip_version,
+        major_version: metadata.binary_format_major_version,
+        minor_version: metadata.binary_format_minor_version,
+        ipv4_depth: kept.ipv4_depth,
+    };
+    if kept.ipv4_start < metadata.node_count as usize {
+        ipv4_table.copy_from_slice(kept.ipv4_table);
+    }
+    if metadata.ip_version == 6 {
+        ipv6_table.copy_from_slice(kept.ipv6_table);
+    }
+    FOUND
+}
+
+// Opens and checks a file.
+fn verify(alloc: Global, file: &[u8]) -> Result<(), MaxMindDbError>
+    ensures whole { OnOk result (IsWholeFile file.now) }
+    ensures not_whole { IfErr result (λ e. MemoryApart e (¬ IsWholeFile file.now)) }
+{
+    let reader = Reader::from_source(alloc, file)?;
+    source_decides();
+    reader.verify(alloc)
+}
+
+/// Whether the bytes of a file are those of a database that is whole: metadata, tree, separator and the
+/// values of all leaves, as `Reader::verify` of the reader checks them.
+///
+/// 0 exactly where they are, unless out of memory, which is 5. Else the code says what is wrong: 2 the
+/// search tree, 3 the metadata, 6 the version of the format or the size of records, 7 the data.
+#[unsafe(no_mangle)]
+pub extern "C" fn mmdb_c_verify(alloc: Global, file: &[u8]) -> u32
+    ensures whole { result ≡ 0 → IsWholeFile file.now }
+    ensures not_whole { result ≢ 0 → result ≢ 5 → ¬ IsWholeFile file.now }
+{
+    match verify(alloc, file) {
+        Ok(()) => FOUND,
+        Err(error) => code_of(&error),
+    }
+}
