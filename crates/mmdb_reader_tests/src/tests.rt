@@ -1,6 +1,8 @@
 //! What no clause says: worked rows over public calls, printed texts, and files.
 mod answers;
 mod files;
+mod interrupted;
 mod lookups;
 mod metadata;
+mod sizes;
 mod table;
