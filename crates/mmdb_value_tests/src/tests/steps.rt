@@ -9,89 +9,74 @@ use mmdb_value::laws::{
     text_map_is_what_stands, value_is_what_stands, values_bounded, values_equal_where_same,
 };
 use mmdb_value::{DecodeResult, Decoder, Entries, Items, Kind, Value, empty_container};
-use mmdb_vectors::answer::{OK, told};
+use mmdb_vectors::answer::{OK, shown, told};
 use mmdb_vectors::failures::Failures;
 use std::alloc::Global;
 
 /// A map of k to an array of the numbers 5 and 6.
 const PAIR: &[u8] = b"\xE1\x41k\x02\x04\xA1\x05\xA1\x06";
 
-// What is left of an array of two numbers, before and after the first.
-fn first_of_two(
-    alloc: Global,
-    d: &mut Decoder<'_>,
-    items: &mut Items,
-) -> DecodeResult<(usize, usize, u16, usize)> {
-    let before = d.remaining(items);
-    let hint = d.hint(items);
-    if !d.next_item(items) {
-        return Ok((before, hint, 0, 0));
-    }
-    let first = d.read_u16(alloc)?;
-    Ok((before, hint, first, d.remaining(items)))
-}
-
-// The key of the map, the type of its value, and what the array of two tells.
-fn pair_told<'de>(
-    alloc: Global,
-    d: &mut Decoder<'de>,
-    entries: &mut Entries,
-) -> DecodeResult<(Option<&'de [u8]>, Kind, (usize, usize, u16, usize))> {
-    let key = d.next_raw_key(alloc, entries)?;
-    let kind = d.peek_kind(alloc)?;
-    let mut items = d.begin_array_of(alloc, 2)?;
-    let told = first_of_two(alloc, d, &mut items);
+// Notes what is told otherwise of an array of the numbers 5 and 6.
+fn expect_items(failures: &mut Failures, alloc: Global, d: &mut Decoder<'_>, items: Items) {
+    let mut items = items;
+    let are_two = d.remaining(&items) == 2 && d.hint(&items) == 2;
+    failures.expect(&"two numbers", are_two);
+    failures.expect(&"an item", d.next_item(&mut items));
+    failures.expect_text(&"a number", shown(alloc, d.read_u16(alloc)), "5");
+    failures.expect(&"one more", d.remaining(&items) == 1);
     items.give_up(d);
-    Ok((key, kind, told?))
 }
 
-// Whether the map is entered, its key and array are told as they stand, and what is left is skipped.
-fn is_stepped_through(alloc: Global, d: &mut Decoder<'_>) -> DecodeResult<bool> {
-    let is_map = d.peek_kind(alloc)? == Kind::Map && d.offset() == 0;
-    let mut entries = d.begin_map(alloc)?;
-    let told = pair_told(alloc, d, &mut entries);
+// Notes what is told otherwise of the map's key, of the type of its value, and of the array.
+fn expect_pair(failures: &mut Failures, alloc: Global, d: &mut Decoder<'_>, entries: Entries) {
+    let mut entries = entries;
+    let key = shown(alloc, d.next_raw_key(alloc, &mut entries));
+    failures.expect_text(&"a key", key, "Some([107])");
+    failures.expect_text(&"its kind", shown(alloc, d.peek_kind(alloc)), "Array");
+    match d.begin_array_of(alloc, 2) {
+        Ok(items) => expect_items(failures, alloc, d, items),
+        Err(error) => failures.note(&"an array of two", &error),
+    }
     entries.give_up(d);
-    let (key, kind, numbers) = told?;
-    let is_pair = key == Some(b"k".as_slice()) && kind == Kind::Array && numbers == (2, 2, 5, 1);
-    let stands_after_first = d.offset() == 7;
-    d.skip_value(alloc)?;
-    Ok(is_map && is_pair && stands_after_first && d.offset() == 9)
+}
+
+// Notes what is told otherwise of the map: it is entered, its key and array are told, and what is left is skipped.
+fn expect_steps(failures: &mut Failures, alloc: Global, d: &mut Decoder<'_>) {
+    failures.expect_text(&"a kind", shown(alloc, d.peek_kind(alloc)), "Map");
+    failures.expect(&"the first offset", d.offset() == 0);
+    match d.begin_map(alloc) {
+        Ok(entries) => expect_pair(failures, alloc, d, entries),
+        Err(error) => failures.note(&"a map", &error),
+    }
+    failures.expect(&"behind the first number", d.offset() == 7);
+    failures.expect_text(&"the second", told(alloc, d.skip_value(alloc)), OK);
+    failures.expect(&"behind the second number", d.offset() == 9);
+    values_bounded(d);
 }
 
 #[test]
-fn steps_of_a_decoder(rt: HostRuntime) {
-    let mut d = Decoder::new(PAIR, 0);
-    let told = is_stepped_through(rt.alloc(), &mut d);
-    values_bounded(&d);
-    assert!(rt; told.unwrap_or(false));
+fn steps_of_a_decoder(rt: HostRuntime) -> Result<(), Failures> {
+    let mut failures = Failures::new(rt.alloc());
+    expect_steps(&mut failures, rt.alloc(), &mut Decoder::new(PAIR, 0));
+    failures.verdict()
 }
 
 // Enters an array of so many elements, and gives it up.
-fn enter_array_of(alloc: Global, d: &mut Decoder<'_>, len: usize) -> DecodeResult<()> {
+fn enter_array(alloc: Global, section: &[u8], place: usize, len: usize) -> DecodeResult<()> {
+    let mut d = Decoder::new(section, place);
     let items = d.begin_array_of(alloc, len)?;
-    items.give_up(d);
+    items.give_up(&mut d);
     Ok(())
 }
 
 /// A section, a place, a length, and what is told where an array of that length is asked for there.
 #[rattlefmt::skip]
-const ENTERED: [(&[u8], usize, usize, &str); 4] = [
+const ENTERED: &[(&[u8], usize, usize, &str)] = &[
     (PAIR, 3, 2, OK),
     (PAIR, 3, 3, "decoding error at offset 5: expected tuple of length 3, got array of length 2"),
     (b"\x02\x04\xA0\xA0", 0, 3, "decoding error at offset 2: expected tuple of length 3, got array of length 2"),
     (PAIR, 0, 1, "decoding error at offset 0: expected array, got type 7"),
 ];
-
-#[test]
-fn arrays_of_a_length(rt: HostRuntime) -> Result<(), Failures> {
-    let (alloc, mut failures) = (rt.alloc(), Failures::new(rt.alloc()));
-    for (section, place, len, text) in ENTERED {
-        let mut d = Decoder::new(section, place);
-        let answer = told(alloc, enter_array_of(alloc, &mut d, len));
-        failures.expect_text(&(place, len), answer, text);
-    }
-    failures.verdict()
-}
 
 /// Values that are skipped, and what is told. The size of a pointer is the number of its own bytes after
 /// the control byte.
@@ -111,8 +96,12 @@ const SKIPPED: &[(&[u8], &str)] = &[
 ];
 
 #[test]
-fn values_skipped(rt: HostRuntime) -> Result<(), Failures> {
+fn arrays_entered_and_values_skipped(rt: HostRuntime) -> Result<(), Failures> {
     let (alloc, mut failures) = (rt.alloc(), Failures::new(rt.alloc()));
+    for (section, place, len, text) in ENTERED {
+        let answer = told(alloc, enter_array(alloc, section, *place, *len));
+        failures.expect_text(&[*place, *len], answer, text);
+    }
     for (section, text) in SKIPPED {
         let answer = told(alloc, Decoder::new(section, 0).skip_value(alloc));
         failures.expect_text(section, answer, text);
