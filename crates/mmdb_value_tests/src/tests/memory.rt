@@ -9,17 +9,21 @@ use std::collections::BTreeMap;
 /// A map of k to an array of the numbers 5 and 6.
 const PAIR: &[u8] = b"\xE1\x41k\x02\x04\xA1\x05\xA1\x06";
 
-fn error_met(error: &MaxMindDbError) -> Met {
+fn kind_met(error: &MaxMindDbError) -> Met {
     match error {
         MaxMindDbError::Memory => Met::Memory,
         _ => Met::Refusal,
     }
 }
 
+fn error_met(error: MaxMindDbError) -> Met {
+    kind_met(&error)
+}
+
 fn answer_met<T: Drop>(answer: DecodeResult<T>) -> Met {
     match answer {
         Ok(_) => Met::Value,
-        Err(error) => error_met(&error),
+        Err(error) => error_met(error),
     }
 }
 

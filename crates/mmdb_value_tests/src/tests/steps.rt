@@ -9,56 +9,50 @@ use mmdb_value::laws::{
     text_map_is_what_stands, value_is_what_stands, values_bounded, values_equal_where_same,
 };
 use mmdb_value::{DecodeResult, Decoder, Entries, Items, Kind, Value, empty_container};
-use mmdb_vectors::answer::{OK, shown, told};
+use mmdb_vectors::answer::{OK, told};
 use mmdb_vectors::failures::Failures;
 use std::alloc::Global;
+use std::process::Abort;
 
 /// A map of k to an array of the numbers 5 and 6.
 const PAIR: &[u8] = b"\xE1\x41k\x02\x04\xA1\x05\xA1\x06";
 
-// Notes what is told otherwise of an array of the numbers 5 and 6.
-fn expect_items(failures: &mut Failures, alloc: Global, d: &mut Decoder<'_>, items: Items) {
-    let mut items = items;
-    let are_two = d.remaining(&items) == 2 && d.hint(&items) == 2;
-    failures.expect(&"two numbers", are_two);
-    failures.expect(&"an item", d.next_item(&mut items));
-    failures.expect_text(&"a number", shown(alloc, d.read_u16(alloc)), "5");
-    failures.expect(&"one more", d.remaining(&items) == 1);
+// Whether the elements of an array of the numbers 5 and 6 are counted, and the first is read.
+fn is_first_of_two(rt: &impl Abort, alloc: Global, d: &mut Decoder<'_>, items: &mut Items) -> bool {
+    let are_two = d.remaining(items) == 2 && d.hint(items) == 2;
+    let has_first = d.next_item(items);
+    let first = d.read_u16(alloc).expect(rt, "the first number");
+    are_two && has_first && first == 5 && d.remaining(items) == 1
+}
+
+// Whether the key of the map is told, the type of its value, and what the array tells.
+fn is_pair(rt: &impl Abort, alloc: Global, d: &mut Decoder<'_>, entries: &mut Entries) -> bool {
+    let key = d.next_raw_key(alloc, entries).expect(rt, "a key");
+    let kind = d.peek_kind(alloc).expect(rt, "the kind of its value");
+    let mut items = d.begin_array_of(alloc, 2).expect(rt, "an array of two");
+    let is_right = is_first_of_two(rt, alloc, d, &mut items);
     items.give_up(d);
+    is_right && key == Some(b"k".as_slice()) && kind == Kind::Array
 }
 
-// Notes what is told otherwise of the map's key, of the type of its value, and of the array.
-fn expect_pair(failures: &mut Failures, alloc: Global, d: &mut Decoder<'_>, entries: Entries) {
-    let mut entries = entries;
-    let key = shown(alloc, d.next_raw_key(alloc, &mut entries));
-    failures.expect_text(&"a key", key, "Some([107])");
-    failures.expect_text(&"its kind", shown(alloc, d.peek_kind(alloc)), "Array");
-    match d.begin_array_of(alloc, 2) {
-        Ok(items) => expect_items(failures, alloc, d, items),
-        Err(error) => failures.note(&"an array of two", &error),
-    }
+// Whether the map is entered, its key and array are told as they stand, and what is left is skipped.
+fn is_stepped_through(rt: &impl Abort, alloc: Global, d: &mut Decoder<'_>) -> bool {
+    let kind = d.peek_kind(alloc).expect(rt, "a kind");
+    let is_first = d.offset() == 0;
+    let mut entries = d.begin_map(alloc).expect(rt, "a map");
+    let is_right = is_pair(rt, alloc, d, &mut entries);
     entries.give_up(d);
-}
-
-// Notes what is told otherwise of the map: it is entered, its key and array are told, and what is left is skipped.
-fn expect_steps(failures: &mut Failures, alloc: Global, d: &mut Decoder<'_>) {
-    failures.expect_text(&"a kind", shown(alloc, d.peek_kind(alloc)), "Map");
-    failures.expect(&"the first offset", d.offset() == 0);
-    match d.begin_map(alloc) {
-        Ok(entries) => expect_pair(failures, alloc, d, entries),
-        Err(error) => failures.note(&"a map", &error),
-    }
-    failures.expect(&"behind the first number", d.offset() == 7);
-    failures.expect_text(&"the second", told(alloc, d.skip_value(alloc)), OK);
-    failures.expect(&"behind the second number", d.offset() == 9);
-    values_bounded(d);
+    let behind_first = d.offset();
+    d.skip_value(alloc).expect(rt, "a number that is skipped");
+    is_right && kind == Kind::Map && is_first && behind_first == 7 && d.offset() == 9
 }
 
 #[test]
-fn steps_of_a_decoder(rt: HostRuntime) -> Result<(), Failures> {
-    let mut failures = Failures::new(rt.alloc());
-    expect_steps(&mut failures, rt.alloc(), &mut Decoder::new(PAIR, 0));
-    failures.verdict()
+fn steps_of_a_decoder(rt: HostRuntime) {
+    let mut d = Decoder::new(PAIR, 0);
+    let is_right = is_stepped_through(&rt, rt.alloc(), &mut d);
+    values_bounded(&d);
+    assert!(rt; is_right);
 }
 
 // Enters an array of so many elements, and gives it up.
