@@ -21,7 +21,7 @@ pub struct Fields<'a> {
 }
 
 /// One of the fields.
-#[derive(Clone, Copy, Debug)]
+#[derive(Clone, Copy)]
 pub enum Field {
     Map,
     MajorVersion,

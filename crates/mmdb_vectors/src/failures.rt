@@ -10,6 +10,14 @@ pub struct Failures {
     count: u32,
 }
 
+// The text that was told, where memory for it was not lacking.
+fn text_of(told: &Result<String, AllocError>) -> Option<&str> {
+    match told {
+        Ok(text) => Some(text.as_str()),
+        Err(_) => None,
+    }
+}
+
 impl Failures {
     pub fn new(alloc: Global) -> Failures {
         Failures {
@@ -42,11 +50,8 @@ impl Failures {
         told: Result<String, AllocError>,
         wanted: &str,
     ) {
-        match told {
-            Ok(told) if told.as_str() == wanted => {}
-            Ok(told) => self.note(row, &told),
-            Err(_) => self.note(row, &"out of memory"),
-        }
+        let is_wanted = text_of(&told) == Some(wanted);
+        self.expect_told(row, &told, is_wanted);
     }
 
     /// Notes a row whose answer is a text with another ending than the one that is wanted.
@@ -56,10 +61,19 @@ impl Failures {
         told: Result<String, AllocError>,
         ending: &str,
     ) {
-        match told {
-            Ok(told) if told.as_str().ends_with(ending) => {}
-            Ok(told) => self.note(row, &told),
-            Err(_) => self.note(row, &"out of memory"),
+        let is_wanted = text_of(&told).unwrap_or("").ends_with(ending);
+        self.expect_told(row, &told, is_wanted);
+    }
+
+    // Notes what a row was told, where that is not what is wanted.
+    fn expect_told(
+        &mut self,
+        row: &impl Debug,
+        told: &Result<String, AllocError>,
+        is_wanted: bool,
+    ) {
+        if !is_wanted {
+            self.note(row, &text_of(told).unwrap_or("out of memory"));
         }
     }
 

@@ -1,12 +1,10 @@
 //! Columns, addresses in them, and cells of CSV.
-use super::streams::{Told, around};
+use super::streams::{Told, assert_at};
 use mmdb_enrich::{Cache, Enrichment, put_csv_cell};
 use mmdb_filter::{Rows, filter_rows};
 use mmdb_reader::{PathElement, Reader};
-use mmdb_vectors::builder::{BASE, BASE_NODE, file};
+use mmdb_vectors::section::section_of;
 use std::alloc::Global;
-use std::process::Abort;
-use std::test::Fail;
 
 const CSV: Rows = Rows::Csv { delimiter: b',' };
 
@@ -14,9 +12,6 @@ const SEMICOLONS: Rows = Rows::Csv { delimiter: b';' };
 
 /// What rows are, the column, the input, and what is written where 128.0.0.0/1 has the text of the next line.
 type Row = (Rows, usize, &'static [u8], &'static [u8]);
-
-/// The record of 128.0.0.0/1.
-const RECORD: &[u8] = b"\x45a\"b,c";
 
 #[rattlefmt::skip]
 const ROWS: &[Row] = &[
@@ -36,23 +31,51 @@ const ROWS: &[Row] = &[
     (SEMICOLONS, 2, b"\"a;\";;200.0.0.1\n", b"\"a;\";;200.0.0.1;\"a\"\"b,c\"\n"),
 ];
 
-// What is written of an input.
-fn enriched(alloc: Global, rows: Rows, column: usize, mut input: &[u8]) -> Result<Vec<u8>, Fail> {
-    let bytes = file(alloc, BASE_NODE, RECORD, BASE)?;
-    let reader = Reader::from_source(alloc, bytes)?;
-    let path: Vec<PathElement<'static>> = Vec::new(alloc);
+/// The base file with the record of 128.0.0.0/1, a text.
+const FILE: &[u8] = b"\x00\x00\x01\x00\x00\x11\
+    \0\0\0\0\0\0\0\0\0\0\0\0\0\0\0\0\
+    \x45a\"b,c\
+    \xAB\xCD\xEFMaxMind.com\
+    \xE9\
+    \x5Bbinary_format_major_version\xA1\x02\
+    \x5Bbinary_format_minor_version\xA0\
+    \x4Bbuild_epoch\x01\x02\x01\
+    \x4Ddatabase_type\x41T\
+    \x4Bdescription\xE1\x42en\x41d\
+    \x4Aip_version\xA1\x04\
+    \x49languages\x00\x04\
+    \x4Anode_count\xC1\x01\
+    \x4Brecord_size\xA1\x18";
+
+// The path of a whole record, alone.
+fn whole_record(alloc: Global) -> Vec<Vec<PathElement<'static>>> {
     let mut paths = Vec::new(alloc);
-    paths.push(path)?;
+    let _ = paths.push(Vec::new(alloc));
+    paths
+}
+
+// Whether this is written of an input.
+fn is_enriched(
+    alloc: Global,
+    reader: &Reader<&[u8]>,
+    rows: Rows,
+    column: usize,
+    input: &[u8],
+    want: &[u8],
+) -> bool {
+    let Ok(mut cache) = Cache::new(alloc) else {
+        return false;
+    };
     let enrichment = Enrichment {
         alloc,
-        reader: &reader,
+        reader,
         rows,
         column,
-        paths,
+        paths: whole_record(alloc),
     };
-    let mut cache = Cache::new(alloc)?;
+    let mut input = input;
     let mut out: Vec<u8> = Vec::new(alloc);
-    filter_rows(
+    let is_done = filter_rows(
         alloc,
         rows,
         &enrichment,
@@ -60,29 +83,18 @@ fn enriched(alloc: Global, rows: Rows, column: usize, mut input: &[u8]) -> Resul
         &mut input,
         &mut out,
         &mut Told(0),
-    )?;
-    Ok(out)
-}
-
-// Whether this is written of an input.
-fn is_enriched(
-    alloc: Global,
-    rows: Rows,
-    column: usize,
-    input: &[u8],
-    want: &[u8],
-) -> Result<bool, Fail> {
-    let out = enriched(alloc, rows, column, input)?;
-    Ok(out.as_slice() == want)
+    )
+    .is_ok();
+    is_done && out.as_slice() == want
 }
 
 #[test]
-fn columns_of_rows(rt: HostRuntime) -> Result<(), Fail> {
-    for (rows, column, input, want) in ROWS {
-        let is_right = is_enriched(rt.alloc(), *rows, *column, input, want)?;
-        assert!(rt; is_right, "{input:?} {rows:?}");
+fn columns_of_rows(rt: HostRuntime) {
+    let reader = Reader::from_source(rt.alloc(), FILE).expect(&rt, "a reader");
+    for (case, (rows, column, input, want)) in ROWS.iter().enumerate() {
+        let is_right = is_enriched(rt.alloc(), &reader, *rows, *column, input, want);
+        assert_at(&rt, is_right, case);
     }
-    Ok(())
 }
 
 /// How many bytes stand before the address, what stands behind it, and whether it is seen whole.
@@ -97,31 +109,30 @@ const CUTS: &[(usize, &[u8], bool)] = &[
     (70_000, b"", false),
 ];
 
-// Asserts what is written of a line with an address behind so many bytes, of which the last is a tab.
-fn assert_cut(
-    rt: &impl Abort,
-    alloc: Global,
-    before: usize,
-    behind: &[u8],
-    added: &[u8],
-) -> Result<(), Fail> {
+// Whether an address is seen or not behind so many bytes, of which the last is a tab.
+fn is_cut(alloc: Global, reader: &Reader<&[u8]>, row: &(usize, &[u8], bool)) -> bool {
+    let (before, behind, is_seen) = row;
+    let added: &[u8] = if *is_seen { b"\ta\"b,c" } else { b"\t" };
     let letters = before.saturating_sub(1);
-    let line = around(alloc, b"", letters, &[b"\t200.0.0.1", behind, b"\n"]);
-    let line = line.expect(rt, "a line");
-    let want = around(alloc, b"", letters, &[b"\t200.0.0.1", behind, added, b"\n"]);
-    let want = want.expect(rt, "what is written");
-    let is_right = is_enriched(alloc, Rows::Lines, 1, line.as_slice(), want.as_slice())?;
-    assert!(rt; is_right, "{before} {behind:?}");
-    Ok(())
+    let line = [(b"x".as_slice(), letters), (b"\t200.0.0.1", 1), (behind, 1)];
+    let input = section_of(alloc, &[line[0], line[1], line[2], (b"\n", 1)]);
+    let want = section_of(alloc, &[line[0], line[1], line[2], (added, 1), (b"\n", 1)]);
+    is_enriched(
+        alloc,
+        reader,
+        Rows::Lines,
+        1,
+        input.as_slice(),
+        want.as_slice(),
+    )
 }
 
 #[test]
-fn addresses_at_the_end_of_what_is_seen(rt: HostRuntime) -> Result<(), Fail> {
-    for (before, behind, is_seen) in CUTS {
-        let added: &[u8] = if *is_seen { b"\ta\"b,c" } else { b"\t" };
-        assert_cut(&rt, rt.alloc(), *before, behind, added)?;
+fn addresses_at_the_end_of_what_is_seen(rt: HostRuntime) {
+    let reader = Reader::from_source(rt.alloc(), FILE).expect(&rt, "a reader");
+    for (case, row) in CUTS.iter().enumerate() {
+        assert_at(&rt, is_cut(rt.alloc(), &reader, row), case);
     }
-    Ok(())
 }
 
 #[rattlefmt::skip]
@@ -136,16 +147,16 @@ const CELLS: &[(&[u8], &[u8])] = &[
     (b"a\rb", b"\"a\rb\""),
 ];
 
-// Asserts a cell.
-fn assert_cell(rt: &impl Abort, alloc: Global, value: &[u8], want: &[u8]) {
+// Whether a cell is put so.
+fn is_cell(alloc: Global, value: &[u8], want: &[u8]) -> bool {
     let mut out: Vec<u8> = Vec::new(alloc);
     let is_put = put_csv_cell(b',', value, &mut out).is_ok();
-    assert!(rt; is_put && out.as_slice() == want, "{value:?}");
+    is_put && out.as_slice() == want
 }
 
 #[test]
 fn cells_in_quotes(rt: HostRuntime) {
     for (value, want) in CELLS {
-        assert_cell(&rt, rt.alloc(), value, want);
+        assert!(rt; is_cell(rt.alloc(), value, want), "{value:?}");
     }
 }

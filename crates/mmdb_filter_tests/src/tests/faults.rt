@@ -1,9 +1,10 @@
 //! Faults of the input, the output and memory in the middle.
 ghost use Rattle.std.specs.Prelude.{◌<◌};
 
-use super::streams::{Chopped, Narrow, around, assert_holds, filtered};
+use super::streams::{Chopped, Narrow, assert_at, assert_holds, filtered};
 use mmdb_filter::{Counts, Rows};
 use mmdb_vectors::hoard::Hoard;
+use mmdb_vectors::section::section_of;
 use std::alloc::Global;
 use std::io::{self, ErrorKind};
 use std::process::Abort;
@@ -11,16 +12,15 @@ use std::process::Abort;
 /// How long the long row is.
 const LONG: usize = 140_000;
 
-// Rows, one of which is long.
-fn rows(rt: &impl Abort, alloc: Global) -> Vec<u8> {
-    around(alloc, b"ab\n", LONG, &[b"\r\ncd"]).expect(rt, "rows")
-}
+/// Rows, one of which is long.
+const ROWS: &[(&[u8], usize)] = &[(b"ab\n", 1), (b"x", LONG), (b"\r\ncd", 1)];
 
-// What is written of them.
-fn written(rt: &impl Abort, alloc: Global) -> Vec<u8> {
-    let others: &[&[u8]] = &[b"|65536+\r\ncd|00002"];
-    around(alloc, b"ab|00002\n", LONG, others).expect(rt, "what is written")
-}
+/// What is written of them.
+const WRITTEN: &[(&[u8], usize)] = &[
+    (b"ab|00002\n", 1),
+    (b"x", LONG),
+    (b"|65536+\r\ncd|00002", 1),
+];
 
 fn chopped(bytes: &[u8], step: usize, fails_at: u32) -> Chopped<'_> {
     Chopped {
@@ -31,26 +31,19 @@ fn chopped(bytes: &[u8], step: usize, fails_at: u32) -> Chopped<'_> {
     }
 }
 
-// Whether rows failed. Asserts that all that is wanted was written, or where they failed a beginning of it, and that
-// they failed for this reason.
-fn is_failure(
-    rt: &impl Abort,
-    done: io::Result<Counts>,
-    out: &[u8],
-    want: &[u8],
-    reason: ErrorKind,
-    case: usize,
-) -> bool {
+// The kind of what rows failed for.
+fn kind_of(done: io::Result<Counts>) -> Option<ErrorKind> {
     match done {
-        Ok(_) => {
-            assert!(rt; out == want, "{case}");
-            false
-        }
-        Err(error) => {
-            let is_right = error.kind() == reason && want.starts_with(out);
-            assert!(rt; is_right, "{case}");
-            true
-        }
+        Ok(_) => None,
+        Err(error) => Some(error.kind()),
+    }
+}
+
+// Whether all that is wanted was written, or where rows failed a beginning of it, and they failed for this reason.
+fn is_right(failed: Option<ErrorKind>, out: &[u8], want: &[u8], reason: ErrorKind) -> bool {
+    match failed {
+        None => out == want,
+        Some(kind) => kind == reason && want.starts_with(out),
     }
 }
 
@@ -58,28 +51,23 @@ fn is_failure(
 fn fails_at_read(rt: &impl Abort, alloc: Global, input: &[u8], want: &[u8], read: u32) -> bool {
     let mut out: Vec<u8> = Vec::new(alloc);
     let input = chopped(input, 9000, read);
-    let done = filtered(alloc, Rows::Lines, input, 8192, &mut out);
-    is_failure(
-        rt,
-        done,
-        out.as_slice(),
-        want,
-        ErrorKind::InvalidData,
-        read as usize,
-    )
+    let failed = kind_of(filtered(alloc, Rows::Lines, input, 8192, &mut out));
+    let is_right = is_right(failed, out.as_slice(), want, ErrorKind::InvalidData);
+    assert_at(rt, is_right, read as usize);
+    failed.is_some()
 }
 
 #[test]
 fn reads_that_fail(rt: HostRuntime) {
-    let input = rows(&rt, rt.alloc());
-    let want = written(&rt, rt.alloc());
-    let mut refused = 0u32;
+    let input = section_of(rt.alloc(), ROWS);
+    let want = section_of(rt.alloc(), WRITTEN);
+    let mut refused = 0usize;
     for read in 0..40u32 {
         if fails_at_read(&rt, rt.alloc(), input.as_slice(), want.as_slice(), read) {
             refused = refused.saturating_add(1);
         }
     }
-    assert!(rt; refused > 20 && refused < 40, "{refused}");
+    assert_at(&rt, refused > 20 && refused < 40, refused);
 }
 
 #[rattlefmt::skip]
@@ -114,30 +102,30 @@ fn assert_room(rt: &impl Abort, alloc: Global, input: &[u8], want: &[u8], room: 
     let is_done = filtered(alloc, Rows::Lines, input, 65_536, &mut out).is_ok();
     let is_right = is_done == (room == want.len())
         && out.bytes.as_slice() == &want[..room.min(want.len())];
-    assert!(rt; is_right, "{room}");
+    assert_at(rt, is_right, room);
 }
 
 #[test]
 fn writes_that_fail_or_are_interrupted(rt: HostRuntime) {
-    let input = rows(&rt, rt.alloc());
-    let want = written(&rt, rt.alloc());
+    let input = section_of(rt.alloc(), ROWS);
+    let want = section_of(rt.alloc(), WRITTEN);
     assert_holds(&rt, want.len() == LONG + 26, "what is written");
     for room in ROOMS {
         assert_room(&rt, rt.alloc(), input.as_slice(), want.as_slice(), *room);
     }
 }
 
-// The rows filtered with so much memory. What is written has memory of its own.
-fn with_budget(alloc: Global, input: &[u8], out: &mut Narrow, budget: usize) -> io::Result<Counts>
+// What the rows fail for with so much memory. What is written has memory of its own.
+fn with_budget(alloc: Global, input: &[u8], out: &mut Narrow, budget: usize) -> Option<ErrorKind>
     requires { budget < 1000000 }
 {
     let large = Hoard::of_large_blocks(alloc);
     let small = Hoard::of_all_but(alloc, budget);
     let input = chopped(input, 70_000, u32::MAX);
-    let done = filtered(alloc, Rows::Lines, input, 4096, out);
+    let failed = kind_of(filtered(alloc, Rows::Lines, input, 4096, out));
     drop(small);
     drop(large);
-    done
+    failed
 }
 
 // Whether rows fail with so much memory.
@@ -146,37 +134,27 @@ fn fails_with(rt: &impl Abort, alloc: Global, input: &[u8], want: &[u8], budget:
 {
     let room = want.len();
     let mut out = Narrow {
-        bytes: Vec::with_capacity(alloc, room).expect(rt, "room"),
+        bytes: Vec::with_capacity(alloc, room).unwrap_or(Vec::new(alloc)),
         room,
         step: room,
         writes: 0,
     };
-    let done = with_budget(alloc, input, &mut out, budget);
-    is_failure(
-        rt,
-        done,
-        out.bytes.as_slice(),
-        want,
-        ErrorKind::OutOfMemory,
-        budget,
-    )
+    let failed = with_budget(alloc, input, &mut out, budget);
+    let is_right = is_right(failed, out.bytes.as_slice(), want, ErrorKind::OutOfMemory);
+    assert_at(rt, is_right, budget);
+    failed.is_some()
 }
 
 #[test]
 fn rows_without_memory(rt: HostRuntime) {
-    let input = rows(&rt, rt.alloc());
-    let want = written(&rt, rt.alloc());
-    let mut refused = 0u32;
+    let input = section_of(rt.alloc(), ROWS);
+    let want = section_of(rt.alloc(), WRITTEN);
+    let mut refused = 0usize;
     for step in 0..30usize {
-        if fails_with(
-            &rt,
-            rt.alloc(),
-            input.as_slice(),
-            want.as_slice(),
-            step * 32_768,
-        ) {
+        let budget = step * 32_768;
+        if fails_with(&rt, rt.alloc(), input.as_slice(), want.as_slice(), budget) {
             refused = refused.saturating_add(1);
         }
     }
-    assert!(rt; refused > 0 && refused < 30, "{refused}");
+    assert_at(&rt, refused > 0 && refused < 30, refused);
 }

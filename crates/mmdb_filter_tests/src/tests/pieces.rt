@@ -1,6 +1,7 @@
 //! Rows around the length of a piece.
-use super::streams::{Chopped, Lengths, Told, around, assert_holds, filtered};
+use super::streams::{Chopped, Lengths, Told, assert_holds, filtered};
 use mmdb_filter::{Counts, Rows, filter_rows};
+use mmdb_vectors::section::section_of;
 use std::alloc::Global;
 use std::io::{self, BufRead, BufReader, Read, Write};
 use std::process::Abort;
@@ -46,16 +47,14 @@ const STEPS: &[(usize, usize)] = &[
     (200_000, 300_000),
 ];
 
-// Asserts what is written of an input that is read in these steps.
-fn assert_filtered(
-    rt: &impl Abort,
+// Whether this is written of an input that is read in these steps.
+fn is_filtered(
     alloc: Global,
     rows: Rows,
     steps: (usize, usize),
     input: &[u8],
     want: &[u8],
-    row: &Row,
-) {
+) -> bool {
     let (step, capacity) = steps;
     let chopped = Chopped {
         bytes: input,
@@ -64,9 +63,18 @@ fn assert_filtered(
         fails_at: u32::MAX,
     };
     let mut out: Vec<u8> = Vec::new(alloc);
-    let done = filtered(alloc, rows, chopped, capacity, &mut out);
-    let is_right = done.is_ok() && out.as_slice() == want;
-    assert!(rt; is_right, "{row:?} with {step} {capacity} {rows:?}");
+    let is_done = filtered(alloc, rows, chopped, capacity, &mut out).is_ok();
+    is_done && out.as_slice() == want
+}
+
+// Asserts the same for all steps, and for lines and CSV.
+fn assert_filtered(rt: &impl Abort, alloc: Global, row: &Row, input: &[u8], want: &[u8]) {
+    for steps in STEPS {
+        for rows in [Rows::Lines, Rows::Csv { delimiter: b',' }] {
+            let is_right = is_filtered(alloc, rows, *steps, input, want);
+            assert!(rt; is_right, "{row:?} with {steps:?} {rows:?}");
+        }
+    }
 }
 
 // Asserts what is written of such a row between two others.
@@ -77,23 +85,22 @@ fn assert_row(rt: &impl Abort, alloc: Global, row: &Row) {
     } else {
         (b"\nlast", b"|00000\nlast|00004")
     };
-    let input = around(alloc, b"ab\r\n", len, &[back, end, last]);
-    let input = input.expect(rt, "an input");
-    let want = around(alloc, b"ab|00002\r\n", len, &[back, added, end, of_last]);
-    let want = want.expect(rt, "an output");
-    for steps in STEPS {
-        for rows in [Rows::Lines, Rows::Csv { delimiter: b',' }] {
-            assert_filtered(
-                rt,
-                alloc,
-                rows,
-                *steps,
-                input.as_slice(),
-                want.as_slice(),
-                row,
-            );
-        }
-    }
+    let input = section_of(
+        alloc,
+        &[(b"ab\r\n", 1), (b"x", len), (back, 1), (end, 1), (last, 1)],
+    );
+    let want = section_of(
+        alloc,
+        &[
+            (b"ab|00002\r\n", 1),
+            (b"x", len),
+            (back, 1),
+            (added, 1),
+            (end, 1),
+            (of_last, 1),
+        ],
+    );
+    assert_filtered(rt, alloc, row, input.as_slice(), want.as_slice());
 }
 
 #[test]

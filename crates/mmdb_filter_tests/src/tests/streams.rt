@@ -2,7 +2,7 @@
 ghost use Rattle.std.specs.Prelude.{⊤};
 
 use mmdb_filter::{Additions, Counts, Outcome, Progress, Rows, filter_rows};
-use std::alloc::{AllocError, Global};
+use std::alloc::Global;
 use std::io::{self, BufReader, ErrorKind, Read, Write};
 use std::process::Abort;
 
@@ -11,20 +11,9 @@ pub(crate) fn assert_holds(rt: &impl Abort, holds: bool, case: &str) {
     assert!(rt; holds, "{case}");
 }
 
-/// So many letters behind a first part and before others.
-pub(crate) fn around(
-    alloc: Global,
-    first: &[u8],
-    letters: usize,
-    others: &[&[u8]],
-) -> Result<Vec<u8>, AllocError> {
-    let mut bytes = Vec::new(alloc);
-    bytes.extend_from_slice(first)?;
-    bytes.resize(first.len().saturating_add(letters), b'x')?;
-    for other in others {
-        bytes.extend_from_slice(other)?;
-    }
-    Ok(bytes)
+/// Asserts what holds of a numbered case.
+pub(crate) fn assert_at(rt: &impl Abort, holds: bool, case: usize) {
+    assert!(rt; holds, "{case}");
 }
 
 /// An input that gives so many bytes a read, of which every third is interrupted, and fails at a read.

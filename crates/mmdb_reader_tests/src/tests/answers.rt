@@ -1,106 +1,107 @@
-//! What a database answers, as text.
+//! The files of these tests, and what they answer, as text.
 use mmdb_reader::{LookupResult, MaxMindDbError, Reader};
+use mmdb_vectors::answer::told;
+use mmdb_vectors::base::low;
+use mmdb_vectors::builder::{
+    BASE_DATA, BASE_NODE, Changes, changed_file, file_of_shared_nodes, file_of_twenty_nodes,
+    file_with_alias, file_without_subtree,
+};
 use std::alloc::{AllocError, Global};
 use std::convert::AsSlice;
 use std::net::IpAddr;
-use std::process::Abort;
 
-/// Asserts what holds of a case.
-pub fn assert_holds(rt: &impl Abort, holds: bool, case: &str) {
-    assert!(rt; holds, "{case}");
+/// A file.
+pub enum File {
+    /// These nodes and data, and the metadata of the base file with these changes.
+    Of(&'static [u8], &'static [u8], Changes<'static>),
+    WithAlias,
+    WithoutSubtree,
+    TwentyNodes,
+    SharedNodes,
 }
 
-/// Asserts a text.
-pub fn assert_text(rt: &impl Abort, text: Result<String, AllocError>, wanted: &str, case: &str) {
-    let text = text.expect(rt, case);
-    assert!(rt; text.as_str() == wanted, "{case}: {text}");
-}
+/// The base file.
+pub const BASE: File = File::Of(BASE_NODE, BASE_DATA, &[]);
 
-/// A reader of a file that is accepted.
-pub fn opened(
-    rt: &impl Abort,
-    alloc: Global,
-    file: Result<Vec<u8>, AllocError>,
-) -> Reader<Vec<u8>> {
-    let file = file.expect(rt, "a file");
-    Reader::from_source(alloc, file).expect(rt, "a file that is accepted")
-}
-
-/// The address that a text spells.
-pub fn address(rt: &impl Abort, text: &str) -> IpAddr {
-    text.parse().expect(rt, text)
-}
-
-// A text, and an offset of data or `-`.
-fn line_of(
-    alloc: Global,
-    text: &str,
-    has_data: bool,
-    offset: Option<usize>,
-) -> Result<String, AllocError> {
-    match (has_data, offset) {
-        (true, Some(offset)) => format!(in alloc; "{text} {offset}"),
-        (false, None) => format!(in alloc; "{text} -"),
-        _ => format!(in alloc; "{text} ?"),
+// The bytes of a file.
+fn made(alloc: Global, file: &File) -> Result<Vec<u8>, AllocError> {
+    match file {
+        File::Of(nodes, data, changes) => changed_file(alloc, nodes, data, changes),
+        File::WithAlias => file_with_alias(alloc),
+        File::WithoutSubtree => file_without_subtree(alloc),
+        File::TwentyNodes => file_of_twenty_nodes(alloc),
+        File::SharedNodes => file_of_shared_nodes(alloc),
     }
 }
 
-// The full text of a network, and the offset of its value or `-`.
+// A reader of these bytes, or the refusal.
+fn opened(
+    alloc: Global,
+    bytes: Result<Vec<u8>, AllocError>,
+) -> Result<Reader<Vec<u8>>, MaxMindDbError> {
+    match bytes {
+        Ok(bytes) => Reader::from_source(alloc, bytes),
+        Err(_) => Err(MaxMindDbError::Memory),
+    }
+}
+
+/// A reader of a file, or its refusal.
+pub fn reader_of(alloc: Global, file: &File) -> Result<Reader<Vec<u8>>, MaxMindDbError> {
+    opened(alloc, made(alloc, file))
+}
+
+/// The address that a text spells. A text that spells none has that of no data.
+pub fn address(text: &str) -> IpAddr {
+    text.parse().unwrap_or(low())
+}
+
+// The text of a network, of whether there is data, and of their offset.
+fn line_of(
+    alloc: Global,
+    network: Result<String, AllocError>,
+    has_data: bool,
+    offset: Option<usize>,
+) -> Result<String, AllocError> {
+    let network = network?;
+    format!(in alloc; "{network} {has_data} {offset:?}")
+}
+
+// The full text of the network that was found, whether there is data, and their offset.
 fn text_of<S: AsSlice<u8> + Drop>(
     alloc: Global,
     found: LookupResult<'_, S>,
-) -> Result<String, MaxMindDbError> {
-    let network = found.network()?.full_text(alloc)?;
+) -> Result<String, AllocError> {
     let (has_data, offset) = (found.has_data(), found.offset());
-    Ok(line_of(alloc, network.as_str(), has_data, offset)?)
+    match found.network() {
+        Ok(network) => line_of(alloc, network.full_text(alloc), has_data, offset),
+        Err(error) => told(alloc, Err::<(), _>(error)),
+    }
 }
 
-/// The text of an error.
-pub fn error_text(alloc: Global, error: MaxMindDbError) -> Result<String, AllocError> {
-    format!(in alloc; "{error}")
-}
-
-/// The network that was found and the offset of its value or `-`, or the text of the refusal.
+/// The network that was found, whether there is data, and their offset, or the text of the refusal.
 pub fn found_text<S: AsSlice<u8> + Drop>(
     alloc: Global,
     found: Result<LookupResult<'_, S>, MaxMindDbError>,
 ) -> Result<String, AllocError> {
-    let text = match found {
+    match found {
         Ok(found) => text_of(alloc, found),
-        Err(error) => Err(error),
-    };
-    match text {
-        Ok(text) => Ok(text),
-        Err(error) => error_text(alloc, error),
+        Err(error) => told(alloc, Err::<(), _>(error)),
     }
 }
 
-/// What an address is answered, or the refusal of the file.
-pub fn answer(alloc: Global, file: &[u8], address: IpAddr) -> Result<String, AllocError> {
-    match Reader::from_source(alloc, file) {
-        Ok(reader) => found_text(alloc, reader.lookup(address)),
-        Err(error) => error_text(alloc, error),
-    }
-}
-
-/// The refusal of a file, or `accepted`.
-pub fn verdict(alloc: Global, file: &[u8]) -> Result<String, AllocError> {
-    match Reader::from_source(alloc, file) {
-        Ok(_) => String::from_str(alloc, "accepted"),
-        Err(error) => error_text(alloc, error),
-    }
-}
-
-/// Asserts what each address of a file is answered.
-pub fn assert_answers(
-    rt: &impl Abort,
+/// What an address is answered by a reader, or the refusal of its file.
+pub fn answer_by(
     alloc: Global,
-    file: Result<Vec<u8>, AllocError>,
-    rows: &[(&str, &str)],
-) {
-    let reader = opened(rt, alloc, file);
-    for (text, wanted) in rows {
-        let found = reader.lookup(address(rt, text));
-        assert_text(rt, found_text(alloc, found), wanted, text);
+    opened: Result<Reader<Vec<u8>>, MaxMindDbError>,
+    text: &str,
+) -> Result<String, AllocError> {
+    match opened {
+        Ok(reader) => found_text(alloc, reader.lookup(address(text))),
+        Err(error) => told(alloc, Err::<(), _>(error)),
     }
+}
+
+/// What an address is answered by a file, or its refusal.
+pub fn answer(alloc: Global, file: &File, text: &str) -> Result<String, AllocError> {
+    answer_by(alloc, reader_of(alloc, file), text)
 }

@@ -1,10 +1,11 @@
 //! Which files are accepted, and what their metadata say.
-use super::answers::{answer, assert_holds, assert_text, error_text, opened, verdict};
-use mmdb_reader::{MaxMindDbError, Metadata};
-use mmdb_vectors::base::{BASE_FILE, high, low};
-use mmdb_vectors::builder::{BASE_DATA, BASE_NODE, Changes, Field, base_file, changed_file};
+use super::answers::{BASE, File, answer, reader_of};
+use mmdb_reader::{MaxMindDbError, Metadata, Reader};
+use mmdb_vectors::answer::{shown, told};
+use mmdb_vectors::base::BASE_FILE;
+use mmdb_vectors::builder::{BASE_DATA, BASE_NODE, Changes, Field, changed_file};
+use mmdb_vectors::failures::Failures;
 use std::alloc::{AllocError, Global};
-use std::process::Abort;
 
 const NO_MARKER: &str = "invalid database: could not find MaxMind DB metadata in file";
 
@@ -20,60 +21,55 @@ const NO_LOCATION: &str =
 /// Changes of metadata, and the refusal.
 type Refusals = &'static [(Changes<'static>, &'static str)];
 
-const WITHOUT: &str = "0.0.0.0/1 -";
+const WITHOUT: &str = "0.0.0.0/1 false None";
 
-const BEHIND: &str = "128.0.0.0/1 0";
+const BEHIND: &str = "128.0.0.0/1 true Some(0)";
 
-/// Nodes, data and changed metadata, and what the lower and the upper half of the file are answered.
-type Case = (
-    &'static str,
-    &'static [u8],
-    &'static [u8],
-    Changes<'static>,
-    &'static str,
-    &'static str,
-);
-
+/// A file, and what its lower and its upper half are answered.
 #[rattlefmt::skip]
-const CASES: &[Case] = &[
-    ("the base file", BASE_NODE, BASE_DATA, &[], WITHOUT, BEHIND),
-    ("one more byte", BASE_NODE, BASE_DATA, &[(Field::More, b"\x00")], WITHOUT, BEHIND),
+const CASES: &[(&str, File, &str, &str)] = &[
+    ("the base file", BASE, WITHOUT, BEHIND),
+    (
+        "one more byte",
+        File::Of(BASE_NODE, BASE_DATA, &[(Field::More, b"\x00")]),
+        WITHOUT,
+        BEHIND,
+    ),
     (
         "another minor version",
-        BASE_NODE,
-        BASE_DATA,
-        &[(Field::MinorVersion, b"\xA1\x09")],
+        File::Of(BASE_NODE, BASE_DATA, &[(Field::MinorVersion, b"\xA1\x09")]),
         WITHOUT,
         BEHIND,
     ),
     (
         "a marker in the data",
-        BASE_NODE,
-        b"\x41x\x8E\xAB\xCD\xEFMaxMind.com",
-        &[],
+        File::Of(BASE_NODE, b"\x41x\x8E\xAB\xCD\xEFMaxMind.com", &[]),
         WITHOUT,
         BEHIND,
     ),
-    ("no data", b"\x00\x00\x01\x00\x00\x01", b"", &[], WITHOUT, "128.0.0.0/1 -"),
-    ("an offset without data", BASE_NODE, b"", &[], WITHOUT, NO_LOCATION),
-    ("no room", BASE_NODE, BASE_DATA, &[(Field::NodeCount, b"\xC1\x02")], NO_ROOM, NO_ROOM),
+    (
+        "no data",
+        File::Of(b"\x00\x00\x01\x00\x00\x01", b"", &[]),
+        WITHOUT,
+        "128.0.0.0/1 false None",
+    ),
+    ("an offset without data", File::Of(BASE_NODE, b"", &[]), WITHOUT, NO_LOCATION),
+    (
+        "no room",
+        File::Of(BASE_NODE, BASE_DATA, &[(Field::NodeCount, b"\xC1\x02")]),
+        NO_ROOM,
+        NO_ROOM,
+    ),
 ];
 
-// Asserts what both halves of a file are answered.
-fn assert_case(rt: &impl Abort, alloc: Global, row: &Case) {
-    let (case, nodes, data, changes, lower, upper) = row;
-    let file = changed_file(alloc, nodes, data, changes).expect(rt, case);
-    let answered = answer(alloc, file.as_slice(), low());
-    assert_text(rt, answered, lower, case);
-    let answered = answer(alloc, file.as_slice(), high());
-    assert_text(rt, answered, upper, case);
-}
-
 #[test]
-fn accepted_and_refused(rt: HostRuntime) {
-    for case in CASES {
-        assert_case(&rt, rt.alloc(), case);
+fn accepted_and_refused(rt: HostRuntime) -> Result<(), Failures> {
+    let (alloc, mut failures) = (rt.alloc(), Failures::new(rt.alloc()));
+    for (case, file, lower, upper) in CASES {
+        failures.expect_text(case, answer(alloc, file, "1.1.1.1"), lower);
+        failures.expect_text(case, answer(alloc, file, "200.0.0.1"), upper);
     }
+    failures.verdict()
 }
 
 /// The first bytes of the base file, and the refusal. The marker ends at 38, and the metadata begin there:
@@ -91,23 +87,26 @@ const BEGINNINGS: &[(usize, &str)] = &[
     (198, "invalid database at offset 197: u16 of size 1"),
 ];
 
-// Asserts that a text names the format.
-fn assert_of_database(rt: &impl Abort, refusal: Result<String, AllocError>, len: usize) {
-    let refusal = refusal.expect(rt, "a text");
-    let is_right = refusal.starts_with("invalid database");
-    assert!(rt; is_right, "{len} bytes: {refusal}");
+// Whether a file is refused with a text that names the format.
+fn is_of_database(alloc: Global, file: &[u8]) -> bool {
+    match told(alloc, Reader::from_source(alloc, file)) {
+        Ok(refusal) => refusal.starts_with("invalid database"),
+        Err(_) => false,
+    }
 }
 
 #[test]
-fn beginnings_refused(rt: HostRuntime) {
-    let alloc = rt.alloc();
-    for (len, _) in BASE_FILE.iter().enumerate() {
-        assert_of_database(&rt, verdict(alloc, &BASE_FILE[..len]), len);
+fn beginnings_refused(rt: HostRuntime) -> Result<(), Failures> {
+    let (alloc, mut failures) = (rt.alloc(), Failures::new(rt.alloc()));
+    for len in 0..BASE_FILE.len() {
+        failures.expect(&len, is_of_database(alloc, &BASE_FILE[..len]));
     }
     for (len, text) in BEGINNINGS {
-        let beginning = BASE_FILE.get(..*len).expect(&rt, text);
-        assert_text(&rt, verdict(alloc, beginning), text, "a beginning");
+        let beginning = BASE_FILE.get(..*len).unwrap_or(BASE_FILE);
+        let refusal = told(alloc, Reader::from_source(alloc, beginning));
+        failures.expect_text(len, refusal, text);
     }
+    failures.verdict()
 }
 
 const LATE: (Field, &[u8]) = (Field::BuildEpoch, b"\x08\x02\x80\0\0\0\0\0\0\0");
@@ -154,19 +153,6 @@ const FAULTS: Refusals = &[
     ),
 ];
 
-// Asserts with which text a file of these data and metadata is refused.
-fn assert_refusal(rt: &impl Abort, alloc: Global, data: &[u8], changes: Changes<'_>, text: &str) {
-    let file = changed_file(alloc, BASE_NODE, data, changes).expect(rt, text);
-    assert_text(rt, verdict(alloc, file.as_slice()), text, text);
-}
-
-#[test]
-fn earlier_fault_is_named(rt: HostRuntime) {
-    for (changes, text) in FAULTS {
-        assert_refusal(&rt, rt.alloc(), BASE_DATA, changes, text);
-    }
-}
-
 /// Metadata whose values are not read, and the refusal. `InvalidDatabase` counts from the start of the
 /// file, the others from that of the metadata: these begin at 36 and the length of the data.
 #[rattlefmt::skip]
@@ -210,87 +196,96 @@ const UNREAD_LATER: Refusals = &[
     ),
 ];
 
-#[test]
-fn metadata_refused(rt: HostRuntime) {
-    for (changes, text) in UNREAD {
-        assert_refusal(&rt, rt.alloc(), BASE_DATA, changes, text);
-    }
-    for (changes, text) in UNREAD_LATER {
-        assert_refusal(&rt, rt.alloc(), b"\x48abcdefgh", changes, text);
-    }
+// The refusal of a file of these data and changed metadata, or `ok`.
+fn refusal(alloc: Global, data: &[u8], changes: Changes<'_>) -> Result<String, AllocError> {
+    let file = changed_file(alloc, BASE_NODE, data, changes)?;
+    told(alloc, Reader::from_source(alloc, file))
 }
 
-/// Metadata that are read, and name the type `T`.
+#[test]
+fn metadata_refused(rt: HostRuntime) -> Result<(), Failures> {
+    let (alloc, mut failures) = (rt.alloc(), Failures::new(rt.alloc()));
+    for (changes, text) in FAULTS.iter().chain(UNREAD) {
+        failures.expect_text(text, refusal(alloc, BASE_DATA, changes), text);
+    }
+    for (changes, text) in UNREAD_LATER {
+        failures.expect_text(text, refusal(alloc, b"\x48abcdefgh", changes), text);
+    }
+    failures.verdict()
+}
+
+/// What the base file says of itself.
+const OF_BASE: &str =
+    "Metadata { binary_format_major_version: 2, binary_format_minor_version: 0, build_epoch: 1, database_type: \"T\", description: {\"en\": \"d\"}, ip_version: 4, languages: [], node_count: 1, record_size: 24 }";
+
+/// What a file says of itself whose last time is 63 bits long.
+const OF_LARGEST: &str =
+    "Metadata { binary_format_major_version: 2, binary_format_minor_version: 0, build_epoch: 9223372036854775807, database_type: \"T\", description: {\"en\": \"d\"}, ip_version: 4, languages: [], node_count: 1, record_size: 24 }";
+
+/// A file whose metadata are read, what they say, and the time of its build.
 #[rattlefmt::skip]
-const READ: &[(&str, Changes<'static>)] = &[
-    ("the base file", &[]),
-    ("a pointer", &[(Field::DatabaseType, b"\x20\xA1"), (Field::More, b"\x41T")]),
+const READ: &[(File, &str, &str)] = &[
+    (BASE, OF_BASE, "1"),
+    // a type behind a pointer
     (
-        "an unknown field whose pointer leads nowhere",
-        &[(Field::Map, b"\xEA"), (Field::More, b"\x41z\x20\xFF")],
+        File::Of(BASE_NODE, BASE_DATA, &[(Field::DatabaseType, b"\x20\xA1"), (Field::More, b"\x41T")]),
+        OF_BASE,
+        "1",
+    ),
+    // an unknown field whose pointer leads nowhere
+    (
+        File::Of(BASE_NODE, BASE_DATA, &[(Field::Map, b"\xEA"), (Field::More, b"\x41z\x20\xFF")]),
+        OF_BASE,
+        "1",
+    ),
+    (
+        File::Of(
+            BASE_NODE,
+            BASE_DATA,
+            &[(Field::BuildEpoch, b"\x08\x02\x7F\xFF\xFF\xFF\xFF\xFF\xFF\xFF")],
+        ),
+        OF_LARGEST,
+        "9223372036854775807",
     ),
 ];
 
-#[test]
-fn metadata_read(rt: HostRuntime) {
-    for (case, changes) in READ {
-        let file = changed_file(rt.alloc(), BASE_NODE, BASE_DATA, changes);
-        let reader = opened(&rt, rt.alloc(), file);
-        assert_holds(&rt, reader.metadata().database_type.as_str() == "T", case);
+// Notes what is told otherwise by metadata, by their time, and by the first time that is too large.
+fn expect_metadata(
+    failures: &mut Failures,
+    alloc: Global,
+    metadata: Result<Metadata, AllocError>,
+    wanted: &str,
+    time: &str,
+) {
+    let Ok(mut metadata) = metadata else {
+        failures.expect(&"a clone", false);
+        return;
+    };
+    failures.expect_text(&time, format!(in alloc; "{metadata:?}"), wanted);
+    failures.expect_text(&time, shown(alloc, metadata.build_time(alloc)), time);
+    metadata.build_epoch = 9_223_372_036_854_775_808;
+    failures.expect_text(&time, shown(alloc, metadata.build_time(alloc)), TOO_LATE);
+}
+
+// What there is of a file that is refused.
+fn no_metadata(_error: MaxMindDbError) -> Result<Metadata, AllocError> {
+    Err(AllocError)
+}
+
+// The metadata of a file.
+fn metadata_of(opened: Result<Reader<Vec<u8>>, MaxMindDbError>) -> Result<Metadata, AllocError> {
+    match opened {
+        Ok(reader) => reader.metadata().clone(),
+        Err(error) => no_metadata(error),
     }
 }
 
-// Asserts what the base file says of itself.
-fn assert_base_metadata(rt: &impl Abort, metadata: &Metadata) {
-    let versions = (
-        metadata.binary_format_major_version,
-        metadata.binary_format_minor_version,
-    );
-    assert!(rt; versions == (2, 0), "{versions:?}");
-    let tree = (
-        metadata.ip_version,
-        metadata.node_count,
-        metadata.record_size,
-    );
-    assert!(rt; tree == (4, 1, 24), "{tree:?}");
-    assert_holds(rt, metadata.build_epoch == 1, "build epoch");
-    assert_holds(rt, metadata.database_type.as_str() == "T", "database type");
-    assert_holds(rt, metadata.languages.len() == 0, "languages");
-    assert_holds(rt, metadata.description.len() == 1, "description");
-}
-
-const LARGEST: (Field, &[u8]) = (
-    Field::BuildEpoch,
-    b"\x08\x02\x7F\xFF\xFF\xFF\xFF\xFF\xFF\xFF",
-);
-
-// The text of a time, or of its refusal.
-fn time_text(alloc: Global, time: Result<i64, MaxMindDbError>) -> Result<String, AllocError> {
-    match time {
-        Ok(time) => format!(in alloc; "{time}"),
-        Err(error) => error_text(alloc, error),
-    }
-}
-
-// Asserts the largest time, and that there is none after it.
-fn assert_largest(rt: &impl Abort, alloc: Global) {
-    let file = changed_file(alloc, BASE_NODE, BASE_DATA, &[LARGEST]);
-    let reader = opened(rt, alloc, file);
-    let time = time_text(alloc, reader.metadata().build_time(alloc));
-    assert_text(rt, time, "9223372036854775807", "the largest time");
-    let mut later = reader.metadata().clone().expect(rt, "a clone");
-    later.build_epoch = 9_223_372_036_854_775_808;
-    let time = time_text(alloc, later.build_time(alloc));
-    assert_text(rt, time, TOO_LATE, "a time after it");
-}
-
 #[test]
-fn build_epoch_at_the_limit(rt: HostRuntime) {
-    let alloc = rt.alloc();
-    let base = opened(&rt, alloc, base_file(alloc));
-    assert_base_metadata(&rt, base.metadata());
-    let time = time_text(alloc, base.metadata().build_time(alloc));
-    assert_text(&rt, time, "1", "the base file");
-    assert_refusal(&rt, alloc, BASE_DATA, &[LATE], TOO_LATE);
-    assert_largest(&rt, alloc);
+fn metadata_read(rt: HostRuntime) -> Result<(), Failures> {
+    let (alloc, mut failures) = (rt.alloc(), Failures::new(rt.alloc()));
+    for (file, wanted, time) in READ {
+        let metadata = metadata_of(reader_of(alloc, file));
+        expect_metadata(&mut failures, alloc, metadata, wanted, time);
+    }
+    failures.verdict()
 }

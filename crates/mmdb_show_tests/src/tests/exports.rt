@@ -1,8 +1,9 @@
 //! Networks with what their records have.
 use super::program::{Run, assert_of, run_of};
-use mmdb_vectors::builder::{Field, changed_file, push_node_24};
-use std::alloc::{AllocError, Global};
-use std::test::Fail;
+use mmdb_vectors::builder::{Field, changed_file, nodes_24};
+use mmdb_vectors::section::section_of;
+use std::alloc::Global;
+use std::process::Abort;
 
 /// The records of the nodes: of three that lead to others, and of the eight networks of /3, where offset o is 23 + o,
 /// 7 is none, and 4096 lies past the data.
@@ -21,7 +22,7 @@ const NODES: &[(u32, u32)] = &[
 const DATA: &[u8] =
     b"\xE3\x41a\x45x,\"y\"\x41n\xA1\x07\x41l\x01\x04\x41z\x41\xFF\xE2\x41a\xE1\x41b\xA1\x01\x41n\x41\xFF\xE1\x41a\xE1\x41b\x01\x07\xE0";
 
-/// Words after the file, standard output, and what each line of standard error has to hold.
+/// Words, standard output, and what each line of standard error has to hold.
 type Row<'a> = (&'a [&'a str], &'a str, &'a [&'a str]);
 
 const RECORDS: &str =
@@ -52,59 +53,45 @@ const THREE: &[&str] = &[
 #[rattlefmt::skip]
 const ROWS: &[Row<'static>] = &[
     // faults are told in their places, and nothing before or after them is lost
-    (&[], RECORDS, THREE),
-    (&["--field", "a", "--field", "n", "--format", "csv"], CELLS, THREE),
+    (&["export", "here.mmdb"], RECORDS, THREE),
+    (&["export", "here.mmdb", "--field", "a", "--field", "n", "--format", "csv"], CELLS, THREE),
     // a fault in a field that is not asked for is none
     (
-        &["160.0.0.0/3", "--field", "a.b", "--format", "csv"],
+        &["export", "here.mmdb", "160.0.0.0/3", "--field", "a.b", "--format", "csv"],
         "network,a.b\n160.0.0.0/3,1\n",
         &[],
     ),
-    (&["192.0.0.0/2", "--field", "a", "--field", "l.-1"], VALUES, &[]),
+    (&["export", "here.mmdb", "192.0.0.0/2", "--field", "a", "--field", "l.-1"], VALUES, &[]),
     (
-        &["64.0.0.0/2", "--format", "jsonl", "--field", "l.-1"],
+        &["export", "here.mmdb", "64.0.0.0/2", "--format", "jsonl", "--field", "l.-1"],
         "{\"network\":\"64.0.0.0/3\",\"l.-1\":\"z\"}\n",
         &[],
     ),
     // names of columns are quoted too
     (
-        &["192.0.0.0/2", "--field", "\"a\".b", "--format", "csv"],
+        &["export", "here.mmdb", "192.0.0.0/2", "--field", "\"a\".b", "--format", "csv"],
         "network,\"\"\"a\"\".b\"\n192.0.0.0/3,true\n224.0.0.0/3,\n",
         &[],
     ),
-    (&["224.0.0.0/3", "--field", "", "--format", "csv"], "network,\n224.0.0.0/3,{}\n", &[]),
+    (&["export", "here.mmdb", "224.0.0.0/3", "--field", "", "--format", "csv"], "network,\n224.0.0.0/3,{}\n", &[]),
     // a range without data has a header alone
-    (&["96.0.0.0/3", "--field", "a", "--format", "csv"], "network,a\n", &[]),
-    (&["96.0.0.0/3", "--field", "a"], "", &[]),
+    (&["export", "here.mmdb", "96.0.0.0/3", "--field", "a", "--format", "csv"], "network,a\n", &[]),
+    (&["export", "here.mmdb", "96.0.0.0/3", "--field", "a"], "", &[]),
     // an address is the network of one, and shows the one around it
-    (&["65.0.0.1", "--field", "n"], "{\"network\":\"64.0.0.0/3\",\"n\":7}\n", &[]),
+    (&["export", "here.mmdb", "65.0.0.1", "--field", "n"], "{\"network\":\"64.0.0.0/3\",\"n\":7}\n", &[]),
 ];
 
-// The tree of nodes with these records.
-fn tree_of(alloc: Global, nodes: &[(u32, u32)]) -> Result<Vec<u8>, AllocError> {
-    let mut tree = Vec::new(alloc);
-    for (left, right) in nodes {
-        push_node_24(&mut tree, *left, *right)?;
-    }
-    Ok(tree)
-}
-
-// A file with those networks.
-fn file_of_eight(alloc: Global) -> Result<Vec<u8>, AllocError> {
-    let tree = tree_of(alloc, NODES)?;
-    changed_file(
-        alloc,
-        tree.as_slice(),
-        DATA,
-        &[(Field::NodeCount, b"\xC1\x07".as_slice())],
-    )
-}
-
-// A run of `export` over a file, on words after it.
-fn export_of(alloc: Global, bytes: &[u8], texts: &[&str]) -> Result<Run, Fail> {
-    let mut words: Vec<&str> = vec![in alloc; "export", "here.mmdb"]?;
-    words.extend_from_slice(texts)?;
-    run_of(alloc, bytes, words.as_slice(), "")
+// A file of these nodes, their count as it is encoded, and data.
+fn file_of_nodes(
+    rt: &impl Abort,
+    alloc: Global,
+    nodes: &[(u32, u32)],
+    count: &[u8],
+    data: &[u8],
+) -> Vec<u8> {
+    let changes = [(Field::NodeCount, count)];
+    let tree = nodes_24(alloc, nodes).expect(rt, "nodes");
+    changed_file(alloc, tree.as_slice(), data, &changes).expect(rt, "a file")
 }
 
 // Whether there are as many lines as parts, and each holds its own.
@@ -120,18 +107,16 @@ fn lines_hold(text: &str, parts: &[&str]) -> bool {
 // Whether a run wrote a text, and reported lines that hold some parts.
 fn is_as_wanted(run: &Run, written: &str, told: &[&str]) -> bool {
     let status = u8::from(!told.is_empty());
-    run.out.as_str() == written && run.status == status && lines_hold(run.err.as_str(), told)
+    run.out() == written && run.status == status && lines_hold(run.err(), told)
 }
 
 #[test]
-fn networks_with_fields(rt: HostRuntime) -> Result<(), Fail> {
-    let alloc = rt.alloc();
-    let bytes = file_of_eight(alloc)?;
+fn networks_with_fields(rt: HostRuntime) {
+    let bytes = file_of_nodes(&rt, rt.alloc(), NODES, b"\xC1\x07", DATA);
     for (texts, written, told) in ROWS {
-        let run = export_of(alloc, bytes.as_slice(), texts)?;
+        let run = run_of(rt.alloc(), bytes.as_slice(), texts, "");
         assert_of(&rt, texts, &run, is_as_wanted(&run, written, told));
     }
-    Ok(())
 }
 
 /// The beginnings and the lengths of lines whose records are a text of 5,000 bytes and one of one byte, in turn.
@@ -142,22 +127,8 @@ const LONG_AND_SHORT: &[(&str, usize)] = &[
     ("{\"network\":\"192.0.0.0/2\",\"record\":\"s\"}", 38),
 ];
 
-// A text of 5,000 bytes, and one of one byte.
-fn long_and_short_data(alloc: Global) -> Result<Vec<u8>, AllocError> {
-    let mut data = Vec::new(alloc);
-    data.extend_from_slice(b"\x5E\x12\x6B")?;
-    data.resize(5003, b'l')?;
-    data.extend_from_slice(b"\x41s")?;
-    Ok(data)
-}
-
-// A file whose four networks have the long and the short text in turn.
-fn long_and_short_file(alloc: Global) -> Result<Vec<u8>, AllocError> {
-    let tree = tree_of(alloc, &[(1, 2), (19, 5022), (19, 5022)])?;
-    let data = long_and_short_data(alloc)?;
-    let count = [(Field::NodeCount, b"\xC1\x03".as_slice())];
-    changed_file(alloc, tree.as_slice(), data.as_slice(), &count)
-}
+/// A text of 5,000 bytes, and one of one byte.
+const LONG_AND_SHORT_DATA: &[(&[u8], usize)] = &[(b"\x5E\x12\x6B", 1), (b"l", 5000), (b"\x41s", 1)];
 
 // Whether the lines of a text begin so, and are so long.
 fn are_long_and_short(text: &str) -> bool {
@@ -169,12 +140,14 @@ fn are_long_and_short(text: &str) -> bool {
     text.lines().count() == LONG_AND_SHORT.len()
 }
 
+// Four networks have the long and the short text in turn.
 #[test]
-fn rows_too_long_to_be_kept(rt: HostRuntime) -> Result<(), Fail> {
-    let alloc = rt.alloc();
-    let bytes = long_and_short_file(alloc)?;
-    let run = export_of(alloc, bytes.as_slice(), &[])?;
-    let holds = run.status == 0 && are_long_and_short(run.out.as_str());
-    assert_of(&rt, &["export"], &run, holds);
-    Ok(())
+fn rows_too_long_to_be_kept(rt: HostRuntime) {
+    let data = section_of(rt.alloc(), LONG_AND_SHORT_DATA);
+    let nodes = [(1, 2), (19, 5022), (19, 5022)];
+    let bytes = file_of_nodes(&rt, rt.alloc(), &nodes, b"\xC1\x03", data.as_slice());
+    let texts = ["export", "here.mmdb"];
+    let run = run_of(rt.alloc(), bytes.as_slice(), &texts, "");
+    let holds = run.status == 0 && are_long_and_short(run.out());
+    assert_of(&rt, &texts, &run, holds);
 }

@@ -1,12 +1,11 @@
 //! Files that can't be read to their end, and writers that refuse.
 use super::program::{Narrow, Run, assert_of, file_of, run_of, run_over, words_with};
 use mmdb_program::run;
-use mmdb_vectors::builder::base_file;
+use mmdb_vectors::base::BASE_FILE;
 use mmdb_vectors::file::OneFile;
 use std::alloc::Global;
 use std::io::ErrorKind;
 use std::process::Abort;
-use std::test::Fail;
 
 /// Commands over a file, with what they write of the base file.
 const COMMANDS: &[&[&str]] = &[
@@ -19,15 +18,10 @@ const COMMANDS: &[&[&str]] = &[
     &["verify", "here.mmdb"],
 ];
 
-// A run whose file's read number `fails_at` fails.
-fn with_a_failed_read(
-    alloc: Global,
-    bytes: &[u8],
-    texts: &[&str],
-    fails_at: u32,
-) -> Result<Run, Fail> {
+// A run over the base file, whose read number `fails_at` fails.
+fn with_a_failed_read(alloc: Global, texts: &[&str], fails_at: u32) -> Run {
     let files = OneFile {
-        bytes,
+        bytes: BASE_FILE,
         step: 64,
         fails_at,
     };
@@ -38,117 +32,75 @@ fn with_a_failed_read(
 fn is_of_failed_read(texts: &[&str], run: &Run) -> bool {
     // what verify finds is its output
     let is_verify = texts.first() == Some(&"verify");
-    let told = if is_verify { &run.out } else { &run.err };
+    let told = if is_verify { run.out() } else { run.err() };
     run.status == 1
         && told.contains("here.mmdb: i/o error: ")
-        && (run.out.is_empty() || run.err.is_empty())
+        && (run.out().is_empty() || run.err().is_empty())
 }
 
 #[test]
-fn reads_that_fail(rt: HostRuntime) -> Result<(), Fail> {
-    let alloc = rt.alloc();
-    let bytes = base_file(alloc)?;
+fn reads_that_fail(rt: HostRuntime) {
     for texts in COMMANDS {
         for fails_at in 0..4u32 {
-            let run = with_a_failed_read(alloc, bytes.as_slice(), texts, fails_at)?;
+            let run = with_a_failed_read(rt.alloc(), texts, fails_at);
             assert_of(&rt, texts, &run, is_of_failed_read(texts, &run));
         }
     }
-    Ok(())
 }
 
-/// What a run left that wrote to a narrow writer.
-#[derive(Debug, Drop)]
-struct Cut {
-    status: u8,
-    out: Vec<u8>,
-    err: String,
-}
-
-// A run on words over a writer with so much room.
-fn words_with_room(
-    alloc: Global,
-    bytes: &[u8],
-    words: &[String],
-    room: usize,
-    refusal: ErrorKind,
-) -> Result<Cut, Fail> {
+// A run over the base file and a writer with so much room.
+fn with_room(alloc: Global, texts: &[&str], room: usize, refusal: ErrorKind) -> Run {
+    let words = words_with(alloc, texts);
     let mut input: &[u8] = b"";
     let mut out = Narrow {
         bytes: Vec::new(alloc),
         room,
         refusal,
     };
-    let mut err: Vec<u8> = Vec::new(alloc);
+    let mut reported: Vec<u8> = Vec::new(alloc);
     let status = run(
-        &file_of(bytes),
+        &file_of(BASE_FILE),
         alloc,
-        words,
+        words.as_slice(),
         false,
         &mut input,
         &mut out,
-        &mut err,
+        &mut reported,
     );
-    let err = String::from_utf8(err)?;
-    Ok(Cut {
+    Run {
         status,
-        out: out.bytes,
-        err,
-    })
-}
-
-// A run over a writer with so much room.
-fn with_room(
-    alloc: Global,
-    bytes: &[u8],
-    texts: &[&str],
-    room: usize,
-    refusal: ErrorKind,
-) -> Result<Cut, Fail> {
-    let words = words_with(alloc, texts)?;
-    words_with_room(alloc, bytes, words.as_slice(), room, refusal)
+        written: out.bytes,
+        reported,
+    }
 }
 
 // Whether a run wrote the beginning of a text that there was room for, and reported why not more. Of an output that
 // was closed nothing is reported.
-fn is_cut(cut: &Cut, whole: &[u8], room: usize, refusal: ErrorKind) -> bool {
+fn is_cut(cut: &Run, whole: &str, room: usize, refusal: ErrorKind) -> bool {
     let is_full = refusal == ErrorKind::StorageFull;
     cut.status == 1
-        && cut.out.as_slice() == &whole[..room.min(whole.len())]
-        && cut.err.contains("write error") == is_full
-        && cut.err.is_empty() != is_full
-}
-
-fn assert_cut(rt: &impl Abort, texts: &[&str], room: usize, cut: &Cut, holds: bool) {
-    assert!(rt; holds, "{texts:?} with {room}: {cut:?}");
+        && cut.written.as_slice() == &whole.as_bytes()[..room.min(whole.len())]
+        && cut.err().contains("write error") == is_full
+        && cut.err().is_empty() != is_full
 }
 
 // Asserts what a run does over writers with so much room.
-fn assert_cuts(
-    rt: &impl Abort,
-    alloc: Global,
-    bytes: &[u8],
-    texts: &[&str],
-    room: usize,
-    whole: &[u8],
-) -> Result<(), Fail> {
-    for refusal in [ErrorKind::StorageFull, ErrorKind::BrokenPipe] {
-        let cut = with_room(alloc, bytes, texts, room, refusal)?;
-        let holds = is_cut(&cut, whole, room, refusal);
-        assert_cut(rt, texts, room, &cut, holds);
-    }
-    Ok(())
+fn assert_cuts(rt: &impl Abort, alloc: Global, texts: &[&str], room: usize, whole: &str) {
+    let full = with_room(alloc, texts, room, ErrorKind::StorageFull);
+    let is_right = is_cut(&full, whole, room, ErrorKind::StorageFull);
+    assert_of(rt, texts, &full, is_right);
+    let closed = with_room(alloc, texts, room, ErrorKind::BrokenPipe);
+    let is_right = is_cut(&closed, whole, room, ErrorKind::BrokenPipe);
+    assert_of(rt, texts, &closed, is_right);
 }
 
 #[test]
-fn writers_that_refuse(rt: HostRuntime) -> Result<(), Fail> {
-    let alloc = rt.alloc();
-    let bytes = base_file(alloc)?;
+fn writers_that_refuse(rt: HostRuntime) {
     for texts in COMMANDS {
-        let whole = run_of(alloc, bytes.as_slice(), texts, "")?.out;
+        let run = run_of(rt.alloc(), BASE_FILE, texts, "");
+        let whole = run.out();
         for room in [0, 1, whole.len() / 2, whole.len().saturating_sub(1)] {
-            assert_cuts(&rt, alloc, bytes.as_slice(), texts, room, whole.as_bytes())?;
+            assert_cuts(&rt, rt.alloc(), texts, room, whole);
         }
     }
-    Ok(())
 }

@@ -1,7 +1,6 @@
 //! Helps, and what a terminal gets.
 use super::program::{assert_of, file_of, run_of, run_over};
-use mmdb_vectors::builder::base_file;
-use std::test::Fail;
+use mmdb_vectors::base::BASE_FILE;
 
 /// Words that ask for help, and what it has to hold.
 const HELPS: &[(&[&str], &[&str])] = &[
@@ -53,14 +52,12 @@ fn holds_all(text: &str, parts: &[&str]) -> bool {
 }
 
 #[test]
-fn helps_have_examples(rt: HostRuntime) -> Result<(), Fail> {
-    let alloc = rt.alloc();
+fn helps_have_examples(rt: HostRuntime) {
     for (texts, held) in HELPS {
-        let run = run_of(alloc, b"", texts, "")?;
-        let holds = run.status == 0 && run.err.is_empty() && holds_all(run.out.as_str(), held);
+        let run = run_of(rt.alloc(), b"", texts, "");
+        let holds = run.status == 0 && run.err().is_empty() && holds_all(run.out(), held);
         assert_of(&rt, texts, &run, holds);
     }
-    Ok(())
 }
 
 const PRETTY: &str = "{
@@ -79,13 +76,10 @@ const ON_A_TERMINAL: &[(&[&str], &str)] = &[
 ];
 
 #[test]
-fn a_terminal_gets_several_lines(rt: HostRuntime) -> Result<(), Fail> {
-    let alloc = rt.alloc();
-    let base = base_file(alloc)?;
+fn a_terminal_gets_several_lines(rt: HostRuntime) {
     for (texts, wanted) in ON_A_TERMINAL {
-        let run = run_over(alloc, &file_of(base.as_slice()), texts, "", true)?;
-        let holds = run.status == 0 && run.err.is_empty() && run.out.as_str() == *wanted;
+        let run = run_over(rt.alloc(), &file_of(BASE_FILE), texts, "", true);
+        let holds = run.status == 0 && run.err().is_empty() && run.out() == *wanted;
         assert_of(&rt, texts, &run, holds);
     }
-    Ok(())
 }

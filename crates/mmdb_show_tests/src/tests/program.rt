@@ -1,21 +1,32 @@
 //! The program on words, files and lines that a test makes.
 use mmdb_program::run;
 use mmdb_vectors::file::OneFile;
-use mmdb_vectors::words::words_of;
-use std::alloc::{AllocError, Global};
+use std::alloc::Global;
 use std::io::{self, Write};
 use std::process::Abort;
-use std::test::Fail;
+use std::str;
 
 /// Reads enough for each file of a test.
 const ALL_READS: u32 = 1000;
 
 /// What a run left.
-#[derive(Debug, Drop)]
+#[derive(Drop)]
 pub(crate) struct Run {
     pub(crate) status: u8,
-    pub(crate) out: String,
-    pub(crate) err: String,
+    pub(crate) written: Vec<u8>,
+    pub(crate) reported: Vec<u8>,
+}
+
+impl Run {
+    /// What standard output got.
+    pub(crate) fn out(&self) -> &str {
+        str::from_utf8(self.written.as_slice()).unwrap_or("not UTF-8")
+    }
+
+    /// What standard error got.
+    pub(crate) fn err(&self) -> &str {
+        str::from_utf8(self.reported.as_slice()).unwrap_or("not UTF-8")
+    }
 }
 
 /// A writer with room for so many bytes, which then refuses.
@@ -41,11 +52,19 @@ impl Write for Narrow {
     }
 }
 
+// Without memory for it the word is missing.
+fn push_word(words: &mut Vec<String>, alloc: Global, text: &str) {
+    let _ = words.push(String::from_str(alloc, text).unwrap_or(String::new(alloc)));
+}
+
 /// The words of a run, the program's name first.
-pub(crate) fn words_with(alloc: Global, texts: &[&str]) -> Result<Vec<String>, AllocError> {
-    let mut words = words_of(alloc, &["mmdb"])?;
-    words.append(&mut words_of(alloc, texts)?)?;
-    Ok(words)
+pub(crate) fn words_with(alloc: Global, texts: &[&str]) -> Vec<String> {
+    let mut words = Vec::new(alloc);
+    push_word(&mut words, alloc, "mmdb");
+    for text in texts {
+        push_word(&mut words, alloc, text);
+    }
+    words
 }
 
 /// The file `here.mmdb`, without a fault.
@@ -57,39 +76,6 @@ pub(crate) fn file_of(bytes: &[u8]) -> OneFile<'_> {
     }
 }
 
-// What a run left that wrote texts.
-fn run_with(status: u8, out: Vec<u8>, err: Vec<u8>) -> Result<Run, Fail> {
-    let out = String::from_utf8(out)?;
-    Ok(Run {
-        status,
-        out,
-        err: String::from_utf8(err)?,
-    })
-}
-
-// A run on words.
-fn run_on_words(
-    alloc: Global,
-    files: &OneFile<'_>,
-    words: &[String],
-    lines: &str,
-    is_terminal: bool,
-) -> Result<Run, Fail> {
-    let mut input = lines.as_bytes();
-    let mut out: Vec<u8> = Vec::new(alloc);
-    let mut err: Vec<u8> = Vec::new(alloc);
-    let status = run(
-        files,
-        alloc,
-        words,
-        is_terminal,
-        &mut input,
-        &mut out,
-        &mut err,
-    );
-    run_with(status, out, err)
-}
-
 /// A run over a file, and lines on standard input.
 pub(crate) fn run_over(
     alloc: Global,
@@ -97,22 +83,34 @@ pub(crate) fn run_over(
     texts: &[&str],
     lines: &str,
     is_terminal: bool,
-) -> Result<Run, Fail> {
-    let words = words_with(alloc, texts)?;
-    run_on_words(alloc, files, words.as_slice(), lines, is_terminal)
+) -> Run {
+    let words = words_with(alloc, texts);
+    let mut input = lines.as_bytes();
+    let mut written: Vec<u8> = Vec::new(alloc);
+    let mut reported: Vec<u8> = Vec::new(alloc);
+    let status = run(
+        files,
+        alloc,
+        words.as_slice(),
+        is_terminal,
+        &mut input,
+        &mut written,
+        &mut reported,
+    );
+    Run {
+        status,
+        written,
+        reported,
+    }
 }
 
 /// A run over the file `here.mmdb`, and lines on standard input.
-pub(crate) fn run_of(
-    alloc: Global,
-    bytes: &[u8],
-    texts: &[&str],
-    lines: &str,
-) -> Result<Run, Fail> {
+pub(crate) fn run_of(alloc: Global, bytes: &[u8], texts: &[&str], lines: &str) -> Run {
     run_over(alloc, &file_of(bytes), texts, lines, false)
 }
 
 /// Asserts what a run is to have left, and shows the run if it has not.
 pub(crate) fn assert_of(rt: &impl Abort, texts: &[&str], run: &Run, holds: bool) {
-    assert!(rt; holds, "{texts:?}: {run:?}");
+    let (status, out, err) = (run.status, run.out(), run.err());
+    assert!(rt; holds, "{texts:?}: {status} {out:?} {err:?}");
 }

@@ -1,11 +1,9 @@
 //! Runs of the program.
 use super::program::{Run, assert_of, run_of};
-use mmdb_vectors::builder::{
-    BASE, BASE_DATA, BASE_NODE, Changes, Field, base_file, base_with_node, changed_file, file,
-};
-use std::alloc::{AllocError, Global};
+use mmdb_vectors::base::BASE_FILE;
+use mmdb_vectors::builder::{BASE_DATA, BASE_NODE, Changes, Field, changed_file};
+use std::alloc::Global;
 use std::process::Abort;
-use std::test::Fail;
 
 /// Words, the status, standard output, and what standard error has to hold.
 type Row<'a> = (&'a [&'a str], u8, &'a str, &'a str);
@@ -166,67 +164,53 @@ const HOSTILE_RUNS: &[Row<'static>] = &[(
 )];
 
 #[test]
-fn lines_with_fields(rt: HostRuntime) -> Result<(), Fail> {
-    let alloc = rt.alloc();
-    let base = base_file(alloc)?;
+fn lines_with_fields(rt: HostRuntime) {
     for (words, lines, written, told) in LINES {
-        let run = run_of(alloc, base.as_slice(), words, lines)?;
-        let holds = run.status == 0 && run.out.as_str() == *written && run.err.contains(told);
+        let run = run_of(rt.alloc(), BASE_FILE, words, lines);
+        let holds = run.status == 0 && run.out() == *written && run.err().contains(told);
         assert_of(&rt, words, &run, holds);
     }
-    assert_runs(&rt, alloc, base.as_slice(), NO_LINES)
+    assert_runs(&rt, rt.alloc(), BASE_FILE, NO_LINES);
 }
 
 // Whether a run ended with a status, wrote a text, and reported one or nothing.
 fn is_as_wanted(run: &Run, status: u8, written: &str, told: &str) -> bool {
     run.status == status
-        && run.out.as_str() == written
-        && run.err.contains(told)
-        && run.err.is_empty() == told.is_empty()
+        && run.out() == written
+        && run.err().contains(told)
+        && run.err().is_empty() == told.is_empty()
 }
 
 // Asserts what the program does with its words over a file.
-fn assert_runs(rt: &impl Abort, alloc: Global, bytes: &[u8], rows: &[Row<'_>]) -> Result<(), Fail> {
+fn assert_runs(rt: &impl Abort, alloc: Global, bytes: &[u8], rows: &[Row<'_>]) {
     for (words, status, written, told) in rows {
-        let run = run_of(alloc, bytes, words, "")?;
+        let run = run_of(alloc, bytes, words, "");
         let holds = is_as_wanted(&run, *status, written, told);
         assert_of(rt, words, &run, holds);
     }
-    Ok(())
 }
 
-// The same over a file that was made.
-fn assert_runs_over(
-    rt: &impl Abort,
-    alloc: Global,
-    bytes: Result<Vec<u8>, AllocError>,
-    rows: &[Row<'_>],
-) -> Result<(), Fail> {
-    let bytes = bytes?;
-    assert_runs(rt, alloc, bytes.as_slice(), rows)
-}
+/// The base file with other nodes, data or metadata, and its runs.
+type Changed = (
+    &'static [u8],
+    &'static [u8],
+    Changes<'static>,
+    &'static [Row<'static>],
+);
+
+const CHANGED: &[Changed] = &[
+    (BASE_NODE, NESTED, &[], NESTED_RUNS),
+    (b"\x00\x00\x10\x00\x00\x11", BASE_DATA, &[], FAULT_RUNS),
+    (BASE_NODE, BASE_DATA, HOSTILE_TYPE, HOSTILE_RUNS),
+];
 
 #[test]
-fn runs_over_small_files(rt: HostRuntime) -> Result<(), Fail> {
-    let alloc = rt.alloc();
-    assert_runs_over(&rt, alloc, base_file(alloc), BASE_RUNS)?;
-    assert_runs_over(
-        &rt,
-        alloc,
-        file(alloc, BASE_NODE, NESTED, BASE),
-        NESTED_RUNS,
-    )?;
-    assert_runs_over(
-        &rt,
-        alloc,
-        base_with_node(alloc, b"\x00\x00\x10\x00\x00\x11"),
-        FAULT_RUNS,
-    )?;
-    assert_runs_over(
-        &rt,
-        alloc,
-        changed_file(alloc, BASE_NODE, BASE_DATA, HOSTILE_TYPE),
-        HOSTILE_RUNS,
-    )?;
-    assert_runs(&rt, alloc, b"", EMPTY_RUNS)
+fn runs_over_small_files(rt: HostRuntime) {
+    assert_runs(&rt, rt.alloc(), BASE_FILE, BASE_RUNS);
+    assert_runs(&rt, rt.alloc(), b"", EMPTY_RUNS);
+    for (nodes, data, changes, rows) in CHANGED {
+        let bytes = changed_file(rt.alloc(), nodes, data, changes);
+        let bytes = bytes.expect(&rt, "a file");
+        assert_runs(&rt, rt.alloc(), bytes.as_slice(), rows);
+    }
 }

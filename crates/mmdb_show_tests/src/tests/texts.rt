@@ -1,11 +1,12 @@
 //! The JSON of small values.
 use json::{Token, Writer};
 use mmdb_json::{compact, found_json, pretty, write_found, write_value};
+use mmdb_reader::fuzzing::decode_value;
 use mmdb_reader::{LookupResult, PathElement, Reader, Value};
-use mmdb_vectors::builder::{BASE, BASE_NODE, file};
+use mmdb_vectors::base::high;
+use mmdb_vectors::builder::{BASE_NODE, changed_file};
 use std::alloc::{AllocError, Global};
 use std::process::Abort;
-use std::test::Fail;
 
 /// Data, and the JSON of the value at their start.
 #[rattlefmt::skip]
@@ -58,114 +59,88 @@ const PATHS: &[(&[PathElement<'static>], Option<&str>)] = &[
     (&[PathElement::Key("b")], None),
 ];
 
-fn found_of<'a>(reader: &'a Reader<&'a [u8]>) -> Result<LookupResult<'a, &'a [u8]>, Fail> {
-    Ok(reader.lookup("200.0.0.1".parse()?)?)
+fn assert_holds(rt: &impl Abort, holds: bool, case: &str) {
+    assert!(rt; holds, "{case}");
 }
 
-// The JSON of what a lookup in a file finds along a path.
-fn json_in(alloc: Global, bytes: &[u8], path: &[PathElement<'_>]) -> Result<Option<Vec<u8>>, Fail> {
-    let reader = Reader::from_source(alloc, bytes)?;
-    let found = found_of(&reader)?;
-    Ok(found_json(alloc, &found, path)?)
-}
-
-// Asserts what a text is, where there is one.
-fn assert_text(rt: &impl Abort, text: Option<&[u8]>, wanted: Option<&str>) {
-    let wanted = wanted.map(|wanted| wanted.as_bytes());
-    assert!(rt; text == wanted, "{wanted:?}: {text:?}");
-}
-
-fn assert_json(
-    rt: &impl Abort,
-    alloc: Global,
-    bytes: &[u8],
-    path: &[PathElement<'_>],
-    wanted: Option<&str>,
-) -> Result<(), Fail> {
-    let text = json_in(alloc, bytes, path)?;
-    assert_text(rt, text.as_ref().map(|text| text.as_slice()), wanted);
-    Ok(())
-}
-
-#[test]
-fn texts_of_values(rt: HostRuntime) -> Result<(), Fail> {
-    let alloc = rt.alloc();
-    for (data, wanted) in ROWS {
-        let bytes = file(alloc, BASE_NODE, data, BASE)?;
-        assert_json(&rt, alloc, bytes.as_slice(), &[], Some(*wanted))?;
+// Whether a text is this one, or there is none.
+fn is_text(text: Option<Vec<u8>>, wanted: Option<&str>) -> bool {
+    match text {
+        Some(text) => text.as_slice() == wanted.unwrap_or("").as_bytes(),
+        None => wanted.is_none(),
     }
-    Ok(())
 }
 
-// Asserts what the tokens of what a lookup finds along a path are, written out.
-fn assert_written(
-    rt: &impl Abort,
+// Whether a text was found, and is this one, or none was.
+fn is_found<E: Drop>(text: Result<Option<Vec<u8>>, E>, wanted: Option<&str>) -> bool {
+    match text {
+        Ok(text) => is_text(text, wanted),
+        Err(_) => false,
+    }
+}
+
+// Whether the tokens of what a lookup finds along a path are these, written out.
+fn is_written(
     alloc: Global,
     found: &LookupResult<'_, &[u8]>,
     path: &[PathElement<'_>],
     wanted: Option<&str>,
-) -> Result<(), Fail> {
+) -> bool {
     let mut out = Writer::new(Vec::new(alloc));
-    let is_found = write_found(alloc, found, path, &mut out)?;
-    let written = out.into_inner();
-    assert!(rt; is_found == wanted.is_some());
-    assert_text(rt, Some(written.as_slice()), Some(wanted.unwrap_or("null")));
-    Ok(())
+    let is_found = write_found(alloc, found, path, &mut out).ok() == Some(wanted.is_some());
+    is_found && out.into_inner().as_slice() == wanted.unwrap_or("null").as_bytes()
 }
 
-#[test]
-fn texts_along_paths(rt: HostRuntime) -> Result<(), Fail> {
-    let alloc = rt.alloc();
-    let bytes = file(alloc, BASE_NODE, RECORD, BASE)?;
-    let reader = Reader::from_source(alloc, bytes.as_slice())?;
-    let found = found_of(&reader)?;
-    for (path, wanted) in PATHS {
-        assert_json(&rt, alloc, bytes.as_slice(), path, *wanted)?;
-        assert_written(&rt, alloc, &found, path, *wanted)?;
-    }
-    Ok(())
-}
-
-// Asserts what a text that was made is.
-fn assert_made(
+// Asserts the JSON of what a lookup in a file with these data finds along a path.
+fn assert_json(
     rt: &impl Abort,
-    text: Result<Vec<u8>, AllocError>,
-    wanted: &str,
-) -> Result<(), AllocError> {
-    let text = text?;
-    assert_text(rt, Some(text.as_slice()), Some(wanted));
-    Ok(())
-}
-
-// An array that has a value twice.
-fn twice(alloc: Global, value: &Value<'_>) -> Result<Vec<u8>, AllocError> {
-    let mut out = Writer::new(Vec::new(alloc));
-    out.token(Token::BeginArray)?;
-    write_value(alloc, value, &mut out)?;
-    write_value(alloc, value, &mut out)?;
-    out.token(Token::EndArray)?;
-    Ok(out.into_inner())
-}
-
-fn assert_texts_of(rt: &impl Abort, alloc: Global, value: &Value<'_>) -> Result<(), AllocError> {
-    assert_made(rt, compact(alloc, value), "{\"a\":[5,6]}")?;
-    assert_made(
-        rt,
-        pretty(alloc, value),
-        "{\n  \"a\": [\n    5,\n    6\n  ]\n}",
-    )?;
-    assert_made(rt, twice(alloc, value), "[{\"a\":[5,6]},{\"a\":[5,6]}]")
+    alloc: Global,
+    data: &[u8],
+    path: &[PathElement<'_>],
+    wanted: Option<&str>,
+) {
+    let bytes = changed_file(alloc, BASE_NODE, data, &[]).expect(rt, "a file");
+    let reader = Reader::from_source(alloc, bytes.as_slice()).expect(rt, "a reader");
+    let found = reader.lookup(high()).expect(rt, "a lookup");
+    let case = wanted.unwrap_or("nothing");
+    assert_holds(rt, is_found(found_json(alloc, &found, path), wanted), case);
+    assert_holds(rt, is_written(alloc, &found, path, wanted), case);
 }
 
 #[test]
-fn texts_of_a_value(rt: HostRuntime) -> Result<(), Fail> {
+fn texts_of_values(rt: HostRuntime) {
+    for (data, wanted) in ROWS {
+        assert_json(&rt, rt.alloc(), data, &[], Some(*wanted));
+    }
+    for (path, wanted) in PATHS {
+        assert_json(&rt, rt.alloc(), RECORD, path, *wanted);
+    }
+}
+
+// Whether a text was made, and is this.
+fn is_made(text: Result<Vec<u8>, AllocError>, wanted: &str) -> bool {
+    is_text(text.ok(), Some(wanted))
+}
+
+// Whether an array that has a value twice is written so.
+fn is_twice(alloc: Global, value: &Value<'_>, wanted: &str) -> bool {
+    let mut out = Writer::new(Vec::new(alloc));
+    let is_written = out.token(Token::BeginArray).is_ok()
+        && write_value(alloc, value, &mut out).is_ok()
+        && write_value(alloc, value, &mut out).is_ok()
+        && out.token(Token::EndArray).is_ok();
+    is_text(Some(out.into_inner()), Some(wanted)) && is_written
+}
+
+const PRETTY: &str = "{\n  \"a\": [\n    5,\n    6\n  ]\n}";
+
+#[test]
+fn texts_of_a_value(rt: HostRuntime) {
     let alloc = rt.alloc();
-    let bytes = file(alloc, BASE_NODE, RECORD, BASE)?;
-    let reader = Reader::from_source(alloc, bytes.as_slice())?;
-    let found = found_of(&reader)?;
-    let value = found
-        .decode::<Value<'_>>(alloc)?
-        .expect(&rt, "a record stands at the offset");
-    assert_texts_of(&rt, alloc, &value)?;
-    Ok(())
+    let value = decode_value(alloc, RECORD).expect(&rt, "a value");
+    let is_compact = is_made(compact(alloc, &value), "{\"a\":[5,6]}");
+    assert_holds(&rt, is_compact, "compact");
+    assert_holds(&rt, is_made(pretty(alloc, &value), PRETTY), "pretty");
+    let is_twice = is_twice(alloc, &value, "[{\"a\":[5,6]},{\"a\":[5,6]}]");
+    assert_holds(&rt, is_twice, "twice");
 }

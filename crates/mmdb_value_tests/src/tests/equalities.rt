@@ -69,13 +69,6 @@ const VALUES: Pairs = &[
     (b"\xE2\x41a\xA0\x41b\xA0", b"\xE2\x41b\xA0\x41a\xA0", false),
 ];
 
-#[test]
-fn any_values(rt: HostRuntime) -> Result<(), Failures> {
-    let mut failures = Failures::new(rt.alloc());
-    expect_equalities::<Value<'_>>(&mut failures, rt.alloc(), VALUES);
-    failures.verdict()
-}
-
 #[rattlefmt::skip]
 const RAW_TEXTS: Pairs = &[
     (b"\x42\xFF\xFE", b"\x42\xFF\xFE", true),
@@ -83,14 +76,6 @@ const RAW_TEXTS: Pairs = &[
     (b"\xE1\x41\xFF\xA0", b"\xE1\x41\xFF\xA0", true),
     (b"\xE1\x41\xFF\xA0", b"\xE1\x41\xFE\xA0", false),
 ];
-
-#[test]
-fn any_raw_values(rt: HostRuntime) -> Result<(), Failures> {
-    let mut failures = Failures::new(rt.alloc());
-    expect_equalities::<RawValue<'_>>(&mut failures, rt.alloc(), VALUES);
-    expect_equalities::<RawValue<'_>>(&mut failures, rt.alloc(), RAW_TEXTS);
-    failures.verdict()
-}
 
 /// Numbers are compared as bits: zeros of two signs differ, and a NaN is equal to itself.
 #[rattlefmt::skip]
@@ -119,8 +104,11 @@ const BYTES: Pairs = &[
 ];
 
 #[test]
-fn numbers_and_bytes(rt: HostRuntime) -> Result<(), Failures> {
+fn values_that_are_equal(rt: HostRuntime) -> Result<(), Failures> {
     let (alloc, mut failures) = (rt.alloc(), Failures::new(rt.alloc()));
+    expect_equalities::<Value<'_>>(&mut failures, alloc, VALUES);
+    expect_equalities::<RawValue<'_>>(&mut failures, alloc, VALUES);
+    expect_equalities::<RawValue<'_>>(&mut failures, alloc, RAW_TEXTS);
     expect_equalities::<Double>(&mut failures, alloc, DOUBLES);
     expect_equalities::<Float>(&mut failures, alloc, FLOATS);
     expect_equalities::<OwnedBytes>(&mut failures, alloc, BYTES);

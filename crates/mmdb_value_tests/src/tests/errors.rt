@@ -4,13 +4,14 @@ use mmdb_value::{
     MaxMindDbError, decoding, decoding_at, decoding_at_path, invalid_database, invalid_database_at,
     invalid_input, resource_limit_at,
 };
+use mmdb_vectors::answer::told;
 use mmdb_vectors::failures::Failures;
 use std::alloc::Global;
 use std::io;
 
 // Notes where an error prints another text.
 fn expect_printed(failures: &mut Failures, alloc: Global, error: MaxMindDbError, text: &str) {
-    failures.expect_text(&text, format!(in alloc; "{error}"), text);
+    failures.expect_text(&text, told(alloc, Err::<(), _>(error)), text);
 }
 
 #[test]
@@ -62,28 +63,10 @@ fn errors_print_their_texts(rt: HostRuntime) -> Result<(), Failures> {
         MaxMindDbError::Memory,
         "out of memory",
     );
-    failures.verdict()
-}
-
-fn is_of_file(error: &MaxMindDbError) -> bool {
-    matches!(error, MaxMindDbError::Io(_))
-}
-
-fn is_of_network(error: &MaxMindDbError) -> bool {
-    matches!(error, MaxMindDbError::InvalidNetwork(_))
-}
-
-#[test]
-fn errors_from_others(rt: HostRuntime) -> Result<(), Failures> {
-    let (alloc, mut failures) = (rt.alloc(), Failures::new(rt.alloc()));
-    let kind = io::ErrorKind::NotFound;
-    let file = MaxMindDbError::from(io::Error::from(kind));
-    failures.expect(&"file", is_of_file(&file));
-    match format!(in alloc; "i/o error: {}", io::Error::from(kind)) {
-        Ok(cause) => expect_printed(&mut failures, alloc, file, cause.as_str()),
-        Err(_) => failures.expect(&"cause", false),
-    }
+    let file = MaxMindDbError::from(io::Error::from(io::ErrorKind::NotFound));
+    expect_printed(&mut failures, alloc, file, "i/o error: entity not found");
     let network = MaxMindDbError::from(IpNetworkError::InvalidAddr);
-    failures.expect(&"network", is_of_network(&network));
+    let text = "invalid network: invalid address";
+    expect_printed(&mut failures, alloc, network, text);
     failures.verdict()
 }

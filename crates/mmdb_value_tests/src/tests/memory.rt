@@ -1,6 +1,6 @@
 //! Reads where memory is refused.
 use crate::probe::Probe;
-use mmdb_value::{Decode, MaxMindDbError, OwnedBytes, RawValue, Value, fuzzing};
+use mmdb_value::{Decode, DecodeResult, MaxMindDbError, OwnedBytes, RawValue, Value, fuzzing};
 use mmdb_vectors::failures::Failures;
 use mmdb_vectors::hoard::{Met, refused_in_turn};
 use std::alloc::Global;
@@ -9,12 +9,26 @@ use std::collections::BTreeMap;
 /// A map of k to an array of the numbers 5 and 6.
 const PAIR: &[u8] = b"\xE1\x41k\x02\x04\xA1\x05\xA1\x06";
 
-fn read_met<'de, T: Decode<'de>>(alloc: Global, section: &'de [u8]) -> Met {
-    match fuzzing::decode::<T>(alloc, section) {
-        Ok(_) => Met::Value,
-        Err(MaxMindDbError::Memory) => Met::Memory,
-        Err(_) => Met::Refusal,
+fn kind_met(error: &MaxMindDbError) -> Met {
+    match error {
+        MaxMindDbError::Memory => Met::Memory,
+        _ => Met::Refusal,
     }
+}
+
+fn error_met(error: MaxMindDbError) -> Met {
+    kind_met(&error)
+}
+
+fn answer_met<T: Drop>(answer: DecodeResult<T>) -> Met {
+    match answer {
+        Ok(_) => Met::Value,
+        Err(error) => error_met(error),
+    }
+}
+
+fn read_met<'de, T: Decode<'de>>(alloc: Global, section: &'de [u8]) -> Met {
+    answer_met(fuzzing::decode::<T>(alloc, section))
 }
 
 // Notes where a read is not refused for memory, with more of it each time, before it meets the answer that it

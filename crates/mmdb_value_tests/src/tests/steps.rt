@@ -12,86 +12,65 @@ use mmdb_value::{DecodeResult, Decoder, Entries, Items, Kind, Value, empty_conta
 use mmdb_vectors::answer::{OK, told};
 use mmdb_vectors::failures::Failures;
 use std::alloc::Global;
+use std::process::Abort;
 
 /// A map of k to an array of the numbers 5 and 6.
 const PAIR: &[u8] = b"\xE1\x41k\x02\x04\xA1\x05\xA1\x06";
 
-// What is left of an array of two numbers, before and after the first.
-fn first_of_two(
-    alloc: Global,
-    d: &mut Decoder<'_>,
-    items: &mut Items,
-) -> DecodeResult<(usize, usize, u16, usize)> {
-    let before = d.remaining(items);
-    let hint = d.hint(items);
-    if !d.next_item(items) {
-        return Ok((before, hint, 0, 0));
-    }
-    let first = d.read_u16(alloc)?;
-    Ok((before, hint, first, d.remaining(items)))
+// Whether the elements of an array of the numbers 5 and 6 are counted, and the first is read.
+fn is_first_of_two(rt: &impl Abort, alloc: Global, d: &mut Decoder<'_>, items: &mut Items) -> bool {
+    let are_two = d.remaining(items) == 2 && d.hint(items) == 2;
+    let has_first = d.next_item(items);
+    let first = d.read_u16(alloc).expect(rt, "the first number");
+    are_two && has_first && first == 5 && d.remaining(items) == 1
 }
 
-// The key of the map, the type of its value, and what the array of two tells.
-fn pair_told<'de>(
-    alloc: Global,
-    d: &mut Decoder<'de>,
-    entries: &mut Entries,
-) -> DecodeResult<(Option<&'de [u8]>, Kind, (usize, usize, u16, usize))> {
-    let key = d.next_raw_key(alloc, entries)?;
-    let kind = d.peek_kind(alloc)?;
-    let mut items = d.begin_array_of(alloc, 2)?;
-    let told = first_of_two(alloc, d, &mut items);
+// Whether the key of the map is told, the type of its value, and what the array tells.
+fn is_pair(rt: &impl Abort, alloc: Global, d: &mut Decoder<'_>, entries: &mut Entries) -> bool {
+    let key = d.next_raw_key(alloc, entries).expect(rt, "a key");
+    let kind = d.peek_kind(alloc).expect(rt, "the kind of its value");
+    let mut items = d.begin_array_of(alloc, 2).expect(rt, "an array of two");
+    let is_right = is_first_of_two(rt, alloc, d, &mut items);
     items.give_up(d);
-    Ok((key, kind, told?))
+    is_right && key == Some(b"k".as_slice()) && kind == Kind::Array
 }
 
 // Whether the map is entered, its key and array are told as they stand, and what is left is skipped.
-fn is_stepped_through(alloc: Global, d: &mut Decoder<'_>) -> DecodeResult<bool> {
-    let is_map = d.peek_kind(alloc)? == Kind::Map && d.offset() == 0;
-    let mut entries = d.begin_map(alloc)?;
-    let told = pair_told(alloc, d, &mut entries);
+fn is_stepped_through(rt: &impl Abort, alloc: Global, d: &mut Decoder<'_>) -> bool {
+    let kind = d.peek_kind(alloc).expect(rt, "a kind");
+    let is_first = d.offset() == 0;
+    let mut entries = d.begin_map(alloc).expect(rt, "a map");
+    let is_right = is_pair(rt, alloc, d, &mut entries);
     entries.give_up(d);
-    let (key, kind, numbers) = told?;
-    let is_pair = key == Some(b"k".as_slice()) && kind == Kind::Array && numbers == (2, 2, 5, 1);
-    let stands_after_first = d.offset() == 7;
-    d.skip_value(alloc)?;
-    Ok(is_map && is_pair && stands_after_first && d.offset() == 9)
+    let behind_first = d.offset();
+    d.skip_value(alloc).expect(rt, "a number that is skipped");
+    is_right && kind == Kind::Map && is_first && behind_first == 7 && d.offset() == 9
 }
 
 #[test]
 fn steps_of_a_decoder(rt: HostRuntime) {
     let mut d = Decoder::new(PAIR, 0);
-    let told = is_stepped_through(rt.alloc(), &mut d);
+    let is_right = is_stepped_through(&rt, rt.alloc(), &mut d);
     values_bounded(&d);
-    assert!(rt; told.unwrap_or(false));
+    assert!(rt; is_right);
 }
 
 // Enters an array of so many elements, and gives it up.
-fn enter_array_of(alloc: Global, d: &mut Decoder<'_>, len: usize) -> DecodeResult<()> {
+fn enter_array(alloc: Global, section: &[u8], place: usize, len: usize) -> DecodeResult<()> {
+    let mut d = Decoder::new(section, place);
     let items = d.begin_array_of(alloc, len)?;
-    items.give_up(d);
+    items.give_up(&mut d);
     Ok(())
 }
 
 /// A section, a place, a length, and what is told where an array of that length is asked for there.
 #[rattlefmt::skip]
-const ENTERED: [(&[u8], usize, usize, &str); 4] = [
+const ENTERED: &[(&[u8], usize, usize, &str)] = &[
     (PAIR, 3, 2, OK),
     (PAIR, 3, 3, "decoding error at offset 5: expected tuple of length 3, got array of length 2"),
     (b"\x02\x04\xA0\xA0", 0, 3, "decoding error at offset 2: expected tuple of length 3, got array of length 2"),
     (PAIR, 0, 1, "decoding error at offset 0: expected array, got type 7"),
 ];
-
-#[test]
-fn arrays_of_a_length(rt: HostRuntime) -> Result<(), Failures> {
-    let (alloc, mut failures) = (rt.alloc(), Failures::new(rt.alloc()));
-    for (section, place, len, text) in ENTERED {
-        let mut d = Decoder::new(section, place);
-        let answer = told(alloc, enter_array_of(alloc, &mut d, len));
-        failures.expect_text(&(place, len), answer, text);
-    }
-    failures.verdict()
-}
 
 /// Values that are skipped, and what is told. The size of a pointer is the number of its own bytes after
 /// the control byte.
@@ -111,8 +90,12 @@ const SKIPPED: &[(&[u8], &str)] = &[
 ];
 
 #[test]
-fn values_skipped(rt: HostRuntime) -> Result<(), Failures> {
+fn arrays_entered_and_values_skipped(rt: HostRuntime) -> Result<(), Failures> {
     let (alloc, mut failures) = (rt.alloc(), Failures::new(rt.alloc()));
+    for (section, place, len, text) in ENTERED {
+        let answer = told(alloc, enter_array(alloc, section, *place, *len));
+        failures.expect_text(&[*place, *len], answer, text);
+    }
     for (section, text) in SKIPPED {
         let answer = told(alloc, Decoder::new(section, 0).skip_value(alloc));
         failures.expect_text(section, answer, text);

@@ -59,18 +59,6 @@ const I64: Rows = &[
     (b"\x08\x02\x80\0\0\0\0\0\0\0", "decoding error at offset 10: number out of range"),
 ];
 
-#[test]
-fn small_numbers(rt: HostRuntime) -> Result<(), Failures> {
-    let (alloc, mut failures) = (rt.alloc(), Failures::new(rt.alloc()));
-    let it = &mut failures;
-    expect_shown::<u8>(it, alloc, U8);
-    expect_shown::<i16>(it, alloc, I16);
-    expect_shown::<i8>(it, alloc, I8);
-    expect_shown::<i64>(it, alloc, I64);
-    expect_shown::<Vec<u8>>(it, alloc, &[(b"\x02\x04\xA1\x07\xC1\x08", "[7, 8]")]);
-    failures.verdict()
-}
-
 #[rattlefmt::skip]
 const BOOL: Rows = &[
     (b"\x01\x07", "true"),
@@ -118,20 +106,6 @@ const I32: Rows = &[
     (b"\xA1\x07", "decoding error at offset 0: expected i32, got type 5"),
 ];
 
-#[test]
-fn typed_numbers(rt: HostRuntime) -> Result<(), Failures> {
-    let (alloc, mut failures) = (rt.alloc(), Failures::new(rt.alloc()));
-    let it = &mut failures;
-    expect_shown::<bool>(it, alloc, BOOL);
-    expect_shown::<u16>(it, alloc, U16);
-    expect_shown::<u32>(it, alloc, U32);
-    expect_shown::<u64>(it, alloc, U64);
-    expect_shown::<u128>(it, alloc, U128);
-    expect_shown::<i32>(it, alloc, I32);
-    expect_shown::<Option<u16>>(it, alloc, &[(b"\xA1\x07", "Some(7)")]);
-    failures.verdict()
-}
-
 #[rattlefmt::skip]
 const STR: Rows = &[
     (b"\x41x", "\"x\""),
@@ -160,6 +134,8 @@ const LIST: Rows = &[
 
 #[rattlefmt::skip]
 const MAP: Rows = &[
+    // Of equal keys the later value stays.
+    (b"\xE2\x41a\xA1\x01\x41a\xA1\x02", "{\"a\": 2}"),
     (b"\x00\x04", "decoding error at offset 0: expected map, got type 11"),
     (b"\xE1\xA1\x07\xA1\x08", "invalid database at offset 1: expected string, got type 5"),
 ];
@@ -171,28 +147,17 @@ const PROBE: Rows = &[
     (b"\x00\x04", "decoding error at offset 0: expected map, got type 11"),
 ];
 
-#[test]
-fn typed_reads(rt: HostRuntime) -> Result<(), Failures> {
-    let (alloc, mut failures) = (rt.alloc(), Failures::new(rt.alloc()));
-    let it = &mut failures;
-    expect_shown::<&str>(it, alloc, STR);
-    expect_shown::<String>(it, alloc, &[(b"\x20\x02\x41x", "\"x\"")]);
-    expect_shown::<&[u8]>(it, alloc, BYTES);
-    expect_shown::<Vec<u16>>(it, alloc, LIST);
-    expect_shown::<BTreeMap<String, u16>>(it, alloc, MAP);
-    expect_shown::<Probe<'_>>(it, alloc, PROBE);
-    failures.verdict()
-}
-
 #[rattlefmt::skip]
-const NO_DOUBLE: Rows = &[
+const DOUBLE: Rows = &[
+    (b"\x68\x40\x04\0\0\0\0\0\x01", "Double { bits: 4612811918334230529 }"),
     (b"\xA1\x07", "decoding error at offset 0: expected double, got type 5"),
     (b"\x04\x08\x40\x20\x00\x00", "decoding error at offset 0: expected double, got type 15"),
     (b"\x67\0\0\0\0\0\0\0", "invalid database at offset 0: double of size 7"),
 ];
 
 #[rattlefmt::skip]
-const NO_FLOAT: Rows = &[
+const FLOAT: Rows = &[
+    (b"\x04\x08\x40\x20\x00\x00", "Float { bits: 1075838976 }"),
     (b"\xA1\x07", "decoding error at offset 0: expected float, got type 5"),
     (
         b"\x68\x40\x04\0\0\0\0\0\x01",
@@ -202,38 +167,53 @@ const NO_FLOAT: Rows = &[
 ];
 
 #[test]
-fn floating_point(rt: HostRuntime) -> Result<(), Failures> {
+fn small_numbers(rt: HostRuntime) -> Result<(), Failures> {
     let (alloc, mut failures) = (rt.alloc(), Failures::new(rt.alloc()));
-    let double = fuzzing::decode::<Double>(alloc, b"\x68\x40\x04\0\0\0\0\0\x01");
-    let is_read = double.is_ok_and(|double| double.bits == 0x4004_0000_0000_0001);
-    failures.expect(&"double", is_read);
-    let float = fuzzing::decode::<Float>(alloc, b"\x04\x08\x40\x20\x00\x00");
-    failures.expect(&"float", float.is_ok_and(|float| float.bits == 0x4020_0000));
-    expect_shown::<Double>(&mut failures, alloc, NO_DOUBLE);
-    expect_shown::<Float>(&mut failures, alloc, NO_FLOAT);
+    let it = &mut failures;
+    expect_shown::<u8>(it, alloc, U8);
+    expect_shown::<i16>(it, alloc, I16);
+    expect_shown::<i8>(it, alloc, I8);
+    expect_shown::<i64>(it, alloc, I64);
+    expect_shown::<Vec<u8>>(it, alloc, &[(b"\x02\x04\xA1\x07\xC1\x08", "[7, 8]")]);
     failures.verdict()
 }
 
-// Whether a section is a map of a to the number 2 alone.
-fn is_map_of_two(alloc: Global, section: &[u8]) -> bool {
-    match fuzzing::decode::<BTreeMap<String, u16>>(alloc, section) {
-        Ok(map) => map.len() == 1 && map.get("a") == Some(&2),
-        Err(_) => false,
-    }
+#[test]
+fn scalars(rt: HostRuntime) -> Result<(), Failures> {
+    let (alloc, mut failures) = (rt.alloc(), Failures::new(rt.alloc()));
+    let it = &mut failures;
+    expect_shown::<bool>(it, alloc, BOOL);
+    expect_shown::<u16>(it, alloc, U16);
+    expect_shown::<u32>(it, alloc, U32);
+    expect_shown::<u64>(it, alloc, U64);
+    expect_shown::<u128>(it, alloc, U128);
+    expect_shown::<i32>(it, alloc, I32);
+    expect_shown::<Double>(it, alloc, DOUBLE);
+    expect_shown::<Float>(it, alloc, FLOAT);
+    expect_shown::<Option<u16>>(it, alloc, &[(b"\xA1\x07", "Some(7)")]);
+    failures.verdict()
 }
 
 #[test]
-fn owned_reads(rt: HostRuntime) {
-    let bytes = fuzzing::decode::<OwnedBytes>(rt.alloc(), b"\x82\xFF\xFE");
-    assert!(rt; bytes.is_ok_and(|bytes| bytes.0.as_slice() == b"\xFF\xFE".as_slice()));
-    // Of equal keys the later value stays.
-    assert!(rt; is_map_of_two(rt.alloc(), b"\xE2\x41a\xA1\x01\x41a\xA1\x02"));
+fn texts_and_containers(rt: HostRuntime) -> Result<(), Failures> {
+    let (alloc, mut failures) = (rt.alloc(), Failures::new(rt.alloc()));
+    let it = &mut failures;
+    expect_shown::<&str>(it, alloc, STR);
+    expect_shown::<String>(it, alloc, &[(b"\x20\x02\x41x", "\"x\"")]);
+    expect_shown::<&[u8]>(it, alloc, BYTES);
+    expect_shown::<OwnedBytes>(it, alloc, &[(b"\x82\xFF\xFE", "OwnedBytes([255, 254])")]);
+    expect_shown::<Vec<u16>>(it, alloc, LIST);
+    expect_shown::<BTreeMap<String, u16>>(it, alloc, MAP);
+    expect_shown::<Probe<'_>>(it, alloc, PROBE);
+    failures.verdict()
 }
 
 #[test]
-fn unknown_field_is_skipped(rt: HostRuntime) {
+fn unknown_field_is_skipped(rt: HostRuntime) -> Result<(), Failures> {
+    let (alloc, mut failures) = (rt.alloc(), Failures::new(rt.alloc()));
     let mut d = Decoder::new(b"\xE2\x41a\xA1\x07\x41z\x20\xFF", 0);
-    let read = Probe::decode(rt.alloc(), &mut d);
-    assert!(rt; read.is_ok_and(|read| (read.a, read.k) == (Some(7), None)));
-    assert!(rt; d.offset() == 9);
+    let read = shown(alloc, Probe::decode(alloc, &mut d));
+    failures.expect_text(&"the record", read, "Probe { a: Some(7), k: None }");
+    failures.expect(&"the offset behind it", d.offset() == 9);
+    failures.verdict()
 }
