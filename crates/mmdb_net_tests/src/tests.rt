@@ -1,5 +1,5 @@
 //! What no clause says: which texts are read, and with which errors. Each public call runs once.
-use mmdb_net::laws::networks_equal_where_same;
+use mmdb_net::laws::{network_clones_are_same, networks_equal_where_same};
 use mmdb_net::{IpNetwork, IpNetworkError, Ipv4Network, Ipv6Network, mask_ip};
 use mmdb_vectors::equality::equality;
 use mmdb_vectors::failures::Failures;
@@ -334,4 +334,5 @@ fn masked_addresses(rt: HostRuntime) -> Result<(), Failures> {
 #[test]
 fn laws_are_called() {
     networks_equal_where_same();
+    network_clones_are_same();
 }

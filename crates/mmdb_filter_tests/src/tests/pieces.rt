@@ -1,5 +1,6 @@
 //! Rows around the length of a piece.
 use super::streams::{Chopped, Lengths, Told, assert_holds, filtered};
+use mmdb_filter::laws::{count_clones_are_same, counts_equal_where_same};
 use mmdb_filter::{Counts, Rows, filter_rows};
 use mmdb_vectors::section::section_of;
 use std::alloc::Global;
@@ -183,4 +184,10 @@ fn many_rows_are_told(rt: HostRuntime) {
     assert_holds(&rt, counts.found == 131_073, "what is found");
     assert_holds(&rt, told == 131_072, "what is told");
     assert_holds(&rt, bytes == 131_073 * 7, "what is written");
+}
+
+#[test]
+fn laws_are_called() {
+    counts_equal_where_same();
+    count_clones_are_same();
 }

@@ -1,6 +1,6 @@
 //! The lines of addresses.
 use mmdb_reader::{MaxMindDbError, Reader};
-use mmdb_tool::laws::{faults_equal_where_same, leaf_texts_show_networks};
+use mmdb_tool::laws::{fault_clones_are_same, faults_equal_where_same, leaf_texts_show_networks};
 use mmdb_tool::lookup_line;
 use mmdb_vectors::builder::{base_file, base_with_node, file_with_alias, file_without_subtree};
 use std::alloc::{AllocError, Global};
@@ -81,4 +81,5 @@ fn lines_of_addresses(rt: HostRuntime) {
 fn laws_are_called() {
     leaf_texts_show_networks();
     faults_equal_where_same();
+    fault_clones_are_same();
 }

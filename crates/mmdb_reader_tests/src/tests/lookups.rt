@@ -1,9 +1,10 @@
 //! Lookups.
 use super::answers::{BASE, File, address, answer, found_text};
 use mmdb_reader::laws::{
-    items_agree_with_lookups, leaves_partition, listed_agrees, metadata_equal_where_same,
-    network_holds_address, networks_equal_where_same, range_walk, same_leaf_same_answer,
-    source_decides, whole_walk,
+    errors_hold_their_causes, items_agree_with_lookups, leaves_partition, listed_agrees,
+    metadata_equal_where_same, network_clones_are_same, network_holds_address,
+    networks_equal_where_same, range_walk, same_leaf_same_answer, scalar_clones_are_same,
+    source_decides, step_clones_are_same, whole_walk,
 };
 use mmdb_reader::{LookupResult, MaxMindDbError, Reader, read_node};
 use mmdb_vectors::answer::{shown, told};
@@ -138,4 +139,8 @@ fn laws_are_called() {
     items_agree_with_lookups();
     metadata_equal_where_same();
     networks_equal_where_same();
+    network_clones_are_same();
+    scalar_clones_are_same();
+    step_clones_are_same();
+    errors_hold_their_causes();
 }
