@@ -16,9 +16,10 @@ _mmdb() {
   local options='' commands='show enrich export info verify help' word at arguments=0 ended=''
   COMPREPLY=()
   # A redirection has a file behind it.
-  case $typed$before in
-    [0-9]*[\<\>] | [\<\>]*) _mmdb_files; return ;;
-  esac
+  if [[ $before == *[\<\>] || $typed == *[\<\>] ]]; then
+    _mmdb_files
+    return
+  fi
   if [ "$COMP_CWORD" -eq 1 ]; then
     _mmdb_offer "$commands --help --version -h -V"
     return
@@ -32,11 +33,13 @@ _mmdb() {
     help) [ "$COMP_CWORD" -ne 2 ] || _mmdb_offer "$commands"; return ;;
     *) return ;;
   esac
-  # How many arguments stand before what is typed. An option's value is none; bash splits --path=VALUE in three.
+  # How many arguments stand before what is typed. An option's value is none, nor is the file of a redirection. Bash
+  # splits --path=VALUE in three words.
   for ((at = 2; at < COMP_CWORD; at++)); do
     word=${COMP_WORDS[at]}
     case $ended$word in
       --) ended=ended ;;
+      *[\<\>]) at=$((at + 1)) ;;
       --path | --column | --delimiter | --field | --format)
         at=$((at + 1))
         [ "${COMP_WORDS[at]-}" != = ] || at=$((at + 1))
