@@ -6,6 +6,7 @@
 The bytes and their order are those of one process. For several machines give `Client` the address of a scheduler in
 place of the local cluster, and keep LOG, OUT and FILE where all of them see them. Debian: python3-distributed.
 """
+import os
 import sys
 import tempfile
 
@@ -15,9 +16,9 @@ from distributed import Client, LocalCluster
 
 def enrich(client, log, out, command, block=blocks.BLOCK):
     """Enriches a log into a file, by the workers of a cluster."""
-    with tempfile.TemporaryDirectory(dir=".") as folder:
+    with tempfile.TemporaryDirectory(dir=os.path.dirname(os.path.abspath(out))) as folder:
         tasks = [
-            client.submit(blocks.enrich_block, command, log, start, end, f"{folder}/{number}", pure=False)
+            client.submit(blocks.enrich_block, command, os.path.abspath(log), start, end, f"{folder}/{number}", pure=False)
             for number, (start, end) in enumerate(blocks.blocks_of(log, block))
         ]
         with open(out, "wb") as joined:

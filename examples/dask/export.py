@@ -5,6 +5,7 @@
 
 What is written is what `mmdb export FILE 0.0.0.0/0 ..` writes, line by line as JSON. Debian: python3-distributed.
 """
+import os
 import sys
 import tempfile
 
@@ -14,7 +15,7 @@ from distributed import Client, LocalCluster
 
 def export(client, out, command):
     """Exports the IPv4 networks of a file, by the workers of a cluster."""
-    with tempfile.TemporaryDirectory(dir=".") as folder:
+    with tempfile.TemporaryDirectory(dir=os.path.dirname(os.path.abspath(out))) as folder:
         tasks = [
             client.submit(blocks.export_range, command, network, f"{folder}/{number}", pure=False)
             for number, network in enumerate(blocks.ranges())
