@@ -1,0 +1,64 @@
+# shellcheck shell=bash
+# Completions of the program mmdb for bash. scripts/check_completions compares them with the program's help texts.
+
+# Files complete as the shell itself completes them.
+_mmdb_files() {
+  compopt -o default 2>/dev/null || :
+}
+
+# Offers those of the given words that go on with what is typed.
+_mmdb_offer() {
+  mapfile -t COMPREPLY < <(compgen -W "$1" -- "$typed")
+}
+
+_mmdb() {
+  local typed=${COMP_WORDS[COMP_CWORD]} before=${COMP_WORDS[COMP_CWORD - 1]} command=${COMP_WORDS[1]-}
+  local options='' commands='show enrich export info verify help' word at arguments=0 ended=''
+  COMPREPLY=()
+  # A redirection has a file behind it.
+  if [[ $before == *[\<\>] || $typed == *[\<\>] ]]; then
+    _mmdb_files
+    return
+  fi
+  if [ "$COMP_CWORD" -eq 1 ]; then
+    _mmdb_offer "$commands --help --version -h -V"
+    return
+  fi
+  case $command in
+    show) options='--path --lines' ;;
+    enrich) options='--column --delimiter --field --header' ;;
+    export) options='--field --format' ;;
+    info) options='--json' ;;
+    verify) ;;
+    help) [ "$COMP_CWORD" -ne 2 ] || _mmdb_offer "$commands"; return ;;
+    *) return ;;
+  esac
+  # How many arguments stand before what is typed. An option's value is none, nor is the file of a redirection. Bash
+  # splits --path=VALUE in three words.
+  for ((at = 2; at < COMP_CWORD; at++)); do
+    word=${COMP_WORDS[at]}
+    case $ended$word in
+      --) ended=ended ;;
+      *[\<\>]) at=$((at + 1)) ;;
+      --path | --column | --delimiter | --field | --format)
+        at=$((at + 1))
+        [ "${COMP_WORDS[at]-}" != = ] || at=$((at + 1))
+        ;;
+      -*) ;;
+      *) arguments=$((arguments + 1)) ;;
+    esac
+  done
+  # The value of an option.
+  [ "$before" != = ] || before=${COMP_WORDS[COMP_CWORD - 2]}
+  if [ "$typed" = = ]; then typed=''; fi
+  case $ended$before in
+    --format) _mmdb_offer 'jsonl csv'; return ;;
+    --path | --column | --delimiter | --field) return ;;
+  esac
+  case $ended$typed in
+    -*) _mmdb_offer "$options --help -h" ;;
+    *) if [ "$arguments" -eq 0 ] || [ "$command" = verify ]; then _mmdb_files; fi ;;
+  esac
+}
+
+complete -F _mmdb mmdb

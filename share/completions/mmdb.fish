@@ -1,0 +1,66 @@
+# Completions of the program mmdb for fish. scripts/check_completions compares them with the program's help texts.
+
+# Whether no command stands on the line yet.
+function __mmdb_no_command
+    set -l words (commandline -opc)
+    test (count $words) -eq 1
+end
+
+# Whether the line has this command.
+function __mmdb_is
+    set -l words (commandline -opc)
+    test (count $words) -ge 2; and test "$words[2]" = $argv[1]
+end
+
+# Whether the line has one of these commands, with no argument behind it. An option's value is none.
+function __mmdb_wants_file
+    set -l words (commandline -opc)
+    test (count $words) -ge 2; and contains -- "$words[2]" $argv; or return 1
+    set -l value no
+    for word in $words[3..-1]
+        if test $value = yes
+            set value no
+        else if contains -- $word --path --column --delimiter --field --format
+            set value yes
+        else if not string match -q -- '-*' $word
+            return 1
+        end
+    end
+    return 0
+end
+
+complete -c mmdb -f
+
+complete -c mmdb -n __mmdb_no_command -a show -d 'Show the records of addresses as JSON'
+complete -c mmdb -n __mmdb_no_command -a enrich -d 'Copy lines from standard input, with fields behind each'
+complete -c mmdb -n __mmdb_no_command -a export -d 'Write every network that has data'
+complete -c mmdb -n __mmdb_no_command -a info -d 'Show what a database says of itself'
+complete -c mmdb -n __mmdb_no_command -a verify -d 'Say whether files are whole'
+complete -c mmdb -n __mmdb_no_command -a help -d 'Print help'
+complete -c mmdb -n __mmdb_no_command -s h -l help -d 'Print help'
+complete -c mmdb -n __mmdb_no_command -s V -l version -d 'Print the version'
+
+complete -c mmdb -n '__mmdb_is show' -l path -x -d 'Only the value at a path'
+complete -c mmdb -n '__mmdb_is show' -l lines -d 'One line each'
+complete -c mmdb -n '__mmdb_is show' -s h -l help -d 'Print help'
+
+complete -c mmdb -n '__mmdb_is enrich' -l column -x -d 'The column of the address: its number or name'
+complete -c mmdb -n '__mmdb_is enrich' -l delimiter -x -d 'What stands between columns'
+complete -c mmdb -n '__mmdb_is enrich' -l field -x -d 'A field to add'
+complete -c mmdb -n '__mmdb_is enrich' -l header -d 'The first line names the columns'
+complete -c mmdb -n '__mmdb_is enrich' -s h -l help -d 'Print help'
+
+complete -c mmdb -n '__mmdb_is export' -l field -x -d 'Only the value at a path'
+complete -c mmdb -n '__mmdb_is export' -l format -x -a 'jsonl csv' -d 'How lines are written'
+complete -c mmdb -n '__mmdb_is export' -s h -l help -d 'Print help'
+
+complete -c mmdb -n '__mmdb_is info' -l json -d 'As JSON'
+complete -c mmdb -n '__mmdb_is info' -s h -l help -d 'Print help'
+
+complete -c mmdb -n '__mmdb_is verify' -s h -l help -d 'Print help'
+
+complete -c mmdb -n '__mmdb_is help' -a 'show enrich export info verify help'
+
+# The first argument is a file; all arguments of verify are.
+complete -c mmdb -n '__mmdb_wants_file show enrich export info' -F
+complete -c mmdb -n '__mmdb_is verify' -F
