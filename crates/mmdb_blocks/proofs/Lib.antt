@@ -1,0 +1,4 @@
+pub mod NumberLaws
+pub mod UniqueLaws
+pub mod FewestLaws
+pub mod JoinLaws

@@ -1,0 +1,12 @@
+//! Joins ascending blocks of addresses into the fewest that have the same addresses: block by block, with as much
+//! memory as is taken at the start. It knows nothing of files, nor of what addresses are: IPv4 addresses are passed
+//! as numbers below 2 ^ 32, with prefixes of 96 and more.
+#![tactic(auto)]
+
+mod block;
+mod joiner;
+pub mod laws;
+mod waiting;
+
+pub use block::Block;
+pub use joiner::{Joiner, Refusal};
