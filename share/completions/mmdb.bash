@@ -27,7 +27,7 @@ _mmdb() {
   case $command in
     show) options='--path --lines' ;;
     enrich) options='--column --delimiter --field --header' ;;
-    export) options='--field --format' ;;
+    export) options='--field --format --where --where-not --ipv4 --ipv6 --name' ;;
     info) options='--json' ;;
     verify) ;;
     help) [ "$COMP_CWORD" -ne 2 ] || _mmdb_offer "$commands"; return ;;
@@ -40,7 +40,7 @@ _mmdb() {
     case $ended$word in
       --) ended=ended ;;
       *[\<\>]) at=$((at + 1)) ;;
-      --path | --column | --delimiter | --field | --format)
+      --path | --column | --delimiter | --field | --format | --where | --where-not | --name)
         at=$((at + 1))
         [ "${COMP_WORDS[at]-}" != = ] || at=$((at + 1))
         ;;
@@ -52,8 +52,8 @@ _mmdb() {
   [ "$before" != = ] || before=${COMP_WORDS[COMP_CWORD - 2]}
   if [ "$typed" = = ]; then typed=''; fi
   case $ended$before in
-    --format) _mmdb_offer 'jsonl csv'; return ;;
-    --path | --column | --delimiter | --field) return ;;
+    --format) _mmdb_offer 'jsonl csv cidr nft ipset'; return ;;
+    --path | --column | --delimiter | --field | --where | --where-not | --name) return ;;
   esac
   case $ended$typed in
     -*) _mmdb_offer "$options --help -h" ;;

@@ -20,7 +20,7 @@ function __mmdb_wants_file
     for word in $words[3..-1]
         if test $value = yes
             set value no
-        else if contains -- $word --path --column --delimiter --field --format
+        else if contains -- $word --path --column --delimiter --field --format --where --where-not --name
             set value yes
         else if not string match -q -- '-*' $word
             return 1
@@ -51,7 +51,12 @@ complete -c mmdb -n '__mmdb_is enrich' -l header -d 'The first line names the co
 complete -c mmdb -n '__mmdb_is enrich' -s h -l help -d 'Print help'
 
 complete -c mmdb -n '__mmdb_is export' -l field -x -d 'Only the value at a path'
-complete -c mmdb -n '__mmdb_is export' -l format -x -a 'jsonl csv' -d 'How lines are written'
+complete -c mmdb -n '__mmdb_is export' -l format -x -a 'jsonl csv cidr nft ipset' -d 'How networks are written'
+complete -c mmdb -n '__mmdb_is export' -l where -x -d 'Only networks with this value at the path'
+complete -c mmdb -n '__mmdb_is export' -l where-not -x -d 'No networks with this value at the path'
+complete -c mmdb -n '__mmdb_is export' -l ipv4 -d 'Only IPv4 networks'
+complete -c mmdb -n '__mmdb_is export' -l ipv6 -d 'Only IPv6 networks'
+complete -c mmdb -n '__mmdb_is export' -l name -x -d 'How the sets of nft and ipset begin'
 complete -c mmdb -n '__mmdb_is export' -s h -l help -d 'Print help'
 
 complete -c mmdb -n '__mmdb_is info' -l json -d 'As JSON'

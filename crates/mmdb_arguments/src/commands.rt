@@ -27,18 +27,27 @@ has control characters; any other value is JSON. With --delimiter , the input is
 quotes, and added cells are where they need them. The address is looked for in the first 65,536 bytes
 of a line.";
 
-const EXPORT_EXAMPLE: &str = "Example:
+const EXPORT_EXAMPLE: &str = "Examples:
   mmdb export GeoLite2-Country.mmdb 81.2.69.0/24 --field country.iso_code
+  mmdb export GeoLite2-Country.mmdb --where country.iso_code=DE --format cidr
 
 The networks come ascending, one a line: an object with the network and its
 record, or with the network and the value at each path; or, as csv, rows of
 cells below a header row. In a cell a text stands as it is, and any other value
 as JSON. Where a path leads nowhere a cell is empty, and a value null. A network
 whose record or field can't be read has no line, but is told on standard error,
-in its place, and the status is 1 then.";
+in its place, and the status is 1 then.
+
+With --where only networks whose record has this value at the path are written:
+a text as it stands, any other scalar as its JSON. Of one path several values
+are alternatives, several paths must all fit, and --where-not leaves out.
+
+The formats cidr, nft and ipset write no records but the fewest blocks that have
+the addresses of the networks: one a line, or two sets NAME_ipv4 and NAME_ipv6
+as a file for nft -f (in the table inet mmdb) or for ipset restore.";
 
 /// The formats of an export.
-const FORMATS: &[&str] = &["jsonl", "csv"];
+const FORMATS: &[&str] = &["jsonl", "csv", "cidr", "nft", "ipset"];
 
 fn file<'a>(alloc: Global) -> Arg<'a> {
     Arg::new(alloc, "FILE")
@@ -219,7 +228,44 @@ fn export<'a>(alloc: Global) -> Result<Command<'a>, AllocError> {
             "Only the value at a path, as country.iso_code; may be repeated",
         ),
     );
-    with_argument(command, format(alloc))
+    let command = with_argument(command, format(alloc));
+    with_choice(alloc, command)
+}
+
+// A command with what chooses networks, and the name of sets of them.
+fn with_choice<'a>(
+    alloc: Global,
+    command: Result<Command<'a>, AllocError>,
+) -> Result<Command<'a>, AllocError> {
+    let command = with_argument(
+        command,
+        options(
+            alloc,
+            "where",
+            "PATH=VALUE",
+            "Only networks with this value at the path; may be repeated",
+        ),
+    );
+    let command = with_argument(
+        command,
+        options(
+            alloc,
+            "where-not",
+            "PATH=VALUE",
+            "No networks with this value at the path; may be repeated",
+        ),
+    );
+    let command = with_argument(command, flag(alloc, "ipv4", "Only IPv4 networks"));
+    let command = with_argument(command, flag(alloc, "ipv6", "Only IPv6 networks"));
+    with_argument(
+        command,
+        option(
+            alloc,
+            "name",
+            "NAME",
+            "How the sets of nft and ipset begin, mmdb if not given",
+        ),
+    )
 }
 
 fn program<'a>(alloc: Global) -> Command<'a> {

@@ -40,6 +40,12 @@ pub struct EnrichArguments<'a> {
 pub enum Format {
     JsonLines,
     Csv,
+    /// One network a line.
+    Cidr,
+    /// Sets for nft.
+    Nft,
+    /// Sets for ipset.
+    Ipset,
 }
 
 /// The arguments of `export`.
@@ -51,6 +57,14 @@ pub struct ExportArguments<'a> {
     /// Texts that should be paths.
     pub fields: Vec<&'a str>,
     pub format: Format,
+    /// Texts that should be paths with values, of networks that are wanted.
+    pub wheres: Vec<&'a str>,
+    /// Texts that should be paths with values, of networks that are not wanted.
+    pub where_nots: Vec<&'a str>,
+    pub ipv4: bool,
+    pub ipv6: bool,
+    /// A text that should be the beginning of a set's name.
+    pub name: Option<&'a str>,
 }
 
 /// The arguments of `verify`.
@@ -129,20 +143,29 @@ fn enrich<'a>(alloc: Global, matches: &ArgMatches<'a>) -> Result<Request<'a>, No
 }
 
 fn format_of(matches: &ArgMatches<'_>) -> Format {
-    if matches.get_str("format") == Some("csv") {
-        Format::Csv
-    } else {
-        Format::JsonLines
+    match matches.get_str("format") {
+        Some("csv") => Format::Csv,
+        Some("cidr") => Format::Cidr,
+        Some("nft") => Format::Nft,
+        Some("ipset") => Format::Ipset,
+        _ => Format::JsonLines,
     }
 }
 
 fn export<'a>(alloc: Global, matches: &ArgMatches<'a>) -> Result<Request<'a>, NoRequest> {
     let fields = texts_of(alloc, matches, "field")?;
+    let wheres = texts_of(alloc, matches, "where")?;
+    let where_nots = texts_of(alloc, matches, "where-not")?;
     Ok(Request::Export(ExportArguments {
         file: file_of(matches),
         range: matches.get_str("RANGE"),
         fields,
         format: format_of(matches),
+        wheres,
+        where_nots,
+        ipv4: matches.get_flag("ipv4"),
+        ipv6: matches.get_flag("ipv6"),
+        name: matches.get_str("name"),
     }))
 }
 

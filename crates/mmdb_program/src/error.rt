@@ -1,4 +1,5 @@
 //! Why the program gave up.
+use mmdb_lists::ListError;
 use mmdb_reader::MaxMindDbError;
 use std::alloc::{AllocError, AllocFailed};
 use std::io;
@@ -22,9 +23,22 @@ pub enum ProgramError {
     /// The first line, of which the names are wanted, is too long.
     #[error("the first line has more than 65536 bytes")]
     LongHeader,
+    /// The networks of a database do not ascend.
+    #[error("the networks do not ascend")]
+    OutOfOrder,
     /// There was no memory.
     #[error("out of memory")]
     Memory,
+}
+
+impl From<ListError> for ProgramError {
+    fn from(error: ListError) -> ProgramError {
+        match error {
+            ListError::Write(error) => ProgramError::Write(error),
+            ListError::OutOfOrder => ProgramError::OutOfOrder,
+            ListError::Memory => ProgramError::Memory,
+        }
+    }
 }
 
 impl From<io::Error> for ProgramError {

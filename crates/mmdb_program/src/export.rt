@@ -1,7 +1,8 @@
-//! Every network of a range with what its record has.
+//! The chosen networks of a range, with what their records have or as the fewest blocks.
 use crate::error::ProgramError;
 use crate::layout::Layout;
 use crate::output::put;
+use mmdb_lists::{Choice, Kind, Kinds, List};
 use mmdb_reader::{IpNetwork, LookupResult, MaxMindDbError, Reader, Within, WithinOptions};
 use std::alloc::{AllocError, Global};
 use std::convert::AsSlice;
@@ -62,8 +63,6 @@ pub(crate) struct Rows<'a> {
     kept: Vec<Row>,
     /// The last one that was too long to be kept there.
     long: Row,
-    /// Where a network comes that is not named.
-    next: Where,
 }
 
 // As many empty rows as are kept.
@@ -108,7 +107,6 @@ impl<'a> Rows<'a> {
             layout,
             kept: empty_rows(alloc)?,
             long: Row::empty(alloc),
-            next: Where::First,
         })
     }
 
@@ -155,29 +153,95 @@ impl<'a> Rows<'a> {
         }
     }
 
-    // Writes the row of an answer, or gives why there is none.
+    // Writes the row of an answer.
+    fn write<S: AsSlice<u8> + Drop, O: Write>(
+        &mut self,
+        found: &LookupResult<'_, S>,
+        network: IpNetwork,
+        out: &mut O,
+    ) -> Result<(), ProgramError> {
+        let (alloc, place) = (self.alloc, self.layout.place_of_network());
+        let row = self.row(found)?;
+        write_row(alloc, row, place, network, out)
+    }
+}
+
+/// What networks are written as.
+#[derive(Drop)]
+pub(crate) enum Writing<'a> {
+    Rows(Rows<'a>),
+    List(List<'a>),
+}
+
+impl Writing<'_> {
+    // Writes the network of an answer.
+    fn write<S: AsSlice<u8> + Drop, O: Write>(
+        &mut self,
+        found: &LookupResult<'_, S>,
+        network: IpNetwork,
+        out: &mut O,
+    ) -> Result<(), ProgramError> {
+        match self {
+            Writing::Rows(rows) => rows.write(found, network, out),
+            Writing::List(list) => Ok(list.push(network, out)?),
+        }
+    }
+}
+
+/// An export of the chosen networks.
+#[derive(Drop)]
+pub(crate) struct Export<'a> {
+    choice: Choice<'a>,
+    kinds: Kinds,
+    writing: Writing<'a>,
+    /// Where a network comes that is not named.
+    next: Where,
+}
+
+impl<'a> Export<'a> {
+    /// Of no network yet.
+    pub(crate) fn new(choice: Choice<'a>, kinds: Kinds, writing: Writing<'a>) -> Export<'a> {
+        Export {
+            choice,
+            kinds,
+            writing,
+            next: Where::First,
+        }
+    }
+
+    // Writes the network of an answer, if it is chosen.
+    fn write_chosen<S: AsSlice<u8> + Drop, O: Write>(
+        &mut self,
+        found: &LookupResult<'_, S>,
+        network: IpNetwork,
+        out: &mut O,
+    ) -> Result<(), ProgramError> {
+        if !self.kinds.has(Kind::of(network)) || !self.choice.chooses(found)? {
+            return Ok(());
+        }
+        self.writing.write(found, network, out)
+    }
+
+    // Writes the network of an answer, if it is chosen, or gives why it can't be.
     fn write_found<S: AsSlice<u8> + Drop, O: Write>(
         &mut self,
         found: &LookupResult<'_, S>,
         out: &mut O,
     ) -> Result<Option<Faulty>, ProgramError> {
-        let (alloc, place) = (self.alloc, self.layout.place_of_network());
         let network = found.network()?;
         self.next = Where::Behind(network);
-        match self.row(found) {
-            Ok(row) => {
-                write_row(alloc, row, place, network, out)?;
-                Ok(None)
-            }
-            Err(MaxMindDbError::Memory) => Err(ProgramError::Memory),
-            Err(error) => Ok(Some(Faulty {
+        match self.write_chosen(found, network, out) {
+            Ok(()) => Ok(None),
+            Err(ProgramError::Database(MaxMindDbError::Memory)) => Err(ProgramError::Memory),
+            Err(ProgramError::Database(error)) => Ok(Some(Faulty {
                 place: Where::At(network),
                 error: ProgramError::Database(error),
             })),
+            Err(error) => Err(error),
         }
     }
 
-    /// Writes the row of an item of a list, or gives why there is none. Where a field is refused there is none.
+    /// Writes an item of a list of networks, or gives why it can't be. Where a field is refused there is none.
     pub(crate) fn write<S: AsSlice<u8> + Drop, O: Write>(
         &mut self,
         item: Result<LookupResult<'_, S>, MaxMindDbError>,
@@ -189,6 +253,14 @@ impl<'a> Rows<'a> {
                 place: self.next,
                 error: ProgramError::Database(error),
             })),
+        }
+    }
+
+    /// Writes what stands behind the last network.
+    pub(crate) fn finish<O: Write>(&mut self, out: &mut O) -> Result<(), ProgramError> {
+        match &mut self.writing {
+            Writing::Rows(_) => Ok(()),
+            Writing::List(list) => Ok(list.finish(out)?),
         }
     }
 }

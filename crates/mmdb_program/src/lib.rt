@@ -2,6 +2,7 @@
 #![tactic(auto)]
 
 mod about;
+mod conditions;
 mod enrich;
 mod error;
 mod export;

@@ -1,9 +1,10 @@
-//! Every network of a range, written out.
+//! The chosen networks of a range, written out.
 use crate::error::ProgramError;
-use crate::export::{Faulty, Rows, Where, networks_in};
+use crate::export::{Export, Faulty, Rows, Where, Writing, networks_in};
 use crate::layout::Layout;
 use crate::output::{DONE, FAILED, flush, put, report};
-use crate::task::ExportTask;
+use crate::task::{ExportTask, Shape};
+use mmdb_lists::{Choice, Kinds, List, Syntax};
 use mmdb_reader::{LookupResult, MaxMindDbError, Reader, Within};
 use std::alloc::{AllocError, Global};
 use std::convert::AsSlice;
@@ -31,15 +32,15 @@ fn report_faulty<O: Write, E: Write>(
     Ok(false)
 }
 
-// Writes the line of a network, or reports that it can't be read, and answers whether it was written.
+// Writes a network, if it is chosen, or reports that it can't be read, and answers whether it could.
 fn export_one<S: AsSlice<u8> + Drop, O: Write, E: Write>(
     alloc: Global,
     item: Result<LookupResult<'_, S>, MaxMindDbError>,
-    rows: &mut Rows<'_>,
+    export: &mut Export<'_>,
     out: &mut O,
     err: &mut E,
 ) -> Result<bool, ProgramError> {
-    let Some(faulty) = rows.write(item, out)? else {
+    let Some(faulty) = export.write(item, out)? else {
         return Ok(true);
     };
     let reported = report_faulty(alloc, &faulty, out, err);
@@ -69,46 +70,71 @@ fn report_faults<E: Write>(alloc: Global, faults: u64, err: &mut E) -> Result<u8
     Ok(FAILED)
 }
 
-// Writes a line for each network, and answers how many could not be read.
+// Writes the chosen networks, and answers how many could not be read.
 fn export_all<S: AsSlice<u8> + Drop, O: Write, E: Write>(
     alloc: Global,
     networks: Within<'_, S>,
-    rows: &mut Rows<'_>,
+    export: &mut Export<'_>,
     out: &mut O,
     err: &mut E,
 ) -> Result<u64, ProgramError> {
     let mut faults = 0u64;
     for item in networks {
-        if !export_one(alloc, item, rows, out, err)? {
+        if !export_one(alloc, item, export, out, err)? {
             faults = faults.saturating_add(1);
         }
     }
+    export.finish(out)?;
     Ok(faults)
 }
 
-// Writes the header and a line for each network, and answers the status.
-fn export_rows<S: AsSlice<u8> + Drop, O: Write, E: Write>(
+// Begins rows.
+fn begun_rows<'a, O: Write>(
     alloc: Global,
-    networks: Within<'_, S>,
-    layout: &Layout<'_>,
-    rows: &mut Rows<'_>,
+    layout: &'a Layout<'a>,
     out: &mut O,
-    err: &mut E,
-) -> Result<u8, ProgramError> {
+) -> Result<Writing<'a>, ProgramError> {
+    let rows = Rows::new(alloc, layout)?;
     put_header(alloc, layout, out)?;
-    let faults = export_all(alloc, networks, rows, out, err)?;
-    report_faults(alloc, faults, err)
+    Ok(Writing::Rows(rows))
 }
 
-/// Writes a line for each network of a range, and reports each that can't be read.
-pub(crate) fn export<S: AsSlice<u8> + Drop, O: Write, E: Write>(
+// Begins a list.
+fn begun_list<'a, O: Write>(
+    alloc: Global,
+    syntax: Syntax<'a>,
+    kinds: Kinds,
+    out: &mut O,
+) -> Result<Writing<'a>, ProgramError> {
+    let list = List::new(alloc, syntax, kinds)?;
+    list.begin(out)?;
+    Ok(Writing::List(list))
+}
+
+// Begins what is written.
+fn begun<'a, O: Write>(
+    alloc: Global,
+    wanted: &'a ExportTask<'a>,
+    out: &mut O,
+) -> Result<Export<'a>, ProgramError> {
+    let choice = Choice::new(alloc, wanted.conditions.as_slice())?;
+    let writing = match &wanted.shape {
+        Shape::Rows(layout) => begun_rows(alloc, layout, out)?,
+        Shape::List(syntax) => begun_list(alloc, *syntax, wanted.kinds, out)?,
+    };
+    Ok(Export::new(choice, wanted.kinds, writing))
+}
+
+/// Writes the chosen networks of a range, and reports each that can't be read.
+pub(crate) fn export<'a, S: AsSlice<u8> + Drop, O: Write, E: Write>(
     alloc: Global,
     reader: &Reader<S>,
-    wanted: &ExportTask<'_>,
+    wanted: &'a ExportTask<'a>,
     out: &mut O,
     err: &mut E,
 ) -> Result<u8, ProgramError> {
     let networks = networks_in(alloc, reader, wanted.range)?;
-    let mut rows = Rows::new(alloc, &wanted.layout)?;
-    export_rows(alloc, networks, &wanted.layout, &mut rows, out, err)
+    let mut export = begun(alloc, wanted, out)?;
+    let faults = export_all(alloc, networks, &mut export, out, err)?;
+    report_faults(alloc, faults, err)
 }

@@ -1,4 +1,5 @@
 //! Requests with their texts read.
+use crate::conditions::conditions_of;
 use crate::layout::{Fields, Layout};
 use crate::paths::path_of;
 use mmdb_arguments::{
@@ -6,6 +7,7 @@ use mmdb_arguments::{
     VerifyArguments, request_of,
 };
 use mmdb_filter::Rows;
+use mmdb_lists::{Condition, Kind, Kinds, Syntax, is_set_name};
 use mmdb_reader::{IpNetwork, PathElement};
 use std::alloc::Global;
 use std::net::IpAddr;
@@ -27,11 +29,22 @@ pub(crate) struct ShowTask<'a> {
     pub(crate) lines: bool,
 }
 
+/// What an export writes.
+#[derive(Drop)]
+pub(crate) enum Shape<'a> {
+    /// A row for each network.
+    Rows(Layout<'a>),
+    /// The fewest blocks that have the addresses of the networks.
+    List(Syntax<'a>),
+}
+
 /// What `export` is asked for.
 #[derive(Drop)]
 pub(crate) struct ExportTask<'a> {
     pub(crate) range: Option<IpNetwork>,
-    pub(crate) layout: Layout<'a>,
+    pub(crate) conditions: Vec<Condition<'a>>,
+    pub(crate) kinds: Kinds,
+    pub(crate) shape: Shape<'a>,
 }
 
 /// What `enrich` is asked for.
@@ -149,31 +162,96 @@ fn enrich<'a>(alloc: Global, arguments: EnrichArguments<'a>) -> Result<Query<'a>
     }))
 }
 
-// How networks are written in a format with the values at the paths of these names.
+// An error for options that do not go together.
+fn mismatch<T: Drop>(alloc: Global, argument: &str, wanted: &str) -> Result<T, NoRequest> {
+    Err(NoRequest::bad_argument(alloc, argument, wanted))
+}
+
+// How rows are laid out with the values at the paths of these names.
 fn layout_of<'a>(
     alloc: Global,
-    format: Format,
+    is_csv: bool,
     names: Vec<&'a str>,
 ) -> Result<Layout<'a>, NoRequest> {
     let paths = paths_of(alloc, names.as_slice())?;
-    match (format, names.is_empty()) {
-        (Format::Csv, true) => Err(NoRequest::bad_argument(
-            alloc,
-            "--format csv",
-            "needs a --field",
-        )),
-        (Format::Csv, false) => Ok(Layout::Cells(Fields { names, paths })),
-        (Format::JsonLines, true) => Ok(Layout::Records),
-        (Format::JsonLines, false) => Ok(Layout::Values(Fields { names, paths })),
+    match (is_csv, names.is_empty()) {
+        (true, true) => mismatch(alloc, "--format csv", "needs a --field"),
+        (true, false) => Ok(Layout::Cells(Fields { names, paths })),
+        (false, true) => Ok(Layout::Records),
+        (false, false) => Ok(Layout::Values(Fields { names, paths })),
+    }
+}
+
+// How sets are named.
+fn name_of<'a>(alloc: Global, name: Option<&'a str>) -> Result<&'a str, NoRequest> {
+    let Some(name) = name else {
+        return Ok("mmdb");
+    };
+    if !is_set_name(name) {
+        return mismatch(alloc, name, "not the beginning of a set's name");
+    }
+    Ok(name)
+}
+
+// How a list is written in a format, where it is one of lists.
+fn syntax_of<'a>(
+    alloc: Global,
+    format: Format,
+    name: Option<&'a str>,
+) -> Result<Option<Syntax<'a>>, NoRequest> {
+    match format {
+        Format::Nft => Ok(Some(Syntax::Nft {
+            name: name_of(alloc, name)?,
+        })),
+        Format::Ipset => Ok(Some(Syntax::Ipset {
+            name: name_of(alloc, name)?,
+        })),
+        _ if name.is_some() => mismatch(alloc, "--name", "needs --format nft or ipset"),
+        Format::Cidr => Ok(Some(Syntax::Cidr)),
+        Format::JsonLines | Format::Csv => Ok(None),
+    }
+}
+
+// What an export in a format writes, with the values at the paths of these names.
+fn shape_of<'a>(
+    alloc: Global,
+    format: Format,
+    name: Option<&'a str>,
+    fields: Vec<&'a str>,
+) -> Result<Shape<'a>, NoRequest> {
+    let Some(syntax) = syntax_of(alloc, format, name)? else {
+        let is_csv = matches!(format, Format::Csv);
+        return Ok(Shape::Rows(layout_of(alloc, is_csv, fields)?));
+    };
+    if !fields.is_empty() {
+        return mismatch(alloc, "--field", "not with a list of networks");
+    }
+    Ok(Shape::List(syntax))
+}
+
+// Which kinds of addresses are wanted: both where both are asked for, or none.
+fn kinds_of(ipv4: bool, ipv6: bool) -> Kinds {
+    match (ipv4, ipv6) {
+        (true, false) => Kinds::One(Kind::Ipv4),
+        (false, true) => Kinds::One(Kind::Ipv6),
+        _ => Kinds::Both,
     }
 }
 
 fn export<'a>(alloc: Global, arguments: ExportArguments<'a>) -> Result<Query<'a>, NoRequest> {
-    let range = arguments.range;
-    let layout = layout_of(alloc, arguments.format, arguments.fields)?;
+    let range = range_of(alloc, arguments.range)?;
+    let kinds = kinds_of(arguments.ipv4, arguments.ipv6);
+    let conditions = conditions_of(
+        alloc,
+        arguments.wheres.as_slice(),
+        arguments.where_nots.as_slice(),
+    )?;
+    let shape = shape_of(alloc, arguments.format, arguments.name, arguments.fields)?;
     Ok(Query::Export(ExportTask {
-        range: range_of(alloc, range)?,
-        layout,
+        range,
+        conditions,
+        kinds,
+        shape,
     }))
 }
 

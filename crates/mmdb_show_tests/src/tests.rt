@@ -2,6 +2,7 @@
 mod exports;
 mod failures;
 mod helps;
+mod lists;
 mod memory;
 mod program;
 mod runs;

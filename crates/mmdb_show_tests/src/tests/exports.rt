@@ -82,7 +82,7 @@ const ROWS: &[Row<'static>] = &[
 ];
 
 // A file of these nodes, their count as it is encoded, and data.
-fn file_of_nodes(
+pub(crate) fn file_of_nodes(
     rt: &impl Abort,
     alloc: Global,
     nodes: &[(u32, u32)],
@@ -105,7 +105,7 @@ fn lines_hold(text: &str, parts: &[&str]) -> bool {
 }
 
 // Whether a run wrote a text, and reported lines that hold some parts.
-fn is_as_wanted(run: &Run, written: &str, told: &[&str]) -> bool {
+pub(crate) fn is_as_wanted(run: &Run, written: &str, told: &[&str]) -> bool {
     let status = u8::from(!told.is_empty());
     run.out() == written && run.status == status && lines_hold(run.err(), told)
 }

@@ -1,0 +1,64 @@
+//! The two kinds of addresses, and blocks as networks of one.
+use mmdb_blocks::Block;
+use mmdb_reader::{IpNetwork, IpNetworkError};
+use std::net::{IpAddr, Ipv4Addr, Ipv6Addr};
+
+/// A kind of addresses.
+#[derive(Clone, Copy, PartialEq, Eq)]
+pub enum Kind {
+    Ipv4,
+    Ipv6,
+}
+
+/// Which kinds are wanted.
+#[derive(Clone, Copy, PartialEq, Eq)]
+pub enum Kinds {
+    Both,
+    One(Kind),
+}
+
+impl Kinds {
+    /// Whether a kind is wanted.
+    pub fn has(&self, kind: Kind) -> bool {
+        match self {
+            Kinds::Both => true,
+            Kinds::One(one) => *one == kind,
+        }
+    }
+}
+
+impl Kind {
+    /// The kind of a network's addresses.
+    pub fn of(network: IpNetwork) -> Kind {
+        match network {
+            IpNetwork::V4(_) => Kind::Ipv4,
+            IpNetwork::V6(_) => Kind::Ipv6,
+        }
+    }
+
+    /// The network of a block of this kind. Addresses of IPv4 are numbers below 2^32, whose blocks have prefixes of 96
+    /// and more.
+    pub fn network_of(&self, block: Block) -> Result<IpNetwork, IpNetworkError> {
+        match self {
+            Kind::Ipv4 => IpNetwork::new(
+                IpAddr::V4(Ipv4Addr::from((block.first % (1 << 32)) as u32)),
+                block.prefix.saturating_sub(96),
+            ),
+            Kind::Ipv6 => IpNetwork::new(IpAddr::V6(Ipv6Addr::from(block.first)), block.prefix),
+        }
+    }
+}
+
+/// The block of a network's addresses.
+pub(crate) fn block_of(network: IpNetwork) -> Block {
+    match network.network() {
+        IpAddr::V4(address) => Block {
+            first: u128::from(address.to_bits()),
+            prefix: network.prefix().saturating_add(96),
+        },
+        IpAddr::V6(address) => Block {
+            first: address.to_bits(),
+            prefix: network.prefix(),
+        },
+    }
+}

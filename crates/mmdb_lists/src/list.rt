@@ -1,0 +1,184 @@
+//! Lists of the fewest networks that have the addresses of those that are pushed.
+use crate::kind::{Kind, Kinds, block_of};
+use crate::syntax::Syntax;
+use mmdb_blocks::{Block, Joiner};
+use mmdb_reader::{IpNetwork, IpNetworkError};
+use std::alloc::{AllocError, Global};
+use std::io::{self, Write};
+
+/// Why a list is not written.
+#[derive(Debug, Drop)]
+pub enum ListError {
+    /// The output failed.
+    Write(io::Error),
+    /// The networks do not ascend.
+    OutOfOrder,
+    /// Out of memory.
+    Memory,
+}
+
+impl From<AllocError> for ListError {
+    fn from(_error: AllocError) -> ListError {
+        ListError::Memory
+    }
+}
+
+impl From<IpNetworkError> for ListError {
+    fn from(_error: IpNetworkError) -> ListError {
+        ListError::OutOfOrder
+    }
+}
+
+/// A list of networks, of which IPv4 and IPv6 networks are joined apart. Networks are pushed in ascending order, those of
+/// a kind together.
+#[derive(Drop)]
+pub struct List<'a> {
+    alloc: Global,
+    syntax: Syntax<'a>,
+    kinds: Kinds,
+    joiner: Joiner,
+    /// The kind of the last network.
+    kind: Option<Kind>,
+    /// Whether a network of that kind was written.
+    has_written: bool,
+}
+
+// Writes a text.
+fn put<O: Write>(text: &str, out: &mut O) -> Result<(), ListError> {
+    match out.write_all(text.as_bytes()) {
+        Ok(()) => Ok(()),
+        Err(error) => Err(ListError::Write(error)),
+    }
+}
+
+// The upper half of a block that has all addresses of a kind.
+fn halves_of(block: Block) -> [Block; 2] {
+    let prefix = block.prefix.saturating_add(1);
+    [
+        Block {
+            first: block.first,
+            prefix,
+        },
+        Block {
+            first: block
+                .first
+                .saturating_add(1 << (128 - prefix.min(128).max(1))),
+            prefix,
+        },
+    ]
+}
+
+impl<'a> List<'a> {
+    /// A list without networks. All memory but that of a line is taken here.
+    pub fn new(alloc: Global, syntax: Syntax<'a>, kinds: Kinds) -> Result<List<'a>, AllocError> {
+        Ok(List {
+            alloc,
+            syntax,
+            kinds,
+            joiner: Joiner::new(alloc)?,
+            kind: None,
+            has_written: false,
+        })
+    }
+
+    /// Writes what stands before all networks.
+    pub fn begin<O: Write>(&self, out: &mut O) -> Result<(), ListError> {
+        let text = self.syntax.beginning(self.alloc, self.kinds)?;
+        put(text.as_str(), out)
+    }
+
+    // Writes what stands before the first network of a kind.
+    fn open<O: Write>(&self, kind: Kind, out: &mut O) -> Result<(), ListError> {
+        if self.has_written {
+            return Ok(());
+        }
+        let text = self.syntax.opening(self.alloc, kind)?;
+        put(text.as_str(), out)
+    }
+
+    // Writes a network.
+    fn put_network<O: Write>(
+        &mut self,
+        kind: Kind,
+        network: IpNetwork,
+        out: &mut O,
+    ) -> Result<(), ListError> {
+        self.open(kind, out)?;
+        let text = network.to_string(self.alloc)?;
+        let is_first = !self.has_written;
+        self.has_written = true;
+        let line = self.syntax.line(self.alloc, kind, is_first, text.as_str())?;
+        put(line.as_str(), out)
+    }
+
+    // Writes a block, or its halves where it has all addresses and those may not be written as one.
+    fn put_block<O: Write>(
+        &mut self,
+        kind: Kind,
+        block: Block,
+        out: &mut O,
+    ) -> Result<(), ListError> {
+        let network = kind.network_of(block)?;
+        if network.prefix() > 0 || !self.syntax.halves_all() {
+            return self.put_network(kind, network, out);
+        }
+        for half in halves_of(block) {
+            self.put_network(kind, kind.network_of(half)?, out)?;
+        }
+        Ok(())
+    }
+
+    // Writes the blocks that nothing can join any more.
+    fn put_settled<O: Write>(&mut self, kind: Kind, out: &mut O) -> Result<(), ListError> {
+        for index in 0..self.joiner.settled().len() {
+            if let Some(block) = self.joiner.settled().get(index) {
+                let block = *block;
+                self.put_block(kind, block, out)?;
+            }
+        }
+        Ok(())
+    }
+
+    // Writes what is left of a kind.
+    fn end_kind<O: Write>(&mut self, kind: Kind, out: &mut O) -> Result<(), ListError> {
+        self.joiner.finish();
+        self.put_settled(kind, out)?;
+        if self.has_written {
+            put(self.syntax.closing(), out)?;
+        }
+        self.has_written = false;
+        Ok(())
+    }
+
+    // Writes what is left of the kind before, where there was one.
+    fn change_to<O: Write>(&mut self, kind: Kind, out: &mut O) -> Result<(), ListError> {
+        if let Some(before) = self.kind {
+            if before != kind {
+                self.end_kind(before, out)?;
+            }
+        }
+        self.kind = Some(kind);
+        Ok(())
+    }
+
+    /// Takes the next network, if its kind is wanted, and writes those that nothing can join any more.
+    pub fn push<O: Write>(&mut self, network: IpNetwork, out: &mut O) -> Result<(), ListError> {
+        let kind = Kind::of(network);
+        if !self.kinds.has(kind) {
+            return Ok(());
+        }
+        self.change_to(kind, out)?;
+        match self.joiner.push(block_of(network)) {
+            Ok(()) => self.put_settled(kind, out),
+            Err(_) => Err(ListError::OutOfOrder),
+        }
+    }
+
+    /// Writes what is left.
+    pub fn finish<O: Write>(&mut self, out: &mut O) -> Result<(), ListError> {
+        match self.kind {
+            Some(kind) => self.end_kind(kind, out),
+            None => Ok(()),
+        }
+    }
+}
