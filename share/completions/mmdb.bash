@@ -13,7 +13,7 @@ _mmdb_offer() {
 
 _mmdb() {
   local typed=${COMP_WORDS[COMP_CWORD]} before=${COMP_WORDS[COMP_CWORD - 1]} command=${COMP_WORDS[1]-}
-  local options='' commands='show enrich export info verify help' word at arguments=0 ended=''
+  local options='' commands='show enrich export diff info verify help' word at arguments=0 ended=''
   COMPREPLY=()
   # A redirection has a file behind it.
   if [[ $before == *[\<\>] || $typed == *[\<\>] ]]; then
@@ -28,6 +28,7 @@ _mmdb() {
     show) options='--path --lines' ;;
     enrich) options='--column --delimiter --field --header' ;;
     export) options='--field --format --where --where-not --ipv4 --ipv6 --name' ;;
+    diff) options='--field --format --exit-code' ;;
     info) options='--json' ;;
     verify) ;;
     help) [ "$COMP_CWORD" -ne 2 ] || _mmdb_offer "$commands"; return ;;
@@ -52,12 +53,19 @@ _mmdb() {
   [ "$before" != = ] || before=${COMP_WORDS[COMP_CWORD - 2]}
   if [ "$typed" = = ]; then typed=''; fi
   case $ended$before in
-    --format) _mmdb_offer 'jsonl csv cidr nft ipset'; return ;;
+    --format)
+      if [ "$command" = diff ]; then _mmdb_offer 'jsonl csv'; else _mmdb_offer 'jsonl csv cidr nft ipset'; fi
+      return
+      ;;
     --path | --column | --delimiter | --field | --where | --where-not | --name) return ;;
   esac
   case $ended$typed in
     -*) _mmdb_offer "$options --help -h" ;;
-    *) if [ "$arguments" -eq 0 ] || [ "$command" = verify ]; then _mmdb_files; fi ;;
+    *)
+      if [ "$arguments" -eq 0 ] || [ "$command" = verify ] || [ "$command$arguments" = diff1 ]; then
+        _mmdb_files
+      fi
+      ;;
   esac
 }
 

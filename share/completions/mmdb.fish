@@ -34,6 +34,7 @@ complete -c mmdb -f
 complete -c mmdb -n __mmdb_no_command -a show -d 'Show the records of addresses as JSON'
 complete -c mmdb -n __mmdb_no_command -a enrich -d 'Copy lines from standard input, with fields behind each'
 complete -c mmdb -n __mmdb_no_command -a export -d 'Write every network that has data'
+complete -c mmdb -n __mmdb_no_command -a diff -d 'Write what changed between two files'
 complete -c mmdb -n __mmdb_no_command -a info -d 'Show what a database says of itself'
 complete -c mmdb -n __mmdb_no_command -a verify -d 'Say whether files are whole'
 complete -c mmdb -n __mmdb_no_command -a help -d 'Print help'
@@ -58,6 +59,12 @@ complete -c mmdb -n '__mmdb_is export' -l ipv4 -d 'Only IPv4 networks'
 complete -c mmdb -n '__mmdb_is export' -l ipv6 -d 'Only IPv6 networks'
 complete -c mmdb -n '__mmdb_is export' -l name -x -d 'How the sets of nft and ipset begin'
 complete -c mmdb -n '__mmdb_is export' -s h -l help -d 'Print help'
+
+complete -c mmdb -n '__mmdb_is diff' -F
+complete -c mmdb -n '__mmdb_is diff' -l field -x -d 'Only the value at a path'
+complete -c mmdb -n '__mmdb_is diff' -l format -x -a 'jsonl csv' -d 'How lines are written'
+complete -c mmdb -n '__mmdb_is diff' -l exit-code -d 'Status 7 where something differs'
+complete -c mmdb -n '__mmdb_is diff' -s h -l help -d 'Print help'
 
 complete -c mmdb -n '__mmdb_is info' -l json -d 'As JSON'
 complete -c mmdb -n '__mmdb_is info' -s h -l help -d 'Print help'

@@ -46,6 +46,19 @@ The formats cidr, nft and ipset write no records but the fewest blocks that have
 the addresses of the networks: one a line, or two sets NAME_ipv4 and NAME_ipv6
 as a file for nft -f (in the table inet mmdb) or for ipset restore.";
 
+const DIFF_EXAMPLE: &str = "Example:
+  mmdb diff old/GeoLite2-Country.mmdb GeoLite2-Country.mmdb --field country.iso_code
+
+Each line is a block of addresses, as large as it can be, in which both files
+have one answer each and the answers differ: with the old value and the new one,
+null where there is none. They come ascending. Files of which one has only IPv4
+are compared on IPv4. How many networks and IPv4 addresses were added, removed
+and changed is said on standard error at the end. A network that can't be read is
+told there too, and the status is 1 then.";
+
+/// The formats of differences.
+const DIFF_FORMATS: &[&str] = &["jsonl", "csv"];
+
 /// The formats of an export.
 const FORMATS: &[&str] = &["jsonl", "csv", "cidr", "nft", "ipset"];
 
@@ -53,6 +66,11 @@ fn file<'a>(alloc: Global) -> Arg<'a> {
     Arg::new(alloc, "FILE")
         .required(true)
         .help("A MaxMind DB file")
+}
+
+// A file that is wanted.
+fn database<'a>(alloc: Global, name: &'a str, help: &'a str) -> Arg<'a> {
+    Arg::new(alloc, name).required(true).help(help)
 }
 
 // An option that takes a value.
@@ -268,6 +286,40 @@ fn with_choice<'a>(
     )
 }
 
+fn diff<'a>(alloc: Global) -> Result<Command<'a>, AllocError> {
+    let command = named(
+        alloc,
+        "diff",
+        "Write what changed between two files",
+        DIFF_EXAMPLE,
+    );
+    let command = command.arg(database(alloc, "OLD", "The MaxMind DB file before"));
+    let command = with_argument(command, database(alloc, "NEW", "The MaxMind DB file after"));
+    let command = with_argument(
+        command,
+        Arg::new(alloc, "RANGE").help("Only inside this network"),
+    );
+    let command = with_argument(
+        command,
+        options(
+            alloc,
+            "field",
+            "PATH",
+            "Only the value at a path, as country.iso_code; may be repeated",
+        ),
+    );
+    let command = with_argument(
+        command,
+        option(alloc, "format", "FORMAT", "csv needs a --field")
+            .value_parser(DIFF_FORMATS)
+            .default_value("jsonl"),
+    );
+    with_argument(
+        command,
+        flag(alloc, "exit-code", "Status 7 where something differs"),
+    )
+}
+
 fn program<'a>(alloc: Global) -> Command<'a> {
     Command::new(alloc, "mmdb")
         .version("0.1.0")
@@ -282,5 +334,6 @@ pub(crate) fn command<'a>(alloc: Global) -> Result<Command<'a>, AllocError> {
     let command = with_command(command, info(alloc));
     let command = with_command(command, enrich(alloc));
     let command = with_command(command, export(alloc));
+    let command = with_command(command, diff(alloc));
     with_command(command, verify(alloc))
 }

@@ -8,7 +8,7 @@ mod shown;
 
 pub use rejected::{Message, NoRequest};
 pub use request::{
-    EnrichArguments, ExportArguments, Format, InfoArguments, Request, ShowArguments,
+    DiffArguments, EnrichArguments, ExportArguments, Format, InfoArguments, Request, ShowArguments,
     VerifyArguments, request_of,
 };
 pub use shown::shown_text;

@@ -67,6 +67,19 @@ pub struct ExportArguments<'a> {
     pub name: Option<&'a str>,
 }
 
+/// The arguments of `diff`.
+#[derive(Drop)]
+pub struct DiffArguments<'a> {
+    pub old: &'a str,
+    pub new: &'a str,
+    /// A text that should be a network.
+    pub range: Option<&'a str>,
+    /// Texts that should be paths.
+    pub fields: Vec<&'a str>,
+    pub is_csv: bool,
+    pub exit_code: bool,
+}
+
 /// The arguments of `verify`.
 #[derive(Drop)]
 pub struct VerifyArguments<'a> {
@@ -84,6 +97,8 @@ pub enum Request<'a> {
     Enrich(EnrichArguments<'a>),
     /// Every network with its record.
     Export(ExportArguments<'a>),
+    /// What changed between two files.
+    Diff(DiffArguments<'a>),
     /// Whether files are whole.
     Verify(VerifyArguments<'a>),
 }
@@ -169,6 +184,18 @@ fn export<'a>(alloc: Global, matches: &ArgMatches<'a>) -> Result<Request<'a>, No
     }))
 }
 
+fn diff<'a>(alloc: Global, matches: &ArgMatches<'a>) -> Result<Request<'a>, NoRequest> {
+    let fields = texts_of(alloc, matches, "field")?;
+    Ok(Request::Diff(DiffArguments {
+        old: matches.get_str("OLD").unwrap_or(""),
+        new: matches.get_str("NEW").unwrap_or(""),
+        range: matches.get_str("RANGE"),
+        fields,
+        is_csv: matches.get_str("format") == Some("csv"),
+        exit_code: matches.get_flag("exit-code"),
+    }))
+}
+
 fn verify<'a>(alloc: Global, matches: &ArgMatches<'a>) -> Result<Request<'a>, NoRequest> {
     let files = texts_of(alloc, matches, "FILE")?;
     Ok(Request::Verify(VerifyArguments { files }))
@@ -188,6 +215,8 @@ fn of_command<'a>(
         enrich(alloc, matches)
     } else if name == "export" {
         export(alloc, matches)
+    } else if name == "diff" {
+        diff(alloc, matches)
     } else {
         verify(alloc, matches)
     }

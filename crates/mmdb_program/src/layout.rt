@@ -50,7 +50,7 @@ fn cell_of<S: AsSlice<u8> + Drop>(
 }
 
 // A line of cells. What refuses is a vector, which does so for want of memory alone.
-fn line_of_cells(alloc: Global, cells: &[&[u8]]) -> Result<Vec<u8>, MaxMindDbError> {
+pub(crate) fn line_of_cells(alloc: Global, cells: &[&[u8]]) -> Result<Vec<u8>, MaxMindDbError> {
     let mut out = CsvWriter::from_writer(Vec::new(alloc));
     match out.write_fields(cells) {
         Ok(()) => {}
@@ -73,7 +73,7 @@ fn line_of_names(alloc: Global, fields: &[&str]) -> Result<Vec<u8>, MaxMindDbErr
 }
 
 // The texts of the cells behind the network's.
-fn cells_of<S: AsSlice<u8> + Drop>(
+pub(crate) fn cells_of<S: AsSlice<u8> + Drop>(
     alloc: Global,
     fields: &Fields<'_>,
     found: &LookupResult<'_, S>,
@@ -104,7 +104,7 @@ fn row_of_cells<S: AsSlice<u8> + Drop>(
     line_behind_network(alloc, cells.as_slice())
 }
 
-fn row_of_values<S: AsSlice<u8> + Drop>(
+pub(crate) fn row_of_values<S: AsSlice<u8> + Drop>(
     alloc: Global,
     fields: &Fields<'_>,
     found: &LookupResult<'_, S>,

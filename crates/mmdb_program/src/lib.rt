@@ -3,6 +3,8 @@
 
 mod about;
 mod conditions;
+mod diff;
+mod differences;
 mod enrich;
 mod error;
 mod export;

@@ -11,7 +11,7 @@ use std::convert::AsSlice;
 use std::io::Write;
 
 // What a report names for a network.
-fn name_of(alloc: Global, place: Where) -> Result<String, AllocError> {
+pub(crate) fn name_of(alloc: Global, place: Where) -> Result<String, AllocError> {
     match place {
         Where::At(network) => network.to_string(alloc),
         Where::Behind(network) => format!(in alloc; "a network behind {network}"),

@@ -16,6 +16,9 @@ pub(crate) const BAD_ARGUMENTS: u8 = 2;
 /// An address has no record, or a path leads nowhere in it.
 pub(crate) const NOT_FOUND: u8 = 6;
 
+/// Two files differ, where that was asked.
+pub(crate) const DIFFERENT: u8 = 7;
+
 /// What is reported where there is no memory to print an error.
 pub(crate) const NO_MEMORY: &str = "mmdb: out of memory\n";
 

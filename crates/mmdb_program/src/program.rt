@@ -1,5 +1,6 @@
 //! What the program does with its arguments.
 use crate::about::about;
+use crate::diff::diff;
 use crate::enrich::enrich;
 use crate::error::ProgramError;
 use crate::networks::export;
@@ -51,6 +52,7 @@ fn done<R: Files, I: BufRead, O: Write, E: Write>(
     match task {
         Task::Info(wanted) => about(rt, alloc, wanted.file, wanted.json, out),
         Task::Verify(wanted) => verify(rt, alloc, wanted.files.as_slice(), out),
+        Task::Diff(wanted) => diff(rt, alloc, &wanted, out, err),
         Task::Query { file, query } => {
             let reader = Reader::open_readfile(rt, alloc, file)?;
             answered(alloc, &reader, query, terminals, input, out, err)

@@ -3,8 +3,8 @@ use crate::conditions::conditions_of;
 use crate::layout::{Fields, Layout};
 use crate::paths::path_of;
 use mmdb_arguments::{
-    EnrichArguments, ExportArguments, Format, InfoArguments, NoRequest, Request, ShowArguments,
-    VerifyArguments, request_of,
+    DiffArguments, EnrichArguments, ExportArguments, Format, InfoArguments, NoRequest, Request,
+    ShowArguments, VerifyArguments, request_of,
 };
 use mmdb_filter::Rows;
 use mmdb_lists::{Condition, Kind, Kinds, Syntax, is_set_name};
@@ -57,6 +57,16 @@ pub(crate) struct EnrichTask<'a> {
     pub(crate) header: bool,
 }
 
+/// What `diff` is asked for.
+#[derive(Drop)]
+pub(crate) struct DiffTask<'a> {
+    pub(crate) old: &'a str,
+    pub(crate) new: &'a str,
+    pub(crate) range: Option<IpNetwork>,
+    pub(crate) layout: Layout<'a>,
+    pub(crate) exit_code: bool,
+}
+
 /// What is asked of a database that is opened.
 #[derive(Drop)]
 pub(crate) enum Query<'a> {
@@ -75,6 +85,8 @@ pub(crate) enum Task<'a> {
     Info(InfoArguments<'a>),
     /// Whether files are whole.
     Verify(VerifyArguments<'a>),
+    /// What changed between two files.
+    Diff(DiffTask<'a>),
     /// What is looked up in a file.
     Query { file: &'a str, query: Query<'a> },
 }
@@ -85,6 +97,7 @@ impl<'a> Task<'a> {
         match self {
             Task::Info(info) => info.file,
             Task::Verify(_) => "verify",
+            Task::Diff(_) => "diff",
             Task::Query { file, .. } => *file,
         }
     }
@@ -255,6 +268,19 @@ fn export<'a>(alloc: Global, arguments: ExportArguments<'a>) -> Result<Query<'a>
     }))
 }
 
+fn diff<'a>(alloc: Global, arguments: DiffArguments<'a>) -> Result<Task<'a>, NoRequest> {
+    let range = range_of(alloc, arguments.range)?;
+    let (old, new, exit_code) = (arguments.old, arguments.new, arguments.exit_code);
+    let layout = layout_of(alloc, arguments.is_csv, arguments.fields)?;
+    Ok(Task::Diff(DiffTask {
+        old,
+        new,
+        range,
+        layout,
+        exit_code,
+    }))
+}
+
 // The task of a file and what is asked of it.
 fn of_file<'a>(file: &'a str, query: Result<Query<'a>, NoRequest>) -> Result<Task<'a>, NoRequest> {
     Ok(Task::Query {
@@ -270,6 +296,7 @@ pub(crate) fn task_of<'a>(alloc: Global, arguments: &'a [String]) -> Result<Task
         Request::Info(arguments) => Ok(Task::Info(arguments)),
         Request::Enrich(arguments) => of_file(arguments.file, enrich(alloc, arguments)),
         Request::Export(arguments) => of_file(arguments.file, export(alloc, arguments)),
+        Request::Diff(arguments) => diff(alloc, arguments),
         Request::Verify(arguments) => Ok(Task::Verify(arguments)),
     }
 }

@@ -1,4 +1,5 @@
 //! What no clause says of the program `mmdb`: worked texts, words, statuses and refusals.
+mod diffs;
 mod exports;
 mod failures;
 mod helps;

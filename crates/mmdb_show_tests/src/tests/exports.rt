@@ -95,7 +95,7 @@ pub(crate) fn file_of_nodes(
 }
 
 // Whether there are as many lines as parts, and each holds its own.
-fn lines_hold(text: &str, parts: &[&str]) -> bool {
+pub(crate) fn lines_hold(text: &str, parts: &[&str]) -> bool {
     for (line, part) in text.lines().zip(parts.iter()) {
         if !line.contains(part) {
             return false;

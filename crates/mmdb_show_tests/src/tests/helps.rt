@@ -7,7 +7,15 @@ const HELPS: &[(&[&str], &[&str])] = &[
     (&["--version"], &["mmdb 0.1.0\n"]),
     (
         &["--help"],
-        &["show", "info", "enrich", "export", "verify", "--version"],
+        &[
+            "show",
+            "info",
+            "enrich",
+            "export",
+            "diff",
+            "verify",
+            "--version",
+        ],
     ),
     (
         &["show", "--help"],
@@ -41,6 +49,17 @@ const HELPS: &[(&[&str], &[&str])] = &[
             "--ipv6",
             "--name",
             "Examples:\n  mmdb export ",
+        ],
+    ),
+    (
+        &["diff", "--help"],
+        &[
+            "mmdb diff [OPTIONS] <OLD> <NEW> [RANGE]",
+            "--field",
+            "--format",
+            "jsonl, csv",
+            "--exit-code",
+            "Example:\n  mmdb diff ",
         ],
     ),
     (&["verify", "--help"], &["Example:\n  mmdb verify "]),

@@ -7,12 +7,12 @@ use std::process::Abort;
 
 /// At 0 the record {"c": {"i": "DE"}, "n": 7}, at 13 {"c": {"i": "AT"}, "n": true}, at 26 {"c": T} with a text that is
 /// not UTF-8, at 31 {"n": "7"}.
-const DATA: &[u8] =
+pub(crate) const DATA: &[u8] =
     b"\xE2\x41c\xE1\x41i\x42DE\x41n\xA1\x07\xE2\x41c\xE1\x41i\x42AT\x41n\x01\x07\xE1\x41c\x41\xFF\xE1\x41n\x417";
 
 /// The records of the nodes: of three that lead to others, and of the eight networks of /3, where offset o is 23 + o,
 /// 7 is none, and 4096 lies past the data. DE, DE, AT, DE, none, DE, DE, DE.
-const WHOLE: &[(u32, u32)] = &[
+pub(crate) const WHOLE: &[(u32, u32)] = &[
     (1, 2),
     (3, 4),
     (5, 6),
@@ -23,7 +23,7 @@ const WHOLE: &[(u32, u32)] = &[
 ];
 
 /// DE, the text that is not UTF-8, the text 7, AT, a fault, DE, none, none.
-const DAMAGED: &[(u32, u32)] = &[
+pub(crate) const DAMAGED: &[(u32, u32)] = &[
     (1, 2),
     (3, 4),
     (5, 6),

@@ -1,0 +1,153 @@
+//! Two databases side by side.
+use crate::blocks::{largest_block, last_of};
+use crate::walk::{Fault, Here, Walk};
+use mmdb_blocks::Block;
+use mmdb_reader::{IpNetwork, LookupResult, MaxMindDbError, Reader};
+use std::alloc::Global;
+use std::convert::AsSlice;
+
+/// One of the two databases.
+#[derive(Clone, Copy, PartialEq, Eq)]
+pub enum Side {
+    Old,
+    New,
+}
+
+/// A block in which each database has one answer, and at least one of them a record.
+#[derive(Clone, Copy)]
+pub struct Stretch {
+    pub block: Block,
+    pub is_ipv4: bool,
+    pub has_old: bool,
+    pub has_new: bool,
+}
+
+/// What comes next of the addresses.
+#[derive(Drop)]
+pub enum Part {
+    Stretch(Stretch),
+    /// A leaf of one of them can't be read. What that database has up to its next network is not compared.
+    Fault { side: Side, fault: Fault },
+}
+
+/// Two databases side by side. Memory is taken by `new` alone.
+#[derive(Drop)]
+pub struct Comparison<'a, S: AsSlice<u8> + Drop> {
+    old: Walk<'a, S>,
+    new: Walk<'a, S>,
+    /// Whether the range is one of IPv4, so that all blocks are.
+    is_ipv4: bool,
+    /// The address up to which all is compared, if there is one left.
+    at: Option<u128>,
+}
+
+// The address up to which something holds.
+fn until(here: Here) -> u128 {
+    match here {
+        Here::Record(last) | Here::Nothing(last) | Here::Unknown(last) => last,
+    }
+}
+
+// Whether there is a record.
+fn is_record(here: Here) -> bool {
+    matches!(here, Here::Record(_))
+}
+
+// Whether there is something to compare.
+fn is_compared(old: Here, new: Here) -> bool {
+    let is_known = !matches!(old, Here::Unknown(_)) && !matches!(new, Here::Unknown(_));
+    is_known && (is_record(old) || is_record(new))
+}
+
+impl<'a, S: AsSlice<u8> + Drop> Comparison<'a, S> {
+    /// The databases in a range. An error, with its side, where the range can't be asked of a database, or memory is out.
+    pub fn new(
+        alloc: Global,
+        old: &'a Reader<S>,
+        new: &'a Reader<S>,
+        range: IpNetwork,
+    ) -> Result<Comparison<'a, S>, (Side, MaxMindDbError)> {
+        let old = match Walk::new(alloc, old, range) {
+            Ok(walk) => walk,
+            Err(error) => return Err((Side::Old, error)),
+        };
+        match Walk::new(alloc, new, range) {
+            Ok(new) => Ok(Comparison {
+                old,
+                new,
+                is_ipv4: matches!(range, IpNetwork::V4(_)),
+                at: Some(0),
+            }),
+            Err(error) => Err((Side::New, error)),
+        }
+    }
+
+    // Goes on to an address in both, or gives a leaf that can't be read.
+    fn go_to(&mut self, at: u128) -> Option<Part> {
+        if let Some(fault) = self.old.go_to(at) {
+            return Some(Part::Fault {
+                side: Side::Old,
+                fault,
+            });
+        }
+        let fault = self.new.go_to(at)?;
+        Some(Part::Fault {
+            side: Side::New,
+            fault,
+        })
+    }
+
+    // The part of what both have at an address, if there is something to compare. Goes behind it.
+    fn part_at(&mut self, at: u128) -> Option<Part> {
+        let (old, new) = (self.old.at(at), self.new.at(at));
+        let last = until(old).min(until(new));
+        if !is_compared(old, new) {
+            self.at = last.checked_add(1);
+            return None;
+        }
+        let block = largest_block(at, last);
+        self.at = last_of(block).checked_add(1);
+        let (has_old, has_new) = (is_record(old), is_record(new));
+        let shows_ipv4 = has_old && self.old.is_ipv4() || has_new && self.new.is_ipv4();
+        Some(Part::Stretch(Stretch {
+            block,
+            is_ipv4: self.is_ipv4 || shows_ipv4,
+            has_old,
+            has_new,
+        }))
+    }
+
+    /// The next part, ascending. None where all is compared.
+    pub fn next_part(&mut self) -> Option<Part> {
+        for _ in 0..u64::MAX {
+            let at = self.at?;
+            let fault = self.go_to(at);
+            if fault.is_some() {
+                return fault;
+            }
+            let part = self.part_at(at);
+            if part.is_some() {
+                return part;
+            }
+        }
+        None
+    }
+
+    /// What the old database has in the last stretch, if it has a record there.
+    pub fn found_in_old(&self, stretch: Stretch) -> Option<&LookupResult<'a, S>> {
+        if stretch.has_old {
+            self.old.found()
+        } else {
+            None
+        }
+    }
+
+    /// What the new database has in the last stretch, if it has a record there.
+    pub fn found_in_new(&self, stretch: Stretch) -> Option<&LookupResult<'a, S>> {
+        if stretch.has_new {
+            self.new.found()
+        } else {
+            None
+        }
+    }
+}

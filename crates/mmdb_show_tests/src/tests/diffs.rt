@@ -1,0 +1,289 @@
+//! What changed between two files.
+use super::exports::lines_hold;
+use super::lists::{DAMAGED, DATA, WHOLE};
+use super::program::{Run, assert_of, file_of, words_with};
+use mmdb_program::run;
+use mmdb_vectors::builder::{Field, changed_file, nodes_24};
+use mmdb_vectors::file::{OneFile, TestFile};
+use std::alloc::{Allocator, Global};
+use std::fs::{Metadata, OpenOptions};
+use std::io;
+use std::process::Abort;
+use std::rt::Files;
+
+/// DE, AT, none, DE, {"n": "7"}, DE, and DE in one network of /2. Of six nodes: offset o is 22 + o, 6 is none.
+const CHANGED: &[(u32, u32)] = &[(1, 2), (3, 4), (5, 22), (22, 35), (6, 22), (53, 22)];
+
+/// DE in 0.0.0.0/1, none behind it.
+const HALF: &[(u32, u32)] = &[(17, 1)];
+
+/// A database: its nodes, their count as it is encoded, and its IP version as it is encoded.
+type Database<'a> = (&'a [(u32, u32)], &'a [u8], &'a [u8]);
+
+const IPV4: &[u8] = b"\xA1\x04";
+
+const IPV6: &[u8] = b"\xA1\x06";
+
+const BEFORE: Database<'static> = (WHOLE, b"\xC1\x07", IPV4);
+
+const AFTER: Database<'static> = (CHANGED, b"\xC1\x06", IPV4);
+
+const FAULTY: Database<'static> = (DAMAGED, b"\xC1\x07", IPV4);
+
+const SHORT: Database<'static> = (HALF, b"\xC1\x01", IPV4);
+
+/// DE everywhere.
+const WIDE: Database<'static> = (&[(17, 17)], b"\xC1\x01", IPV6);
+
+/// The old and the new database, words, standard output, what each line of standard error has to hold, and the status.
+type Row<'a> = (
+    Database<'a>,
+    Database<'a>,
+    &'a [&'a str],
+    &'a str,
+    &'a [&'a str],
+    u8,
+);
+
+const NOTHING: &str = "0 (0) added, 0 (0) removed, 0 (0) changed";
+
+#[rattlefmt::skip]
+const ROWS: &[Row<'static>] = &[
+    (BEFORE, BEFORE, &[], "", &[NOTHING], 0),
+    (BEFORE, BEFORE, &["--exit-code"], "", &[NOTHING], 0),
+    // changed, removed and added; two halves that became one network are the same
+    (
+        BEFORE,
+        AFTER,
+        &[],
+        "{\"network\":\"32.0.0.0/3\",\"old\":{\"c\":{\"i\":\"DE\"},\"n\":7},\"new\":{\"c\":{\"i\":\"AT\"},\"n\":true}}
+{\"network\":\"64.0.0.0/3\",\"old\":{\"c\":{\"i\":\"AT\"},\"n\":true},\"new\":null}
+{\"network\":\"128.0.0.0/3\",\"old\":null,\"new\":{\"n\":\"7\"}}
+",
+        &["1 (536870912) added, 1 (536870912) removed, 1 (536870912) changed"],
+        0,
+    ),
+    // without a record a field is null, as where the record has no such field
+    (
+        AFTER,
+        BEFORE,
+        &["--field", "c.i", "--exit-code"],
+        "{\"network\":\"32.0.0.0/3\",\"old\":{\"c.i\":\"AT\"},\"new\":{\"c.i\":\"DE\"}}
+{\"network\":\"64.0.0.0/3\",\"old\":{\"c.i\":null},\"new\":{\"c.i\":\"AT\"}}
+",
+        &["1 (536870912) added, 0 (0) removed, 1 (536870912) changed"],
+        7,
+    ),
+    (
+        BEFORE,
+        AFTER,
+        &["0.0.0.0/2", "--field", "c.i", "--field", "n", "--format", "csv"],
+        "network,old.c.i,old.n,new.c.i,new.n\n32.0.0.0/3,DE,7,AT,true\n",
+        &["0 (0) added, 0 (0) removed, 1 (536870912) changed"],
+        0,
+    ),
+    (
+        BEFORE,
+        AFTER,
+        &["64.0.0.0/3", "--field", "n", "--format", "csv"],
+        "network,old.n,new.n\n64.0.0.0/3,true,\n",
+        &["0 (0) added, 1 (536870912) removed, 0 (0) changed"],
+        0,
+    ),
+    // a range inside a network is compared alone
+    (
+        BEFORE,
+        AFTER,
+        &["32.1.2.0/24", "--field", "c.i"],
+        "{\"network\":\"32.1.2.0/24\",\"old\":{\"c.i\":\"DE\"},\"new\":{\"c.i\":\"AT\"}}\n",
+        &["0 (0) added, 0 (0) removed, 1 (256) changed"],
+        0,
+    ),
+    // a network that was split
+    (
+        SHORT,
+        BEFORE,
+        &["--field", "c.i"],
+        "{\"network\":\"64.0.0.0/3\",\"old\":{\"c.i\":\"DE\"},\"new\":{\"c.i\":\"AT\"}}
+{\"network\":\"160.0.0.0/3\",\"old\":{\"c.i\":null},\"new\":{\"c.i\":\"DE\"}}
+{\"network\":\"192.0.0.0/3\",\"old\":{\"c.i\":null},\"new\":{\"c.i\":\"DE\"}}
+{\"network\":\"224.0.0.0/3\",\"old\":{\"c.i\":null},\"new\":{\"c.i\":\"DE\"}}
+",
+        &["3 (1610612736) added, 0 (0) removed, 1 (536870912) changed"],
+        0,
+    ),
+    // what can't be read is told with its file, in its place, and is not compared
+    (
+        BEFORE,
+        FAULTY,
+        &["--field", "n", "--format", "csv", "--exit-code"],
+        "network,old.n,new.n\n32.0.0.0/3,7,\n64.0.0.0/3,true,7\n96.0.0.0/3,7,true\n192.0.0.0/3,7,\n224.0.0.0/3,7,\n",
+        &[
+            "mmdb: new.mmdb: a network behind 96.0.0.0/3: invalid database",
+            "0 (0) added, 2 (1073741824) removed, 3 (1610612736) changed",
+        ],
+        1,
+    ),
+    (
+        FAULTY,
+        BEFORE,
+        &["32.0.0.0/3"],
+        "",
+        &["mmdb: old.mmdb: 32.0.0.0/3: ", NOTHING],
+        1,
+    ),
+    // kinds that differ are compared on IPv4
+    (
+        SHORT,
+        WIDE,
+        &["--field", "c.i"],
+        "{\"network\":\"128.0.0.0/1\",\"old\":{\"c.i\":null},\"new\":{\"c.i\":\"DE\"}}\n",
+        &["1 (2147483648) added, 0 (0) removed, 0 (0) changed"],
+        0,
+    ),
+    (SHORT, WIDE, &["2000::/3"], "", &["mmdb: old.mmdb: invalid input"], 1),
+    (WIDE, WIDE, &["2000::/3"], "", &[NOTHING], 0),
+    (SHORT, SHORT, &["x"], "", &["x: not a network"], 2),
+    (SHORT, SHORT, &["--format", "csv"], "", &["--format csv: needs a --field"], 2),
+    (SHORT, SHORT, &["--field", "+1"], "", &["+1: not a path"], 2),
+];
+
+/// A runtime with the two files alone.
+#[derive(Drop)]
+struct TwoFiles<'a> {
+    old: OneFile<'a>,
+    new: OneFile<'a>,
+}
+
+fn refused() -> io::Error {
+    io::Error::from(io::ErrorKind::Unsupported)
+}
+
+impl<'a> Files for TwoFiles<'a> {
+    type File = TestFile<'a>;
+
+    type Dir = TestFile<'a>;
+
+    fn open_file(&self, how: &OpenOptions, path: &str) -> io::Result<TestFile<'a>> {
+        if path == "old.mmdb" {
+            return self.old.open_file(how, "here.mmdb");
+        }
+        if path == "new.mmdb" {
+            return self.new.open_file(how, "here.mmdb");
+        }
+        Err(io::Error::from(io::ErrorKind::NotFound))
+    }
+
+    fn open_dir(&self, _path: &str) -> io::Result<TestFile<'a>> {
+        Err(refused())
+    }
+
+    fn metadata(&self, _path: &str) -> io::Result<Metadata> {
+        Err(refused())
+    }
+
+    fn symlink_metadata(&self, _path: &str) -> io::Result<Metadata> {
+        Err(refused())
+    }
+
+    fn copy(&self, _from: &str, _to: &str) -> io::Result<u64> {
+        Err(refused())
+    }
+
+    fn rename(&self, _from: &str, _to: &str) -> io::Result<()> {
+        Err(refused())
+    }
+
+    fn remove_file(&self, _path: &str) -> io::Result<()> {
+        Err(refused())
+    }
+
+    fn create_dir(&self, _path: &str) -> io::Result<()> {
+        Err(refused())
+    }
+
+    fn remove_dir(&self, _path: &str) -> io::Result<()> {
+        Err(refused())
+    }
+
+    fn remove_dir_all<B: Allocator>(&self, _alloc: B, _path: &str) -> io::Result<()> {
+        Err(refused())
+    }
+}
+
+fn bytes_of(rt: &impl Abort, alloc: Global, database: Database<'_>) -> Vec<u8> {
+    let (nodes, count, version) = database;
+    let tree = nodes_24(alloc, nodes).expect(rt, "nodes");
+    let changes = [(Field::NodeCount, count), (Field::IpVersion, version)];
+    changed_file(alloc, tree.as_slice(), DATA, &changes).expect(rt, "a file")
+}
+
+// A run of the program with two files.
+fn run_with(alloc: Global, files: &TwoFiles<'_>, texts: &[&str]) -> Run {
+    let words = words_with(alloc, texts);
+    let mut input: &[u8] = b"";
+    let mut written: Vec<u8> = Vec::new(alloc);
+    let mut reported: Vec<u8> = Vec::new(alloc);
+    let status = run(
+        files,
+        alloc,
+        words.as_slice(),
+        false,
+        &mut input,
+        &mut written,
+        &mut reported,
+    );
+    Run {
+        status,
+        written,
+        reported,
+    }
+}
+
+// A run of diff over two files.
+fn diff_of(alloc: Global, old: &[u8], new: &[u8], texts: &[&str]) -> Run {
+    let files = TwoFiles {
+        old: file_of(old),
+        new: file_of(new),
+    };
+    let mut words = Vec::new(alloc);
+    let _ = words.extend_from_slice(&["diff", "old.mmdb", "new.mmdb"]);
+    let _ = words.extend_from_slice(texts);
+    run_with(alloc, &files, words.as_slice())
+}
+
+fn assert_row(rt: &impl Abort, alloc: Global, row: &Row<'_>) {
+    let (old, new, texts, written, told, status) = row;
+    let old = bytes_of(rt, alloc, *old);
+    let new = bytes_of(rt, alloc, *new);
+    let run = diff_of(alloc, old.as_slice(), new.as_slice(), texts);
+    let holds = run.out() == *written && run.status == *status && lines_hold(run.err(), told);
+    assert_of(rt, texts, &run, holds);
+}
+
+#[test]
+fn differences_of_two_files(rt: HostRuntime) {
+    for row in ROWS {
+        assert_row(&rt, rt.alloc(), row);
+    }
+}
+
+#[test]
+fn files_that_are_not_there(rt: HostRuntime) {
+    let bytes = bytes_of(&rt, rt.alloc(), SHORT);
+    let files = TwoFiles {
+        old: file_of(bytes.as_slice()),
+        new: file_of(bytes.as_slice()),
+    };
+    for name in ["old.mmdb", "gone.mmdb"] {
+        let texts = ["diff", name, "gone.mmdb"];
+        let run = run_with(rt.alloc(), &files, &texts);
+        let is_told = run.err().contains("gone.mmdb: i/o error: ");
+        assert_of(
+            &rt,
+            &texts,
+            &run,
+            is_told && run.status == 1 && run.out().is_empty(),
+        );
+    }
+}
