@@ -26,7 +26,7 @@ _mmdb() {
   fi
   case $command in
     show) options='--path --lines' ;;
-    enrich) options='--column --delimiter --field --header' ;;
+    enrich) options='--column --delimiter --field --header --json --into' ;;
     export) options='--field --format' ;;
     info) options='--json' ;;
     verify) ;;
@@ -40,7 +40,8 @@ _mmdb() {
     case $ended$word in
       --) ended=ended ;;
       *[\<\>]) at=$((at + 1)) ;;
-      --path | --column | --delimiter | --field | --format)
+      --path | --column | --delimiter | --field | --format | --into | --json)
+        if [ "$word$command" = --jsoninfo ]; then continue; fi
         at=$((at + 1))
         [ "${COMP_WORDS[at]-}" != = ] || at=$((at + 1))
         ;;
@@ -53,7 +54,8 @@ _mmdb() {
   if [ "$typed" = = ]; then typed=''; fi
   case $ended$before in
     --format) _mmdb_offer 'jsonl csv'; return ;;
-    --path | --column | --delimiter | --field) return ;;
+    --path | --column | --delimiter | --field | --into) return ;;
+    --json) if [ "$command" = enrich ]; then return; fi ;;
   esac
   case $ended$typed in
     -*) _mmdb_offer "$options --help -h" ;;
