@@ -26,7 +26,7 @@ _mmdb() {
   fi
   case $command in
     show) options='--path --lines' ;;
-    enrich) options='--column --delimiter --field --header' ;;
+    enrich) options='--column --delimiter --field --header --json --into' ;;
     export) options='--field --format --where --where-not --ipv4 --ipv6 --name' ;;
     diff) options='--field --format --exit-code' ;;
     info) options='--json' ;;
@@ -41,7 +41,8 @@ _mmdb() {
     case $ended$word in
       --) ended=ended ;;
       *[\<\>]) at=$((at + 1)) ;;
-      --path | --column | --delimiter | --field | --format | --where | --where-not | --name)
+      --path | --column | --delimiter | --field | --format | --where | --where-not | --name | --into | --json)
+        if [ "$word$command" = --jsoninfo ]; then continue; fi
         at=$((at + 1))
         [ "${COMP_WORDS[at]-}" != = ] || at=$((at + 1))
         ;;
@@ -57,7 +58,8 @@ _mmdb() {
       if [ "$command" = diff ]; then _mmdb_offer 'jsonl csv'; else _mmdb_offer 'jsonl csv cidr nft ipset'; fi
       return
       ;;
-    --path | --column | --delimiter | --field | --where | --where-not | --name) return ;;
+    --path | --column | --delimiter | --field | --where | --where-not | --name | --into) return ;;
+    --json) if [ "$command" = enrich ]; then return; fi ;;
   esac
   case $ended$typed in
     -*) _mmdb_offer "$options --help -h" ;;

@@ -20,7 +20,7 @@ function __mmdb_wants_file
     for word in $words[3..-1]
         if test $value = yes
             set value no
-        else if contains -- $word --path --column --delimiter --field --format --where --where-not --name
+        else if contains -- $word --path --column --delimiter --field --format --where --where-not --name --into; or test "$words[2]$word" = enrich--json
             set value yes
         else if not string match -q -- '-*' $word
             return 1
@@ -49,6 +49,8 @@ complete -c mmdb -n '__mmdb_is enrich' -l column -x -d 'The column of the addres
 complete -c mmdb -n '__mmdb_is enrich' -l delimiter -x -d 'What stands between columns'
 complete -c mmdb -n '__mmdb_is enrich' -l field -x -d 'A field to add'
 complete -c mmdb -n '__mmdb_is enrich' -l header -d 'The first line names the columns'
+complete -c mmdb -n '__mmdb_is enrich' -l json -x -d 'The path of the address in lines of JSON'
+complete -c mmdb -n '__mmdb_is enrich' -l into -x -d 'The name of the member that is added'
 complete -c mmdb -n '__mmdb_is enrich' -s h -l help -d 'Print help'
 
 complete -c mmdb -n '__mmdb_is export' -l field -x -d 'Only the value at a path'

@@ -25,7 +25,12 @@ Columns stand between tabs. A line without an address, or whose address has no r
 columns; how many lines fared so is told on standard error at the end. A text stands as it is, unless it
 has control characters; any other value is JSON. With --delimiter , the input is CSV: cells may be in
 quotes, and added cells are where they need them. The address is looked for in the first 65,536 bytes
-of a line.";
+of a line.
+
+  mmdb enrich GeoLite2-City.mmdb --json client.ip --field country.iso_code < log.jsonl
+
+With --json a line that is an object gets an object of the fields as its last member, named --into; a
+field is named by its path's last step, or by NAME=PATH. All other lines stay as they are.";
 
 const EXPORT_EXAMPLE: &str = "Examples:
   mmdb export GeoLite2-Country.mmdb 81.2.69.0/24 --field country.iso_code
@@ -191,6 +196,43 @@ fn delimiter<'a>(alloc: Global) -> Arg<'a> {
     )
 }
 
+// An option that goes with none of those that tell of columns.
+fn without_columns<'a>(argument: Arg<'a>) -> Result<Arg<'a>, AllocError> {
+    let argument = argument.conflicts_with("column")?;
+    argument
+        .conflicts_with("delimiter")?
+        .conflicts_with("header")
+}
+
+// What tells that lines are objects of JSON, and so have no columns.
+fn json_path<'a>(alloc: Global) -> Result<Arg<'a>, AllocError> {
+    without_columns(option(
+        alloc,
+        "json",
+        "PATH",
+        "Lines are JSON: the path of the address in an object, as client.ip",
+    ))
+}
+
+// The name of the member that an object gets.
+fn into<'a>(alloc: Global) -> Result<Arg<'a>, AllocError> {
+    without_columns(option(
+        alloc,
+        "into",
+        "NAME",
+        "With --json: the name of the member that is added, geo if not given",
+    ))
+}
+
+// The command with what it takes for lines of JSON.
+fn with_json<'a>(
+    alloc: Global,
+    command: Result<Command<'a>, AllocError>,
+) -> Result<Command<'a>, AllocError> {
+    let command = with_argument(command, json_path(alloc)?);
+    with_argument(command, into(alloc)?)
+}
+
 fn enrich<'a>(alloc: Global) -> Result<Command<'a>, AllocError> {
     let command = named(
         alloc,
@@ -209,14 +251,15 @@ fn enrich<'a>(alloc: Global) -> Result<Command<'a>, AllocError> {
             "A field to add, as country.iso_code; may be repeated",
         ),
     );
-    with_argument(
+    let command = with_argument(
         command,
         flag(
             alloc,
             "header",
             "The first line names the columns; the paths are added to it",
         ),
-    )
+    );
+    with_json(alloc, command)
 }
 
 fn range<'a>(alloc: Global) -> Arg<'a> {

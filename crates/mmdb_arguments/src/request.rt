@@ -33,6 +33,10 @@ pub struct EnrichArguments<'a> {
     /// Texts that should be paths.
     pub fields: Vec<&'a str>,
     pub header: bool,
+    /// Where lines are JSON, a text that should be the path of the address in an object.
+    pub json: Option<&'a str>,
+    /// The name of the member that an object gets, if it is given.
+    pub into: Option<&'a str>,
 }
 
 /// The formats of an export.
@@ -154,6 +158,8 @@ fn enrich<'a>(alloc: Global, matches: &ArgMatches<'a>) -> Result<Request<'a>, No
         column: matches.get_str("column").unwrap_or("1"),
         fields,
         header: matches.get_flag("header"),
+        json: matches.get_str("json"),
+        into: matches.get_str("into"),
     }))
 }
 

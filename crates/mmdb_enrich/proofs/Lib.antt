@@ -2,3 +2,5 @@ pub mod CellLaws
 pub mod KeptLaws
 pub mod ColumnLaws
 pub mod AddedLaws
+pub mod MemberLaws
+pub mod ObjectLaws

@@ -4,3 +4,5 @@ pub mod Added
 pub mod Kept
 pub mod Rows
 pub mod KeptCells
+pub mod Objects
+pub mod Members

@@ -9,7 +9,7 @@ ghost use Rattle.mmdb_enrich.specs.Rows.{paths_of};
 use crate::cache::Cache;
 use crate::cells::{put_blanks, put_cells};
 use crate::columns::address_of;
-use mmdb_filter::{Additions, Outcome, Rows};
+use mmdb_filter::{Added, Additions, Outcome, Rows};
 use mmdb_reader::{LookupResult, PathElement, Reader};
 use std::alloc::{AllocError, Global};
 use std::convert::AsSlice;
@@ -102,7 +102,7 @@ impl<'a, 'f, S: AsSlice<u8> + Drop> Enrichment<'a, 'f, S> {
 impl<'a, 'f, S: AsSlice<u8> + Drop> Additions for Enrichment<'a, 'f, S> {
     type Memory = Cache;
 
-    ghost adds = { λ e text goes_on extra outcome. AddsTo e.reader.now e.rows e.column (paths_of e.paths) text goes_on extra outcome };
+    ghost adds = { λ e text goes_on extra behind outcome. (behind ≡ 0) × AddsTo e.reader.now e.rows e.column (paths_of e.paths) text goes_on extra outcome };
 
     ghost fits = { λ e cache. AreKept e.reader.now e.rows (paths_of e.paths) cache };
 
@@ -112,10 +112,11 @@ impl<'a, 'f, S: AsSlice<u8> + Drop> Additions for Enrichment<'a, 'f, S> {
         text: &[u8],
         is_long: bool,
         out: &mut Vec<u8>,
-    ) -> io::Result<Outcome> {
-        Ok(match address_of(self.rows, text, is_long, self.column) {
+    ) -> io::Result<Added> {
+        let outcome = match address_of(self.rows, text, is_long, self.column) {
             Some(address) => self.put_address(address, cache, out)?,
             None => self.put_none(Outcome::Unreadable, out)?,
-        })
+        };
+        Ok(Added { outcome, behind: 0 })
     }
 }

@@ -5,10 +5,15 @@ mod cache;
 mod cells;
 mod columns;
 mod enrichment;
+mod json_enrichment;
 mod kept_cells;
+mod members;
+mod objects;
 mod quotes;
 
 pub use cache::Cache;
 pub use columns::delimiter_of;
 pub use enrichment::Enrichment;
+pub use json_enrichment::JsonEnrichment;
+pub use members::Field;
 pub use quotes::put_csv_cell;

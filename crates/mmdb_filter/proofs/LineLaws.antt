@@ -4,7 +4,7 @@ use Rattle.std.specs.Io.KnownBytes.{Appends, IsAtEnd}
 use Rattle.std.proofs.KnownBytes.{Appends-nil, Appends-trans}
 use Rattle.mmdb_filter.specs.Counting.{nothing_counted, count_one}
 use Rattle.mmdb_filter.specs.Rows.{row_from, rows_after, Leads}
-use Rattle.mmdb_filter.specs.Lines.{MayAdd, Line, AreLines, seen_of, is_long, row_with, written, counted, IsFiltered, IsBegun}
+use Rattle.mmdb_filter.specs.Lines.{MayAdd, Line, AreLines, IsAdded, StandsBehind, seen_of, is_long, row_with, written, counted, IsFiltered, IsBegun}
 use Rattle.mmdb_filter.specs.Passing.{Passes, PassesFront}
 use Rattle.mmdb_filter.specs.declared.counts.Counts.{Counts}
 use Rattle.mmdb_filter.specs.declared.counts.Outcome.{Outcome}
@@ -38,40 +38,40 @@ seen_whole rows place piece ys ready = at (or_less (length piece) 65539)
         let same : piece ++ row_from rows place ys ≡ piece = ap (λ r. piece ++ r) (nothing_left rows place ys (λ e. ready e h)).0 ∙ append-nil piece in
         (ap seen_of same, ap is_long same)
 
-more_are : (rows : Rows) (Adds : MayAdd) (to_end : Bool) (line : Line) (lines : List Line) (xs : List ℕ) → 0 < length xs → line.bytes ≡ row_from rows Cell xs → Adds (seen_of line.bytes) (is_long line.bytes) line.extra line.outcome → AreLines rows Adds to_end lines (rows_after rows Cell xs) → AreLines rows Adds to_end (line ∷ lines) xs
+more_are : (rows : Rows) (Adds : MayAdd) (to_end : Bool) (line : Line) (lines : List Line) (xs : List ℕ) → 0 < length xs → line.bytes ≡ row_from rows Cell xs → IsAdded Adds line.bytes line.extra line.behind line.outcome → AreLines rows Adds to_end lines (rows_after rows Cell xs) → AreLines rows Adds to_end (line ∷ lines) xs
 more_are rows Adds true line lines xs s is a are = (s, is, a, are)
 more_are rows Adds false line lines xs s is a are = (s, is, a, are)
 
 -- a row of which a piece was read
-begins : (rows : Rows) (Adds : MayAdd) (to_end : Bool) (lines : List Line) (place : Place) (piece extra xs ys : List ℕ) (outcome : Outcome)
+begins : (rows : Rows) (Adds : MayAdd) (to_end : Bool) (lines : List Line) (place : Place) (piece extra xs ys : List ℕ) (behind : ℕ) (outcome : Outcome)
     → (row_from rows Cell xs ≡ piece ++ row_from rows place ys) × (rows_after rows Cell xs ≡ rows_after rows place ys) → (place ≢ Ended → length piece < 65539 → ys ≡ []) → 0 < length piece
-    → Adds (seen_of piece) (is_long piece) extra outcome → AreLines rows Adds to_end lines (rows_after rows place ys)
-    → AreLines rows Adds to_end (record { bytes = piece ++ row_from rows place ys; extra = extra; outcome = outcome } ∷ lines) xs
-begins rows Adds to_end lines place piece extra xs ys outcome leads ready some added are =
-    let line : Line = record { bytes = piece ++ row_from rows place ys; extra = extra; outcome = outcome } in
+    → IsAdded Adds piece extra behind outcome → AreLines rows Adds to_end lines (rows_after rows place ys)
+    → AreLines rows Adds to_end (record { bytes = piece ++ row_from rows place ys; extra = extra; behind = behind; outcome = outcome } ∷ lines) xs
+begins rows Adds to_end lines place piece extra xs ys behind outcome leads ready some added are =
+    let line : Line = record { bytes = piece ++ row_from rows place ys; extra = extra; behind = behind; outcome = outcome } in
     let more : 0 < length (row_from rows Cell xs) = omega (arith, ap length leads.0, length-append piece (row_from rows place ys)) in
     let seen = seen_whole rows place piece ys ready in
     more_are rows Adds to_end line lines xs (row_from_some rows Cell xs more) (sym leads.0)
-    (subst (λ t. Adds t (is_long line.bytes) extra outcome) (sym seen.0) (subst (λ b. Adds (seen_of piece) b extra outcome) (sym seen.1) added))
+    (subst (λ t. Adds t (is_long line.bytes) extra behind outcome × StandsBehind t (is_long line.bytes) behind) (sym seen.0) (subst (λ b. Adds (seen_of piece) b extra behind outcome × StandsBehind (seen_of piece) b behind) (sym seen.1) added))
     (subst (AreLines rows Adds to_end lines) (sym leads.1) are)
 
-pub next_row : (rows : Rows) (Adds : MayAdd) (input left mid next old now new : Option (List ℕ)) (c : Counts) (place : Place) (piece extra : List ℕ) (outcome : Outcome)
-    → Leads rows Cell left piece place mid → (place ≢ Ended → length piece < 65539 → OnSome left (IsAtEnd mid)) → 0 < length piece → Adds (seen_of piece) (is_long piece) extra outcome
-    → ((place ≢ Ended → length piece < 65539 → IsAtEnd mid) → Passes rows place piece extra mid next now new)
+pub next_row : (rows : Rows) (Adds : MayAdd) (input left mid next old now new : Option (List ℕ)) (c : Counts) (place : Place) (piece extra : List ℕ) (behind : ℕ) (outcome : Outcome)
+    → Leads rows Cell left piece place mid → (place ≢ Ended → length piece < 65539 → OnSome left (IsAtEnd mid)) → 0 < length piece → IsAdded Adds piece extra behind outcome
+    → ((place ≢ Ended → length piece < 65539 → IsAtEnd mid) → Passes rows place piece extra behind mid next now new)
     → UnderWay rows Adds input left old now c → UnderWay rows Adds input next old new (count_one c outcome)
-next_row rows Adds None left mid next old now new c place piece extra outcome leads ready some added passes way = tt
-next_row rows Adds (Some all) None mid next old now new c place piece extra outcome leads ready some added passes way = absurd way
-next_row rows Adds (Some all) (Some xs) None next old now new c place piece extra outcome leads ready some added passes way = absurd leads
-next_row rows Adds (Some all) (Some xs) (Some ys) next old now new c place piece extra outcome leads ready some added passes way =
+next_row rows Adds None left mid next old now new c place piece extra behind outcome leads ready some added passes way = tt
+next_row rows Adds (Some all) None mid next old now new c place piece extra behind outcome leads ready some added passes way = absurd way
+next_row rows Adds (Some all) (Some xs) None next old now new c place piece extra behind outcome leads ready some added passes way = absurd leads
+next_row rows Adds (Some all) (Some xs) (Some ys) next old now new c place piece extra behind outcome leads ready some added passes way =
     let (done, appended, goes_on) = way in
     let (after, put) = passes ready in
-    let line : Line = record { bytes = piece ++ row_from rows place ys; extra = extra; outcome = outcome } in
+    let line : Line = record { bytes = piece ++ row_from rows place ys; extra = extra; behind = behind; outcome = outcome } in
     subst (λ n. UnderWay rows Adds (Some all) n old new (count_one c outcome)) (sym after) (
-      done ++ row_with line.bytes extra,
-      Appends-trans old now new done (row_with line.bytes extra) appended put,
+      done ++ row_with line.bytes extra behind,
+      Appends-trans old now new done (row_with line.bytes extra behind) appended put,
       λ to_end lines are.
-          let (whole, wholes, text, counts) = goes_on to_end (line ∷ lines) (begins rows Adds to_end lines place piece extra xs ys outcome leads ready some added are) in
-          (whole, wholes, text ∙ sym (append_assoc done (row_with line.bytes extra) (written lines)), counts),
+          let (whole, wholes, text, counts) = goes_on to_end (line ∷ lines) (begins rows Adds to_end lines place piece extra xs ys behind outcome leads ready some added are) in
+          (whole, wholes, text ∙ sym (append_assoc done (row_with line.bytes extra behind) (written lines)), counts),
     )
 
 pub finished : (rows : Rows) (Adds : MayAdd) (input left mid old now : Option (List ℕ)) (c : Counts) (place : Place) (piece : List ℕ)
@@ -96,16 +96,16 @@ given_up rows Adds (Some all) (Some xs) old now c way =
     let (whole, wholes, text, counts) = goes_on false [] tt in
     (whole, wholes, (done, [], text, appended))
 
-pub given_up_in : (rows : Rows) (Adds : MayAdd) (input left mid old now new : Option (List ℕ)) (c : Counts) (place : Place) (piece extra : List ℕ) (outcome : Outcome)
-    → Leads rows Cell left piece place mid → (place ≢ Ended → length piece < 65539 → OnSome left (IsAtEnd mid)) → 0 < length piece → Adds (seen_of piece) (is_long piece) extra outcome
-    → ((place ≢ Ended → length piece < 65539 → IsAtEnd mid) → PassesFront rows place piece extra mid now new)
+pub given_up_in : (rows : Rows) (Adds : MayAdd) (input left mid old now new : Option (List ℕ)) (c : Counts) (place : Place) (piece extra : List ℕ) (behind : ℕ) (outcome : Outcome)
+    → Leads rows Cell left piece place mid → (place ≢ Ended → length piece < 65539 → OnSome left (IsAtEnd mid)) → 0 < length piece → IsAdded Adds piece extra behind outcome
+    → ((place ≢ Ended → length piece < 65539 → IsAtEnd mid) → PassesFront rows place piece extra behind mid now new)
     → UnderWay rows Adds input left old now c → IsBegun rows Adds input old new
-given_up_in rows Adds None left mid old now new c place piece extra outcome leads ready some added passes way = tt
-given_up_in rows Adds (Some all) None mid old now new c place piece extra outcome leads ready some added passes way = absurd way
-given_up_in rows Adds (Some all) (Some xs) None old now new c place piece extra outcome leads ready some added passes way = absurd leads
-given_up_in rows Adds (Some all) (Some xs) (Some ys) old now new c place piece extra outcome leads ready some added passes way =
+given_up_in rows Adds None left mid old now new c place piece extra behind outcome leads ready some added passes way = tt
+given_up_in rows Adds (Some all) None mid old now new c place piece extra behind outcome leads ready some added passes way = absurd way
+given_up_in rows Adds (Some all) (Some xs) None old now new c place piece extra behind outcome leads ready some added passes way = absurd leads
+given_up_in rows Adds (Some all) (Some xs) (Some ys) old now new c place piece extra behind outcome leads ready some added passes way =
     let (done, appended, goes_on) = way in
     let (front, rest, split, more) = passes ready in
-    let line : Line = record { bytes = piece ++ row_from rows place ys; extra = extra; outcome = outcome } in
-    let (whole, wholes, text, counts) = goes_on false (line ∷ []) (begins rows Adds false [] place piece extra xs ys outcome leads ready some added tt) in
-    (whole, wholes, (done ++ front, rest, text ∙ ap (λ t. done ++ t) (append-nil (row_with line.bytes extra) ∙ split) ∙ sym (append_assoc done front rest), Appends-trans old now new done front appended more))
+    let line : Line = record { bytes = piece ++ row_from rows place ys; extra = extra; behind = behind; outcome = outcome } in
+    let (whole, wholes, text, counts) = goes_on false (line ∷ []) (begins rows Adds false [] place piece extra xs ys behind outcome leads ready some added tt) in
+    (whole, wholes, (done ++ front, rest, text ∙ ap (λ t. done ++ t) (append-nil (row_with line.bytes extra behind) ∙ split) ∙ sym (append_assoc done front rest), Appends-trans old now new done front appended more))

@@ -13,27 +13,27 @@ use Rattle.mmdb_filter.proofs.RowLaws.{row_from_ended, rows_after_ended, row_fro
 use Rattle.mmdb_filter.proofs.TextLaws.{row_behind}
 
 -- what was written of the row, and that this, the piece and what is left make the row
-abbrev pub Passing : Rows → Place → List ℕ → Option (List ℕ) → Option (List ℕ) → Place → List ℕ → Option (List ℕ) → Option (List ℕ) → Type 0
-Passing rows first begun None left place piece left_now now = Unit {0}
-Passing rows first begun (Some xs) old place piece None new = ⊥
-Passing rows first begun (Some xs) old place piece (Some ys) new =
+abbrev pub Passing : Rows → Place → List ℕ → ℕ → Option (List ℕ) → Option (List ℕ) → Place → List ℕ → Option (List ℕ) → Option (List ℕ) → Type 0
+Passing rows first begun behind None left place piece left_now now = Unit {0}
+Passing rows first begun behind (Some xs) old place piece None new = ⊥
+Passing rows first begun behind (Some xs) old place piece (Some ys) new =
     (done : List ℕ) × Appends old new done × (begun ++ row_from rows first xs ≡ done ++ (piece ++ row_from rows place ys)) × (rows_after rows first xs ≡ rows_after rows place ys)
-    × ((done ≡ []) ⊎ (2 ≤ length piece))
+    × ((done ≡ []) ⊎ ((2 ≤ length piece) × (behind ≡ 0)))
 
-pub passing_starts : (rows : Rows) (first : Place) (begun : List ℕ) (input old : Option (List ℕ)) → Passing rows first begun input old first begun input old
-passing_starts rows first begun None old = tt
-passing_starts rows first begun (Some xs) old = ([], Appends-nil old, refl, refl, inl refl)
+pub passing_starts : (rows : Rows) (first : Place) (begun : List ℕ) (behind : ℕ) (input old : Option (List ℕ)) → Passing rows first begun behind input old first begun input old
+passing_starts rows first begun behind None old = tt
+passing_starts rows first begun behind (Some xs) old = ([], Appends-nil old, refl, refl, inl refl)
 
 regroup : (done front kept bytes rest : List ℕ) → done ++ ((front ++ kept) ++ (bytes ++ rest)) ≡ (done ++ front) ++ ((kept ++ bytes) ++ rest)
 regroup done front kept bytes rest = simp append_assoc
 
-pub passes_piece : (rows : Rows) (first place next : Place) (begun piece front kept bytes new_piece : List ℕ) (input old left now after new : Option (List ℕ))
-    → piece ≡ front ++ kept → 2 ≤ length kept → Appends now new front → new_piece ≡ kept ++ bytes → Leads rows place left bytes next after
-    → Passing rows first begun input old place piece left now → Passing rows first begun input old next new_piece after new
-passes_piece rows first place next begun piece front kept bytes new_piece None old left now after new split two put is leads way = tt
-passes_piece rows first place next begun piece front kept bytes new_piece (Some xs) old None now after new split two put is leads way = absurd way
-passes_piece rows first place next begun piece front kept bytes new_piece (Some xs) old (Some ys) now None new split two put is leads way = absurd leads
-passes_piece rows first place next begun piece front kept bytes new_piece (Some xs) old (Some ys) now (Some zs) new split two put is leads way =
+pub passes_piece : (rows : Rows) (first place next : Place) (begun piece front kept bytes new_piece : List ℕ) (behind : ℕ) (input old left now after new : Option (List ℕ))
+    → piece ≡ front ++ kept → 2 ≤ length kept → behind ≡ 0 → Appends now new front → new_piece ≡ kept ++ bytes → Leads rows place left bytes next after
+    → Passing rows first begun behind input old place piece left now → Passing rows first begun behind input old next new_piece after new
+passes_piece rows first place next begun piece front kept bytes new_piece behind None old left now after new split two none put is leads way = tt
+passes_piece rows first place next begun piece front kept bytes new_piece behind (Some xs) old None now after new split two none put is leads way = absurd way
+passes_piece rows first place next begun piece front kept bytes new_piece behind (Some xs) old (Some ys) now None new split two none put is leads way = absurd leads
+passes_piece rows first place next begun piece front kept bytes new_piece behind (Some xs) old (Some ys) now (Some zs) new split two none put is leads way =
     let (done, appended, same, after_same, seam) = way in
     let long : 2 ≤ length new_piece = omega (arith, ap length is, length-append kept bytes) in (
       done ++ front,
@@ -41,7 +41,7 @@ passes_piece rows first place next begun piece front kept bytes new_piece (Some 
       same ∙ ap (λ p. done ++ (p ++ row_from rows place ys)) split ∙ ap (λ r. done ++ ((front ++ kept) ++ r)) leads.0 ∙ regroup done front kept bytes (row_from rows next zs)
           ∙ ap (λ p. (done ++ front) ++ (p ++ row_from rows next zs)) (sym is),
       after_same ∙ leads.1,
-      inr long,
+      inr (long, none),
     )
 
 -- the last piece
@@ -55,61 +55,61 @@ nothing_left rows Plain ys h = at_end rows Plain ys (h (λ e. absurd (cc)))
 nothing_left rows Quoted ys h = at_end rows Quoted ys (h (λ e. absurd (cc)))
 nothing_left rows Closing ys h = at_end rows Closing ys (h (λ e. absurd (cc)))
 
-whole_row : (done piece rest extra all : List ℕ) → all ≡ done ++ (piece ++ rest) → rest ≡ [] → (done ≡ []) ⊎ (2 ≤ length piece) → row_with all extra ≡ done ++ row_with piece extra
-whole_row done piece rest extra all e none seam = ap (λ a. row_with a extra) (e ∙ ap (λ r. done ++ (piece ++ r)) none ∙ ap (λ p. done ++ p) (append-nil piece)) ∙ row_behind done piece extra seam
+whole_row : (done piece rest extra all : List ℕ) (behind : ℕ) → all ≡ done ++ (piece ++ rest) → rest ≡ [] → (done ≡ []) ⊎ ((2 ≤ length piece) × (behind ≡ 0)) → row_with all extra behind ≡ done ++ row_with piece extra behind
+whole_row done piece rest extra all behind e none seam = ap (λ a. row_with a extra behind) (e ∙ ap (λ r. done ++ (piece ++ r)) none ∙ ap (λ p. done ++ p) (append-nil piece)) ∙ row_behind done piece extra behind seam
 
-pub passed : (rows : Rows) (first place : Place) (begun piece extra : List ℕ) (input old left now new : Option (List ℕ))
-    → (place ≢ Ended → OnSome input (IsAtEnd left)) → Appends now new (row_with piece extra) → Passing rows first begun input old place piece left now → Passes rows first begun extra input left old new
-passed rows first place begun piece extra None old left now new ready put way = tt
-passed rows first place begun piece extra (Some xs) old None now new ready put way = absurd way
-passed rows first place begun piece extra (Some xs) old (Some ys) now new ready put way =
+pub passed : (rows : Rows) (first place : Place) (begun piece extra : List ℕ) (behind : ℕ) (input old left now new : Option (List ℕ))
+    → (place ≢ Ended → OnSome input (IsAtEnd left)) → Appends now new (row_with piece extra behind) → Passing rows first begun behind input old place piece left now → Passes rows first begun extra behind input left old new
+passed rows first place begun piece extra behind None old left now new ready put way = tt
+passed rows first place begun piece extra behind (Some xs) old None now new ready put way = absurd way
+passed rows first place begun piece extra behind (Some xs) old (Some ys) now new ready put way =
     let (done, appended, same, after_same, seam) = way in
     let none = nothing_left rows place ys ready in (
       ap Some (sym (after_same ∙ none.1)),
-      subst (λ t. Appends old new t) (sym (whole_row done piece (row_from rows place ys) extra _ same none.0 seam)) (Appends-trans old now new done (row_with piece extra) appended put),
+      subst (λ t. Appends old new t) (sym (whole_row done piece (row_from rows place ys) extra _ behind same none.0 seam)) (Appends-trans old now new done (row_with piece extra behind) appended put),
     )
 
-pub passed_in : (rows : Rows) (first place : Place) (begun piece extra : List ℕ) (input old left now new : Option (List ℕ))
-    → (place ≢ Ended → OnSome input (IsAtEnd left)) → AppendsFront now new (row_with piece extra) → Passing rows first begun input old place piece left now → PassesFront rows first begun extra input old new
-passed_in rows first place begun piece extra None old left now new ready put way = tt
-passed_in rows first place begun piece extra (Some xs) old None now new ready put way = absurd way
-passed_in rows first place begun piece extra (Some xs) old (Some ys) now new ready put way =
+pub passed_in : (rows : Rows) (first place : Place) (begun piece extra : List ℕ) (behind : ℕ) (input old left now new : Option (List ℕ))
+    → (place ≢ Ended → OnSome input (IsAtEnd left)) → AppendsFront now new (row_with piece extra behind) → Passing rows first begun behind input old place piece left now → PassesFront rows first begun extra behind input old new
+passed_in rows first place begun piece extra behind None old left now new ready put way = tt
+passed_in rows first place begun piece extra behind (Some xs) old None now new ready put way = absurd way
+passed_in rows first place begun piece extra behind (Some xs) old (Some ys) now new ready put way =
     let (done, appended, same, after_same, seam) = way in
     let none = nothing_left rows place ys ready in
-    subst (λ t. AppendsFront old new t) (sym (whole_row done piece (row_from rows place ys) extra _ same none.0 seam)) (front_then old now new done (row_with piece extra) appended put)
+    subst (λ t. AppendsFront old new t) (sym (whole_row done piece (row_from rows place ys) extra _ behind same none.0 seam)) (front_then old now new done (row_with piece extra behind) appended put)
 
 -- given up with a front of the piece, behind which two bytes at least stand
-seam_behind : (done front kept rest extra all : List ℕ) → all ≡ done ++ ((front ++ kept) ++ rest) → 2 ≤ length kept → row_with all extra ≡ (done ++ front) ++ row_with (kept ++ rest) extra
-seam_behind done front kept rest extra all e two =
+seam_behind : (done front kept rest extra all : List ℕ) (behind : ℕ) → all ≡ done ++ ((front ++ kept) ++ rest) → 2 ≤ length kept → behind ≡ 0 → row_with all extra behind ≡ (done ++ front) ++ row_with (kept ++ rest) extra behind
+seam_behind done front kept rest extra all behind e two none =
     let long : 2 ≤ length (kept ++ rest) = omega (arith, length-append kept rest) in
-    ap (λ a. row_with a extra) (e ∙ ap (λ t. done ++ t) (append_assoc front kept rest) ∙ sym (append_assoc done front (kept ++ rest))) ∙ row_behind (done ++ front) (kept ++ rest) extra (inr long)
+    ap (λ a. row_with a extra behind) (e ∙ ap (λ t. done ++ t) (append_assoc front kept rest) ∙ sym (append_assoc done front (kept ++ rest))) ∙ row_behind (done ++ front) (kept ++ rest) extra behind (inr (long, none))
 
-pub stopped_in : (rows : Rows) (first place : Place) (begun piece extra front kept : List ℕ) (input old left now new : Option (List ℕ))
-    → piece ≡ front ++ kept → 2 ≤ length kept → AppendsFront now new front → Passing rows first begun input old place piece left now → PassesFront rows first begun extra input old new
-stopped_in rows first place begun piece extra front kept None old left now new split two put way = tt
-stopped_in rows first place begun piece extra front kept (Some xs) old None now new split two put way = absurd way
-stopped_in rows first place begun piece extra front kept (Some xs) old (Some ys) now new split two put way =
+pub stopped_in : (rows : Rows) (first place : Place) (begun piece extra front kept : List ℕ) (behind : ℕ) (input old left now new : Option (List ℕ))
+    → piece ≡ front ++ kept → 2 ≤ length kept → behind ≡ 0 → AppendsFront now new front → Passing rows first begun behind input old place piece left now → PassesFront rows first begun extra behind input old new
+stopped_in rows first place begun piece extra front kept behind None old left now new split two zero put way = tt
+stopped_in rows first place begun piece extra front kept behind (Some xs) old None now new split two zero put way = absurd way
+stopped_in rows first place begun piece extra front kept behind (Some xs) old (Some ys) now new split two zero put way =
     let (done, appended, same, after_same, seam) = way in
     let rest = row_from rows place ys in
-    subst (λ t. AppendsFront old new t) (sym (seam_behind done front kept rest extra _ (same ∙ ap (λ p. done ++ (p ++ rest)) split) two))
-    (front_more old new (done ++ front) (row_with (kept ++ rest) extra) (front_then old now new done front appended put))
+    subst (λ t. AppendsFront old new t) (sym (seam_behind done front kept rest extra _ behind (same ∙ ap (λ p. done ++ (p ++ rest)) split) two zero))
+    (front_more old new (done ++ front) (row_with (kept ++ rest) extra behind) (front_then old now new done front appended put))
 
 -- given up between two pieces
-pub stopped : (rows : Rows) (first place : Place) (begun piece extra : List ℕ) (input old left now : Option (List ℕ))
-    → Passing rows first begun input old place piece left now → PassesFront rows first begun extra input old now
-stopped rows first place begun piece extra None old left now way = tt
-stopped rows first place begun piece extra (Some xs) old None now way = absurd way
-stopped rows first place begun piece extra (Some xs) old (Some ys) now way =
+pub stopped : (rows : Rows) (first place : Place) (begun piece extra : List ℕ) (behind : ℕ) (input old left now : Option (List ℕ))
+    → Passing rows first begun behind input old place piece left now → PassesFront rows first begun extra behind input old now
+stopped rows first place begun piece extra behind None old left now way = tt
+stopped rows first place begun piece extra behind (Some xs) old None now way = absurd way
+stopped rows first place begun piece extra behind (Some xs) old (Some ys) now way =
     let (done, appended, same, after_same, seam) = way in
     let rest = row_from rows place ys in
-    subst (λ t. AppendsFront old now t) (sym (ap (λ a. row_with a extra) same ∙ row_behind done (piece ++ rest) extra (more seam))) (front_whole old now done (row_with (piece ++ rest) extra) appended)
+    subst (λ t. AppendsFront old now t) (sym (ap (λ a. row_with a extra behind) same ∙ row_behind done (piece ++ rest) extra behind (more seam))) (front_whole old now done (row_with (piece ++ rest) extra behind) appended)
   where
-    more : {done : List ℕ} → (done ≡ []) ⊎ (2 ≤ length piece) → (done ≡ []) ⊎ (2 ≤ length (piece ++ row_from rows place ys))
+    more : {done : List ℕ} → (done ≡ []) ⊎ ((2 ≤ length piece) × (behind ≡ 0)) → (done ≡ []) ⊎ ((2 ≤ length (piece ++ row_from rows place ys)) × (behind ≡ 0))
     more (inl e) = inl e
-    more (inr h) = inr (omega (arith, length-append piece (row_from rows place ys)))
+    more (inr (h, none)) = inr (omega (arith, length-append piece (row_from rows place ys)), none)
 
 -- what holds where bytes are left of a known row
-pub at_end_too : (rows : Rows) (first place : Place) (begun piece : List ℕ) (input old left now : Option (List ℕ)) (P : Type 0) → Passing rows first begun input old place piece left now → OnSome left P → OnSome input P
-at_end_too rows first place begun piece None old left now P way p = tt
-at_end_too rows first place begun piece (Some xs) old None now P way p = absurd way
-at_end_too rows first place begun piece (Some xs) old (Some ys) now P way p = p
+pub at_end_too : (rows : Rows) (first place : Place) (begun piece : List ℕ) (behind : ℕ) (input old left now : Option (List ℕ)) (P : Type 0) → Passing rows first begun behind input old place piece left now → OnSome left P → OnSome input P
+at_end_too rows first place begun piece behind None old left now P way p = tt
+at_end_too rows first place begun piece behind (Some xs) old None now P way p = absurd way
+at_end_too rows first place begun piece behind (Some xs) old (Some ys) now P way p = p

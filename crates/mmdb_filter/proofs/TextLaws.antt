@@ -3,7 +3,7 @@ use Rattle.std.proofs.Common.{◌≡◌, ℕ, min, ◌+◌, ◌-◌, ◌<◌, �
 use Rattle.std.proofs.lemmas.List.{take-append-le}
 use Rattle.std.proofs.lemmas.Bool.Decides.{nat_tests}
 use Rattle.std.proofs.Math.Seq.{drop-append-add, take-append-add}
-use Rattle.mmdb_filter.specs.Lines.{text_length, text_of, end_of, most_seen, seen_of, is_long, row_with}
+use Rattle.mmdb_filter.specs.Lines.{text_length, text_of, front_of, back_of, most_seen, seen_of, is_long, row_with}
 
 pub text_within : (row : List ℕ) → (text_length row ≤ length row) × (length row ≤ text_length row + 2)
 unfolding text_length
@@ -40,15 +40,17 @@ text_length_behind d l h =
         ≡ length d + (if a' && (x' == 10) then (if b' && (y' == 13) then length l - 2 else length l - 1) else length l)
     at a a' b b' x x' y y' e e' f f' g k = rw (e, e', f, f', g, k) (choose (x' == 10) (y' == 13))
 
-pub text_behind : (d l : List ℕ) → 2 ≤ length l → text_of (d ++ l) ≡ d ++ text_of l
-text_behind d l h = ap (λ n. take n (d ++ l)) (text_length_behind d l h) ∙ take-append-add d l (text_length l)
+-- where so many bytes of the text stand behind what is added: none, or the bytes before end no text
+at_behind : (d l : List ℕ) (behind : ℕ) → 2 ≤ length l → behind ≡ 0 → text_length (d ++ l) - behind ≡ length d + (text_length l - behind)
+at_behind d l behind h none = omega (arith, text_length_behind d l h)
 
-pub end_behind : (d l : List ℕ) → 2 ≤ length l → end_of (d ++ l) ≡ end_of l
-end_behind d l h = ap (λ n. drop n (d ++ l)) (text_length_behind d l h) ∙ drop-append-add d l (text_length l)
-
-pub row_behind : (d l extra : List ℕ) → (d ≡ []) ⊎ (2 ≤ length l) → row_with (d ++ l) extra ≡ d ++ row_with l extra
-row_behind d l extra (inl e) = subst (λ d. row_with (d ++ l) extra ≡ d ++ row_with l extra) (sym e) refl
-row_behind d l extra (inr h) = ap (λ t. t ++ (extra ++ end_of (d ++ l))) (text_behind d l h) ∙ ap (λ t. (d ++ text_of l) ++ (extra ++ t)) (end_behind d l h) ∙ append_assoc d (text_of l) (extra ++ end_of l)
+pub row_behind : (d l extra : List ℕ) (behind : ℕ) → (d ≡ []) ⊎ ((2 ≤ length l) × (behind ≡ 0)) → row_with (d ++ l) extra behind ≡ d ++ row_with l extra behind
+row_behind d l extra behind (inl e) = subst (λ d. row_with (d ++ l) extra behind ≡ d ++ row_with l extra behind) (sym e) refl
+row_behind d l extra behind (inr (h, none)) =
+    let at = at_behind d l behind h none in
+    let front : front_of (d ++ l) behind ≡ d ++ front_of l behind = ap (λ n. take n (d ++ l)) at ∙ take-append-add d l (text_length l - behind) in
+    let back : back_of (d ++ l) behind ≡ back_of l behind = ap (λ n. drop n (d ++ l)) at ∙ drop-append-add d l (text_length l - behind) in
+    ap (λ t. t ++ (extra ++ back_of (d ++ l) behind)) front ∙ ap (λ t. (d ++ front_of l behind) ++ (extra ++ t)) back ∙ append_assoc d (front_of l behind) (extra ++ back_of l behind)
 
 -- what is seen of a row that has more bytes than are seen, and three
 pub most : most_seen ≡ 65536
@@ -58,7 +60,7 @@ most = refl
 seen_front : (row : List ℕ) → most_seen + 3 ≤ length row → seen_of row ≡ take most_seen row
 seen_front row h = take-take most_seen (text_length row) row (omega (arith, (text_within row).1))
 
-long : (row : List ℕ) → most_seen + 3 ≤ length row → is_long row ≡ true
+pub long : (row : List ℕ) → most_seen + 3 ≤ length row → is_long row ≡ true
 long row h = lt_true most_seen (length (text_of row)) (omega (arith, (text_within row).0, (text_within row).1, length-take-le (text_length row) row (text_within row).0))
 
 pub seen_same : (piece rest : List ℕ) → 65539 ≤ length piece → (seen_of (piece ++ rest) ≡ seen_of piece) × (is_long (piece ++ rest) ≡ is_long piece)

@@ -1,5 +1,5 @@
--- What a filter over rows writes: each row whole, and before its end what is added to it.
-use Rattle.std.specs.Prelude.{◌≡◌, ℕ, ◌-◌, ◌<◌, List, [], ◌∷◌, ◌++◌, length, take, drop, get_or, Option, IfSome, ◌&&◌, ◌==◌, nat_lt, if◌then◌else◌, Bool, true, false}
+-- What a filter over rows writes: each row whole, and before its last bytes what is added to it.
+use Rattle.std.specs.Prelude.{◌≡◌, ℕ, ◌-◌, ◌<◌, ◌≤◌, List, [], ◌∷◌, ◌++◌, length, take, drop, get_or, Option, IfSome, ◌&&◌, ◌==◌, nat_lt, if◌then◌else◌, Bool, true, false}
 use Rattle.std.specs.Io.KnownBytes.{Appends}
 use Rattle.mmdb_filter.specs.Counting.{nothing_counted, count_one}
 use Rattle.mmdb_filter.specs.Rows.{row_from, rows_after}
@@ -18,8 +18,13 @@ text_length row =
 abbrev pub text_of : List ℕ → List ℕ
 text_of row = take (text_length row) row
 
-abbrev pub end_of : List ℕ → List ℕ
-end_of row = drop (text_length row) row
+-- a row without its last bytes: its end, and so many bytes of its text
+abbrev pub front_of : List ℕ → ℕ → List ℕ
+front_of row behind = take (text_length row - behind) row
+
+-- those last bytes
+abbrev pub back_of : List ℕ → ℕ → List ℕ
+back_of row behind = drop (text_length row - behind) row
 
 -- how many bytes of a text additions see
 unfoldable pub most_seen : ℕ
@@ -31,32 +36,41 @@ seen_of row = take most_seen (text_of row)
 abbrev pub is_long : List ℕ → Bool
 is_long row = nat_lt most_seen (length (text_of row))
 
--- a row with its end, what is added to it, and how it fared
+-- a row with its end, what is added to it, how many bytes of its text stand behind that, and how it fared
 pub record Line : Type 0 where
   pub bytes : List ℕ
   pub extra : List ℕ
+  pub behind : ℕ
   pub outcome : Outcome
 
--- What additions may do: to a row of which they see such a text, and whether it is longer, they add such bytes, with
--- that outcome.
+-- What additions may do: to a row of which they see such a text, and whether it is longer, they add such bytes, behind
+-- which so many bytes of the text stand, with that outcome.
 abbrev pub MayAdd : Type 1
-MayAdd = List ℕ → Bool → List ℕ → Outcome → Type 0
+MayAdd = List ℕ → Bool → List ℕ → ℕ → Outcome → Type 0
+
+-- The bytes that stand behind are of the text that is seen; none of a text that is longer.
+abbrev pub StandsBehind : List ℕ → Bool → ℕ → Type 0
+StandsBehind text is_long behind = (behind ≤ length text) × (is_long ≡ true → behind ≡ 0)
+
+-- This may be added to the row.
+abbrev pub IsAdded : MayAdd → List ℕ → List ℕ → ℕ → Outcome → Type 0
+IsAdded Adds row extra behind outcome = Adds (seen_of row) (is_long row) extra behind outcome × StandsBehind (seen_of row) (is_long row) behind
 
 -- These are the rows of the bytes, in order, each with what is added: all of them, or the first ones.
 abbrev pub AreLines : Rows → MayAdd → Bool → List Line → List ℕ → Type 0
 AreLines rows Adds true [] xs = xs ≡ []
 AreLines rows Adds false [] xs = Unit {0}
 AreLines rows Adds all (line ∷ lines) xs =
-    (0 < length xs) × (line.bytes ≡ row_from rows Cell xs) × Adds (seen_of line.bytes) (is_long line.bytes) line.extra line.outcome
+    (0 < length xs) × (line.bytes ≡ row_from rows Cell xs) × IsAdded Adds line.bytes line.extra line.behind line.outcome
     × AreLines rows Adds all lines (rows_after rows Cell xs)
 
--- a row as it is written
-abbrev pub row_with : List ℕ → List ℕ → List ℕ
-row_with bytes extra = text_of bytes ++ (extra ++ end_of bytes)
+-- a row as it is written: what is added stands before its end, and before so many bytes of its text
+abbrev pub row_with : List ℕ → List ℕ → ℕ → List ℕ
+row_with bytes extra behind = front_of bytes behind ++ (extra ++ back_of bytes behind)
 
 abbrev pub written : List Line → List ℕ
 written [] = []
-written (line ∷ lines) = row_with line.bytes line.extra ++ written lines
+written (line ∷ lines) = row_with line.bytes line.extra line.behind ++ written lines
 
 -- the counts with these rows
 abbrev pub counted : Counts → List Line → Counts

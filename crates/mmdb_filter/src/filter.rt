@@ -1,6 +1,6 @@
 //! The filter.
 ghost use Rattle.std.specs.Prelude.{◌≡◌, ◌++◌, List, ℕ, Bool, IfOk, OnErr};
-ghost use Rattle.mmdb_filter.specs.Lines.{IsFiltered, IsBegun};
+ghost use Rattle.mmdb_filter.specs.Lines.{StandsBehind, IsFiltered, IsBegun};
 ghost use Rattle.mmdb_filter.specs.declared.counts.Outcome.{Outcome as SpecOutcome};
 
 use crate::counts::{Counts, Outcome};
@@ -11,29 +11,39 @@ use crate::text::seen;
 use std::alloc::Global;
 use std::io::{self, BufRead, ErrorKind, Write};
 
+/// What was added to a row.
+#[derive(Clone, Copy, Debug)]
+pub struct Added {
+    /// How the row fares.
+    pub outcome: Outcome,
+    /// How many bytes of the row's text stand behind what is added.
+    pub behind: usize,
+}
+
 /// What is added to rows.
 pub trait Additions {
     /// What it remembers from row to row.
     type Memory: Drop;
 
     /// What may be added to a row of which such a text is seen, without the row's end, where it may be that the
-    /// text is longer; and how that row fares then.
-    ghost adds: { Self → List ℕ → Bool → List ℕ → SpecOutcome → Type 0 };
+    /// text is longer; how many bytes of the text stand behind that; and how that row fares then.
+    ghost adds: { Self → List ℕ → Bool → List ℕ → ℕ → SpecOutcome → Type 0 };
 
     /// What is remembered is right.
     ghost fits: { Self → Self.Memory → Type 0 };
 
     /// Appends to `out` what is added to a row. Its text comes without its end. Of a long text only the first
-    /// [`MOST_SEEN`](crate::MOST_SEEN) bytes come, and `is_long` tells so.
+    /// [`MOST_SEEN`](crate::MOST_SEEN) bytes come, and `is_long` tells so; what is added stands behind all of it.
     fn add(
         &self,
         memory: &mut Self::Memory,
         text: &[u8],
         is_long: bool,
         out: &mut Vec<u8>,
-    ) -> io::Result<Outcome>
+    ) -> io::Result<Added>
         requires { fits self.now memory.old }
-        ensures added { IfOk result (λ outcome. (extra : List ℕ) × adds self.now text.now is_long extra outcome × (out.new.items ≡ out.old.items ++ extra)) }
+        ensures added { IfOk result (λ told. (extra : List ℕ) × adds self.now text.now is_long extra told.behind told.outcome × (out.new.items ≡ out.old.items ++ extra)) }
+        ensures behind { IfOk result (λ told. StandsBehind text.now is_long told.behind) }
         ensures fits { fits self.now memory.new };
 }
 
@@ -46,7 +56,7 @@ pub trait Progress {
 /// After so many rows it is told how many passed.
 const STEP: u64 = 65_536;
 
-/// Copies all rows, with what is added to each before its end, and counts how they fared. A last row without
+/// Copies all rows, with what is added to each before its last bytes, and counts how they fared. A last row without
 /// an end stays without. A long row passes in pieces. `out` is not flushed.
 ///
 /// An `Err` is of the input, the output or memory; a beginning of that was written then.
@@ -78,9 +88,9 @@ pub fn filter_rows<A: Additions, R: BufRead, W: Write, P: Progress>(
         }
         added.clear();
         let (text, is_long) = seen(piece.as_slice());
-        let outcome = additions.add(memory, text, is_long, &mut added)?;
-        pass_on(input, rows, place, &mut piece, added.as_slice(), out)?;
-        counts.count(outcome);
+        let told = additions.add(memory, text, is_long, &mut added)?;
+        pass_on(input, rows, place, &mut piece, &mut added, told.behind, out)?;
+        counts.count(told.outcome);
     }
     Err(io::Error::from(ErrorKind::FileTooLarge))
 }

@@ -1,4 +1,4 @@
-//! A filter over rows, lines or rows of CSV: each is written whole, with something added before its end.
+//! A filter over rows, lines or rows of CSV: each is written whole, with something added before its last bytes.
 #![tactic(auto)]
 
 mod counts;
@@ -11,7 +11,7 @@ mod rows;
 mod text;
 
 pub use counts::{Counts, Outcome};
-pub use filter::{Additions, Progress, filter_rows};
+pub use filter::{Added, Additions, Progress, filter_rows};
 pub use piece::read_piece;
 pub use rows::{Place, Rows};
 pub use text::MOST_SEEN;

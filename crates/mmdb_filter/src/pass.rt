@@ -25,23 +25,25 @@ fn put_front<W: Write>(out: &mut W, piece: &mut Vec<u8>) -> io::Result<()>
     Ok(())
 }
 
-/// Writes a row, of which the first piece was read, with what is added before its end. The rest of it passes in
-/// pieces.
+/// Writes a row, of which the first piece was read, with what is added before its end and so many bytes of its
+/// text: none, where the row is longer. The rest of it passes in pieces.
 pub(crate) fn pass_on<R: BufRead, W: Write>(
     input: &mut R,
     rows: Rows,
     place: Place,
     piece: &mut Vec<u8>,
-    added: &[u8],
+    added: &mut Vec<u8>,
+    behind: usize,
     out: &mut W,
 ) -> io::Result<()>
-    ensures whole { (place ≢ spec_place.Ended → length piece.old.items < 65539 → IsAtEnd (R.remaining input.old)) → OnOk result (Passes rows place piece.old.items added.now (R.remaining input.old) (R.remaining input.new) (W.contents out.old) (W.contents out.new)) }
-    ensures begun { (place ≢ spec_place.Ended → length piece.old.items < 65539 → IsAtEnd (R.remaining input.old)) → OnErr result (PassesFront rows place piece.old.items added.now (R.remaining input.old) (W.contents out.old) (W.contents out.new)) }
+    requires { 65539 ≤ length piece.old.items → behind ≡ 0 }
+    ensures whole { (place ≢ spec_place.Ended → length piece.old.items < 65539 → IsAtEnd (R.remaining input.old)) → OnOk result (Passes rows place piece.old.items added.old.items behind (R.remaining input.old) (R.remaining input.new) (W.contents out.old) (W.contents out.new)) }
+    ensures begun { (place ≢ spec_place.Ended → length piece.old.items < 65539 → IsAtEnd (R.remaining input.old)) → OnErr result (PassesFront rows place piece.old.items added.old.items behind (R.remaining input.old) (W.contents out.old) (W.contents out.new)) }
 {
     let mut now = place;
     for _ in 0..u64::MAX {
         if now == Place::Ended || piece.len() < PIECE {
-            return put_row(out, piece, added);
+            return put_row(out, piece, added, behind);
         }
         put_front(out, piece)?;
         now = read_piece(input, rows, now, piece)?;

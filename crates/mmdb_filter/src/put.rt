@@ -30,26 +30,29 @@ pub(crate) fn put_all<W: Write>(out: &mut W, bytes: &[u8]) -> io::Result<()>
     Err(io::Error::from(ErrorKind::TimedOut))
 }
 
-/// Writes a row, with what is added before its end, all at once. The row grows by that.
+/// Writes a row, with what is added before its end and so many bytes of its text, all at once. The row grows by
+/// that.
 #[inline(always)]
-pub(crate) fn put_row<W: Write>(out: &mut W, row: &mut Vec<u8>, added: &[u8]) -> io::Result<()>
-    ensures whole { OnOk result (Appends (W.contents out.old) (W.contents out.new) (row_with row.old.items added.now)) }
-    ensures begun { OnErr result (AppendsFront (W.contents out.old) (W.contents out.new) (row_with row.old.items added.now)) }
+pub(crate) fn put_row<W: Write>(
+    out: &mut W,
+    row: &mut Vec<u8>,
+    added: &mut Vec<u8>,
+    behind: usize,
+) -> io::Result<()>
+    ensures whole { OnOk result (Appends (W.contents out.old) (W.contents out.new) (row_with row.old.items added.old.items behind)) }
+    ensures begun { OnErr result (AppendsFront (W.contents out.old) (W.contents out.new) (row_with row.old.items added.old.items behind)) }
 {
-    add_before_end(row, added)?;
+    add_before(row, added, behind)?;
     put_all(out, row.as_slice())
 }
 
-// Adds bytes before the end of a row.
+// Adds bytes before the end of a row and so many bytes of its text. What was added grows by those.
 #[inline(always)]
-fn add_before_end(row: &mut Vec<u8>, added: &[u8]) -> Result<(), AllocError>
-    ensures { OnOk result (row.new.items ≡ row_with row.old.items added.now) }
+fn add_before(row: &mut Vec<u8>, added: &mut Vec<u8>, behind: usize) -> Result<(), AllocError>
+    ensures { OnOk result (row.new.items ≡ row_with row.old.items added.old.items behind) }
 {
-    let len = text_length(row.as_slice());
-    let end_len = row.len() - len;
-    let mut end = [0; 2];
-    end[..end_len].copy_from_slice(&row.as_slice()[len..]);
-    row.truncate(len);
-    row.extend_from_slice(added)?;
-    row.extend_from_slice(&end[..end_len])
+    let at = text_length(row.as_slice()).saturating_sub(behind);
+    added.extend_from_slice(&row.as_slice()[at..])?;
+    row.truncate(at);
+    row.extend_from_slice(added.as_slice())
 }

@@ -2,9 +2,10 @@
 use crate::error::ProgramError;
 use crate::meter::Meter;
 use crate::output::DONE;
-use crate::task::{Column, EnrichTask};
+use crate::task::{Column, EnrichTask, JsonTask};
 use csv::{ByteRecord, ReaderBuilder};
-use mmdb_enrich::{Cache, Enrichment, delimiter_of, put_csv_cell};
+use json::Scratch;
+use mmdb_enrich::{Cache, Enrichment, JsonEnrichment, delimiter_of, put_csv_cell};
 use mmdb_filter::{Counts, MOST_SEEN, Place, Rows, filter_rows, read_piece};
 use mmdb_reader::Reader;
 use std::alloc::{AllocError, Global};
@@ -205,4 +206,52 @@ pub(crate) fn enrich<S: AsSlice<u8> + Drop, I: BufRead, O: Write, E: Write>(
         paths: wanted.paths,
     };
     enrich_rows(&enrichment, is_terminal, input, out, err)
+}
+
+// Copies lines with a member more in each object, and counts how they fared. How many passed is shown on a terminal
+// meanwhile.
+fn copy_objects<S: AsSlice<u8> + Drop, I: BufRead, O: Write, E: Write>(
+    enrichment: &JsonEnrichment<'_, '_, S>,
+    is_terminal: bool,
+    input: &mut I,
+    out: &mut O,
+    err: &mut E,
+) -> io::Result<Counts> {
+    let alloc = enrichment.alloc;
+    let mut scratch = Scratch::new(alloc);
+    let mut meter = Meter::new(alloc, is_terminal, err);
+    let counts = filter_rows(
+        alloc,
+        Rows::Lines,
+        enrichment,
+        &mut scratch,
+        input,
+        out,
+        &mut meter,
+    );
+    meter.clear();
+    counts
+}
+
+/// Copies lines with a member more in each object, and reports how they fared.
+pub(crate) fn enrich_json<S: AsSlice<u8> + Drop, I: BufRead, O: Write, E: Write>(
+    alloc: Global,
+    reader: &Reader<S>,
+    wanted: JsonTask<'_>,
+    is_terminal: bool,
+    input: &mut I,
+    out: &mut O,
+    err: &mut E,
+) -> Result<u8, ProgramError> {
+    let JsonTask { path, into, fields } = wanted;
+    let enrichment = JsonEnrichment {
+        alloc,
+        reader,
+        path,
+        name: into,
+        fields,
+    };
+    let counts = copy_objects(&enrichment, is_terminal, input, out, err)?;
+    report_counts(alloc, counts, err);
+    Ok(DONE)
 }

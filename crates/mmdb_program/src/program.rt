@@ -1,7 +1,7 @@
 //! What the program does with its arguments.
 use crate::about::about;
 use crate::diff::diff;
-use crate::enrich::enrich;
+use crate::enrich::{enrich, enrich_json};
 use crate::error::ProgramError;
 use crate::networks::export;
 use crate::output::{BAD_ARGUMENTS, DONE, FAILED, NO_MEMORY, report};
@@ -35,6 +35,9 @@ fn answered<S: AsSlice<u8> + Drop, I: BufRead, O: Write, E: Write>(
     match query {
         Query::Show(wanted) => show(alloc, reader, &wanted, terminals.output, out, err),
         Query::Enrich(wanted) => enrich(alloc, reader, wanted, terminals.errors, input, out, err),
+        Query::EnrichJson(wanted) => {
+            enrich_json(alloc, reader, wanted, terminals.errors, input, out, err)
+        }
         Query::Export(wanted) => export(alloc, reader, &wanted, out, err),
     }
 }

@@ -6,6 +6,7 @@ use mmdb_arguments::{
     DiffArguments, EnrichArguments, ExportArguments, Format, InfoArguments, NoRequest, Request,
     ShowArguments, VerifyArguments, request_of,
 };
+use mmdb_enrich::Field;
 use mmdb_filter::Rows;
 use mmdb_lists::{Condition, Kind, Kinds, Syntax, is_set_name};
 use mmdb_reader::{IpNetwork, PathElement};
@@ -36,6 +37,16 @@ pub(crate) enum Shape<'a> {
     Rows(Layout<'a>),
     /// The fewest blocks that have the addresses of the networks.
     List(Syntax<'a>),
+}
+
+/// What `enrich` is asked for of lines of JSON.
+#[derive(Drop)]
+pub(crate) struct JsonTask<'a> {
+    /// The path of the address in an object.
+    pub(crate) path: Vec<PathElement<'a>>,
+    /// The name of the member that is added.
+    pub(crate) into: &'a str,
+    pub(crate) fields: Vec<Field<'a>>,
 }
 
 /// What `export` is asked for.
@@ -74,6 +85,8 @@ pub(crate) enum Query<'a> {
     Show(ShowTask<'a>),
     /// Fields behind lines.
     Enrich(EnrichTask<'a>),
+    /// Fields in lines of JSON.
+    EnrichJson(JsonTask<'a>),
     /// Every network with its record.
     Export(ExportTask<'a>),
 }
@@ -162,7 +175,84 @@ fn show<'a>(alloc: Global, arguments: ShowArguments<'a>) -> Result<Query<'a>, No
     }))
 }
 
+// The last step of a path, as it is written. In quotes it is what stands between them.
+fn last_step(path: &str) -> &str {
+    if let Some(text) = path.strip_suffix('"') {
+        return match text.rsplit_once('"') {
+            Some((_, step)) => step,
+            None => path,
+        };
+    }
+    match path.rsplit_once('.') {
+        Some((_, step)) => step,
+        None => path,
+    }
+}
+
+// The name of a field and its path: `NAME=PATH`, or a path alone, of which the last step is the name.
+fn named_path(text: &str) -> (&str, &str) {
+    match text.split_once('=') {
+        Some((name, path)) if !name.contains('"') => (name, path),
+        _ => (last_step(text), text),
+    }
+}
+
+// A field of lines of JSON.
+fn field_of<'a>(alloc: Global, text: &'a str) -> Result<Field<'a>, NoRequest> {
+    let (name, path) = named_path(text);
+    match path_of(alloc, path)? {
+        Some(path) => Ok(Field { name, path }),
+        None => Err(NoRequest::bad_argument(alloc, path, "not a path")),
+    }
+}
+
+fn fields_of<'a>(alloc: Global, texts: &[&'a str]) -> Result<Vec<Field<'a>>, NoRequest> {
+    let mut fields = Vec::new(alloc);
+    for text in texts {
+        fields.push(field_of(alloc, *text)?)?;
+    }
+    Ok(fields)
+}
+
+// The path of an address in an object: keys, and indices from the front.
+fn address_path<'a>(alloc: Global, text: &'a str) -> Result<Vec<PathElement<'a>>, NoRequest> {
+    let Some(path) = path_of(alloc, text)? else {
+        return Err(NoRequest::bad_argument(alloc, text, "not a path"));
+    };
+    for step in &path {
+        if let PathElement::IndexFromEnd(_) = step {
+            return Err(NoRequest::bad_argument(
+                alloc,
+                text,
+                "an index from the end, of which --json knows none",
+            ));
+        }
+    }
+    Ok(path)
+}
+
+fn enrich_json<'a>(
+    alloc: Global,
+    path: &'a str,
+    into: &'a str,
+    fields: &[&'a str],
+) -> Result<Query<'a>, NoRequest> {
+    if into.is_empty() {
+        return Err(NoRequest::bad_argument(alloc, "--into", "an empty name"));
+    }
+    let path = address_path(alloc, path)?;
+    let fields = fields_of(alloc, fields)?;
+    Ok(Query::EnrichJson(JsonTask { path, into, fields }))
+}
+
 fn enrich<'a>(alloc: Global, arguments: EnrichArguments<'a>) -> Result<Query<'a>, NoRequest> {
+    if let Some(path) = arguments.json {
+        let into = arguments.into.unwrap_or("geo");
+        return enrich_json(alloc, path, into, arguments.fields.as_slice());
+    }
+    if arguments.into.is_some() {
+        return Err(NoRequest::bad_argument(alloc, "--into", "needs a --json"));
+    }
     let rows = rows_of(alloc, arguments.delimiter)?;
     let column = column_of(alloc, arguments.column, arguments.header)?;
     let paths = paths_of(alloc, arguments.fields.as_slice())?;

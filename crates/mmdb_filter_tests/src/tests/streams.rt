@@ -1,7 +1,7 @@
 //! Inputs and outputs that a test makes.
 ghost use Rattle.std.specs.Prelude.{⊤};
 
-use mmdb_filter::{Additions, Counts, Outcome, Progress, Rows, filter_rows};
+use mmdb_filter::{Added, Additions, Counts, Outcome, Progress, Rows, filter_rows};
 use std::alloc::Global;
 use std::io::{self, BufReader, ErrorKind, Read, Write};
 use std::process::Abort;
@@ -78,7 +78,7 @@ pub(crate) struct Lengths;
 impl Additions for Lengths {
     type Memory = ();
 
-    ghost adds = { λ _ _ _ _ _. ⊤ };
+    ghost adds = { λ _ _ _ _ _ _. ⊤ };
 
     ghost fits = { λ _ _. ⊤ };
 
@@ -88,7 +88,7 @@ impl Additions for Lengths {
         text: &[u8],
         is_long: bool,
         out: &mut Vec<u8>,
-    ) -> io::Result<Outcome> {
+    ) -> io::Result<Added> {
         let len = text.len();
         let mut mark = [b'+'; 7];
         mark[0] = b'|';
@@ -103,7 +103,39 @@ impl Additions for Lengths {
             (6, Outcome::Found)
         };
         out.extend_from_slice(&mark[..count])?;
-        Ok(outcome)
+        Ok(Added { outcome, behind: 0 })
+    }
+}
+
+/// Adds a mark before so many bytes of each text, or before all of a shorter one, and nothing to a long one.
+#[derive(Drop)]
+pub(crate) struct Marks(pub(crate) usize);
+
+impl Additions for Marks {
+    type Memory = ();
+
+    ghost adds = { λ _ _ _ _ _ _. ⊤ };
+
+    ghost fits = { λ _ _. ⊤ };
+
+    fn add(
+        &self,
+        _memory: &mut (),
+        text: &[u8],
+        is_long: bool,
+        out: &mut Vec<u8>,
+    ) -> io::Result<Added> {
+        if is_long {
+            return Ok(Added {
+                outcome: Outcome::Unreadable,
+                behind: 0,
+            });
+        }
+        out.push(b'|')?;
+        Ok(Added {
+            outcome: Outcome::Found,
+            behind: self.0.min(text.len()),
+        })
     }
 }
 

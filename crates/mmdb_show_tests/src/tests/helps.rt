@@ -33,6 +33,8 @@ const HELPS: &[(&[&str], &[&str])] = &[
             "--column",
             "--field",
             "--header",
+            "--json",
+            "--into",
             "Example:\n  mmdb enrich ",
         ],
     ),

@@ -56,6 +56,7 @@ const COMMANDS: &[&[&str]] = &[
     &["export", "here.mmdb", "--field", "", "--format", "csv"],
     &["export", "here.mmdb"],
     &["enrich", "here.mmdb", "--field", ""],
+    &["enrich", "here.mmdb", "--json", "a", "--field", ""],
 ];
 
 // Whether a run wrote nothing and reported that there was no memory.

@@ -2,7 +2,7 @@
 use super::program::{Run, assert_of, run_of};
 use mmdb_vectors::base::BASE_FILE;
 use mmdb_vectors::builder::{BASE_DATA, BASE_NODE, Changes, Field, changed_file};
-use std::alloc::Global;
+use std::alloc::{AllocError, Global};
 use std::process::Abort;
 
 /// Words, the status, standard output, and what standard error has to hold.
@@ -170,14 +170,132 @@ const HOSTILE_RUNS: &[Row<'static>] = &[(
     "",
 )];
 
+/// Words that ask for a record in lines of JSON.
+const IN_JSON: &[&str] = &["enrich", "here.mmdb", "--json", "a", "--field", "r="];
+
+/// Lines of JSON, the same as they are written, and how they fared.
+#[rattlefmt::skip]
+const OBJECTS: &[(&str, &str, &str)] = &[
+    ("{\"a\":\"200.0.0.1\"}\n", "{\"a\":\"200.0.0.1\",\"geo\":{\"r\":\"x\"}}\n", "1 lines with a record, 0 without, 0 without an address, 0 refused"),
+    // white space around the braces, other ends of lines, no end, a key that comes twice
+    (" { \"a\" : \"200.0.0.1\" } \t\n", " { \"a\" : \"200.0.0.1\" ,\"geo\":{\"r\":\"x\"}} \t\n", "1 lines with a record"),
+    ("{\"a\":\"200.0.0.1\"}\r\n", "{\"a\":\"200.0.0.1\",\"geo\":{\"r\":\"x\"}}\r\n", "1 lines with a record"),
+    ("{\"b\":\"}\",\"a\":\"200.0.0.1\"}", "{\"b\":\"}\",\"a\":\"200.0.0.1\",\"geo\":{\"r\":\"x\"}}", "1 lines with a record"),
+    ("{\"a\":\"1.1.1.1\",\"a\":\"200.0.0.1\"}", "{\"a\":\"1.1.1.1\",\"a\":\"200.0.0.1\",\"geo\":{\"r\":\"x\"}}", "1 lines with a record"),
+    // no record, refused
+    ("{\"a\":\"1.1.1.1\"}\n", "{\"a\":\"1.1.1.1\"}\n", "0 lines with a record, 1 without, 0 without an address, 0 refused"),
+    ("{\"a\":\"::1\"}\n", "{\"a\":\"::1\"}\n", "0 lines with a record, 0 without, 0 without an address, 1 refused"),
+    // no address: no member, no text, no address in it; no object; no JSON
+    ("{}\n{ }\n{\"b\":\"200.0.0.1\"}\n", "{}\n{ }\n{\"b\":\"200.0.0.1\"}\n", "0 lines with a record, 0 without, 3 without an address, 0 refused"),
+    ("{\"a\":2}\n{\"a\":[\"200.0.0.1\"]}\n{\"a\":\"200.0.0\"}\n", "{\"a\":2}\n{\"a\":[\"200.0.0.1\"]}\n{\"a\":\"200.0.0\"}\n", "3 without an address"),
+    ("[{\"a\":\"200.0.0.1\"}]\n\"{}\"\n{\"a\":\"200.0.0.1\"}}\n\n", "[{\"a\":\"200.0.0.1\"}]\n\"{}\"\n{\"a\":\"200.0.0.1\"}}\n\n", "4 without an address"),
+    ("{\"a\":\"200.0.0.1\",}\n200.0.0.1\n", "{\"a\":\"200.0.0.1\",}\n200.0.0.1\n", "2 without an address"),
+];
+
+/// Other words for lines of JSON.
+#[rattlefmt::skip]
+const JSON_LINES: &[Lines<'static>] = &[
+    (
+        &["enrich", "here.mmdb", "--json", "client.ips.1.\"ip v\"", "--into", "a\"b"],
+        "{\"client\":{\"ips\":[0,{\"ip v\":\"200.0.0.1\"}]}}\n",
+        "{\"client\":{\"ips\":[0,{\"ip v\":\"200.0.0.1\"}]},\"a\\\"b\":{}}\n",
+        "1 lines with a record",
+    ),
+    (&["enrich", "here.mmdb", "--json", ""], "{}\n\"200.0.0.1\"\n", "{}\n\"200.0.0.1\"\n", "2 without an address"),
+];
+
+/// Runs over lines of JSON of a record with fields.
+#[rattlefmt::skip]
+const NESTED_LINES: &[Lines<'static>] = &[
+    (
+        &["enrich", "here.mmdb", "--json", "a", "--field", "\"a.b\".-1.\"0\"", "--field", "n=\"a.b\".0", "--field", "c", "--field", "\"a.b\""],
+        "{\"a\":\"200.0.0.1\"}\n",
+        "{\"a\":\"200.0.0.1\",\"geo\":{\"0\":\"y\",\"n\":1,\"c\":null,\"a.b\":[1,{\"0\":\"y\"}]}}\n",
+        "1 lines with a record",
+    ),
+    // a field is refused
+    (
+        &["enrich", "here.mmdb", "--json", "a", "--field", "\"a.b\".0", "--field", "\"a.b\".1.0"],
+        "{\"a\":\"200.0.0.1\"}\n",
+        "{\"a\":\"200.0.0.1\"}\n",
+        "0 lines with a record, 0 without, 0 without an address, 1 refused",
+    ),
+];
+
+/// Bad words for lines of JSON.
+#[rattlefmt::skip]
+const NO_JSON: &[Row<'static>] = &[
+    (&["enrich", "gone.mmdb", "--json", "a.\"b"], 2, "", "a.\"b: not a path"),
+    (&["enrich", "gone.mmdb", "--json", "a.-1"], 2, "", "a.-1: an index from the end"),
+    (&["enrich", "gone.mmdb", "--json", "a", "--field", "n=a.\"b"], 2, "", "a.\"b: not a path"),
+    (&["enrich", "gone.mmdb", "--json", "a", "--into", ""], 2, "", "--into: an empty name"),
+    (&["enrich", "gone.mmdb", "--into", "geo"], 2, "", "--into: needs a --json"),
+    (&["enrich", "gone.mmdb", "--json", "a", "--column", "1"], 2, "", "--column"),
+    (&["enrich", "gone.mmdb", "--json", "a", "--delimiter", ","], 2, "", "--delimiter"),
+    (&["enrich", "gone.mmdb", "--json", "a", "--header"], 2, "", "--header"),
+];
+
+// Asserts what the program writes of lines over a file.
+fn assert_lines(rt: &impl Abort, alloc: Global, bytes: &[u8], rows: &[Lines<'_>]) {
+    for (words, lines, written, told) in rows {
+        let run = run_of(alloc, bytes, words, lines);
+        let holds = run.status == 0 && run.out() == *written && run.err().contains(told);
+        assert_of(rt, words, &run, holds);
+    }
+}
+
 #[test]
 fn lines_with_fields(rt: HostRuntime) {
-    for (words, lines, written, told) in LINES {
-        let run = run_of(rt.alloc(), BASE_FILE, words, lines);
-        let holds = run.status == 0 && run.out() == *written && run.err().contains(told);
-        assert_of(&rt, words, &run, holds);
-    }
+    assert_lines(&rt, rt.alloc(), BASE_FILE, LINES);
     assert_runs(&rt, rt.alloc(), BASE_FILE, NO_LINES);
+}
+
+#[test]
+fn objects_with_fields(rt: HostRuntime) {
+    for (lines, written, told) in OBJECTS {
+        assert_lines(
+            &rt,
+            rt.alloc(),
+            BASE_FILE,
+            &[(IN_JSON, *lines, *written, *told)],
+        );
+    }
+    assert_lines(&rt, rt.alloc(), BASE_FILE, JSON_LINES);
+    let nested = changed_file(rt.alloc(), BASE_NODE, NESTED, &[]);
+    let nested = nested.expect(&rt, "a file");
+    assert_lines(&rt, rt.alloc(), nested.as_slice(), NESTED_LINES);
+    assert_runs(&rt, rt.alloc(), BASE_FILE, NO_JSON);
+}
+
+// An object with an address, of so many bytes in all.
+fn object_of_length(alloc: Global, length: usize) -> Result<String, AllocError> {
+    let mut text = String::from_str(alloc, "{\"a\":\"200.0.0.1\",\"b\":\"")?;
+    for _ in text.len() + 2..length {
+        text.push_str("x")?;
+    }
+    text.push_str("\"}")?;
+    Ok(text)
+}
+
+#[test]
+fn long_objects(rt: HostRuntime) {
+    for (length, told) in [
+        (65_536, "1 lines with"),
+        (65_537, "1 without an address"),
+        (140_000, "1 without an address"),
+    ] {
+        let text = object_of_length(rt.alloc(), length).expect(&rt, "a text");
+        let run = run_of(rt.alloc(), BASE_FILE, IN_JSON, text.as_str());
+        let (before, _) = text.as_str().split_at(length - 1);
+        let is_added = run.out().starts_with(before)
+            && run.out().ends_with(",\"geo\":{\"r\":\"x\"}}");
+        let is_written = if length > 65_536 {
+            run.out() == text.as_str()
+        } else {
+            is_added
+        };
+        assert_of(&rt, IN_JSON, &run, is_written && run.err().contains(told));
+    }
 }
 
 // Whether a run ended with a status, wrote a text, and reported one or nothing.

@@ -15,7 +15,8 @@ returns-then-eq-clause-whole g c = λ ready.
       | then-eq-via-else-eq+then-len-lt-PIECE w ↦ λ not. c.loop.invariant.ready ready not (search rules)
     ] in
     on_ok c.put_row.result
-    (λ put. passed c.args.rows c.args.place c.loop.now c.args.piece.now.items c.loop.piece.items c.args.added.now (g.R.Read.remaining c.args.input.now) (g.W.Write.contents c.args.out.now) (g.R.Read.remaining c.loop.input) (g.W.Write.contents c.loop.out) (g.W.Write.contents c.put_row.new.out) ending put c.loop.invariant.way)
+    (λ put. passed c.args.rows c.args.place c.loop.now c.args.piece.now.items c.loop.piece.items c.args.added.now.items c.args.behind (g.R.Read.remaining c.args.input.now) (g.W.Write.contents c.args.out.now) (g.R.Read.remaining c.loop.input) (g.W.Write.contents c.loop.out) (g.W.Write.contents c.put_row.new.out) ending
+    (subst (λ a. Appends (g.W.Write.contents c.loop.out) (g.W.Write.contents c.put_row.new.out) (row_with c.loop.piece.items a.items c.args.behind)) c.loop.invariant.same put) c.loop.invariant.way)
     c.put_row.ensures.whole
 
 pub returns-then-eq-clause-begun : goal.returns-then-eq-clause-begun
@@ -26,7 +27,8 @@ returns-then-eq-clause-begun g c = λ ready.
       | then-eq-via-else-eq+then-len-lt-PIECE w ↦ λ not. c.loop.invariant.ready ready not (search rules)
     ] in
     on_err c.put_row.result
-    (λ put. passed_in c.args.rows c.args.place c.loop.now c.args.piece.now.items c.loop.piece.items c.args.added.now (g.R.Read.remaining c.args.input.now) (g.W.Write.contents c.args.out.now) (g.R.Read.remaining c.loop.input) (g.W.Write.contents c.loop.out) (g.W.Write.contents c.put_row.new.out) ending put c.loop.invariant.way)
+    (λ put. passed_in c.args.rows c.args.place c.loop.now c.args.piece.now.items c.loop.piece.items c.args.added.now.items c.args.behind (g.R.Read.remaining c.args.input.now) (g.W.Write.contents c.args.out.now) (g.R.Read.remaining c.loop.input) (g.W.Write.contents c.loop.out) (g.W.Write.contents c.put_row.new.out) ending
+    (subst (λ a. AppendsFront (g.W.Write.contents c.loop.out) (g.W.Write.contents c.put_row.new.out) (row_with c.loop.piece.items a.items c.args.behind)) c.loop.invariant.same put) c.loop.invariant.way)
     c.put_row.ensures.begun
 
 pub returns-in_err-put_front-clause-begun : goal.returns-in_err-put_front-clause-begun
@@ -35,9 +37,10 @@ returns-in_err-put_front-clause-begun g c = λ ready.
     let front = take (length piece - 2) piece in
     let kept = drop (length piece - 2) piece in
     let split : piece ≡ front ++ kept = sym (take-append-drop (length piece - 2) piece) in
+    let none : c.args.behind ≡ 0 = c.loop.invariant.none (search rules) in
     let two : 2 ≤ length kept = omega (arith, length-drop (length piece - 2) piece) in
     on_any_err c.from_residual.result
-    (stopped_in c.args.rows c.args.place c.loop.now c.args.piece.now.items piece c.args.added.now front kept (g.R.Read.remaining c.args.input.now) (g.W.Write.contents c.args.out.now) (g.R.Read.remaining c.loop.input) (g.W.Write.contents c.loop.out) (g.W.Write.contents c.put_front.new.out) split two c.in_err-put_front.ensures.begun c.loop.invariant.way)
+    (stopped_in c.args.rows c.args.place c.loop.now c.args.piece.now.items piece c.args.added.now.items front kept c.args.behind (g.R.Read.remaining c.args.input.now) (g.W.Write.contents c.args.out.now) (g.R.Read.remaining c.loop.input) (g.W.Write.contents c.loop.out) (g.W.Write.contents c.put_front.new.out) split two none c.in_err-put_front.ensures.begun c.loop.invariant.way)
 
 pub returns-in_err-now-clause-begun : goal.returns-in_err-now-clause-begun
 returns-in_err-now-clause-begun g c = λ ready.
@@ -45,13 +48,14 @@ returns-in_err-now-clause-begun g c = λ ready.
     let front = take (length piece - 2) piece in
     let kept = drop (length piece - 2) piece in
     let split : piece ≡ front ++ kept = sym (take-append-drop (length piece - 2) piece) in
+    let none : c.args.behind ≡ 0 = c.loop.invariant.none (search rules) in
     let two : 2 ≤ length kept = omega (arith, length-drop (length piece - 2) piece) in
     on_any_err c.from_residual-in_err-now.result
-    (stopped_in c.args.rows c.args.place c.loop.now c.args.piece.now.items piece c.args.added.now front kept (g.R.Read.remaining c.args.input.now) (g.W.Write.contents c.args.out.now) (g.R.Read.remaining c.loop.input) (g.W.Write.contents c.loop.out) (g.W.Write.contents c.put_front.new.out) split two
+    (stopped_in c.args.rows c.args.place c.loop.now c.args.piece.now.items piece c.args.added.now.items front kept c.args.behind (g.R.Read.remaining c.args.input.now) (g.W.Write.contents c.args.out.now) (g.R.Read.remaining c.loop.input) (g.W.Write.contents c.loop.out) (g.W.Write.contents c.put_front.new.out) split two none
     (subst (λ t. AppendsFront (g.W.Write.contents c.loop.out) (g.W.Write.contents c.put_front.new.out) t) (append-nil front) (front_whole (g.W.Write.contents c.loop.out) (g.W.Write.contents c.put_front.new.out) front [] c.in_ok-put_front.ensures.whole)) c.loop.invariant.way)
 
 pub returns-clause-begun : goal.returns-clause-begun
-returns-clause-begun g c = λ ready. stopped c.args.rows c.args.place c.loop.now c.args.piece.now.items c.loop.piece.items c.args.added.now (g.R.Read.remaining c.args.input.now) (g.W.Write.contents c.args.out.now) (g.R.Read.remaining c.loop.input) (g.W.Write.contents c.loop.out) c.loop.invariant.way
+returns-clause-begun g c = λ ready. stopped c.args.rows c.args.place c.loop.now c.args.piece.now.items c.loop.piece.items c.args.added.now.items c.args.behind (g.R.Read.remaining c.args.input.now) (g.W.Write.contents c.args.out.now) (g.R.Read.remaining c.loop.input) (g.W.Write.contents c.loop.out) c.loop.invariant.way
 
 pub loop-preserved : goal.loop-preserved
 loop-preserved g c =
@@ -59,11 +63,14 @@ loop-preserved g c =
     let front = take (length piece - 2) piece in
     let kept = drop (length piece - 2) piece in
     let split : piece ≡ front ++ kept = sym (take-append-drop (length piece - 2) piece) in
+    let none : c.args.behind ≡ 0 = c.loop.invariant.none (search rules) in
     let two : 2 ≤ length kept = omega (arith, length-drop (length piece - 2) piece) in
     let (bytes, put, leads) = c.in_ok-now.ensures.leads in
     let next : c.read_piece.new.piece.items ≡ kept ++ bytes = put ∙ ap (λ l. l ++ bytes) c.in_ok-put_front.ensures.kept in
     record {
-      way = passes_piece c.args.rows c.args.place c.loop.now c.in_ok-now.now c.args.piece.now.items piece front kept bytes c.read_piece.new.piece.items (g.R.Read.remaining c.args.input.now) (g.W.Write.contents c.args.out.now) (g.R.Read.remaining c.loop.input) (g.W.Write.contents c.loop.out) (g.R.Read.remaining c.read_piece.new.input) (g.W.Write.contents c.put_front.new.out)
-          split two c.in_ok-put_front.ensures.whole next leads c.loop.invariant.way;
-      ready = λ first not short. at_end_too c.args.rows c.args.place c.loop.now c.args.piece.now.items piece (g.R.Read.remaining c.args.input.now) (g.W.Write.contents c.args.out.now) (g.R.Read.remaining c.loop.input) (g.W.Write.contents c.loop.out) (IsAtEnd (g.R.Read.remaining c.read_piece.new.input)) c.loop.invariant.way (c.in_ok-now.ensures.end not short);
+      way = passes_piece c.args.rows c.args.place c.loop.now c.in_ok-now.now c.args.piece.now.items piece front kept bytes c.read_piece.new.piece.items c.args.behind (g.R.Read.remaining c.args.input.now) (g.W.Write.contents c.args.out.now) (g.R.Read.remaining c.loop.input) (g.W.Write.contents c.loop.out) (g.R.Read.remaining c.read_piece.new.input) (g.W.Write.contents c.put_front.new.out)
+          split two none c.in_ok-put_front.ensures.whole next leads c.loop.invariant.way;
+      same = search rules;
+      none = λ full. none;
+      ready = λ first not short. at_end_too c.args.rows c.args.place c.loop.now c.args.piece.now.items piece c.args.behind (g.R.Read.remaining c.args.input.now) (g.W.Write.contents c.args.out.now) (g.R.Read.remaining c.loop.input) (g.W.Write.contents c.loop.out) (IsAtEnd (g.R.Read.remaining c.read_piece.new.input)) c.loop.invariant.way (c.in_ok-now.ensures.end not short);
     }

@@ -4,15 +4,15 @@ use Rattle.mmdb_filter.specs.Lines.{AppendsFront, row_with}
 use Rattle.mmdb_filter.proofs.FrontLaws.{front_none, on_any_err, on_err, on_ok}
 use Rattle.mmdb_filter.proofs.put.put_row.Goals as goal
 
-pub returns-in_err-add_before_end-clause-begun : goal.returns-in_err-add_before_end-clause-begun
-returns-in_err-add_before_end-clause-begun g c = on_any_err c.from_residual.result (front_none (g.W.Write.contents c.args.out.now) (row_with c.args.row.now.items c.args.added.now))
+pub returns-in_err-add_before-clause-begun : goal.returns-in_err-add_before-clause-begun
+returns-in_err-add_before-clause-begun g c = on_any_err c.from_residual.result (front_none (g.W.Write.contents c.args.out.now) (row_with c.args.row.now.items c.args.added.now.items c.args.behind))
 
 pub returns-clause-whole : goal.returns-clause-whole
 returns-clause-whole g c =
-    let row : c.as_slice.result.now ≡ row_with c.args.row.now.items c.args.added.now = c.as_slice.ensures.value ∙ c.in_ok-add_before_end.ensures in
+    let row : c.as_slice.result.now ≡ row_with c.args.row.now.items c.args.added.now.items c.args.behind = c.as_slice.ensures.value ∙ c.in_ok-add_before.ensures in
     on_ok c.put_all.result (λ put. subst (λ t. Appends (g.W.Write.contents c.args.out.now) (g.W.Write.contents c.put_all.new.out) t) row put) c.put_all.ensures.whole
 
 pub returns-clause-begun : goal.returns-clause-begun
 returns-clause-begun g c =
-    let row : c.as_slice.result.now ≡ row_with c.args.row.now.items c.args.added.now = c.as_slice.ensures.value ∙ c.in_ok-add_before_end.ensures in
+    let row : c.as_slice.result.now ≡ row_with c.args.row.now.items c.args.added.now.items c.args.behind = c.as_slice.ensures.value ∙ c.in_ok-add_before.ensures in
     on_err c.put_all.result (λ put. subst (λ t. AppendsFront (g.W.Write.contents c.args.out.now) (g.W.Write.contents c.put_all.new.out) t) row put) c.put_all.ensures.begun

@@ -1,0 +1,73 @@
+//! The member that is added to an object.
+ghost use Rattle.std.specs.Prelude.{◌≡◌, ◌++◌, ℕ, List, [], Some, None, OnOk, IfOk, IfSome, IfNone};
+ghost use Rattle.json.specs.Token.{Token as SpecToken};
+ghost use Rattle.mmdb_reader.specs.File.{data_section};
+ghost use Rattle.mmdb_reader.specs.Found.{database_asked, offset_found};
+ghost use Rattle.mmdb_enrich.specs.Members.{AreFields, member_tokens, IsMember};
+
+use json::{Token, Writer};
+use mmdb_json::write_found;
+use mmdb_reader::{LookupResult, MaxMindDbError, PathElement};
+use std::alloc::{AllocError, Global};
+use std::convert::AsSlice;
+
+/// A field of a record, under a name.
+#[derive(Drop)]
+pub struct Field<'f> {
+    pub name: &'f str,
+    /// Where in the record it stands.
+    pub path: Vec<PathElement<'f>>,
+}
+
+// Writes for each field its name, and the value along its path or null.
+fn put_fields<S: AsSlice<u8> + Drop>(
+    alloc: Global,
+    found: &LookupResult<'_, S>,
+    fields: &[Field<'_>],
+    out: &mut Writer,
+) -> Result<(), MaxMindDbError>
+    ensures fields { OnOk result ((offset : ℕ) → offset_found found.now ≡ Some offset → (tokens : List SpecToken) × AreFields fields.now (data_section (database_asked found.now)) offset tokens × (out.new.tokens ≡ out.old.tokens ++ tokens)) }
+    ensures before { out.new.before ≡ out.old.before }
+{
+    for at in 0..fields.len() {
+        let field = &fields[at];
+        out.token(Token::Key(field.name))?;
+        write_found(alloc, found, field.path.as_slice(), out)?;
+    }
+    Ok(())
+}
+
+// Writes a member with the fields.
+fn put_member<S: AsSlice<u8> + Drop>(
+    alloc: Global,
+    found: &LookupResult<'_, S>,
+    name: &str,
+    fields: &[Field<'_>],
+    out: &mut Writer,
+) -> Result<(), MaxMindDbError>
+    ensures member { OnOk result ((offset : ℕ) → offset_found found.now ≡ Some offset → (tokens : List SpecToken) × AreFields fields.now (data_section (database_asked found.now)) offset tokens × (out.new.tokens ≡ out.old.tokens ++ member_tokens name.now tokens)) }
+    ensures before { out.new.before ≡ out.old.before }
+{
+    out.token(Token::Key(name))?;
+    out.token(Token::BeginObject)?;
+    put_fields(alloc, found, fields, out)?;
+    out.token(Token::EndObject)?;
+    Ok(())
+}
+
+/// The text of a member with the fields of a record, or none where one was refused.
+pub(crate) fn member_of<S: AsSlice<u8> + Drop>(
+    alloc: Global,
+    found: &LookupResult<'_, S>,
+    name: &str,
+    fields: &[Field<'_>],
+) -> Result<Option<Vec<u8>>, AllocError>
+    ensures { IfOk result (λ member. IfSome member (λ text. (offset : ℕ) → offset_found found.now ≡ Some offset → IsMember (database_asked found.now) name.now fields.now offset text.items)) }
+{
+    let mut out = Writer::new(Vec::with_capacity(alloc, 256)?);
+    match put_member(alloc, found, name, fields, &mut out) {
+        Ok(()) => Ok(Some(out.into_inner())),
+        Err(MaxMindDbError::Memory) => Err(AllocError),
+        Err(_) => Ok(None),
+    }
+}
