@@ -169,26 +169,32 @@ fn delimiter<'a>(alloc: Global) -> Arg<'a> {
     )
 }
 
+// An option that goes with none of those that tell of columns.
+fn without_columns<'a>(argument: Arg<'a>) -> Result<Arg<'a>, AllocError> {
+    let argument = argument.conflicts_with("column")?;
+    argument
+        .conflicts_with("delimiter")?
+        .conflicts_with("header")
+}
+
 // What tells that lines are objects of JSON, and so have no columns.
 fn json_path<'a>(alloc: Global) -> Result<Arg<'a>, AllocError> {
-    option(
+    without_columns(option(
         alloc,
         "json",
         "PATH",
         "Lines are JSON: the path of the address in an object, as client.ip",
-    )
-    .conflicts_with_all(&["column", "delimiter", "header"])
+    ))
 }
 
 // The name of the member that an object gets.
 fn into<'a>(alloc: Global) -> Result<Arg<'a>, AllocError> {
-    option(
+    without_columns(option(
         alloc,
         "into",
         "NAME",
         "With --json: the name of the member that is added, geo if not given",
-    )
-    .conflicts_with_all(&["column", "delimiter", "header"])
+    ))
 }
 
 // The command with what it takes for lines of JSON.

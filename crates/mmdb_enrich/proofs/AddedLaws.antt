@@ -1,5 +1,5 @@
 -- What is added for an address.
-use Rattle.std.proofs.Common.{◌≡◌, ℕ, List, [], ◌++◌, Option, Some, None, Bool, IfSome, if◌then◌else◌, length, drop, refl, sym, ap, ◌∙◌, subst, inr}
+use Rattle.std.proofs.Common.{◌≡◌, ℕ, List, ◌++◌, Option, Some, None, Bool, IfSome, if◌then◌else◌, length, drop, refl, sym, ap, ◌∙◌, subst, inr}
 use Rattle.std.proofs.Math.Seq.{drop-append_seam}
 use Rattle.std.specs.Global.{Vec}
 use Rattle.std.specs.declared.net.ip_addr.IpAddr.{IpAddr}

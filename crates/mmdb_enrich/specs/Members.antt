@@ -5,7 +5,7 @@ use Rattle.json.specs.Json.{Members, no_members, member}
 use Rattle.json.specs.Print.{print}
 use Rattle.json.specs.Token.{Token, key, begin_object, end_object}
 use Rattle.mmdb_reader.specs.File.{Database, data_section}
-use Rattle.mmdb_reader.specs.Lookup.{CanAsk, IsRefusedAt, Answers, outcome_at}
+use Rattle.mmdb_reader.specs.Lookup.{Answers, outcome_at}
 use Rattle.mmdb_reader.specs.declared.path.PathElement.{PathElement}
 use Rattle.mmdb_json.specs.Found.{WritesAlong}
 use Rattle.mmdb_filter.specs.declared.counts.Outcome.{Outcome}

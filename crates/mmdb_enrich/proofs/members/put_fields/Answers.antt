@@ -3,7 +3,7 @@ use Rattle.std.proofs.lemmas.List.{drop_more, drop_all}
 use Rattle.json.specs.Token.{key}
 use Rattle.mmdb_reader.specs.File.{data_section}
 use Rattle.mmdb_reader.specs.Found.{database_asked}
-use Rattle.mmdb_enrich.proofs.MemberLaws.{FieldsWay, grew_by_value, one_field, fields_done, written_at}
+use Rattle.mmdb_enrich.proofs.MemberLaws.{FieldsWay, one_field, fields_done, written_at}
 use Rattle.mmdb_enrich.proofs.members.put_fields.Goals as goal
 
 pub loop-at-preserved : goal.loop-at-preserved

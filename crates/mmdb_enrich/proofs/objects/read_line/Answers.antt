@@ -1,4 +1,4 @@
-use Rattle.std.proofs.Common.{◌≡◌, sym, ◌∙◌}
+use Rattle.std.proofs.Common.{sym, ◌∙◌}
 use Rattle.json.specs.Json.{object}
 use Rattle.json.specs.Value.{value_view}
 use Rattle.mmdb_enrich.proofs.AddedLaws.{held}

@@ -1,4 +1,4 @@
-use Rattle.std.proofs.Common.{rules, ◌≡◌, ◌<◌, length, slice_index_or, sym, ◌∙◌, subst}
+use Rattle.std.proofs.Common.{rules, ◌≡◌, ◌<◌, length, slice_index_or, sym, subst}
 use Rattle.mmdb_enrich.specs.Kept.{IsKept}
 use Rattle.mmdb_enrich.proofs.KeptLaws.{empty_kept, place_set}
 use Rattle.mmdb_enrich.proofs.cache.Cache.make_room.Goals as goal

@@ -1,4 +1,4 @@
-use Rattle.std.proofs.Common.{rules, ◌≡◌, ◌-◌, ◌++◌, Some, length, take, drop, map, subst, ap, ◌∙◌}
+use Rattle.std.proofs.Common.{rules, ◌≡◌, ◌-◌, ◌++◌, Some, length, take, drop, map, subst, ◌∙◌}
 use Rattle.std.proofs.lemmas.List.{take_rest}
 use Rattle.mmdb_reader.specs.Found.{database_asked}
 use Rattle.mmdb_enrich.specs.Added.{AddsAt}
