@@ -151,7 +151,8 @@ fn count_of(header: Header) -> usize
 // The part of a value that holds no others, and the offset after it.
 #[inline(always)]
 fn scalar_part(section: &[u8], place: Place) -> Result<(Part, usize), Stop>
-    ensures value { option_map (λ x. (x.0 ∷ [], x.1)) (result_ok result) ≡ scalar_parts_at section.now place }
+    ensures value { option_map (λ x. (x.0 ∷ [], x.1)) (result_ok result) ≡
+        scalar_parts_at section.now place }
     ensures damaged { IfErr result (λ stop. stop ≡ Stop.Damaged) }
 {
     let Ok(content) = content_at(section, place.header) else {
@@ -173,7 +174,8 @@ fn put(
     ensures listed { IfOk result (λ r.
         IsListed (listed levels section.now offset) parts r.parts r.next out.old out.new) }
     ensures damaged { result ≡ Err Stop.Damaged → listed levels section.now offset ≡ None }
-    ensures full { result ≡ Err Stop.Full → Passes (listed levels section.now offset) parts out.old }
+    ensures full { result ≡ Err Stop.Full →
+        Passes (listed levels section.now offset) parts out.old }
     ensures room { length out.new ≡ length out.old }
 {
     if levels == 0 {
