@@ -1,6 +1,10 @@
 //! A value and all that it holds as a list, in memory that C gives.
 
-ghost use Rattle.std.specs.Prelude.{◌≡◌, ◌<◌, ◌≤◌, ◌^◌, ◌+◌, length, IfOk};
+ghost use Rattle.std.specs.Prelude.{◌≡◌, ◌<◌, ◌≤◌, ◌%◌, ◌^◌, ◌||◌, [], ◌∷◌, length, nat_eq, IsTrue, IfOk, IfErr, Err, Some, None, option_map};
+ghost use Rattle.std.specs.Result.{result_ok};
+ghost use Rattle.mmdb_format.specs.Views.{content_view};
+ghost use Rattle.mmdb_c.specs.Items.{high_of};
+ghost use Rattle.mmdb_c.specs.List.{place_at as spec_place_at, part, part_low, part_size, is_container, count_of as spec_count_of, scalar_parts_at, listed, list_at, IsListed, Passes, HasList, HasNoRoom};
 
 use mmdb_format::content::{Content, content_at, content_end};
 use mmdb_format::header::{Header, header_at, pointer_at};
@@ -38,21 +42,67 @@ struct Filled {
 }
 
 #[inline(always)]
-fn short(n: usize) -> u32 {
+fn short(n: usize) -> u32
+    ensures { result ≡ n % 2 ^ 32 }
+{
     (n % (1 << 32)) as u32
 }
 
+// A value that is no pointer: its offset, its header, and the offset after the pointer that led to it.
+#[derive(Clone, Copy)]
+pub struct Place {
+    pub offset: usize,
+    pub header: Header,
+    pub after: Option<usize>,
+}
+
+// The value that an offset stands for, behind one pointer or none.
 #[inline(always)]
-fn make_part(header: Header, offset: usize, next: usize, size: usize, low: u64, high: u64) -> Part {
+#[tactic(auto, unfolding(crate::specs::List::place_at))]
+fn place_at(section: &[u8], offset: usize) -> Result<Place, Stop>
+    ensures value { result_ok result ≡ spec_place_at section.now offset }
+    ensures bound { IfOk result (λ place. place.header.size < 2 ^ 25) }
+    ensures damaged { IfErr result (λ stop. stop ≡ Stop.Damaged) }
+{
+    let Ok(own) = header_at(section, offset) else {
+        return Err(Stop::Damaged);
+    };
+    if own.kind != POINTER {
+        return Ok(Place {
+            offset,
+            header: own,
+            after: None,
+        });
+    }
+    let Ok(pointer) = pointer_at(section, own.body, own.size as u8) else {
+        return Err(Stop::Damaged);
+    };
+    let Ok(header) = header_at(section, pointer.target) else {
+        return Err(Stop::Damaged);
+    };
+    if header.kind == POINTER {
+        return Err(Stop::Damaged);
+    }
+    Ok(Place {
+        offset: pointer.target,
+        header,
+        after: Some(pointer.next),
+    })
+}
+
+#[inline(always)]
+fn make_part(place: Place, next: usize, size: usize, low: u64, high: u64) -> Part
+    ensures { result ≡ part place next size low high }
+{
     Part {
         has_data: 1,
         unused: 0,
         low,
         high,
-        offset: short(offset),
+        offset: short(place.offset),
         next: short(next),
         size: short(size),
-        kind: u32::from(header.kind),
+        kind: u32::from(place.header.kind),
         link: 0,
         pool: 0,
     }
@@ -60,7 +110,11 @@ fn make_part(header: Header, offset: usize, next: usize, size: usize, low: u64, 
 
 // The number of a content in two halves; of a text or bytes where they begin; and its size, which numbers have not.
 #[inline(always)]
-fn number_of(header: Header, content: Content<'_>) -> (u64, u64, usize) {
+fn number_of(header: Header, content: Content<'_>) -> (u64, u64, usize)
+    ensures low { result.0 ≡ part_low header (content_view content.entry) }
+    ensures high { result.1 ≡ high_of (content_view content.entry) }
+    ensures size { result.2 ≡ part_size header (content_view content.entry) }
+{
     match content {
         Content::Text(_) | Content::Bytes(_) => (header.body as u64, 0, header.size),
         Content::Bool(b) => (u64::from(b), 0, 0),
@@ -74,6 +128,41 @@ fn number_of(header: Header, content: Content<'_>) -> (u64, u64, usize) {
     }
 }
 
+// Whether the parts of a value follow it, and how many values they are.
+#[inline(always)]
+fn holds_parts(header: Header) -> bool
+    ensures { result ≡ is_container header }
+{
+    header.kind == MAP || header.kind == ARRAY
+}
+
+#[inline(always)]
+fn count_of(header: Header) -> usize
+    requires { header.size < 2 ^ 25 }
+    ensures { result ≡ spec_count_of header }
+{
+    if header.kind == MAP {
+        2 * header.size
+    } else {
+        header.size
+    }
+}
+
+// The part of a value that holds no others, and the offset after it.
+#[inline(always)]
+fn scalar_part(section: &[u8], place: Place) -> Result<(Part, usize), Stop>
+    ensures value { option_map (λ x. (x.0 ∷ [], x.1)) (result_ok result) ≡
+        scalar_parts_at section.now place }
+    ensures damaged { IfErr result (λ stop. stop ≡ Stop.Damaged) }
+{
+    let Ok(content) = content_at(section, place.header) else {
+        return Err(Stop::Damaged);
+    };
+    let next = place.after.unwrap_or(content_end(place.header));
+    let (low, high, size) = number_of(place.header, content);
+    Ok((make_part(place, next, size, low, high), next))
+}
+
 // Appends the parts of the value at an offset.
 fn put(
     section: &[u8],
@@ -82,8 +171,12 @@ fn put(
     parts: usize,
     levels: u16,
 ) -> Result<Filled, Stop>
+    ensures listed { IfOk result (λ r.
+        IsListed (listed levels section.now offset) parts r.parts r.next out.old out.new) }
+    ensures damaged { result ≡ Err Stop.Damaged → listed levels section.now offset ≡ None }
+    ensures full { result ≡ Err Stop.Full →
+        Passes (listed levels section.now offset) parts out.old }
     ensures room { length out.new ≡ length out.old }
-    ensures parts { IfOk result (λ r. (parts < r.parts) × (r.parts ≤ length out.old)) }
 {
     if levels == 0 {
         return Err(Stop::Damaged);
@@ -91,63 +184,35 @@ fn put(
     if parts >= out.len() {
         return Err(Stop::Full);
     }
-    let Ok(own) = header_at(section, offset) else {
-        return Err(Stop::Damaged);
-    };
-    let mut header = own;
-    let mut at = offset;
-    let mut after = None;
-    if own.kind == POINTER {
-        let Ok(pointer) = pointer_at(section, own.body, own.size as u8) else {
-            return Err(Stop::Damaged);
-        };
-        let Ok(there) = header_at(section, pointer.target) else {
-            return Err(Stop::Damaged);
-        };
-        if there.kind == POINTER {
-            return Err(Stop::Damaged);
-        }
-        header = there;
-        at = pointer.target;
-        after = Some(pointer.next);
-    }
-    if header.kind != MAP && header.kind != ARRAY {
-        let Ok(content) = content_at(section, header) else {
-            return Err(Stop::Damaged);
-        };
-        let next = after.unwrap_or(content_end(header));
-        let (low, high, size) = number_of(header, content);
-        out[parts] = make_part(header, at, next, size, low, high);
+    let place = place_at(section, offset)?;
+    if !holds_parts(place.header) {
+        let (part, next) = scalar_part(section, place)?;
+        out[parts] = part;
         return Ok(Filled {
             parts: parts + 1,
             next,
         });
     }
-    let count = if header.kind == MAP {
-        2 * header.size
-    } else {
-        header.size
-    };
     let mut filled = Filled {
         parts: parts + 1,
-        next: header.body,
+        next: place.header.body,
     };
+    let count = count_of(place.header);
     for _ in 0..count {
         filled = put(section, filled.next, out, filled.parts, levels - 1)?;
     }
-    let next = after.unwrap_or(filled.next);
-    out[parts] = make_part(header, at, next, header.size, 0, 0);
+    let next = place.after.unwrap_or(filled.next);
+    out[parts] = make_part(place, next, place.header.size, 0, 0);
     Ok(Filled {
         parts: filled.parts,
         next,
     })
 }
 
-/// Writes the value at an offset and all that it holds, each map and array before its parts, pointers followed: 0
-/// and how many parts, 7 where an error is met or 512 levels are passed, 5 where there are more parts than room.
-///
-/// Proved is that it ends, reads within the section and writes within the room. Which parts it writes is tested
-/// alone.
+/// Writes the list of the value at an offset: the value and all that it holds, each map and array before its parts,
+/// pointers followed. 0 and how many parts, 7 where the value has no list within 512 levels, as it is damaged or
+/// too deep, and 5 where a list has more parts than there is room. Where there is no list, the room may be used up
+/// before this is found, and the status is 5 as well.
 #[unsafe(no_mangle)]
 pub extern "C" fn mmdb_c_list(
     section: &[u8],
@@ -155,6 +220,10 @@ pub extern "C" fn mmdb_c_list(
     out: &mut [Part],
     count: &mut usize,
 ) -> u32
+    ensures statuses { IsTrue (nat_eq result 0 || nat_eq result 5 || nat_eq result 7) }
+    ensures listed { result ≡ 0 → HasList section.now offset count.new out.old out.new }
+    ensures no_list { result ≡ 7 → list_at section.now offset ≡ None }
+    ensures no_room { result ≡ 5 → HasNoRoom section.now offset out.old }
     ensures room { result ≡ 0 → count.new ≤ length out.old }
     ensures some { result ≡ 0 → 0 < count.new }
 {
