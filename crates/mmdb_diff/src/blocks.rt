@@ -33,16 +33,12 @@ pub(crate) fn last_of(block: Block) -> u128 {
     block.first | bits_after(block.prefix)
 }
 
-// Whether a block of this prefix begins at an address, and ends at `last` or before.
-fn fits(prefix: u8, first: u128, last: u128) -> bool {
-    let after = bits_after(prefix);
-    first & after == 0 && first | after <= last
-}
-
 /// The largest block that begins at `first` and ends at `last` or before.
 pub(crate) fn largest_block(first: u128, last: u128) -> Block {
-    for prefix in 0..128u8 {
-        if fits(prefix, first, last) {
+    // no smaller prefix has a block that begins there
+    let aligned = 128 - first.trailing_zeros().min(128);
+    for prefix in aligned as u8..128 {
+        if first | bits_after(prefix) <= last {
             return Block { first, prefix };
         }
     }

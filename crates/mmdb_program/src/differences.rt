@@ -11,7 +11,7 @@ use std::convert::AsSlice;
 use std::io::Write;
 
 /// How many pairs are kept.
-const PLACES: usize = 1 << 18;
+const PLACES: usize = 1 << 19;
 
 /// The offset of no record.
 const NO_RECORD: usize = usize::MAX;
@@ -117,10 +117,10 @@ fn offset_of<S: AsSlice<u8> + Drop>(found: Option<&LookupResult<'_, S>>) -> usiz
     }
 }
 
-// Where a pair of offsets is kept.
+// Where a pair of offsets is kept: the upper bits of a product, which depend on all bits of both.
 fn place_of(old: usize, new: usize) -> usize {
-    let mixed = old.wrapping_mul(31).wrapping_add(new);
-    (mixed ^ mixed >> 18) % PLACES
+    let mixed = (old as u64) ^ (new as u64).rotate_left(32);
+    (mixed.wrapping_mul(0x9E37_79B9_7F4A_7C15) >> 45) as usize % PLACES
 }
 
 impl Pairs {

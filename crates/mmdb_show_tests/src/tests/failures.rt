@@ -15,6 +15,17 @@ const COMMANDS: &[&[&str]] = &[
     &["info", "here.mmdb", "--json"],
     &["export", "here.mmdb"],
     &["export", "here.mmdb", "--field", "", "--format", "csv"],
+    &["export", "here.mmdb", "--format", "cidr", "--where", "=x"],
+    &["export", "here.mmdb", "--format", "nft"],
+    &[
+        "diff",
+        "here.mmdb",
+        "here.mmdb",
+        "--field",
+        "a",
+        "--format",
+        "csv",
+    ],
     &["verify", "here.mmdb"],
 ];
 

@@ -55,6 +55,8 @@ const COMMANDS: &[&[&str]] = &[
     &["info", "here.mmdb", "--json"],
     &["export", "here.mmdb", "--field", "", "--format", "csv"],
     &["export", "here.mmdb"],
+    &["export", "here.mmdb", "--format", "ipset"],
+    &["diff", "here.mmdb", "here.mmdb"],
     &["enrich", "here.mmdb", "--field", ""],
     &["enrich", "here.mmdb", "--json", "a", "--field", ""],
 ];
