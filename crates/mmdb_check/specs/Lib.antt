@@ -5,3 +5,4 @@ pub mod Memory
 pub mod Halting
 pub mod Places
 pub mod Laws
+pub mod Working

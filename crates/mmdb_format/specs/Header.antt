@@ -1,6 +1,6 @@
 -- Headers of values ("Data Field Format" of the MaxMind DB File Format Specification 2.0): a control
 -- byte, an extended type byte where the control byte's type is 0, and up to three length bytes.
-use Rattle.std.specs.Prelude.{◌≡◌, ℕ, ◌+◌, ◌*◌, ◌/◌, ◌%◌, List, [], ◌∷◌, length, take, drop, Option, Some, None, nat_le, nat_eq, nat_lt, if◌then◌else◌, slice_get}
+use Rattle.std.specs.Prelude.{◌≡◌, ℕ, ◌+◌, ◌-◌, ◌*◌, ◌/◌, ◌%◌, List, [], ◌∷◌, length, take, drop, Option, Some, None, nat_le, nat_eq, nat_lt, if◌then◌else◌, slice_get, option_map}
 use Rattle.mmdb_format.specs.declared.header.Header.{Header}
 
 infixl 10 ◌>>=◌
@@ -23,6 +23,10 @@ bytes_at s p n = if nat_le (p + n) (length s) then Some (take n (drop p s)) else
 -- the number that n bytes at a place spell
 unfoldable pub number_at : List ℕ → ℕ → ℕ → Option ℕ
 number_at s p n = bytes_at s p n >>= λ bytes. Some (spelled bytes)
+
+-- a size that one, two or three length bytes tell, with the offset after them
+abbrev pub with_length_end : ℕ → ℕ → Option ℕ → Option (ℕ × ℕ)
+with_length_end place low size = option_map (λ n. (n, place + (low - 28))) size
 
 -- the size that the low five bits of a control byte tell, with the place after the length bytes:
 -- up to 28 themselves, and above that 29, 285 or 65,821 and the number in one, two or three bytes

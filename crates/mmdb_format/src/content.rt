@@ -1,9 +1,9 @@
 //! The contents of values that hold no others.
-ghost use Rattle.std.specs.Prelude.{◌≡◌, ℕ, ◌<◌, ◌≤◌, ◌^◌, ◌+◌, length, IfOk, option_map};
+ghost use Rattle.std.specs.Prelude.{◌≡◌, ℕ, ◌<◌, ◌≤◌, ◌^◌, ◌+◌, length, IfOk};
 ghost use Rattle.std.specs.Result.{result_ok};
 ghost use Rattle.mmdb_format.specs.Contents.{content_at as spec_content_at, short_number as spec_short_number, full_number as spec_full_number, content_end as spec_content_end, bytes_of_content, scalar_payload, key_bytes_at as spec_key_bytes_at, passed_end as spec_passed_end};
 ghost use Rattle.mmdb_format.specs.Kinds.{kind_of_number};
-ghost use Rattle.mmdb_format.specs.Views.{content_view};
+ghost use Rattle.mmdb_format.specs.Views.{content_view, bytes_given, content_given, key_given};
 
 use crate::fault::Fault;
 use crate::header::{Header, bytes_at, direct_at, pointer_at, wide_number_at};
@@ -49,7 +49,7 @@ impl Header {
 /// The bytes of a text or a byte string.
 #[inline(always)]
 pub fn content_bytes(section: &[u8], header: Header) -> Result<&[u8], Fault>
-    ensures value { option_map (λ x. x.now) (result_ok result) ≡ bytes_of_content section.now header }
+    ensures value { bytes_given result ≡ bytes_of_content section.now header }
     ensures inside { IfOk result (λ x. header.body + header.size ≤ length section.now) }
     ensures len { IfOk result (λ x. length x.now ≡ header.size) }
 {
@@ -97,7 +97,7 @@ pub fn full_number(section: &[u8], header: Header, size: usize) -> Result<u128, 
 #[inline(always)]
 #[tactic(auto, unfolding(crate::specs::Contents::content_at))]
 pub fn content_at(section: &[u8], header: Header) -> Result<Content<'_>, Fault>
-    ensures value { option_map content_view (result_ok result) ≡ spec_content_at section.now header }
+    ensures value { content_given result ≡ spec_content_at section.now header }
     ensures inside { IfOk result (λ c. spec_content_end header < 2 ^ 64) }
     ensures short { IfOk result (λ c. scalar_payload (content_view c) ≤ header.size) }
 {
@@ -154,7 +154,7 @@ impl Content<'_> {
 #[inline(always)]
 #[tactic(auto, unfolding(crate::specs::Contents::key_bytes_at))]
 pub fn key_bytes_at(section: &[u8], place: usize) -> Result<(&[u8], usize), Fault>
-    ensures value { option_map (λ x. (x.0.now, x.1)) (result_ok result) ≡ spec_key_bytes_at section.now place }
+    ensures value { key_given result ≡ spec_key_bytes_at section.now place }
     ensures bound { IfOk result (λ x. length x.0.now < 2 ^ 25) }
 {
     let at = direct_at(section, place, 0)?;

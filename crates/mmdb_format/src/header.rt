@@ -1,7 +1,7 @@
 //! Headers and pointers.
 ghost use Rattle.std.specs.Prelude.{◌≡◌, ℕ, ◌<◌, ◌≤◌, ◌^◌, ◌+◌, ◌-◌, length, Some, slice_get, IfSome, IfOk, option_map};
 ghost use Rattle.std.specs.Result.{result_ok};
-ghost use Rattle.mmdb_format.specs.Header.{bytes_at as spec_bytes_at, spelled as spec_spelled, number_at as spec_number_at, size_at as spec_size_at, sized_header as spec_sized_header, header_at as spec_header_at};
+ghost use Rattle.mmdb_format.specs.Header.{bytes_at as spec_bytes_at, spelled as spec_spelled, number_at as spec_number_at, size_at as spec_size_at, with_length_end, sized_header as spec_sized_header, header_at as spec_header_at};
 ghost use Rattle.mmdb_format.specs.Pointer.{pointer_at as spec_pointer_at, direct_at as spec_direct_at, behind as spec_behind};
 
 use crate::fault::Fault;
@@ -122,7 +122,7 @@ fn number_at(section: &[u8], place: usize, len: usize) -> Result<usize, Fault>
 fn long_size_at(section: &[u8], place: usize, low: u8) -> Option<usize>
     requires long { 28 < low }
     requires bits { low < 32 }
-    ensures value { option_map (λ n. (n, place + (low - 28))) result ≡ spec_size_at section.now place low }
+    ensures value { with_length_end place low result ≡ spec_size_at section.now place low }
     ensures bound { IfSome result (λ n. (n < 2 ^ 25) × (place + (low - 28) ≤ length section.now)) }
 {
     Some(match low {

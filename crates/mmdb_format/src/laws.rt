@@ -50,7 +50,8 @@ pub fn scalar_clones_are_same()
 /// An error made of a refusal of the system, or of a network's, holds the error that was handed in.
 pub fn errors_hold_their_causes()
     ensures io { HoldsCause Io ⟦<MaxMindDbError as From<io::Error>>⟧.from_gives }
-    ensures network { HoldsCause InvalidNetwork ⟦<MaxMindDbError as From<IpNetworkError>>⟧.from_gives }
+    ensures network { HoldsCause InvalidNetwork
+        ⟦<MaxMindDbError as From<IpNetworkError>>⟧.from_gives }
 {}
 
 /// At most one tree unfolds at a place, and it has one end.

@@ -7,6 +7,7 @@ use Rattle.std.specs.declared.net.ip_addr.IpAddr.TheVariants as Ip
 use Rattle.std.specs.declared.net.ipv4_addr.Ipv4Addr.{Ipv4Addr}
 use Rattle.std.specs.declared.net.ipv6_addr.Ipv6Addr.{Ipv6Addr}
 use Rattle.std.specs.Net.Text.{ip_text}
+use Rattle.mmdb_net.specs.NetworkText.{IsNetworkText}
 use Rattle.mmdb_net.specs.FullText.{prefix_text, ipv4_full_text, ipv6_full_text}
 use Rattle.mmdb_net.specs.declared.network.Ipv4Network.{Ipv4Network}
 use Rattle.mmdb_net.specs.declared.network.Ipv6Network.{Ipv6Network}
@@ -48,9 +49,15 @@ abbrev pub block_of : IpNetwork → List Bool
 block_of n = take (prefix_of n) (bits_of_address (ip_of n))
 
 -- the full text of a network
+abbrev pub ipv4_full_text_of : Ipv4Network → List ℕ
+ipv4_full_text_of n = ipv4_full_text (ipv4_block_of n)
+
+abbrev pub ipv6_full_text_of : Ipv6Network → List ℕ
+ipv6_full_text_of n = ipv6_full_text (ipv6_block_of n)
+
 abbrev pub full_text_of : IpNetwork → List ℕ
-full_text_of (V4 n) = ipv4_full_text (ipv4_block_of n)
-full_text_of (V6 n) = ipv6_full_text (ipv6_block_of n)
+full_text_of (V4 n) = ipv4_full_text_of n
+full_text_of (V6 n) = ipv6_full_text_of n
 
 -- what `Display` writes of a network: its address as std writes it, `/`, and the prefix
 abbrev pub ipv4_short_text_of : Ipv4Network → List ℕ
@@ -61,3 +68,7 @@ ipv6_short_text_of n = ip_text (Ip.V6 (ipv6_ip_of n)) ++ prefix_text (ipv6_prefi
 
 abbrev pub short_text_of : IpNetwork → List ℕ
 short_text_of n = ip_text (ip_of n) ++ prefix_text (prefix_of n)
+
+-- a text that this network is read from
+abbrev pub IsTextOf : List ℕ → IpNetwork → Type 0
+IsTextOf text n = IsNetworkText text (ip_of n) (prefix_of n)

@@ -1,11 +1,7 @@
 //! Laws of networks, each the contract of a function that does nothing.
-ghost use Rattle.std.specs.Prelude.{◌≡◌, ◌↔◌, IsTrue};
 ghost use Rattle.mmdb_net.specs.Clones.{IsCloneSame, IsNeverRefused};
+ghost use Rattle.mmdb_net.specs.Equality.{EqualWhereSame, EqualWhereIdentical};
 ghost use Rattle.mmdb_net.specs.Network.{ipv4_ip_of, ipv4_prefix_of, ipv6_ip_of, ipv6_prefix_of, ip_of, prefix_of};
-ghost use Rattle.mmdb_net.specs.declared.network.Ipv4Network.{Ipv4Network as SpecIpv4Network};
-ghost use Rattle.mmdb_net.specs.declared.network.Ipv6Network.{Ipv6Network as SpecIpv6Network};
-ghost use Rattle.mmdb_net.specs.declared.network.IpNetwork.{IpNetwork as SpecIpNetwork};
-ghost use Rattle.mmdb_net.specs.declared.error.IpNetworkError.{IpNetworkError as SpecIpNetworkError};
 
 use crate::error::IpNetworkError;
 use crate::network::{IpNetwork, Ipv4Network, Ipv6Network};
@@ -13,10 +9,10 @@ use crate::network::{IpNetwork, Ipv4Network, Ipv6Network};
 /// Networks are equal exactly where their addresses, as they were given, and their prefixes are; errors
 /// are equal where they are the same one.
 pub fn networks_equal_where_same()
-    ensures ipv4 { (a b : SpecIpv4Network) → IsTrue (⟦<Ipv4Network as PartialEq>⟧.eq a b) ↔ ((ipv4_ip_of a ≡ ipv4_ip_of b) × (ipv4_prefix_of a ≡ ipv4_prefix_of b)) }
-    ensures ipv6 { (a b : SpecIpv6Network) → IsTrue (⟦<Ipv6Network as PartialEq>⟧.eq a b) ↔ ((ipv6_ip_of a ≡ ipv6_ip_of b) × (ipv6_prefix_of a ≡ ipv6_prefix_of b)) }
-    ensures either { (a b : SpecIpNetwork) → IsTrue (⟦<IpNetwork as PartialEq>⟧.eq a b) ↔ ((ip_of a ≡ ip_of b) × (prefix_of a ≡ prefix_of b)) }
-    ensures errors { (a b : SpecIpNetworkError) → IsTrue (⟦<IpNetworkError as PartialEq>⟧.eq a b) ↔ (a ≡ b) }
+    ensures ipv4 { EqualWhereSame ipv4_ip_of ipv4_prefix_of ⟦<Ipv4Network as PartialEq>⟧.eq }
+    ensures ipv6 { EqualWhereSame ipv6_ip_of ipv6_prefix_of ⟦<Ipv6Network as PartialEq>⟧.eq }
+    ensures either { EqualWhereSame ip_of prefix_of ⟦<IpNetwork as PartialEq>⟧.eq }
+    ensures errors { EqualWhereIdentical ⟦<IpNetworkError as PartialEq>⟧.eq }
 {}
 
 /// A clone of a network, or of an error, is its source, and is never refused.

@@ -1,6 +1,6 @@
 ghost use Rattle.std.specs.Prelude.{◌≡◌, ◌-◌, ◌*◌, ◌/◌, ◌^◌, ◌≤◌, ◌<◌};
 ghost use Rattle.std.specs.Net.Addr.{ipv4_bits, ipv6_bits, IsIpv4OfBits, IsIpv6OfBits};
-ghost use Rattle.mmdb_net.specs.Address.{address_width, IsMaskedIp};
+ghost use Rattle.mmdb_net.specs.Address.{address_width, masked_bits, IsMaskedIp};
 
 use std::net::{IpAddr, Ipv4Addr, Ipv6Addr};
 
@@ -33,7 +33,7 @@ pub(crate) fn ipv6_first_bits(address: Ipv6Addr, prefix: u8) -> u128
 // The address with the bits after the prefix cleared.
 pub(crate) fn mask_ipv4(address: Ipv4Addr, prefix: u8) -> Ipv4Addr
     requires { prefix ≤ 32 }
-    ensures made { IsIpv4OfBits result (ipv4_bits address / 2 ^ (32 - prefix) * 2 ^ (32 - prefix)) }
+    ensures made { IsIpv4OfBits result (masked_bits 32 prefix (ipv4_bits address)) }
     ensures fits { ipv4_bits address < 2 ^ 32 }
 {
     let first = ipv4_first_bits(address, prefix);
@@ -48,7 +48,7 @@ pub(crate) fn mask_ipv4(address: Ipv4Addr, prefix: u8) -> Ipv4Addr
 // The same of an IPv6 address.
 pub(crate) fn mask_ipv6(address: Ipv6Addr, prefix: u8) -> Ipv6Addr
     requires { prefix ≤ 128 }
-    ensures made { IsIpv6OfBits result (ipv6_bits address / 2 ^ (128 - prefix) * 2 ^ (128 - prefix)) }
+    ensures made { IsIpv6OfBits result (masked_bits 128 prefix (ipv6_bits address)) }
     ensures fits { ipv6_bits address < 2 ^ 128 }
 {
     let first = ipv6_first_bits(address, prefix);

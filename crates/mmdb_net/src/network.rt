@@ -1,7 +1,6 @@
 ghost use Rattle.std.specs.Prelude.{◌≡◌, ◌≤◌, ◌↔◌, ◌++◌, IsTrue, IsOk, IfOk, IfErr, OnOk, Some};
 ghost use Rattle.std.specs.String.{string_bytes};
 ghost use Rattle.mmdb_net.specs.NetworkText.{IsNetworkText};
-ghost use Rattle.mmdb_net.specs.FullText.{ipv4_full_text, ipv6_full_text};
 ghost use Rattle.mmdb_net.specs.Address.{address_width, bits_of_address, IsSameKind, IsMaskedIp};
 ghost use Rattle.mmdb_net.specs.Bits.{IsPrefix};
 
@@ -23,7 +22,7 @@ pub struct Ipv4Network {
 }
 
 impl Ipv4Network {
-    ghost use Rattle.mmdb_net.specs.Network.{ipv4_ip_of, ipv4_prefix_of, ipv4_block_of};
+    ghost use Rattle.mmdb_net.specs.Network.{ipv4_ip_of, ipv4_prefix_of, ipv4_block_of, ipv4_full_text_of};
 
     /// The network of an address and a prefix of at most 32.
     pub fn new(addr: Ipv4Addr, prefix: u8) -> Result<Ipv4Network, IpNetworkError>
@@ -77,7 +76,7 @@ impl Ipv4Network {
     /// The first address of the network in dotted decimal, `/` and the prefix. Refused only where
     /// memory is.
     pub fn full_text(&self, alloc: Global) -> Result<String, AllocError>
-        ensures { IfOk result (λ text. string_bytes text ≡ ipv4_full_text (ipv4_block_of self.now)) }
+        ensures { IfOk result (λ text. string_bytes text ≡ ipv4_full_text_of self.now) }
     {
         let address = mask::mask_ipv4(self.address, self.prefix);
         let prefix = self.prefix;
@@ -86,7 +85,7 @@ impl Ipv4Network {
 
     /// Appends the full text. Refused only where memory is.
     pub fn push_full_text(&self, out: &mut Vec<u8>) -> Result<(), AllocError>
-        ensures { OnOk result (out.new.items ≡ out.old.items ++ ipv4_full_text (ipv4_block_of self.now)) }
+        ensures { OnOk result (out.new.items ≡ out.old.items ++ ipv4_full_text_of self.now) }
     {
         text::put_octets(mask::mask_ipv4(self.address, self.prefix).octets(), out)?;
         text::put_prefix(self.prefix, out)
@@ -128,7 +127,7 @@ pub struct Ipv6Network {
 }
 
 impl Ipv6Network {
-    ghost use Rattle.mmdb_net.specs.Network.{ipv6_ip_of, ipv6_prefix_of, ipv6_block_of};
+    ghost use Rattle.mmdb_net.specs.Network.{ipv6_ip_of, ipv6_prefix_of, ipv6_block_of, ipv6_full_text_of};
 
     /// The network of an address and a prefix of at most 128.
     pub fn new(addr: Ipv6Addr, prefix: u8) -> Result<Ipv6Network, IpNetworkError>
@@ -182,7 +181,7 @@ impl Ipv6Network {
     /// The first address of the network in eight groups of four hexadecimal digits, `/` and the
     /// prefix. Refused only where memory is.
     pub fn full_text(&self, alloc: Global) -> Result<String, AllocError>
-        ensures { IfOk result (λ text. string_bytes text ≡ ipv6_full_text (ipv6_block_of self.now)) }
+        ensures { IfOk result (λ text. string_bytes text ≡ ipv6_full_text_of self.now) }
     {
         let [a, b, c, d, e, f, g, h] = mask::mask_ipv6(self.address, self.prefix).segments();
         let prefix = self.prefix;
@@ -201,7 +200,7 @@ impl Ipv6Network {
 
     /// Appends the full text. Refused only where memory is.
     pub fn push_full_text(&self, out: &mut Vec<u8>) -> Result<(), AllocError>
-        ensures { OnOk result (out.new.items ≡ out.old.items ++ ipv6_full_text (ipv6_block_of self.now)) }
+        ensures { OnOk result (out.new.items ≡ out.old.items ++ ipv6_full_text_of self.now) }
     {
         let masked = mask::mask_ipv6(self.address, self.prefix);
         text::put_segments(masked.segments(), out)?;
@@ -341,11 +340,11 @@ impl Display for IpNetwork {
 }
 
 impl FromStr for IpNetwork {
-    ghost use Rattle.mmdb_net.specs.Network.{ip_of, prefix_of};
+    ghost use Rattle.mmdb_net.specs.Network.{IsTextOf};
 
     type Err = IpNetworkError;
 
-    ghost from_str_gives = { λ text result. IfOk result (λ n. IsNetworkText text (ip_of n) (prefix_of n)) };
+    ghost from_str_gives = { λ text result. IfOk result (IsTextOf text) };
 
     fn from_str(text: &str) -> Result<IpNetwork, IpNetworkError> {
         let (address, prefix) = text::split_prefix(text)?;
