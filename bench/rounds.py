@@ -64,6 +64,11 @@ def cell(first, line):
     return f"{shown(line)} ({ratio:.2f}x{mark})"
 
 
+def line_of(lines, work):
+    """A program's line of some work, or of the same work done one by one."""
+    return lines.get(work) or lines.get(work.removesuffix("_many"))
+
+
 def table(best, words):
     """The lines of a table, one for each work."""
     names = list(best)
@@ -72,7 +77,7 @@ def table(best, words):
     for work in dict.fromkeys(work for lines in best.values() for work in lines):
         if any(word in work for word in words):
             first = best[names[0]].get(work)
-            cells = (cell(first, best[name].get(work)) for name in names)
+            cells = (cell(first, line_of(best[name], work)) for name in names)
             yield f"| `{work}` | " + " | ".join(cells) + " |"
 
 

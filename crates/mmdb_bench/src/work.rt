@@ -13,8 +13,10 @@ pub(crate) enum Work {
     LoadFile,
     LoadFromMemory,
     LookupIpv4,
+    LookupIpv4Many,
     LookupIpv4Network,
     LookupIpv6,
+    LookupIpv6Many,
     DecodeCity,
     DecodeCountry,
     PathIsoCode,
@@ -28,12 +30,14 @@ pub(crate) enum Work {
 
 impl Work {
     /// All pieces of work, in the order in which they are done.
-    pub(crate) const ALL: [Work; 14] = [
+    pub(crate) const ALL: [Work; 16] = [
         Work::LoadFile,
         Work::LoadFromMemory,
         Work::LookupIpv4,
+        Work::LookupIpv4Many,
         Work::LookupIpv4Network,
         Work::LookupIpv6,
+        Work::LookupIpv6Many,
         Work::DecodeCity,
         Work::DecodeCountry,
         Work::PathIsoCode,
@@ -51,8 +55,10 @@ impl Work {
             Work::LoadFile => "load_file",
             Work::LoadFromMemory => "load_from_memory",
             Work::LookupIpv4 => "lookup_v4",
+            Work::LookupIpv4Many => "lookup_v4_many",
             Work::LookupIpv4Network => "lookup_v4_network",
             Work::LookupIpv6 => "lookup_v6",
+            Work::LookupIpv6Many => "lookup_v6_many",
             Work::DecodeCity => "lookup_decode_city",
             Work::DecodeCountry => "lookup_decode_country",
             Work::PathIsoCode => "lookup_path_iso_code",
@@ -68,7 +74,7 @@ impl Work {
     /// Whether the database has what it works on.
     pub(crate) fn suits(self, subject: &Subject<'_>) -> bool {
         match self {
-            Work::LookupIpv6 => !subject.ipv6.is_empty(),
+            Work::LookupIpv6 | Work::LookupIpv6Many => !subject.ipv6.is_empty(),
             Work::DecodeCity | Work::DecodeCountry | Work::PathIsoCode => subject.has_places(),
             _ => true,
         }
@@ -77,8 +83,10 @@ impl Work {
     /// How many addresses it looks up, or None where it is one whole.
     pub(crate) fn lookups(self, subject: &Subject<'_>) -> Option<usize> {
         match self {
-            Work::LookupIpv4 | Work::LookupIpv4Network => Some(subject.ipv4.len()),
-            Work::LookupIpv6 => Some(subject.ipv6.len()),
+            Work::LookupIpv4 | Work::LookupIpv4Many | Work::LookupIpv4Network => Some(
+                subject.ipv4.len(),
+            ),
+            Work::LookupIpv6 | Work::LookupIpv6Many => Some(subject.ipv6.len()),
             Work::DecodeCity | Work::DecodeCountry | Work::PathIsoCode | Work::DecodeValue => {
                 Some(subject.fewer().len())
             }
@@ -99,8 +107,10 @@ impl Work {
             Work::LoadFile => load_file(rt, subject.path),
             Work::LoadFromMemory => load_from_memory(alloc, subject.bytes.as_slice()),
             Work::LookupIpv4 => lookups(reader, subject.ipv4.as_slice()),
+            Work::LookupIpv4Many => many_lookups(reader, subject.ipv4.as_slice()),
             Work::LookupIpv4Network => lookup_networks(reader, subject.ipv4.as_slice()),
             Work::LookupIpv6 => lookups(reader, subject.ipv6.as_slice()),
+            Work::LookupIpv6Many => many_lookups(reader, subject.ipv6.as_slice()),
             Work::DecodeCity => decode_cities(alloc, reader, subject.fewer()),
             Work::DecodeCountry => decode_countries(alloc, reader, subject.fewer()),
             Work::PathIsoCode => path_iso_codes(alloc, reader, subject.fewer()),
@@ -141,6 +151,15 @@ fn lookups(reader: &Reader<Vec<u8>>, addresses: &[IpAddr]) -> Result<u64, MaxMin
     for &address in addresses {
         let found = reader.lookup(address)?;
         sum = sum.wrapping_add(offset_term(&found));
+    }
+    Ok(sum)
+}
+
+// The same, by the walks that go on side by side.
+fn many_lookups(reader: &Reader<Vec<u8>>, addresses: &[IpAddr]) -> Result<u64, MaxMindDbError> {
+    let mut sum = 0u64;
+    for (_, answer) in reader.lookup_many(addresses) {
+        sum = sum.wrapping_add(offset_term(&answer?));
     }
     Ok(sum)
 }

@@ -23,4 +23,5 @@ pub mod TextMapLaws
 pub mod RecordStandingLaws
 pub mod ContainerTrees
 pub mod TableLaws
+pub mod FieldNameLaws
 pub mod RememberedLaws

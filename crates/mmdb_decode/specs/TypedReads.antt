@@ -15,7 +15,7 @@ use Rattle.mmdb_decode.specs.Maps.{Fields, put, key_at, name_at, text_map_at}
 use Rattle.mmdb_decode.specs.Records.{record_at, finished}
 use Rattle.mmdb_decode.specs.Reading.{Reading, Meaning}
 use Rattle.mmdb_decode.specs.SmallNumbers.{whole_number, small_at}
-use Rattle.mmdb_decode.specs.Tables.{Table, Data, Parts, fields_of, no_parts, whole_of, record_of}
+use Rattle.mmdb_decode.specs.Tables.{Table, end, optional, part, Data, Parts, fields_of, no_parts, whole_of, record_of}
 
 -- a scalar stands at p and ends before q: directly, or behind one pointer, for which a level is left
 abbrev pub ScalarStands : List ℕ → ℕ → ℕ → Scalar → ℕ → Type 0
@@ -171,6 +171,23 @@ pub record IsKnown {P : Type 0} (fields : Fields P) (name : List ℕ) (has_stood
   pub stays : (x : P) (other s : List ℕ) (p d : ℕ) (y : Reading P) → has_stood x ≡ true → fields x other s p d ≡ Some y → has_stood y.value ≡ true
   pub fills : (x : P) (s : List ℕ) (p d : ℕ) (y : Reading P) → fields x name s p d ≡ Some y → has_stood y.value ≡ true
   pub refused : (x : P) (s : List ℕ) (p d : ℕ) → has_stood x ≡ true → fields x name s p d ≡ None
+
+-- a name stands at most once among these
+abbrev pub StandsOnce : List (List ℕ) → List ℕ → Type 0
+StandsOnce names name = count_by (bytes_eq name) names ≤ 1
+
+-- the name of each field of a table stands at most once among these
+abbrev pub FieldNamesOnce : {R : Type 0} → Table R → List (List ℕ) → Type 0
+FieldNamesOnce end names = Unit {0}
+FieldNamesOnce (optional name shape get rest) names = StandsOnce names name × FieldNamesOnce rest names
+FieldNamesOnce (part name shape none is_absent get rest) names = StandsOnce names name × FieldNamesOnce rest names
+
+-- in a record that stands, the name of each field of its table stands at most once: a map that repeats one
+-- is not read
+abbrev pub FieldNamesStandOnce : {R : Type 0} → Table R → Type 0
+FieldNamesStandOnce t =
+    (s : List ℕ) (p d : ℕ) (names : List (List ℕ)) (x : Parts t) (q c b : ℕ) →
+    RecordStands (fields_of t) (no_parts t) s p d names x q c b → FieldNamesOnce t names
 
 -- a known name stands at most once in a record
 abbrev pub KnownNamesStandOnce : {P : Type 0} → Fields P → P → Type 0

@@ -11,7 +11,7 @@ ghost use Rattle.mmdb_decode.specs.State.{Within};
 ghost use Rattle.mmdb_decode.specs.Limits.{AnswerIsWithinLimits, OneReading};
 ghost use Rattle.mmdb_decode.specs.Shapes.{IsShape, IsScalarShape, IsSmallShape, IsOwnedShape, IsContainerShape};
 ghost use Rattle.mmdb_format.specs.Contents.{text, bytes, boolean, signed32, number16, number32, number64, number128, double_bits, float_bits};
-ghost use Rattle.mmdb_decode.specs.TypedReads.{ReadsScalars, ScalarsUnfold, ReadsSmallNumbers, ReadsLists, ListsUnfold, ReadsTextMaps, TextMapsUnfold, LastPairStays, KeysAscend, ReadsRecords, ReadsWholeRecords, ReadsTables, KnownNamesStandOnce};
+ghost use Rattle.mmdb_decode.specs.TypedReads.{ReadsScalars, ScalarsUnfold, ReadsSmallNumbers, ReadsLists, ListsUnfold, ReadsTextMaps, TextMapsUnfold, LastPairStays, KeysAscend, ReadsRecords, ReadsWholeRecords, ReadsTables, KnownNamesStandOnce, FieldNamesStandOnce};
 ghost use Rattle.mmdb_decode.specs.Tables.{fields_of, no_parts};
 ghost use Rattle.mmdb_decode.specs.Skipping.{SkippingIsPassing};
 
@@ -145,9 +145,9 @@ pub fn record_is_what_stands<'de, R: Record<'de>>()
 {}
 
 /// What is read as a record that a table tells of is the map that stands there, directly or behind one
-/// pointer: its fields in turn, by the rows of the table. A name of which the parts tell whether it has stood,
-/// and that is refused then, stands at most once.
+/// pointer: its fields in turn, by the rows of the table. The name of each row stands at most once.
 pub fn table_is_what_stands<'de, R: Fields<'de>>()
     ensures read { ReadsTables R.table }
     ensures known_names { KnownNamesStandOnce (fields_of R.table) (no_parts R.table) }
+    ensures field_names { FieldNamesStandOnce R.table }
 {}

@@ -3,6 +3,7 @@ pub mod WalkLemmas
 pub mod DescentLemmas
 pub mod TableLemmas
 pub mod LeafLemmas
+pub mod ManyLemmas
 pub mod LawLemmas
 pub mod CountLemmas
 pub mod Markers
@@ -33,3 +34,4 @@ pub mod Narrow
 pub mod PathLemmas
 pub mod PartLemmas
 pub mod Sweeps
+pub mod MetadataNames

@@ -6,6 +6,7 @@ pub mod Lookup
 pub mod Descents
 pub mod Table
 pub mod Shown
+pub mod Many
 pub mod Counting
 pub mod Kept
 pub mod Numbered
@@ -26,6 +27,7 @@ pub mod Items
 pub mod Positions
 pub mod Ranges
 pub mod Enumeration
+pub mod LookupMany
 pub mod ListingLaws
 pub mod Findings
 pub mod Agreement

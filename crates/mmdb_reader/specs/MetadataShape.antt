@@ -7,6 +7,7 @@ use Rattle.mmdb_decode.specs.Scalars.{u16_at, u32_at, u64_at, text_at}
 use Rattle.mmdb_decode.specs.Arrays.{list_at}
 use Rattle.mmdb_decode.specs.Maps.{Fields, text_map_at}
 use Rattle.mmdb_decode.specs.Records.{field, named, skipped, record_at, finished}
+use Rattle.mmdb_decode.specs.TypedReads.{RecordStands, StandsOnce}
 use Rattle.mmdb_reader.specs.Metadata.{MetadataDatum}
 
 -- the fields that were met so far
@@ -70,3 +71,22 @@ whole_metadata p =
 -- the metadata that stand at a place
 abbrev pub metadata_at : Meaning MetadataDatum
 metadata_at = finished whole_metadata (record_at metadata_fields no_metadata_fields)
+
+-- each of the nine names stands at most once among these
+abbrev pub MetadataNamesOnce : List (List ℕ) → Type 0
+MetadataNamesOnce names =
+    StandsOnce names (codes "binary_format_major_version")
+    × StandsOnce names (codes "binary_format_minor_version")
+    × StandsOnce names (codes "build_epoch")
+    × StandsOnce names (codes "database_type")
+    × StandsOnce names (codes "description")
+    × StandsOnce names (codes "ip_version")
+    × StandsOnce names (codes "languages")
+    × StandsOnce names (codes "node_count")
+    × StandsOnce names (codes "record_size")
+
+-- in metadata that stand, each of the nine names stands at most once: a map that repeats one is not read
+abbrev pub MetadataNamesStandOnce : Type 0
+MetadataNamesStandOnce =
+    (s : List ℕ) (p d : ℕ) (names : List (List ℕ)) (x : MetadataFields) (q c b : ℕ) →
+    RecordStands metadata_fields no_metadata_fields s p d names x q c b → MetadataNamesOnce names

@@ -4,6 +4,7 @@ ghost use Rattle.mmdb_net.specs.Clones.{IsCloneSame, IsNeverRefused};
 ghost use Rattle.mmdb_format.specs.Equality.{IsEqualityOf};
 ghost use Rattle.mmdb_reader.specs.Source.{SourceDecides};
 ghost use Rattle.mmdb_reader.specs.Metadata.{metadata_datum};
+ghost use Rattle.mmdb_reader.specs.MetadataShape.{MetadataNamesStandOnce};
 ghost use Rattle.mmdb_reader.specs.Laws.{LeavesAreDisjoint, EachAddressHasOneLeaf, EachAddressIsAnswered, AnswersAreUnique, SameLeafSameAnswer, NetworkHoldsAddress, Ipv4WithoutSubtree};
 ghost use Rattle.mmdb_reader.specs.Agreement.{ItemsAgree};
 ghost use Rattle.mmdb_reader.specs.WholeLaws.{FewPositionsWait, FewStopsAreTaken, StopsAreExact, OffsetsAreExact, LookupsSucceed, AnsweredOffsetsAreWalked, WholeFilesAnswer, GoesOnAsIpv4, AliasesEndAsIpv4};
@@ -82,6 +83,11 @@ pub fn items_agree_with_lookups()
 pub fn metadata_equal_where_same()
     ensures options { IsEqualityOf ⟦<WithinOptions as PartialEq>⟧.eq (λ options. options) }
     ensures metadata { IsEqualityOf ⟦<Metadata as PartialEq>⟧.eq metadata_datum }
+{}
+
+/// In the map that metadata are read of, each of the nine names stands at most once.
+pub fn metadata_names_stand_once()
+    ensures { MetadataNamesStandOnce }
 {}
 
 /// The stops of a walk over the whole tree are exactly the topmost aliases and the leaves behind no alias,

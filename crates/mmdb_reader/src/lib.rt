@@ -3,7 +3,9 @@
 
 mod data;
 pub mod laws;
+mod lookup_many;
 mod lookup_result;
+mod many;
 mod marker;
 pub mod metadata;
 mod metadata_fields;
@@ -21,7 +23,9 @@ mod verify;
 mod walked;
 mod walking;
 
+pub use lookup_many::LookupMany;
 pub use lookup_result::LookupResult;
+pub use many::FoundLeaf;
 pub use metadata::Metadata;
 pub use mmdb_net as geonet;
 pub use mmdb_net::{IpNetwork, IpNetworkError, Ipv4Network, Ipv6Network, mask_ip};

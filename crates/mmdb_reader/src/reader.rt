@@ -24,11 +24,11 @@ pub(crate) const SEPARATOR: usize = 16;
 
 // A leaf as the network that shows it, with the number to which its walk leads.
 #[derive(Clone, Copy)]
-struct Leaf {
-    number: usize,
-    address: IpAddr,
-    prefix: u8,
-    ghost is_prefix: { prefix ≤ address_width address },
+pub(crate) struct Leaf {
+    pub(crate) number: usize,
+    pub(crate) address: IpAddr,
+    pub(crate) prefix: u8,
+    pub(crate) ghost is_prefix: { prefix ≤ address_width address },
 }
 
 /// What a reader keeps beside its source: where the parts of the file begin, where IPv4 begins in the
@@ -48,12 +48,12 @@ pub struct Kept<'a> {
 pub struct Reader<S: AsSlice<u8> + Drop> {
     source: S,
     marker: usize,
-    metadata: Metadata,
+    pub(crate) metadata: Metadata,
     data_start: usize,
-    ipv4_start: usize,
-    ipv4_depth: u8,
-    ipv4_table: Vec<Entry>,
-    ipv6_table: Vec<Entry>,
+    pub(crate) ipv4_start: usize,
+    pub(crate) ipv4_depth: u8,
+    pub(crate) ipv4_table: Vec<Entry>,
+    pub(crate) ipv6_table: Vec<Entry>,
 }
 
 impl<S: AsSlice<u8> + Drop> Model for Reader<S> {

@@ -3,6 +3,7 @@ mod answers;
 mod files;
 mod interrupted;
 mod lookups;
+mod many;
 mod metadata;
 mod sizes;
 mod table;

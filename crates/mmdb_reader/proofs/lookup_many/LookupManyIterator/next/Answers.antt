@@ -1,0 +1,40 @@
+use Rattle.std.proofs.Common.{◌≡◌, ◌<◌, ◌∷◌, length, arith}
+use Rattle.mmdb_reader.proofs.ManyLemmas.{IsGroup-new, IsGroup-first, IsGroup-rest}
+use Rattle.mmdb_reader.proofs.lookup_many.LookupManyIterator.next.Goals as goal
+use Rattle.mmdb_reader.proofs.lookup_many.LookupManyIterator.next.Goals.{then-self, else-self}
+
+pub lookup_at-answer-requires : goal.lookup_at-answer-requires
+lookup_at-answer-requires g c =
+    let db = c.self.inside.reader.now in
+    let left = c.self.inside.left.now in
+    let first = c.in_ok-first.first.now in
+    let rest = c.in_ok-first.rest.now in
+    let is : left ≡ first ∷ rest = c.in_ok-first.ensures.cases.0 in
+    record {
+      found = elim c.if-self.branch [
+        | then-self w ↦
+            let found = w.find_group-self-inside in
+            let some : 0 < length left = rw is (omega arith) in
+            rw w.self-inside-is (IsGroup-first db left found.new.leaves 0 found.result (IsGroup-new db left found.new.leaves found.result found.ensures.few found.ensures.within found.ensures.found) (found.ensures.some some) first rest is _)
+        | else-self w ↦
+            let more : c.self.inside.next < c.self.inside.count = let ordered = c.self.invariant.ordered in let other = w.if-self.false in omega (arith, ordered, other) in
+            rw w.self-inside-is (IsGroup-first db left c.self.inside.leaves c.self.inside.next c.self.inside.count c.self.invariant more first rest is _)
+      ];
+    }
+
+pub invariant_of-self : goal.invariant_of-self
+invariant_of-self g c =
+    let db = c.self.inside.reader.now in
+    let left = c.self.inside.left.now in
+    let first = c.in_ok-first.first.now in
+    let rest = c.in_ok-first.rest.now in
+    let is : left ≡ first ∷ rest = c.in_ok-first.ensures.cases.0 in
+    elim c.if-self.branch [
+      | then-self w ↦
+          let found = w.find_group-self-inside in
+          let some : 0 < length left = rw is (omega arith) in
+          rw w.self-inside-is (IsGroup-rest db left found.new.leaves 0 found.result (IsGroup-new db left found.new.leaves found.result found.ensures.few found.ensures.within found.ensures.found) (found.ensures.some some) first rest is)
+      | else-self w ↦
+          let more : c.self.inside.next < c.self.inside.count = let ordered = c.self.invariant.ordered in let other = w.if-self.false in omega (arith, ordered, other) in
+          rw w.self-inside-is (IsGroup-rest db left c.self.inside.leaves c.self.inside.next c.self.inside.count c.self.invariant more first rest is)
+    ]

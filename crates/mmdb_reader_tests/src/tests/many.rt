@@ -1,0 +1,101 @@
+//! Lookups of several addresses at once.
+ghost use Rattle.std.specs.Prelude.{◌≤◌};
+
+use super::answers::{BASE, File, address, found_text, reader_of};
+use mmdb_reader::Reader;
+use mmdb_vectors::base::low;
+use mmdb_vectors::builder::BASE_DATA;
+use mmdb_vectors::failures::Failures;
+use std::alloc::Global;
+
+const OF_INPUT: &str = "invalid input: cannot look up IPv6 address in IPv4-only database";
+
+const FAULT: &str =
+    "invalid database: the MaxMind DB file's data pointer resolves to an invalid location";
+
+/// A left record after the data, and a right one at their end.
+const AFTER: File = File::Of(b"\x00\x00\x13\x00\x00\x12", BASE_DATA, &[]);
+
+/// A left record that is the node itself.
+const LEFT_SPINE: File = File::Of(b"\x00\x00\x00\x00\x00\x11", BASE_DATA, &[]);
+
+/// An address, and the network that is found, whether it has data, and their offset.
+type Row = (&'static str, &'static str);
+
+/// A file, and addresses that it is asked for at once.
+#[rattlefmt::skip]
+const GROUPS: &[(File, &[Row])] = &[
+    (BASE, &[
+        ("1.1.1.1", "0.0.0.0/1 false None"),
+        ("::1", OF_INPUT),
+        ("200.0.0.1", "128.0.0.0/1 true Some(0)"),
+    ]),
+    (AFTER, &[
+        ("200.0.0.1", "128.0.0.0/1 true Some(1)"),
+        ("1.1.1.1", FAULT),
+        ("::1", OF_INPUT),
+        ("200.0.0.1", "128.0.0.0/1 true Some(1)"),
+    ]),
+    (LEFT_SPINE, &[
+        ("0.0.0.0", "0.0.0.0/32 false None"),
+        ("200.0.0.1", "128.0.0.0/1 true Some(0)"),
+        ("0.0.0.1", "0.0.0.1/32 true Some(0)"),
+        ("0.0.0.3", "0.0.0.2/31 true Some(0)"),
+    ]),
+    (File::WithoutSubtree, &[
+        ("1.2.3.4", "0000:0000:0000:0000:0000:0000:0000:0000/1 true Some(0)"),
+    ]),
+    (File::WithAlias, &[
+        ("1.2.3.4", "0.0.0.0/1 false None"),
+        ("c000::1", "c000:0000:0000:0000:0000:0000:0000:0000/2 true Some(0)"),
+        ("200.0.0.1", "128.0.0.0/1 true Some(0)"),
+        ("::200.0.0.1", "0000:0000:0000:0000:0000:0000:8000:0000/97 true Some(0)"),
+        ("4000::1", "4000:0000:0000:0000:0000:0000:0000:0000/2 false None"),
+    ]),
+];
+
+const MOST: usize = 40;
+
+// Asks for the addresses of the rows, over and over until there are so many.
+fn expect_many(
+    failures: &mut Failures,
+    alloc: Global,
+    reader: &Reader<Vec<u8>>,
+    rows: &[Row],
+    count: usize,
+)
+    requires count { count ≤ 40 }
+{
+    if rows.is_empty() {
+        failures.expect(&"rows", false);
+        return;
+    }
+    let mut addresses = [low(); MOST];
+    for i in 0..MOST {
+        addresses[i] = address(rows[i % rows.len()].0);
+    }
+    let mut many = reader.lookup_many(&addresses[..count]);
+    for i in 0..count {
+        let row = &rows[i % rows.len()];
+        match many.next() {
+            Some((asked, answer)) => {
+                failures.expect(row, asked == address(row.0));
+                failures.expect_text(row, found_text(alloc, answer), row.1);
+            }
+            None => failures.expect(row, false),
+        }
+    }
+    failures.expect(&"no further answer", many.next().is_none());
+}
+
+#[test]
+fn many_lookups(rt: HostRuntime) -> Result<(), Failures> {
+    let (alloc, mut failures) = (rt.alloc(), Failures::new(rt.alloc()));
+    for (file, rows) in GROUPS {
+        let reader = reader_of(alloc, file).expect(&rt, "a reader");
+        for count in [0, 1, 2, 31, 32, 33, MOST] {
+            expect_many(&mut failures, alloc, &reader, rows, count);
+        }
+    }
+    failures.verdict()
+}
