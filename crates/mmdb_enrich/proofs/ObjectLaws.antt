@@ -1,22 +1,40 @@
--- What is known of a value that was read, or was not.
-use Rattle.std.proofs.Common.{◌≡◌, ℕ, List, [], ◌∷◌, Option, Some, None, IfNone, length, ◌==◌, refl, ne_eqb, arith}
-use Rattle.std.specs.Borrow.{Bor}
-use Rattle.json.specs.Json.{Json}
-use Rattle.json.specs.Value.{members_view}
-use Rattle.json.specs.declared.value.Value.{Value}
-use Rattle.mmdb_enrich.specs.Members.{is_empty}
+-- What is known of a text that was read as a value, or was not.
+use Rattle.std.proofs.Common.{◌≡◌, ◌≢◌, ℕ, List, Option, Some, None, option_map, false, true, is_none, is_some, refl, subst, sym, ap, ◌∙◌}
+use Rattle.std.specs.Str.{IsUtf8}
+use Rattle.json.specs.Find.{BeginsWith, InMembers, NextMember, as_object}
+use Rattle.json.specs.Json.{Json, object, Members, member, document}
+use Rattle.json.specs.Token.{Token}
+use Rattle.mmdb_reader.specs.declared.path.PathElement.{PathElement}
+use Rattle.mmdb_enrich.specs.Objects.{EndsWithBrace, ReadsLine, ReadsValue, is_empty}
+use Rattle.mmdb_enrich.specs.declared.objects.ReadLine.{ReadLine}
+use Rattle.mmdb_enrich.specs.declared.objects.ReadLine.TheVariants.{NoObject, NoAddress, Object}
 
-pub some_json : (x y : Json) → ◌≡◌ {A = Option Json} (Some x) (Some y) → x ≡ y
+some_json : (x y : Json) → ◌≡◌ {A = Option Json} (Some x) (Some y) → x ≡ y
 some_json x y e = cc
 
-pub if_none : {T : Type 0} {A B : Type 0} (o : Option T) → (A → B) → IfNone o A → IfNone o B
-if_none None f a = f a
-if_none (Some x) f a = a
+-- a value of which no member can be read is no object
+pub no_object : (j : Json) → as_object j ≡ None → (members : Members) → j ≢ object members
+no_object j none members is = let e : as_object j ≡ Some members = ap as_object is in absurd (cc)
 
-pub held_none : {T : Type 0} (o : Option T) (P : Type 0) → o ≡ None → IfNone o P → P
-held_none None P e h = h
-held_none (Some x) P e h = absurd (cc)
+-- whether there is a next member, in all of them
+pub next_is_none : {A : Type 0} (view : A → List ℕ × List Token) (old new : List Token) (r : Option A) (members : Members) → NextMember old (option_map view r) new → InMembers old members → is_none r ≡ is_empty members
+next_is_none view old new None members next here = ap is_empty (sym (next members here))
+next_is_none view old new (Some m) members next here =
+    let found : (j : Json) × (rest : Members) × (members ≡ member (view m).0 j rest) × BeginsWith (view m).1 j × InMembers new rest = next members here in
+    let (j, rest, is, begins, inside) = found in
+    ap is_empty (sym is)
 
-pub none_or_some : {A : Type 0} (items : List (Bor (List ℕ) × Value A)) → (length items == 0) ≡ is_empty (members_view items)
-none_or_some [] = refl
-none_or_some (x ∷ xs) = ne_eqb (length (x ∷ xs)) 0 (λ e. omega (arith, e))
+-- a text that is some value
+pub text_read : (text : List ℕ) (path : List PathElement) (j : Json) (behind : ℕ) (line : ReadLine) → IsUtf8 text → EndsWithBrace text behind → document text ≡ Some j → ReadsValue j behind path line → ReadsLine text false path line
+text_read text path j behind NoObject utf8 ends value reads = λ members at is. reads members (some_json j (object members) (sym value ∙ is.value))
+text_read text path j behind NoAddress utf8 ends value reads =
+    let (members, is, none) = reads in
+    (members, behind, record { whole = refl; utf8 = utf8; value = value ∙ ap Some is; ends = ends }, none)
+text_read text path j behind (Object line) utf8 ends value reads =
+    let (members, is, leads, empty, same) = reads in
+    (members, record { whole = refl; utf8 = utf8; value = value ∙ ap Some is; ends = subst (EndsWithBrace text) (sym same) ends }, leads, empty)
+
+pub some_read : (text : List ℕ) (path : List PathElement) (behind : ℕ) (line : ReadLine) (value : Option Json) → document text ≡ value → is_some value ≡ true → IsUtf8 text → EndsWithBrace text behind
+    → ((j : Json) → document text ≡ Some j → ReadsValue j behind path line) → ReadsLine text false path line
+some_read text path behind line None is some utf8 ends reads = absurd (cc)
+some_read text path behind line (Some j) is some utf8 ends reads = text_read text path j behind line utf8 ends is (reads j is)

@@ -1,8 +1,10 @@
 pub mod Columns
 pub mod Cells
 pub mod Added
+pub mod Objects
+pub mod Fields
+pub mod Members
+pub mod Wanted
+pub mod KeptCells
 pub mod Kept
 pub mod Rows
-pub mod KeptCells
-pub mod Objects
-pub mod Members

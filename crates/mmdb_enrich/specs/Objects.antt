@@ -1,13 +1,15 @@
 -- Lines that are objects of JSON, and the address that one has.
-use Rattle.std.specs.Prelude.{◌≡◌, ℕ, suc, List, [], ◌∷◌, Option, Some, None, option_map, option_and_then, Bool, false, ◌==◌, if◌then◌else◌}
+use Rattle.std.specs.Prelude.{◌≡◌, ◌≢◌, ◌<◌, ◌≤◌, ◌-◌, ℕ, List, [], ◌∷◌, Option, Some, None, option_and_then, Bool, true, false, length, slice_index}
 use Rattle.std.specs.Net.Grammar.{IsIpText}
 use Rattle.std.specs.Str.{IsUtf8}
 use Rattle.std.specs.declared.net.ip_addr.IpAddr.{IpAddr}
 use Rattle.json.specs.Find.{get, at, as_str}
-use Rattle.json.specs.Json.{Json, object, Members, document}
+use Rattle.json.specs.Json.{Json, object, Members, no_members, member, document}
 use Rattle.json.specs.Word.{is_space}
 use Rattle.mmdb_reader.specs.declared.path.PathElement.{PathElement}
 use Rattle.mmdb_reader.specs.declared.path.PathElement.TheVariants.{Key, Index, IndexFromEnd}
+use Rattle.mmdb_enrich.specs.declared.objects.ReadLine.{ReadLine}
+use Rattle.mmdb_enrich.specs.declared.objects.ReadLine.TheVariants.{NoObject, NoAddress, Object}
 
 -- one step into a value: by a key, or by an index from the front; an index from the end leads nowhere
 abbrev pub step_in : PathElement → Json → Option Json
@@ -20,22 +22,39 @@ abbrev pub text_along : List PathElement → Json → Option (List ℕ)
 text_along [] j = as_str j
 text_along (step ∷ path) j = option_and_then (text_along path) (step_in step j)
 
--- how many bytes stand from the last brace on, where behind it only white space stands; one byte on
-abbrev pub brace_step : Option ℕ → ℕ → Option ℕ
-brace_step place x = if x == 125 then Some 1 else (if is_space x then option_map suc place else None)
-
--- the same of a text, behind bytes with that place
-unfoldable pub brace_after : Option ℕ → List ℕ → Option ℕ
-brace_after place [] = place
-brace_after place (x ∷ xs) = brace_after (brace_step place x) xs
+-- A text ends with a brace, behind which only white space stands: so many bytes from the brace on.
+pub record EndsWithBrace (text : List ℕ) (behind : ℕ) : Type 0 where
+  pub some : 0 < behind
+  pub within : behind ≤ length text
+  pub brace : slice_index text (length text - behind) ≡ 125
+  pub spaces : (i : ℕ) → length text - behind < i → i < length text → is_space (slice_index text i) ≡ true
 
 -- A line, of which such a text is seen, is this object, and so many bytes stand from its last brace on.
 pub record IsObject (text : List ℕ) (goes_on : Bool) (members : Members) (behind : ℕ) : Type 0 where
   pub whole : goes_on ≡ false
   pub utf8 : IsUtf8 text
   pub value : document text ≡ Some (object members)
-  pub ends : brace_after None text ≡ Some behind
+  pub ends : EndsWithBrace text behind
 
 -- In the object a path leads to a text that spells this address.
 abbrev pub LeadsToAddress : List PathElement → Members → IpAddr → Type 0
 LeadsToAddress path members address = (spelled : List ℕ) × (text_along path (object members) ≡ Some spelled) × IsIpText spelled address
+
+abbrev pub is_empty : Members → Bool
+is_empty no_members = true
+is_empty (member _ _ _) = false
+
+-- What a line is: an object in which the path leads to an address, an object in which it leads to none, or no object.
+abbrev pub ReadsLine : List ℕ → Bool → List PathElement → ReadLine → Type 0
+ReadsLine text goes_on path NoObject = (members : Members) (behind : ℕ) → ¬ IsObject text goes_on members behind
+ReadsLine text goes_on path NoAddress =
+    (members : Members) × (behind : ℕ) × IsObject text goes_on members behind × ((address : IpAddr) → ¬ LeadsToAddress path members address)
+ReadsLine text goes_on path (Object line) =
+    (members : Members) × IsObject text goes_on members line.behind × LeadsToAddress path members line.address × (line.is_empty ≡ is_empty members)
+
+-- What a value is, from whose last brace on so many bytes stand.
+abbrev pub ReadsValue : Json → ℕ → List PathElement → ReadLine → Type 0
+ReadsValue j behind path NoObject = (members : Members) → j ≢ object members
+ReadsValue j behind path NoAddress = (members : Members) × (j ≡ object members) × ((address : IpAddr) → ¬ LeadsToAddress path members address)
+ReadsValue j behind path (Object line) =
+    (members : Members) × (j ≡ object members) × LeadsToAddress path members line.address × (line.is_empty ≡ is_empty members) × (line.behind ≡ behind)

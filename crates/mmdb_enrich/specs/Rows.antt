@@ -7,6 +7,9 @@ use Rattle.mmdb_reader.specs.declared.path.PathElement.{PathElement}
 use Rattle.mmdb_filter.specs.declared.counts.Outcome.{Outcome}
 use Rattle.mmdb_filter.specs.declared.rows.Rows.{Rows}
 use Rattle.mmdb_enrich.specs.Added.{AddsAt, AddsFor}
+use Rattle.mmdb_enrich.specs.Kept.{AreKept}
+use Rattle.mmdb_enrich.specs.Wanted.{cells}
+use Rattle.mmdb_enrich.specs.declared.cache.Place.{Place}
 
 -- the paths of the fields
 abbrev pub paths_of : Vec (Vec PathElement) → List (List PathElement)
@@ -17,3 +20,7 @@ AddsAtTo db rows fields offset outcome old new = (extra : List ℕ) × AddsAt db
 
 abbrev pub AddsForTo : Database → Rows → Vec (Vec PathElement) → Option IpAddr → Outcome → Vec ℕ → Vec ℕ → Type 0
 AddsForTo db rows fields address outcome old new = (extra : List ℕ) × AddsFor db rows (paths_of fields) address extra outcome × (new.items ≡ old.items ++ extra)
+
+-- What a cache keeps are cells of these fields.
+abbrev pub AreKeptFor : Database → Rows → Vec (Vec PathElement) → List Place → Type 0
+AreKeptFor db rows fields places = AreKept (cells db rows (paths_of fields)) places

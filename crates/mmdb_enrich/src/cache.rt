@@ -1,14 +1,13 @@
 //! What was added for the last records.
-ghost use Rattle.std.specs.Prelude.{◌≡◌, ◌++◌, ◌⊎◌, List, ℕ, Some, None, IfOk, IfSome, true};
-ghost use Rattle.mmdb_reader.specs.File.{Database};
-ghost use Rattle.mmdb_reader.specs.declared.path.PathElement.{PathElement as SpecPathElement};
-ghost use Rattle.mmdb_filter.specs.declared.rows.Rows.{Rows as SpecRows};
-ghost use Rattle.mmdb_enrich.specs.Added.{AddsAt};
+ghost use Rattle.std.specs.Prelude.{◌≡◌, ◌≤◌, ◌⊎◌, [], ℕ, Some, None, IfOk, IfSome, true, length};
 ghost use Rattle.mmdb_enrich.specs.Kept.{IsKept, AreKept};
+ghost use Rattle.mmdb_enrich.specs.KeptCells.{bytes_of, heap_of};
+ghost use Rattle.mmdb_enrich.specs.Wanted.{Wanted, AddsOf};
 
 use crate::kept_cells::KeptCells;
 use mmdb_filter::Outcome;
 use std::alloc::{AllocError, Global};
+use std::marker::Model;
 use std::mem;
 
 /// How many places there are for records, of which each keeps two.
@@ -31,12 +30,20 @@ pub(crate) struct Slot {
 
 /// The last two records of a place.
 #[derive(Drop)]
-pub(crate) struct Place {
+pub struct Place {
     newer: Slot,
     older: Slot,
 }
 
-/// The cells of the last records, each at the place that its offset gives.
+/// What is kept of a record.
+#[derive(Clone, Copy)]
+pub(crate) struct Kept<'c> {
+    pub(crate) cells: &'c [u8],
+    pub(crate) outcome: Outcome,
+}
+
+/// What was added for the last records, each at the place that its offset gives. At most 512 bytes of a record are
+/// kept, and those that do not stand in their place take at most 8 MiB.
 #[derive(Drop)]
 pub struct Cache {
     alloc: Global,
@@ -45,10 +52,24 @@ pub struct Cache {
     heap_left: usize,
 }
 
+impl Model for Cache {
+    ghost use Rattle.std.specs.Prelude.{List};
+    ghost use Rattle.mmdb_enrich.specs.Kept.{IsBounded};
+    ghost use Rattle.mmdb_enrich.specs.declared.cache.Place.{Place as SpecPlace};
+
+    ghost Value = { List SpecPlace };
+
+    ghost view = { λ cache. cache.places.items };
+
+    ghost invariant = { λ cache. IsBounded cache.places.items cache.heap_left };
+}
+
 impl Slot {
     // Of no record.
     fn empty() -> Slot
-        ensures { result.offset ≡ None }
+        ensures offset { result.offset ≡ None }
+        ensures bytes { bytes_of result.cells ≡ [] }
+        ensures heap { heap_of result.cells ≡ 0 }
     {
         Slot {
             offset: None,
@@ -70,6 +91,25 @@ impl Slot {
 }
 
 impl Place {
+    // Of no record.
+    fn empty() -> Place
+        ensures newer { (result.newer.offset ≡ None) × (bytes_of result.newer.cells ≡ []) × (heap_of result.newer.cells ≡ 0) }
+        ensures older { (result.older.offset ≡ None) × (bytes_of result.older.cells ≡ []) × (heap_of result.older.cells ≡ 0) }
+    {
+        Place {
+            newer: Slot::empty(),
+            older: Slot::empty(),
+        }
+    }
+
+    // Puts a newer record in the stead of the older one.
+    fn put(&mut self, slot: Slot)
+        ensures newer { self.new.newer ≡ slot }
+        ensures older { self.new.older ≡ self.old.newer }
+    {
+        self.older = mem::replace(&mut self.newer, slot);
+    }
+
     // The slot that keeps the record at an offset, if one of them does. Both are looked at, so that no guess goes wrong
     // of which it is.
     #[inline(always)]
@@ -87,14 +127,11 @@ impl Place {
 impl Cache {
     /// Of no record. It takes memory for each place at once.
     pub fn new(alloc: Global) -> Result<Cache, AllocError>
-        ensures { IfOk result (λ cache. (db : Database) (rows : SpecRows) (paths : List (List SpecPathElement)) → AreKept db rows paths cache) }
+        ensures { IfOk result (λ cache. (wanted : Wanted) → AreKept wanted cache) }
     {
         let mut places = Vec::with_capacity(alloc, PLACES)?;
         for _ in 0..PLACES {
-            places.push(Place {
-                newer: Slot::empty(),
-                older: Slot::empty(),
-            })?;
+            places.push(Place::empty())?;
         }
         Ok(Cache {
             alloc,
@@ -103,71 +140,42 @@ impl Cache {
         })
     }
 
-    // The cells that are kept of a record.
+    /// What is kept of the record at an offset.
     #[inline(always)]
-    fn kept(&self, offset: usize) -> Option<&Slot>
-        ensures { IfSome result (λ slot. (slot.now.offset ≡ Some offset) × ((db : Database) (rows : SpecRows) (paths : List (List SpecPathElement)) → AreKept db rows paths self.now → IsKept db rows paths slot.now)) }
+    pub(crate) fn kept(&self, offset: usize) -> Option<Kept<'_>>
+        ensures { IfSome result (λ kept. (wanted : Wanted) → AreKept wanted self.now → AddsOf wanted offset kept.cells.now kept.outcome) }
     {
-        let at = offset % PLACES;
-        if at >= self.places.len() {
+        let slot = self.places[offset % PLACES].slot_of(offset);
+        if !slot.is_of(offset) {
             return None;
         }
-        let slot = self.places[at].slot_of(offset);
-        if slot.is_of(offset) { Some(slot) } else { None }
+        Some(Kept {
+            cells: slot.cells.as_slice(),
+            outcome: slot.outcome,
+        })
     }
 
-    /// Adds the cells that are kept of a record, and tells how a line with it fares.
-    #[inline(always)]
-    pub(crate) fn put_kept(
-        &self,
-        offset: usize,
-        out: &mut Vec<u8>,
-    ) -> Result<Option<Outcome>, AllocError>
-        ensures kept { IfOk result (λ found. IfSome found (λ outcome. (db : Database) (rows : SpecRows) (paths : List (List SpecPathElement)) → AreKept db rows paths self.now → (cells : List ℕ) × AddsAt db rows paths (Some offset) cells outcome × (out.new.items ≡ out.old.items ++ cells))) }
-        ensures none { IfOk result (λ found. found ≡ None → out.new ≡ out.old) }
-    {
-        match self.kept(offset) {
-            Some(slot) => {
-                out.extend_from_slice(slot.cells.as_slice())?;
-                Ok(Some(slot.outcome))
-            }
-            None => Ok(None),
-        }
-    }
-
-    // Makes room at a place for a newer record.
-    fn make_room(&mut self, at: usize)
-        ensures { (db : Database) (rows : SpecRows) (paths : List (List SpecPathElement)) → AreKept db rows paths self.old → AreKept db rows paths self.new }
-    {
-        if at < self.places.len() {
-            let place = &mut self.places[at];
-            let newer = mem::replace(&mut place.newer, Slot::empty());
-            let older = mem::replace(&mut place.older, newer);
-            self.heap_left = self.heap_left.saturating_add(older.cells.heap());
-        }
-    }
-
-    /// Keeps the cells of a record, unless they are many or there is no memory.
+    /// Keeps the cells of a record in the stead of the older one at its place, unless they are many or there is no
+    /// memory.
     pub(crate) fn keep(&mut self, offset: usize, cells: &[u8], outcome: Outcome)
-        ensures { (db : Database) (rows : SpecRows) (paths : List (List SpecPathElement)) → AreKept db rows paths self.old → AddsAt db rows paths (Some offset) cells.now outcome → AreKept db rows paths self.new }
+        ensures { (wanted : Wanted) → AreKept wanted self.old → AddsOf wanted offset cells.now outcome → AreKept wanted self.new }
     {
         if cells.len() > MOST_BYTES {
             return;
         }
-        let at = offset % PLACES;
-        self.make_room(at);
         let Ok(cells) = KeptCells::of(self.alloc, cells) else {
             return;
         };
-        let taken = cells.heap();
-        if taken > self.heap_left || at >= self.places.len() {
+        let at = offset % PLACES;
+        let left = self.heap_left + self.places[at].older.cells.heap();
+        if cells.heap() > left {
             return;
         }
-        self.heap_left -= taken;
-        self.places[at].newer = Slot {
+        self.heap_left = left - cells.heap();
+        self.places[at].put(Slot {
             offset: Some(offset),
             outcome,
             cells,
-        };
+        });
     }
 }

@@ -3,10 +3,9 @@ ghost use Rattle.std.specs.Prelude.{◌≡◌, ◌++◌, Some, IfOk, if◌then�
 ghost use Rattle.mmdb_filter.specs.declared.counts.Outcome.TheVariants.{Found, Refused};
 ghost use Rattle.mmdb_enrich.specs.Added.{AddsTo};
 ghost use Rattle.mmdb_enrich.specs.Cells.{blanks};
-ghost use Rattle.mmdb_enrich.specs.Kept.{AreKept};
-ghost use Rattle.mmdb_enrich.specs.Rows.{paths_of};
+ghost use Rattle.mmdb_enrich.specs.Rows.{paths_of, AreKeptFor};
 
-use crate::cache::Cache;
+use crate::cache::{Cache, Kept};
 use crate::cells::{put_blanks, put_cells};
 use crate::columns::address_of;
 use mmdb_filter::{Added, Additions, Outcome, Rows};
@@ -41,6 +40,15 @@ fn outcome_of(are_read: bool) -> Outcome
     }
 }
 
+// Adds cells that are kept.
+#[inline(always)]
+fn put_kept(kept: Kept<'_>, out: &mut Vec<u8>) -> Result<Outcome, AllocError>
+    ensures { IfOk result (λ outcome. (outcome ≡ kept.entry.outcome) × (out.new.items ≡ out.old.items ++ kept.entry.cells.now)) }
+{
+    out.extend_from_slice(kept.cells)?;
+    Ok(kept.outcome)
+}
+
 impl<'a, 'f, S: AsSlice<u8> + Drop> Enrichment<'a, 'f, S> {
     ghost use Rattle.mmdb_reader.specs.Found.{database_asked, offset_found};
     ghost use Rattle.mmdb_enrich.specs.Rows.{AddsAtTo, AddsForTo};
@@ -56,9 +64,9 @@ impl<'a, 'f, S: AsSlice<u8> + Drop> Enrichment<'a, 'f, S> {
     ) -> Result<Outcome, AllocError>
         requires at { offset_found found.now ≡ Some offset }
         requires asked { database_asked found.now ≡ self.now.reader.now }
-        requires kept { AreKept self.now.reader.now self.now.rows (paths_of self.now.paths) cache.old }
+        requires kept { AreKeptFor self.now.reader.now self.now.rows self.now.paths cache.old }
         ensures added { IfOk result (λ outcome. AddsAtTo self.now.reader.now self.now.rows self.now.paths (Some offset) outcome out.old out.new) }
-        ensures kept { AreKept self.now.reader.now self.now.rows (paths_of self.now.paths) cache.new }
+        ensures kept { AreKeptFor self.now.reader.now self.now.rows self.now.paths cache.new }
     {
         let before = out.len();
         let are_read = put_cells(self.alloc, self.rows, found, self.paths.as_slice(), out)?;
@@ -82,9 +90,9 @@ impl<'a, 'f, S: AsSlice<u8> + Drop> Enrichment<'a, 'f, S> {
         cache: &mut Cache,
         out: &mut Vec<u8>,
     ) -> Result<Outcome, AllocError>
-        requires { AreKept self.now.reader.now self.now.rows (paths_of self.now.paths) cache.old }
+        requires { AreKeptFor self.now.reader.now self.now.rows self.now.paths cache.old }
         ensures added { IfOk result (λ outcome. AddsForTo self.now.reader.now self.now.rows self.now.paths (Some address) outcome out.old out.new) }
-        ensures kept { AreKept self.now.reader.now self.now.rows (paths_of self.now.paths) cache.new }
+        ensures kept { AreKeptFor self.now.reader.now self.now.rows self.now.paths cache.new }
     {
         let Ok(found) = self.reader.lookup(address) else {
             return self.put_none(Outcome::Refused, out);
@@ -92,8 +100,8 @@ impl<'a, 'f, S: AsSlice<u8> + Drop> Enrichment<'a, 'f, S> {
         let Some(offset) = found.offset() else {
             return self.put_none(Outcome::Absent, out);
         };
-        match cache.put_kept(offset, out)? {
-            Some(outcome) => Ok(outcome),
+        match cache.kept(offset) {
+            Some(kept) => put_kept(kept, out),
             None => self.put_record(&found, offset, cache, out),
         }
     }
@@ -104,7 +112,7 @@ impl<'a, 'f, S: AsSlice<u8> + Drop> Additions for Enrichment<'a, 'f, S> {
 
     ghost adds = { λ e text goes_on extra behind outcome. (behind ≡ 0) × AddsTo e.reader.now e.rows e.column (paths_of e.paths) text goes_on extra outcome };
 
-    ghost fits = { λ e cache. AreKept e.reader.now e.rows (paths_of e.paths) cache };
+    ghost fits = { λ e cache. AreKeptFor e.reader.now e.rows e.paths cache };
 
     fn add(
         &self,

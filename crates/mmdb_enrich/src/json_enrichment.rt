@@ -1,8 +1,12 @@
 //! What is added to a line of JSON.
-ghost use Rattle.std.specs.Prelude.{◌≡◌, ◌≤◌, ◌++◌, ℕ, List, Some, IfOk};
+ghost use Rattle.std.specs.Prelude.{◌≡◌, ◌≤◌, ℕ, List, [], Some, IfOk, MatchOption};
+ghost use Rattle.mmdb_filter.specs.declared.counts.Outcome.{Outcome as SpecOutcome};
+ghost use Rattle.mmdb_filter.specs.declared.counts.Outcome.TheVariants.{Found, Refused};
+ghost use Rattle.mmdb_enrich.specs.Members.{PutsMember};
 
+use crate::cache::{Cache, Kept};
 use crate::members::{Field, member_of};
-use crate::objects::{Line, read_line};
+use crate::objects::{Line, ReadLine, read_line};
 use json::Scratch;
 use mmdb_filter::{Added, Additions, Outcome};
 use mmdb_reader::{LookupResult, PathElement, Reader};
@@ -24,6 +28,28 @@ pub struct JsonEnrichment<'a, 'f, S: AsSlice<u8> + Drop> {
     pub fields: Vec<Field<'f>>,
 }
 
+/// What is remembered from line to line.
+#[derive(Drop)]
+pub struct JsonMemory {
+    scratch: Scratch,
+    cache: Cache,
+}
+
+impl JsonMemory {
+    ghost use Rattle.mmdb_enrich.specs.Kept.{AreKept};
+    ghost use Rattle.mmdb_enrich.specs.Wanted.{Wanted};
+
+    /// Of no line. It takes memory for the members of records at once.
+    pub fn new(alloc: Global) -> Result<JsonMemory, AllocError>
+        ensures { IfOk result (λ memory. (wanted : Wanted) → AreKept wanted memory.cache) }
+    {
+        Ok(JsonMemory {
+            cache: Cache::new(alloc)?,
+            scratch: Scratch::new(alloc),
+        })
+    }
+}
+
 // Nothing is added.
 fn nothing(outcome: Outcome) -> Added
     ensures { (result.outcome ≡ outcome) × (result.behind ≡ 0) }
@@ -31,74 +57,115 @@ fn nothing(outcome: Outcome) -> Added
     Added { outcome, behind: 0 }
 }
 
-impl<'a, 'f, S: AsSlice<u8> + Drop> JsonEnrichment<'a, 'f, S> {
-    ghost use Rattle.mmdb_reader.specs.Found.{database_asked, leaf_of, offset_found};
-    ghost use Rattle.mmdb_reader.specs.Lookup.{Answers, outcome_at};
-    ghost use Rattle.mmdb_enrich.specs.Members.{AddsMemberFor};
+// What is kept of a record: the text of its member, or that a field was refused.
+fn kept_of(member: &Option<Vec<u8>>) -> Kept<'_>
+    ensures { MatchOption member.now ((result.cells.now ≡ []) × (result.outcome ≡ Refused)) (λ text. (result.cells.now ≡ text.items) × (result.outcome ≡ Found)) }
+{
+    match member {
+        Some(text) => Kept {
+            cells: text.as_slice(),
+            outcome: Outcome::Found,
+        },
+        None => Kept {
+            cells: &[],
+            outcome: Outcome::Refused,
+        },
+    }
+}
 
-    // Adds the member of a record, unless one of its fields is refused.
+// Adds a member to an object: as the first, or behind a comma. Nothing is added where a field was refused.
+fn put_member(line: &Line, member: Kept<'_>, out: &mut Vec<u8>) -> Result<Added, AllocError>
+    ensures { IfOk result (λ told. PutsMember line.now member.entry.cells.now member.entry.outcome told out.old.items out.new.items) }
+{
+    if member.outcome != Outcome::Found {
+        return Ok(nothing(member.outcome));
+    }
+    if !line.is_empty {
+        out.push(b',')?;
+    }
+    out.extend_from_slice(member.cells)?;
+    Ok(Added {
+        outcome: Outcome::Found,
+        behind: line.behind,
+    })
+}
+
+impl<'a, 'f, S: AsSlice<u8> + Drop> JsonEnrichment<'a, 'f, S> {
+    ghost use Rattle.mmdb_reader.specs.Found.{database_asked, offset_found};
+    ghost use Rattle.mmdb_enrich.specs.Kept.{AreKept};
+    ghost use Rattle.mmdb_enrich.specs.Wanted.{MemberAt, member as spec_member};
+    ghost use Rattle.mmdb_enrich.specs.Members.{PutsMemberFor};
+
+    // Adds the member of a record that was not kept, and keeps it.
+    #[inline(never)]
     fn put_record(
         &self,
         found: &LookupResult<'_, S>,
+        offset: usize,
         line: &Line,
+        cache: &mut Cache,
         out: &mut Vec<u8>,
     ) -> Result<Added, AllocError>
-        requires at { (offset : ℕ) × (offset_found found.now ≡ Some offset) }
+        requires at { offset_found found.now ≡ Some offset }
         requires asked { database_asked found.now ≡ self.now.reader.now }
-        requires answered { Answers self.now.reader.now line.now.address (leaf_of found.now) (outcome_at (offset_found found.now)) }
-        ensures added { IfOk result (λ told. (extra : List ℕ) × AddsMemberFor self.now.reader.now self.now.name.now self.now.fields.items line.now.is_empty line.now.behind line.now.address extra told.behind told.outcome × (out.new.items ≡ out.old.items ++ extra)) }
-        ensures behind { IfOk result (λ told. told.behind ≤ line.now.behind) }
+        requires kept { AreKept (spec_member self.now.reader.now self.now.name.now self.now.fields.items) cache.old }
+        ensures added { IfOk result (λ told. (text : List ℕ) × (outcome : SpecOutcome) × MemberAt self.now.reader.now self.now.name.now self.now.fields.items offset text outcome × PutsMember line.now text outcome told out.old.items out.new.items) }
+        ensures kept { AreKept (spec_member self.now.reader.now self.now.name.now self.now.fields.items) cache.new }
     {
-        match member_of(self.alloc, found, self.name, self.fields.as_slice())? {
-            Some(member) => {
-                if !line.is_empty {
-                    out.push(b',')?;
-                }
-                out.extend_from_slice(member.as_slice())?;
-                Ok(Added {
-                    outcome: Outcome::Found,
-                    behind: line.behind,
-                })
-            }
-            None => Ok(nothing(Outcome::Refused)),
-        }
+        let member = member_of(self.alloc, found, self.name, self.fields.as_slice())?;
+        let kept = kept_of(&member);
+        cache.keep(offset, kept.cells, kept.outcome);
+        put_member(line, kept, out)
     }
 
     // Adds the member of the record of a line's address.
-    fn put_address(&self, line: &Line, out: &mut Vec<u8>) -> Result<Added, AllocError>
-        ensures added { IfOk result (λ told. (extra : List ℕ) × AddsMemberFor self.now.reader.now self.now.name.now self.now.fields.items line.now.is_empty line.now.behind line.now.address extra told.behind told.outcome × (out.new.items ≡ out.old.items ++ extra)) }
+    fn put_address(
+        &self,
+        line: &Line,
+        cache: &mut Cache,
+        out: &mut Vec<u8>,
+    ) -> Result<Added, AllocError>
+        requires kept { AreKept (spec_member self.now.reader.now self.now.name.now self.now.fields.items) cache.old }
+        ensures added { IfOk result (λ told. PutsMemberFor self.now.reader.now self.now.name.now self.now.fields.items line.now told out.old.items out.new.items) }
         ensures behind { IfOk result (λ told. told.behind ≤ line.now.behind) }
+        ensures kept { AreKept (spec_member self.now.reader.now self.now.name.now self.now.fields.items) cache.new }
     {
         let Ok(found) = self.reader.lookup(line.address) else {
             return Ok(nothing(Outcome::Refused));
         };
-        match found.offset() {
-            Some(_) => self.put_record(&found, line, out),
-            None => Ok(nothing(Outcome::Absent)),
+        let Some(offset) = found.offset() else {
+            return Ok(nothing(Outcome::Absent));
+        };
+        match cache.kept(offset) {
+            Some(kept) => put_member(line, kept, out),
+            None => self.put_record(&found, offset, line, cache, out),
         }
     }
 }
 
 impl<'a, 'f, S: AsSlice<u8> + Drop> Additions for JsonEnrichment<'a, 'f, S> {
-    ghost use Rattle.std.specs.Prelude.{⊤};
     ghost use Rattle.mmdb_enrich.specs.Members.{AddsMember};
+    ghost use Rattle.mmdb_enrich.specs.Kept.{AreKept};
+    ghost use Rattle.mmdb_enrich.specs.Wanted.{member};
 
-    type Memory = Scratch;
+    type Memory = JsonMemory;
 
     ghost adds = { λ e text goes_on extra behind outcome. AddsMember e.reader.now e.path.items e.name.now e.fields.items text goes_on extra behind outcome };
 
-    ghost fits = { λ _ _. ⊤ };
+    ghost fits = { λ e memory. AreKept (member e.reader.now e.name.now e.fields.items) memory.cache };
 
     fn add(
         &self,
-        scratch: &mut Scratch,
+        memory: &mut JsonMemory,
         text: &[u8],
         is_long: bool,
         out: &mut Vec<u8>,
     ) -> io::Result<Added> {
-        match read_line(self.alloc, text, is_long, self.path.as_slice(), scratch)? {
-            Some(line) => Ok(self.put_address(&line, out)?),
-            None => Ok(nothing(Outcome::Unreadable)),
+        let path = self.path.as_slice();
+        match read_line(self.alloc, text, is_long, path, &mut memory.scratch)? {
+            ReadLine::Object(line) => Ok(self.put_address(&line, &mut memory.cache, out)?),
+            ReadLine::NoAddress => Ok(nothing(Outcome::Unreadable)),
+            ReadLine::NoObject => Ok(nothing(Outcome::Malformed)),
         }
     }
 }

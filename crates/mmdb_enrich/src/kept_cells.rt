@@ -1,5 +1,5 @@
 //! Cells that are kept.
-ghost use Rattle.std.specs.Prelude.{◌≡◌, ◌≤◌, IfOk};
+ghost use Rattle.std.specs.Prelude.{◌≡◌, ◌≤◌, [], IfOk};
 
 use std::alloc::{AllocError, Global};
 
@@ -22,10 +22,13 @@ pub(crate) enum KeptCells {
 }
 
 impl KeptCells {
-    ghost use Rattle.mmdb_enrich.specs.KeptCells.{bytes_of};
+    ghost use Rattle.mmdb_enrich.specs.KeptCells.{bytes_of, heap_of};
 
     /// None.
-    pub(crate) fn none() -> KeptCells {
+    pub(crate) fn none() -> KeptCells
+        ensures bytes { bytes_of result ≡ [] }
+        ensures heap { heap_of result ≡ 0 }
+    {
         KeptCells::Few(FewCells {
             length: 0,
             bytes: [0; ROOM],
@@ -62,7 +65,9 @@ impl KeptCells {
     }
 
     /// How many bytes of the heap they take.
-    pub(crate) fn heap(&self) -> usize {
+    pub(crate) fn heap(&self) -> usize
+        ensures { result ≡ heap_of self.now }
+    {
         match self {
             KeptCells::Few(_) => 0,
             KeptCells::Many(many) => many.len(),

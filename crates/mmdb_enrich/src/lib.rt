@@ -14,6 +14,6 @@ mod quotes;
 pub use cache::Cache;
 pub use columns::delimiter_of;
 pub use enrichment::Enrichment;
-pub use json_enrichment::JsonEnrichment;
+pub use json_enrichment::{JsonEnrichment, JsonMemory};
 pub use members::Field;
 pub use quotes::put_csv_cell;

@@ -1,20 +1,18 @@
 //! Lines that are objects of JSON.
-ghost use Rattle.std.specs.Prelude.{◌≡◌, ◌+◌, ◌<◌, ◌≤◌, ◌^◌, ℕ, Some, None, false, IfOk, IfSome, IfNone, length, option_map};
-ghost use Rattle.std.specs.Str.{IsUtf8};
-ghost use Rattle.json.specs.Json.{Members, document, object};
-ghost use Rattle.json.specs.Value.{value_view};
-ghost use Rattle.mmdb_enrich.specs.Objects.{IsObject, LeadsToAddress, brace_step as spec_brace_step, step_in as spec_step_in, text_along as spec_text_along, brace_after};
+ghost use Rattle.std.specs.Prelude.{◌≡◌, ◌≤◌, ℕ, true, false, IfOk, MatchOption, length, option_map};
+ghost use Rattle.json.specs.Find.{BeginsWith, Finds};
+ghost use Rattle.json.specs.Json.{Json, Members, object};
+ghost use Rattle.json.specs.Word.{is_space as spec_is_space};
+ghost use Rattle.mmdb_enrich.specs.Objects.{EndsWithBrace, step_in as spec_step_in, text_along as spec_text_along, ReadsLine, ReadsValue};
 ghost use Rattle.mmdb_enrich.specs.Columns.{ReadsAddress};
-ghost use Rattle.mmdb_enrich.specs.Members.{is_empty as spec_is_empty};
-ghost use Rattle.std.specs.declared.net.ip_addr.IpAddr.{IpAddr as SpecIpAddr};
 
-use json::{Error, Scratch, Value};
+use json::{Element, Error, Scratch, Tape};
 use mmdb_reader::PathElement;
 use std::alloc::{AllocError, Global};
 use std::net::IpAddr;
 
 /// A line that is an object with an address.
-#[derive(Drop)]
+#[derive(Clone, Copy)]
 pub(crate) struct Line {
     pub(crate) address: IpAddr,
     /// How many bytes stand from the last brace on.
@@ -23,37 +21,41 @@ pub(crate) struct Line {
     pub(crate) is_empty: bool,
 }
 
-// The place of the last brace, one byte on.
-fn brace_step(place: Option<usize>, byte: u8) -> Option<usize>
-    requires { IfSome place (λ n. n + 1 < 2 ^ 64) }
-    ensures { result ≡ spec_brace_step place byte }
+/// What a line is.
+#[derive(Clone, Copy)]
+pub(crate) enum ReadLine {
+    NoObject,
+    NoAddress,
+    Object(Line),
+}
+
+// Whether a byte is white space of JSON.
+fn is_space(byte: u8) -> bool
+    ensures { result ≡ spec_is_space byte }
 {
-    match byte {
-        b'}' => Some(1),
-        b' ' | b'\t' | b'\n' | b'\r' => match place {
-            Some(behind) => Some(behind + 1),
-            None => None,
-        },
-        _ => None,
-    }
+    byte == b' ' || byte == b'\t' || byte == b'\n' || byte == b'\r'
 }
 
 // How many bytes stand from the last brace on, where behind it only white space stands.
-#[tactic(auto, unfolding(crate::specs::Objects::brace_after))]
 fn last_brace(text: &[u8]) -> Option<usize>
-    ensures place { result ≡ brace_after None text.now }
-    ensures within { IfSome result (λ behind. behind ≤ length text.now) }
+    ensures { MatchOption result ((behind : ℕ) → ¬ EndsWithBrace text.now behind) (EndsWithBrace text.now) }
 {
-    let mut place = None;
-    for at in 0..text.len() {
-        place = brace_step(place, text[at]);
+    let len = text.len();
+    for behind in 1..len + 1 {
+        let byte = text[len - behind];
+        if byte == b'}' {
+            return Some(behind);
+        }
+        if !is_space(byte) {
+            return None;
+        }
     }
-    place
+    None
 }
 
 // The value one step on.
-fn step_in<'v, 'a>(value: &'v Value<'a>, step: &PathElement<'_>) -> Option<&'v Value<'a>>
-    ensures { option_map (λ v. value_view v.now) result ≡ spec_step_in step.now (value_view value.now) }
+fn step_in<'t, 'a>(value: &Element<'t, 'a>, step: &PathElement<'_>) -> Option<Element<'t, 'a>>
+    ensures { (j : Json) → BeginsWith value.now j → Finds result (spec_step_in step.now j) }
 {
     match step {
         PathElement::Key(name) => value.get(name),
@@ -63,21 +65,21 @@ fn step_in<'v, 'a>(value: &'v Value<'a>, step: &PathElement<'_>) -> Option<&'v V
 }
 
 // The text at the end of a path.
-fn text_along<'a>(value: &Value<'a>, path: &[PathElement<'_>]) -> Option<&'a str>
-    ensures { option_map (λ s. s.now) result ≡ spec_text_along path.now (value_view value.now) }
+fn text_along<'a>(value: &Element<'_, 'a>, path: &[PathElement<'_>]) -> Option<&'a str>
+    ensures { (j : Json) → BeginsWith value.now j → option_map (λ s. s.now) result ≡ spec_text_along path.now j }
 {
     if path.is_empty() {
         return value.as_str();
     }
     match step_in(value, &path[0]) {
-        Some(next) => text_along(next, &path[1..]),
+        Some(next) => text_along(&next, &path[1..]),
         None => None,
     }
 }
 
 // The address that a path leads to.
-fn address_along(value: &Value<'_>, path: &[PathElement<'_>]) -> Option<IpAddr>
-    ensures { ReadsAddress (spec_text_along path.now (value_view value.now)) result }
+fn address_along(value: &Element<'_, '_>, path: &[PathElement<'_>]) -> Option<IpAddr>
+    ensures { (j : Json) → BeginsWith value.now j → ReadsAddress (spec_text_along path.now j) result }
 {
     match text_along(value, path) {
         Some(text) => match IpAddr::parse_ascii(text.as_bytes()) {
@@ -88,62 +90,60 @@ fn address_along(value: &Value<'_>, path: &[PathElement<'_>]) -> Option<IpAddr>
     }
 }
 
-// The value that a text is, if it is one.
-fn value_of<'t>(
-    alloc: Global,
-    text: &'t [u8],
-    scratch: &'t mut Scratch,
-) -> Result<Option<Value<'t>>, AllocError>
-    ensures some { IfOk result (λ read. IfSome read (λ value. IsUtf8 text.now × (document text.now ≡ Some (value_view value)))) }
-    ensures none { IfOk result (λ read. IfNone read (IsUtf8 text.now → document text.now ≡ None)) }
+// What a value is of which so many bytes stand from the last brace on.
+fn line_of(value: &Element<'_, '_>, path: &[PathElement<'_>], behind: usize) -> ReadLine
+    ensures { (j : Json) → BeginsWith value.now j → ReadsValue j behind path.now result }
 {
-    match Value::from_slice(alloc, text, scratch) {
-        Ok(value) => Ok(Some(value)),
-        Err(Error::Invalid) => Ok(None),
-        Err(_) => Err(AllocError),
-    }
-}
-
-// What an object has, of which so many bytes stand from the last brace on.
-fn line_of(value: &Value<'_>, path: &[PathElement<'_>], behind: usize) -> Option<Line>
-    ensures some { IfSome result (λ line. (members : Members) × (value_view value.now ≡ object members) × LeadsToAddress path.now members line.address × (line.is_empty ≡ spec_is_empty members) × (line.behind ≡ behind)) }
-    ensures none { IfNone result ((members : Members) (address : SpecIpAddr) → value_view value.now ≡ object members → LeadsToAddress path.now members address → ⊥) }
-{
-    let Value::Object(members) = value else {
-        return None;
+    let Some(mut members) = value.members() else {
+        return ReadLine::NoObject;
     };
-    let is_empty = members.is_empty();
+    let is_empty = members.next().is_none();
     match address_along(value, path) {
-        Some(address) => Some(Line {
+        Some(address) => ReadLine::Object(Line {
             address,
             behind,
             is_empty,
         }),
-        None => None,
+        None => ReadLine::NoAddress,
     }
 }
 
-/// The object that a line is, with the address that a path leads to in it, or none where there is no such.
+// What a text is of which so many bytes stand from the last brace on.
+fn read_text(
+    alloc: Global,
+    text: &[u8],
+    path: &[PathElement<'_>],
+    behind: usize,
+    scratch: &mut Scratch,
+) -> Result<ReadLine, AllocError>
+    requires { EndsWithBrace text.now behind }
+    ensures { IfOk result (ReadsLine text.now false path.now) }
+{
+    let Ok(text) = str::from_utf8(text) else {
+        return Ok(ReadLine::NoObject);
+    };
+    match Tape::parse(text, scratch, Vec::new(alloc)) {
+        Ok(tape) => Ok(line_of(&tape.root(), path, behind)),
+        Err(Error::Invalid) => Ok(ReadLine::NoObject),
+        Err(_) => Err(AllocError),
+    }
+}
+
+/// What a line is: an object in which a path leads to an address, or not.
 pub(crate) fn read_line(
     alloc: Global,
     text: &[u8],
     goes_on: bool,
     path: &[PathElement<'_>],
     scratch: &mut Scratch,
-) -> Result<Option<Line>, AllocError>
-    ensures some { IfOk result (λ read. IfSome read (λ line. (members : Members) × IsObject text.now goes_on members line.behind × LeadsToAddress path.now members line.address × (line.is_empty ≡ spec_is_empty members))) }
-    ensures none { IfOk result (λ read. IfNone read ((members : Members) (behind : ℕ) (address : SpecIpAddr) → IsObject text.now goes_on members behind → LeadsToAddress path.now members address → ⊥)) }
-    ensures within { IfOk result (λ read. IfSome read (λ line. line.behind ≤ length text.now)) }
+) -> Result<ReadLine, AllocError>
+    ensures { IfOk result (ReadsLine text.now goes_on path.now) }
 {
     if goes_on {
-        return Ok(None);
+        return Ok(ReadLine::NoObject);
     }
-    let Some(behind) = last_brace(text) else {
-        return Ok(None);
-    };
-    let value = value_of(alloc, text, scratch)?;
-    match &value {
-        Some(value) => Ok(line_of(value, path, behind)),
-        None => Ok(None),
+    match last_brace(text) {
+        Some(behind) => read_text(alloc, text, path, behind, scratch),
+        None => Ok(ReadLine::NoObject),
     }
 }

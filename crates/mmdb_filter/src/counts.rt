@@ -10,6 +10,8 @@ pub enum Outcome {
     Absent,
     /// It has no address.
     Unreadable,
+    /// It is not of the form that was asked for, or too long to be read.
+    Malformed,
     /// The address, the record or a field was refused.
     Refused,
 }
@@ -20,6 +22,7 @@ pub struct Counts {
     pub found: u64,
     pub absent: u64,
     pub unreadable: u64,
+    pub malformed: u64,
     pub refused: u64,
 }
 
@@ -34,6 +37,7 @@ impl Counts {
             found: 0,
             absent: 0,
             unreadable: 0,
+            malformed: 0,
             refused: 0,
         }
     }
@@ -48,6 +52,7 @@ impl Counts {
             Outcome::Found => self.found += 1,
             Outcome::Absent => self.absent += 1,
             Outcome::Unreadable => self.unreadable += 1,
+            Outcome::Malformed => self.malformed += 1,
             Outcome::Refused => self.refused += 1,
         }
     }

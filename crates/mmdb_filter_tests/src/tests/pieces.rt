@@ -170,6 +170,7 @@ fn a_row_of_a_hundred_million_bytes(rt: HostRuntime) {
         found: 0,
         absent: 0,
         unreadable: 0,
+        malformed: 0,
         refused: 1,
     };
     assert!(rt; counts == one, "{counts:?}");

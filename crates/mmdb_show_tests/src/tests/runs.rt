@@ -185,11 +185,12 @@ const OBJECTS: &[(&str, &str, &str)] = &[
     // no record, refused
     ("{\"a\":\"1.1.1.1\"}\n", "{\"a\":\"1.1.1.1\"}\n", "0 lines with a record, 1 without, 0 without an address, 0 refused"),
     ("{\"a\":\"::1\"}\n", "{\"a\":\"::1\"}\n", "0 lines with a record, 0 without, 0 without an address, 1 refused"),
-    // no address: no member, no text, no address in it; no object; no JSON
-    ("{}\n{ }\n{\"b\":\"200.0.0.1\"}\n", "{}\n{ }\n{\"b\":\"200.0.0.1\"}\n", "0 lines with a record, 0 without, 3 without an address, 0 refused"),
+    // no address: no member, no text, no address in it
+    ("{}\n{ }\n{\"b\":\"200.0.0.1\"}\n", "{}\n{ }\n{\"b\":\"200.0.0.1\"}\n", "0 lines with a record, 0 without, 3 without an address, 0 refused, 0 not objects of JSON"),
     ("{\"a\":2}\n{\"a\":[\"200.0.0.1\"]}\n{\"a\":\"200.0.0\"}\n", "{\"a\":2}\n{\"a\":[\"200.0.0.1\"]}\n{\"a\":\"200.0.0\"}\n", "3 without an address"),
-    ("[{\"a\":\"200.0.0.1\"}]\n\"{}\"\n{\"a\":\"200.0.0.1\"}}\n\n", "[{\"a\":\"200.0.0.1\"}]\n\"{}\"\n{\"a\":\"200.0.0.1\"}}\n\n", "4 without an address"),
-    ("{\"a\":\"200.0.0.1\",}\n200.0.0.1\n", "{\"a\":\"200.0.0.1\",}\n200.0.0.1\n", "2 without an address"),
+    // no object; no JSON
+    ("[{\"a\":\"200.0.0.1\"}]\n\"{}\"\n{\"a\":\"200.0.0.1\"}}\n\n", "[{\"a\":\"200.0.0.1\"}]\n\"{}\"\n{\"a\":\"200.0.0.1\"}}\n\n", "0 without an address, 0 refused, 4 not objects of JSON"),
+    ("{\"a\":\"200.0.0.1\",}\n200.0.0.1\n", "{\"a\":\"200.0.0.1\",}\n200.0.0.1\n", "0 without an address, 0 refused, 2 not objects of JSON"),
 ];
 
 /// Other words for lines of JSON.
@@ -201,7 +202,7 @@ const JSON_LINES: &[Lines<'static>] = &[
         "{\"client\":{\"ips\":[0,{\"ip v\":\"200.0.0.1\"}]},\"a\\\"b\":{}}\n",
         "1 lines with a record",
     ),
-    (&["enrich", "here.mmdb", "--json", ""], "{}\n\"200.0.0.1\"\n", "{}\n\"200.0.0.1\"\n", "2 without an address"),
+    (&["enrich", "here.mmdb", "--json", ""], "{}\n\"200.0.0.1\"\n", "{}\n\"200.0.0.1\"\n", "1 without an address, 0 refused, 1 not objects of JSON"),
 ];
 
 /// Runs over lines of JSON of a record with fields.
@@ -299,8 +300,14 @@ fn is_of_object(run: &Run, object: &str, told: &str) -> bool {
 fn long_objects(rt: HostRuntime) {
     for (length, told) in [
         (65_536, "1 lines with"),
-        (65_537, "1 without an address"),
-        (140_000, "1 without an address"),
+        (
+            65_537,
+            "0 without an address, 0 refused, 1 not objects of JSON",
+        ),
+        (
+            140_000,
+            "0 without an address, 0 refused, 1 not objects of JSON",
+        ),
     ] {
         let text = object_of_length(rt.alloc(), length).expect(&rt, "a text");
         let run = run_of(rt.alloc(), BASE_FILE, IN_JSON, text.as_str());

@@ -1,9 +1,6 @@
-use Rattle.std.proofs.Common.{◌≡◌, ◌≤◌, None, IfSome, drop}
-use Rattle.mmdb_enrich.specs.Objects.{brace_after}
+use Rattle.std.proofs.Common.{◌≡◌, ◌<◌, ◌+◌, ℕ, true, length, slice_index}
+use Rattle.json.specs.Word.{is_space}
 use Rattle.mmdb_enrich.proofs.objects.last_brace.Given as goal
 
-abbrev pub invariant-loop-at : goal.invariant-loop-at
-invariant-loop-at l = record {
-  place : brace_after None l.fn.text ≡ brace_after l.place (drop l.at l.fn.text);
-  within : IfSome l.place (λ behind. behind ≤ l.at);
-}
+abbrev pub invariant-loop-behind : goal.invariant-loop-behind
+invariant-loop-behind l = (i : ℕ) → length l.text < i + l.behind → i < length l.text → is_space (slice_index l.text i) ≡ true

@@ -1,15 +1,19 @@
-use Rattle.std.proofs.Common.{rules, ◌≡◌, ◌==◌, length, sym, ap, ◌∙◌, vec_len}
-use Rattle.json.specs.Json.{object}
-use Rattle.json.specs.Value.{value_view, members_view}
-use Rattle.json.proofs.Trees.{view-Object}
+use Rattle.std.proofs.Common.{rules, ◌≡◌, Some, is_none, refl, sym, subst, ◌∙◌}
 use Rattle.mmdb_enrich.specs.Objects.{text_along}
-use Rattle.mmdb_enrich.proofs.ObjectLaws.{none_or_some}
+use Rattle.mmdb_enrich.proofs.ObjectLaws.{no_object, next_is_none}
 use Rattle.mmdb_enrich.proofs.objects.line_of.Goals as goal
 
-pub returns-in-Some-clause-some : goal.returns-in-Some-clause-some
-returns-in-Some-clause-some c =
-    let items = c.in-Object.members.items in
-    let is : value_view c.args.value.now ≡ object (members_view items) = ap value_view c.in-Object.is ∙ view-Object c.in-Object.members in
-    let (spelled, leads, spells) = c.in-Some.ensures in
-    let size : vec_len c.in-Object.members ≡ length items = search rules in
-    (members_view items, is, (spelled, ap (text_along c.args.path.now) (sym is) ∙ leads, spells), c.is_empty-is_empty.ensures ∙ ap (λ n. n == 0) size ∙ none_or_some items, search rules)
+pub returns-in_default : goal.returns-in_default
+returns-in_default c = λ j begins. no_object j (c.in_default.ensures j begins)
+
+pub returns-in-Some-address_along : goal.returns-in-Some-address_along
+returns-in-Some-address_along c = λ j begins.
+    let (members, is, here) = c.in-Some.ensures j begins in
+    let (spelled, leads, spells) = c.in-Some-address_along.ensures j begins in
+    let empty : c.is_none-is_empty.result ≡ is_none c.next.result = search rules in
+    (members, is, (spelled, subst (λ x. text_along c.args.path.now x ≡ Some spelled) is leads, spells), empty ∙ next_is_none _ _ _ c.next.result members c.next.ensures.value here, refl)
+
+pub returns-in-None : goal.returns-in-None
+returns-in-None c = λ j begins.
+    let (members, is, here) = c.in-Some.ensures j begins in
+    (members, is, λ address leads. let (spelled, e, spells) = leads in c.in-None.ensures j begins spelled address (subst (λ x. text_along c.args.path.now x ≡ Some spelled) (sym is) e) spells)

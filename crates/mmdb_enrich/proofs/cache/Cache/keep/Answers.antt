@@ -1,18 +1,20 @@
-use Rattle.std.proofs.Common.{rules, ◌≡◌, ◌%◌, ◌<◌, Some, length, slice_index_or, refl}
+use Rattle.std.proofs.Common.{rules, ◌≡◌, ◌%◌, ◌<◌, Some, length, slice_index_or, refl, subst, sym}
+use Rattle.mmdb_enrich.specs.Kept.{IsKept, IsKeptAt, AreKept}
 use Rattle.mmdb_enrich.proofs.KeptLaws.{one_kept, place_set}
 use Rattle.mmdb_enrich.proofs.cache.Cache.keep.Goals as goal
 
-pub returns-in_default : goal.returns-in_default
-returns-in_default c = λ db rows paths kept add. c.make_room.ensures db rows paths kept
-
-pub returns-then-taken-self : goal.returns-then-taken-self
-returns-then-taken-self c = λ db rows paths kept add. c.make_room.ensures db rows paths kept
-
 pub returns : goal.returns
-returns c = λ db rows paths kept add.
-    let places = c.make_room.new.self.places.items in
+returns c = λ wanted kept add.
+    let places = c.self.inside.places.items in
     let at = c.args.offset % 65536 in
-    let place = c.index_mut.result.now in
+    let old = c.index_mut.result.now in
+    let new = c.put.new.self in
     let within : at < length places = search rules in
-    let there : slice_index_or places at place ≡ place = search rules in
-    place_set db rows paths places at place _ within there (λ old. (one_kept db rows paths c.args.offset (record { offset = Some c.args.offset; outcome = c.args.outcome; cells = c.in-Ok.cells }) c.args.cells.now c.args.outcome refl c.in-Ok.ensures refl add, old.1)) (c.make_room.ensures db rows paths kept)
+    let there : slice_index_or places at old ≡ old = search rules in
+    let same : c.args.self.now ≡ places = search rules in
+    place_set (IsKeptAt wanted) places at old new within there
+    (λ o. (
+      subst (IsKept wanted) (sym c.put.ensures.newer) (one_kept wanted c.args.offset (record { offset = Some c.args.offset; outcome = c.args.outcome; cells = c.in-Ok.cells }) c.args.cells.now c.args.outcome refl c.in-Ok.ensures refl add),
+      subst (IsKept wanted) (sym c.put.ensures.older) o.0,
+    ))
+    (subst (AreKept wanted) same kept)

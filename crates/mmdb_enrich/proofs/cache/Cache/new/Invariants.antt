@@ -1,7 +1,13 @@
 use Rattle.std.proofs.Common.{◌≡◌}
-use Rattle.std.specs.Prelude.{None}
-use Rattle.std.specs.List.{All}
+use Rattle.std.specs.List.{All, sum_by}
+use Rattle.std.specs.Vec.{vec_len}
+use Rattle.mmdb_enrich.specs.Kept.{heap_at}
+use Rattle.mmdb_enrich.proofs.KeptLaws.{IsEmptyPlace}
 use Rattle.mmdb_enrich.proofs.cache.Cache.new.Given as goal
 
 abbrev pub invariant-loop : goal.invariant-loop
-invariant-loop l = All (λ place. (place.newer.offset ≡ None) × (place.older.offset ≡ None)) l.places.items
+invariant-loop l = record {
+  empty : All IsEmptyPlace l.places.items;
+  count : vec_len l.places ≡ l.counter;
+  heap : sum_by heap_at l.places.items ≡ 0;
+}

@@ -1,27 +1,21 @@
-use Rattle.std.proofs.Common.{rules, ◌≡◌, ◌++◌, true, false, sym, ap, ◌∙◌, subst, append_assoc, append-nil}
-use Rattle.mmdb_reader.specs.Found.{database_asked, leaf_of, offset_found}
-use Rattle.mmdb_enrich.specs.Members.{comma_behind, IsMember}
-use Rattle.mmdb_enrich.proofs.AddedLaws.{held}
-use Rattle.mmdb_enrich.proofs.MemberLaws.{member_added}
-use Rattle.mmdb_enrich.proofs.json_enrichment.JsonEnrichment.put_record.Goals.{then-not-line+in_ok-push-in-Some, else-not-line}
+use Rattle.std.proofs.Common.{◌≡◌, ℕ, List, Some, IfSome, IfNone, subst}
+use Rattle.mmdb_reader.specs.File.{data_section}
+use Rattle.mmdb_reader.specs.Found.{database_asked, offset_found}
+use Rattle.mmdb_enrich.specs.Fields.{IsMember, HasRefused}
+use Rattle.mmdb_enrich.specs.Wanted.{member}
+use Rattle.mmdb_enrich.specs.declared.members.Field.{Field}
+use Rattle.mmdb_enrich.proofs.MemberLaws.{member_kept}
 use Rattle.mmdb_enrich.proofs.json_enrichment.JsonEnrichment.put_record.Goals as goal
 
-pub returns-in_ok-extend_from_slice-in-Some-clause-added : goal.returns-in_ok-extend_from_slice-in-Some-clause-added
-returns-in_ok-extend_from_slice-in-Some-clause-added g c =
-    let out = c.args.out.now.items in
-    let empty = c.args.line.now.is_empty in
-    let text = c.in-Some.member.items in
-    let comma : c.if-not-line.out.items ≡ out ++ comma_behind empty =
-    elim c.if-not-line.branch [
-      | then-not-line+in_ok-push-in-Some w ↦ let no : empty ≡ false = search rules in ap (λ o. o.items) w.out-is ∙ w.in_ok-push-in-Some.ensures.items ∙ ap (λ b. out ++ comma_behind b) (sym no)
-      | else-not-line w ↦ let yes : empty ≡ true = search rules in ap (λ o. o.items) w.out-is ∙ sym (append-nil out) ∙ ap (λ b. out ++ comma_behind b) (sym yes)
-    ] in
-    let put : c.extend_from_slice.new.self.items ≡ out ++ (comma_behind empty ++ text) =
-    c.in_ok-extend_from_slice-in-Some.ensures.items ∙ ap (λ t. c.if-not-line.out.items ++ t) c.as_slice-in-Some.ensures.value ∙ ap (λ o. o ++ text) comma ∙ append_assoc out (comma_behind empty) text in
-    let is = held c.in_ok-member.field-0 c.in-Some.member _ c.in-Some.is c.in_ok-member.ensures in (
-      comma_behind empty ++ text,
-      member_added c.args.self.now.reader.now (database_asked c.args.found.now) c.args.self.now.name.now c.args.self.now.fields.items empty c.args.line.now.behind c.args.line.now.address (leaf_of c.args.found.now) (offset_found c.args.found.now) text
-          c.requires.asked c.requires.at c.requires.answered
-          (λ here e. subst (λ f. IsMember (database_asked c.args.found.now) c.args.self.now.name.now f here text) c.as_slice.ensures.value (is here e)),
-      put,
-    )
+pub returns-clause-kept : goal.returns-clause-kept
+returns-clause-kept g c =
+    let db = c.args.self.now.reader.now in
+    let name = c.args.self.now.name.now in
+    let fields = c.args.self.now.fields.items in
+    let asked = database_asked c.args.found.now in
+    let found = offset_found c.args.found.now in
+    let told = c.in_ok-member.member in
+    let kept = c.kept_of-kept.result in
+    let some = subst (λ (fs : List Field). IfSome told (λ text. (here : ℕ) → found ≡ Some here → IsMember asked name fs here text.items)) c.as_slice.ensures.value c.in_ok-member.ensures.some in
+    let none = subst (λ (fs : List Field). IfNone told ((here : ℕ) → found ≡ Some here → HasRefused fs (data_section asked) here)) c.as_slice.ensures.value c.in_ok-member.ensures.none in
+    c.keep.ensures (member db name fields) c.requires.kept (member_kept db asked name fields found c.args.offset told kept.cells.now kept.outcome c.requires.asked c.requires.at some none c.kept_of-kept.ensures)

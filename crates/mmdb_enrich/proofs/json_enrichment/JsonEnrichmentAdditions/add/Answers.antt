@@ -1,18 +1,32 @@
-use Rattle.std.proofs.Common.{ℕ, [], inl, refl, sym, subst, append-nil}
-use Rattle.std.specs.declared.net.ip_addr.IpAddr.{IpAddr}
-use Rattle.json.specs.Json.{Members}
-use Rattle.mmdb_enrich.specs.Objects.{IsObject, LeadsToAddress}
-use Rattle.mmdb_enrich.proofs.ObjectLaws.{held_none}
+use Rattle.std.proofs.Common.{[], inl, inr, refl, sym, subst, append-nil}
+use Rattle.mmdb_enrich.specs.Members.{AddsMemberFor}
+use Rattle.mmdb_enrich.specs.Objects.{ReadsLine}
+use Rattle.mmdb_enrich.specs.declared.objects.ReadLine.TheVariants.{NoAddress, Object}
 use Rattle.mmdb_enrich.proofs.json_enrichment.JsonEnrichmentAdditions.add.Goals as goal
 
-pub returns-in-None-clause-added : goal.returns-in-None-clause-added
-returns-in-None-clause-added g c =
-    let none = held_none c.in_ok-line.field-0 _ c.in-None.is c.in_ok-line.ensures.none in (
-      [],
-      inl (
-        refl,
-        c.nothing.ensures.0,
-        subst (λ p. (members : Members) (at : ℕ) (address : IpAddr) → IsObject c.args.text.now c.args.is_long members at → LeadsToAddress p members address → ⊥) c.as_slice.ensures.value none,
-      ),
-      sym (append-nil c.args.out.now.items),
+pub returns-in_ok-put_address-in-Object-clause-added : goal.returns-in_ok-put_address-in-Object-clause-added
+returns-in_ok-put_address-in-Object-clause-added g c =
+    let text = c.args.text.now in
+    let line = c.in-Object.line in
+    let told = c.in_ok-put_address-in-Object.field-0 in
+    let reads = subst (ReadsLine text c.args.is_long c.as_slice-path.result.now) c.in-Object.is c.in_ok-line.ensures in
+    let (members, is, leads, empty) = subst (λ p. ReadsLine text c.args.is_long p (Object line)) c.as_slice-path.ensures.value reads in
+    let (extra, adds, put) = c.in_ok-put_address-in-Object.ensures.added in (
+      extra,
+      inr (inr (
+        members,
+        line.behind,
+        line.address,
+        is,
+        leads,
+        subst (λ b. AddsMemberFor c.args.self.now.reader.now c.args.self.now.name.now c.args.self.now.fields.items b line.behind line.address extra told.behind told.outcome) empty adds,
+      )),
+      put,
     )
+
+pub returns-in-NoAddress-clause-added : goal.returns-in-NoAddress-clause-added
+returns-in-NoAddress-clause-added g c =
+    let text = c.args.text.now in
+    let reads = subst (ReadsLine text c.args.is_long c.as_slice-path.result.now) c.in-NoAddress.is c.in_ok-line.ensures in
+    let none = subst (λ p. ReadsLine text c.args.is_long p NoAddress) c.as_slice-path.ensures.value reads in
+    ([], inr (inl (refl, c.nothing.ensures.0, none)), sym (append-nil c.args.out.now.items))

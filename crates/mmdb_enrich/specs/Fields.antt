@@ -1,0 +1,33 @@
+-- The member of an object that the fields of a record make.
+use Rattle.std.specs.Prelude.{◌≡◌, ◌⊎◌, ℕ, List, [], ◌∷◌, ◌++◌, Some, None, Bool}
+use Rattle.json.specs.Print.{print}
+use Rattle.json.specs.Token.{Token, key, begin_object, end_object}
+use Rattle.mmdb_reader.specs.File.{Database, data_section}
+use Rattle.mmdb_reader.specs.declared.path.PathElement.{PathElement}
+use Rattle.mmdb_json.specs.Found.{WritesAlong}
+use Rattle.mmdb_enrich.specs.Cells.{read_at}
+use Rattle.mmdb_enrich.specs.declared.members.Field.{Field}
+
+-- the tokens of what stands along a path in a record, or `null` where nothing does
+abbrev pub AreValue : List PathElement → List ℕ → ℕ → List Token → Type 0
+AreValue path s offset tokens = (is_found : Bool) × WritesAlong path s (Some offset) is_found [] tokens
+
+-- for each field its name, and the value along its path
+abbrev pub AreFields : List Field → List ℕ → ℕ → List Token → Type 0
+AreFields [] s offset tokens = tokens ≡ []
+AreFields (field ∷ fields) s offset tokens =
+    (value rest : List Token) × (tokens ≡ key field.name.now ∷ (value ++ rest)) × AreValue field.path.items s offset value × AreFields fields s offset rest
+
+-- the way to a field, or its value, is refused
+abbrev pub HasRefused : List Field → List ℕ → ℕ → Type 0
+HasRefused [] s offset = ⊥
+HasRefused (field ∷ fields) s offset = (read_at field.path.items s offset ≡ None) ⊎ HasRefused fields s offset
+
+-- a name, and an object of these members
+abbrev pub member_tokens : List ℕ → List Token → List Token
+member_tokens name tokens = key name ∷ (begin_object ∷ (tokens ++ end_object ∷ []))
+
+-- the text of a member with the fields of a record: its name, and an object
+abbrev pub IsMember : Database → List ℕ → List Field → ℕ → List ℕ → Type 0
+IsMember db name fields offset text =
+    (tokens : List Token) × AreFields fields (data_section db) offset tokens × (text ≡ print (member_tokens name tokens))
