@@ -6,6 +6,7 @@
 mod block;
 mod joiner;
 pub mod laws;
+mod network;
 mod waiting;
 
 pub use block::Block;

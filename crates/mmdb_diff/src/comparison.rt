@@ -1,10 +1,14 @@
 //! Two databases side by side.
-use crate::blocks::{largest_block, last_of};
+ghost use Rattle.std.specs.Prelude.{Option, ℕ, MatchOption, IfOk, ◌≡◌, ◌≤◌};
+ghost use Rattle.mmdb_diff.specs.Parts.{IsNextPart, start_of};
+
+use crate::blocks::largest_block;
 use crate::walk::{Fault, Here, Walk};
 use mmdb_blocks::Block;
 use mmdb_reader::{IpNetwork, LookupResult, MaxMindDbError, Reader};
 use std::alloc::Global;
 use std::convert::AsSlice;
+use std::marker::Model;
 
 /// One of the two databases.
 #[derive(Clone, Copy, PartialEq, Eq)]
@@ -41,6 +45,12 @@ pub struct Comparison<'a, S: AsSlice<u8> + Drop> {
     at: Option<u128>,
 }
 
+impl<'a, S: AsSlice<u8> + Drop> Model for Comparison<'a, S> {
+    ghost Value = { Option ℕ };
+
+    ghost view = { λ c. c.at };
+}
+
 // The address up to which something holds.
 fn until(here: Here) -> u128 {
     match here {
@@ -66,7 +76,9 @@ impl<'a, S: AsSlice<u8> + Drop> Comparison<'a, S> {
         old: &'a Reader<S>,
         new: &'a Reader<S>,
         range: IpNetwork,
-    ) -> Result<Comparison<'a, S>, (Side, MaxMindDbError)> {
+    ) -> Result<Comparison<'a, S>, (Side, MaxMindDbError)>
+        ensures { IfOk result (λ comparison. start_of comparison ≡ 0) }
+    {
         let old = match Walk::new(alloc, old, range) {
             Ok(walk) => walk,
             Err(error) => return Err((Side::Old, error)),
@@ -83,7 +95,10 @@ impl<'a, S: AsSlice<u8> + Drop> Comparison<'a, S> {
     }
 
     // Goes on to an address in both, or gives a leaf that can't be read.
-    fn go_to(&mut self, at: u128) -> Option<Part> {
+    fn go_to(&mut self, at: u128) -> Option<Part>
+        ensures none { MatchOption result (self.exit.now ≡ self.entry.now) (λ _. Unit) }
+        ensures some { MatchOption result Unit (λ part. IsNextPart self.entry.now self.exit.now part) }
+    {
         if let Some(fault) = self.old.go_to(at) {
             return Some(Part::Fault {
                 side: Side::Old,
@@ -98,15 +113,19 @@ impl<'a, S: AsSlice<u8> + Drop> Comparison<'a, S> {
     }
 
     // The part of what both have at an address, if there is something to compare. Goes behind it.
-    fn part_at(&mut self, at: u128) -> Option<Part> {
+    fn part_at(&mut self, at: u128) -> Option<Part>
+        requires { start_of self.now ≡ at }
+        ensures none { MatchOption result (start_of self.entry.now ≤ start_of self.exit.now) (λ _. Unit) }
+        ensures some { MatchOption result Unit (λ part. IsNextPart self.entry.now self.exit.now part) }
+    {
         let (old, new) = (self.old.at(at), self.new.at(at));
-        let last = until(old).min(until(new));
+        let last = until(old).min(until(new)).max(at);
         if !is_compared(old, new) {
             self.at = last.checked_add(1);
             return None;
         }
         let block = largest_block(at, last);
-        self.at = last_of(block).checked_add(1);
+        self.at = block.last().checked_add(1);
         let (has_old, has_new) = (is_record(old), is_record(new));
         let shows_ipv4 = has_old && self.old.is_ipv4() || has_new && self.new.is_ipv4();
         Some(Part::Stretch(Stretch {
@@ -117,8 +136,10 @@ impl<'a, S: AsSlice<u8> + Drop> Comparison<'a, S> {
         }))
     }
 
-    /// The next part, ascending. None where all is compared.
-    pub fn next_part(&mut self) -> Option<Part> {
+    /// The next part. A stretch begins where the one before ends, or later. None where all is compared.
+    pub fn next_part(&mut self) -> Option<Part>
+        ensures { MatchOption result Unit (λ part. IsNextPart self.entry.now self.exit.now part) }
+    {
         for _ in 0..u64::MAX {
             let at = self.at?;
             let fault = self.go_to(at);

@@ -1,5 +1,4 @@
 //! The networks of one database.
-use crate::blocks::{block_of, last_of};
 use mmdb_blocks::Block;
 use mmdb_reader::{IpNetwork, LookupResult, MaxMindDbError, Reader, Within, WithinOptions};
 use std::alloc::Global;
@@ -15,7 +14,8 @@ pub struct Fault {
 // A network with what was found there, as much of it as lies in the range.
 #[derive(Drop)]
 struct Piece<'a, S: AsSlice<u8> + Drop> {
-    block: Block,
+    first: u128,
+    last: u128,
     is_ipv4: bool,
     found: LookupResult<'a, S>,
 }
@@ -24,7 +24,7 @@ struct Piece<'a, S: AsSlice<u8> + Drop> {
 #[derive(Drop)]
 pub(crate) struct Walk<'a, S: AsSlice<u8> + Drop> {
     networks: Within<'a, S>,
-    range: Block,
+    range: IpNetwork,
     here: Option<Piece<'a, S>>,
     /// The last network that was met.
     behind: Option<IpNetwork>,
@@ -48,15 +48,17 @@ pub(crate) enum Here {
 fn piece_of<'a, S: AsSlice<u8> + Drop>(
     found: LookupResult<'a, S>,
     network: IpNetwork,
-    range: Block,
+    range: IpNetwork,
 ) -> Piece<'a, S> {
-    let whole = block_of(network);
+    let (whole, range) = (Block::of_network(network), Block::of_network(range));
+    let block = if whole.prefix < range.prefix {
+        range
+    } else {
+        whole
+    };
     Piece {
-        block: if whole.prefix < range.prefix {
-            range
-        } else {
-            whole
-        },
+        first: block.first,
+        last: block.last(),
         is_ipv4: matches!(network, IpNetwork::V4(_)),
         found,
     }
@@ -71,7 +73,7 @@ impl<'a, S: AsSlice<u8> + Drop> Walk<'a, S> {
     ) -> Result<Walk<'a, S>, MaxMindDbError> {
         Ok(Walk {
             networks: reader.within(alloc, range, WithinOptions::default())?,
-            range: block_of(range),
+            range,
             here: None,
             behind: None,
             is_unknown: false,
@@ -111,7 +113,7 @@ impl<'a, S: AsSlice<u8> + Drop> Walk<'a, S> {
     // Whether the piece ends before an address, or there is none yet.
     fn is_behind(&self, at: u128) -> bool {
         match &self.here {
-            Some(piece) => last_of(piece.block) < at,
+            Some(piece) => piece.last < at,
             None => !self.is_over,
         }
     }
@@ -136,8 +138,8 @@ impl<'a, S: AsSlice<u8> + Drop> Walk<'a, S> {
     /// What the database has at an address.
     pub(crate) fn at(&self, at: u128) -> Here {
         let until = match &self.here {
-            Some(piece) if piece.block.first <= at => return Here::Record(last_of(piece.block)),
-            Some(piece) => piece.block.first.saturating_sub(1),
+            Some(piece) if piece.first <= at => return Here::Record(piece.last),
+            Some(piece) => piece.first.saturating_sub(1),
             None => u128::MAX,
         };
         if self.is_unknown {

@@ -1,4 +1,7 @@
 //! The two kinds of addresses, and blocks as networks of one.
+ghost use Rattle.std.specs.Prelude.{◌≡◌, ◌↔◌, IsTrue};
+ghost use Rattle.mmdb_lists.specs.Kinds.{IsWanted, kind_of};
+
 use mmdb_blocks::Block;
 use mmdb_reader::{IpNetwork, IpNetworkError};
 use std::net::{IpAddr, Ipv4Addr, Ipv6Addr};
@@ -19,7 +22,9 @@ pub enum Kinds {
 
 impl Kinds {
     /// Whether a kind is wanted.
-    pub fn has(&self, kind: Kind) -> bool {
+    pub fn has(&self, kind: Kind) -> bool
+        ensures { IsTrue result ↔ IsWanted self.now kind }
+    {
         match self {
             Kinds::Both => true,
             Kinds::One(one) => *one == kind,
@@ -29,7 +34,9 @@ impl Kinds {
 
 impl Kind {
     /// The kind of a network's addresses.
-    pub fn of(network: IpNetwork) -> Kind {
+    pub fn of(network: IpNetwork) -> Kind
+        ensures { result ≡ kind_of network }
+    {
         match network {
             IpNetwork::V4(_) => Kind::Ipv4,
             IpNetwork::V6(_) => Kind::Ipv6,
@@ -46,19 +53,5 @@ impl Kind {
             ),
             Kind::Ipv6 => IpNetwork::new(IpAddr::V6(Ipv6Addr::from(block.first)), block.prefix),
         }
-    }
-}
-
-/// The block of a network's addresses.
-pub(crate) fn block_of(network: IpNetwork) -> Block {
-    match network.network() {
-        IpAddr::V4(address) => Block {
-            first: u128::from(address.to_bits()),
-            prefix: network.prefix().saturating_add(96),
-        },
-        IpAddr::V6(address) => Block {
-            first: address.to_bits(),
-            prefix: network.prefix(),
-        },
     }
 }

@@ -1,5 +1,5 @@
 //! Lists of the fewest networks that have the addresses of those that are pushed.
-use crate::kind::{Kind, Kinds, block_of};
+use crate::kind::{Kind, Kinds};
 use crate::syntax::Syntax;
 use mmdb_blocks::{Block, Joiner};
 use mmdb_reader::{IpNetwork, IpNetworkError};
@@ -168,7 +168,7 @@ impl<'a> List<'a> {
             return Ok(());
         }
         self.change_to(kind, out)?;
-        match self.joiner.push(block_of(network)) {
+        match self.joiner.push(Block::of_network(network)) {
             Ok(()) => self.put_settled(kind, out),
             Err(_) => Err(ListError::OutOfOrder),
         }

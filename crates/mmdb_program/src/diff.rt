@@ -239,13 +239,15 @@ fn compare_all<S: AsSlice<u8> + Drop, O: Write, E: Write>(
     Ok(())
 }
 
-// Reports what was counted, and answers the status.
-fn report_counts<E: Write>(
+// Reports what was counted behind what was written, and answers the status.
+fn report_counts<O: Write, E: Write>(
     alloc: Global,
     counts: Counts,
     exit_code: bool,
+    out: &mut O,
     err: &mut E,
 ) -> Result<u8, ProgramError> {
+    flush(out)?;
     let text = counts.text(alloc)?;
     let _ = err.write_all(text.as_bytes());
     if counts.faults > 0 {
@@ -298,7 +300,7 @@ fn compare<S: AsSlice<u8> + Drop, O: Write, E: Write>(
     };
     put_names(alloc, &wanted.layout, out)?;
     compare_all(alloc, wanted, comparison, &mut so_far, out, err)?;
-    report_counts(alloc, so_far.counts, wanted.exit_code, err)
+    report_counts(alloc, so_far.counts, wanted.exit_code, out, err)
 }
 
 // Compares two databases, and answers the status.

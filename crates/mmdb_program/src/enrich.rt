@@ -1,11 +1,10 @@
 //! Rows with fields behind them.
 use crate::error::ProgramError;
 use crate::meter::Meter;
-use crate::output::DONE;
+use crate::output::{DONE, flush};
 use crate::task::{Column, EnrichTask, JsonTask};
 use csv::{ByteRecord, ReaderBuilder};
-use json::Scratch;
-use mmdb_enrich::{Cache, Enrichment, JsonEnrichment, delimiter_of, put_csv_cell};
+use mmdb_enrich::{Cache, Enrichment, JsonEnrichment, JsonMemory, delimiter_of, put_csv_cell};
 use mmdb_filter::{Counts, MOST_SEEN, Place, Rows, filter_rows, read_piece};
 use mmdb_reader::Reader;
 use std::alloc::{AllocError, Global};
@@ -142,20 +141,45 @@ fn column_of<I: BufRead, O: Write>(
     }
 }
 
-// Reports how rows fared.
-fn report_counts<E: Write>(alloc: Global, counts: Counts, err: &mut E) {
+// How rows fared, in words.
+fn text_of_rows(alloc: Global, counts: Counts) -> Result<String, AllocError> {
     let Counts {
         found,
         absent,
         unreadable,
         refused,
+        ..
     } = counts;
-    let text: Result<String, AllocError> = format!(in alloc;
+    format!(in alloc;
         "mmdb: {found} lines with a record, {absent} without, {unreadable} without an address, {refused} refused\n"
-    );
+    )
+}
+
+// How lines of JSON fared, in words.
+fn text_of_objects(alloc: Global, counts: Counts) -> Result<String, AllocError> {
+    let Counts {
+        found,
+        absent,
+        unreadable,
+        malformed,
+        refused,
+    } = counts;
+    format!(in alloc;
+        "mmdb: {found} lines with a record, {absent} without, {unreadable} without an address, {refused} refused, {malformed} not objects of JSON\n"
+    )
+}
+
+// Writes how rows fared, behind what was written. It is left out where there is no memory for it.
+fn report_counts<O: Write, E: Write>(
+    text: Result<String, AllocError>,
+    out: &mut O,
+    err: &mut E,
+) -> Result<(), ProgramError> {
+    flush(out)?;
     if let Ok(text) = text {
         let _ = err.write_all(text.as_bytes());
     }
+    Ok(())
 }
 
 // Copies rows with fields behind each, and counts how they fared. How many passed is shown on a terminal meanwhile.
@@ -183,7 +207,7 @@ fn enrich_rows<S: AsSlice<u8> + Drop, I: BufRead, O: Write, E: Write>(
     err: &mut E,
 ) -> Result<u8, ProgramError> {
     let counts = copy_rows(enrichment, is_terminal, input, out, err)?;
-    report_counts(enrichment.alloc, counts, err);
+    report_counts(text_of_rows(enrichment.alloc, counts), out, err)?;
     Ok(DONE)
 }
 
@@ -218,13 +242,13 @@ fn copy_objects<S: AsSlice<u8> + Drop, I: BufRead, O: Write, E: Write>(
     err: &mut E,
 ) -> io::Result<Counts> {
     let alloc = enrichment.alloc;
-    let mut scratch = Scratch::new(alloc);
+    let mut memory = JsonMemory::new(alloc)?;
     let mut meter = Meter::new(alloc, is_terminal, err);
     let counts = filter_rows(
         alloc,
         Rows::Lines,
         enrichment,
-        &mut scratch,
+        &mut memory,
         input,
         out,
         &mut meter,
@@ -252,6 +276,6 @@ pub(crate) fn enrich_json<S: AsSlice<u8> + Drop, I: BufRead, O: Write, E: Write>
         fields,
     };
     let counts = copy_objects(&enrichment, is_terminal, input, out, err)?;
-    report_counts(alloc, counts, err);
+    report_counts(text_of_objects(alloc, counts), out, err)?;
     Ok(DONE)
 }
