@@ -46,7 +46,7 @@ item_at s p =
 -- where a step of a path ended: at an offset, at none, or in an error
 abbrev pub offset_led_to : Option (Bool × State) → Option (Option ℕ)
 offset_led_to None = None
-offset_led_to (Some (true, after)) = Some (Some after.place)
+offset_led_to (Some (true, after)) = Some (Some after.offset)
 offset_led_to (Some (false, after)) = Some None
 
 -- where a step leads from an offset of a section

@@ -5,7 +5,7 @@ ghost use Rattle.mmdb_format.specs.Views.{content_view};
 ghost use Rattle.mmdb_c.specs.Items.{low_of, high_of, item_at as spec_item_at};
 
 use mmdb_format::content::{Content, content_at, content_end};
-use mmdb_format::fault::Fault;
+use mmdb_format::decode_error_kind::DecodeErrorKind;
 use mmdb_format::header::{Header, Pointer, header_at, pointer_at};
 use mmdb_format::kind::{ARRAY, MAP, POINTER};
 
@@ -46,7 +46,7 @@ fn halves(content: Content<'_>) -> (u64, u64)
 // The value at an offset; a pointer is not followed.
 #[inline(always)]
 #[tactic(auto, unfolding(crate::specs::Items::item_at))]
-fn item_at(section: &[u8], offset: usize) -> Result<Item, Fault>
+fn item_at(section: &[u8], offset: usize) -> Result<Item, DecodeErrorKind>
     ensures { result_ok result ≡ spec_item_at section.now offset }
 {
     let header = header_at(section, offset)?;

@@ -45,7 +45,7 @@ passes_values s (PointerThen a target rest) p n q r left cost h (end, k, e, one,
     passes_as s p n r left left ((cost + 1) + own rest) (cost + suc (own rest)) refl (omega arith)
     (passes_values s rest p n end r left (cost + 1) (pointer_passed (passes_as s p n q (suc (count rest) + left) (suc (count rest + left)) cost cost (omega arith) refl h) e) st)
 
--- ---- the way of places under check
+-- ---- the way of offsets under check
 
 ends_more : (s : List ℕ) (a n cost t : ℕ) → EndsAtPointer s a n cost t → (p m r more : ℕ) → Passes s p m a (n + r) more → EndsAtPointer s p m (more + cost) t
 ends_more s a n cost t (q, left, end, before, g, e, c) p m r more h =
@@ -53,7 +53,7 @@ ends_more s a n cost t (q, left, end, before, g, e, c) p m r more h =
 
 goes_more : (s : List ℕ) (a n cost : ℕ) (parts : List Part) → GoesOn s a n cost parts → (p m r more : ℕ) → Passes s p m a (n + r) more → GoesOn s p m (more + cost) parts
 goes_more s a n cost [] w p m r more h = tt
-goes_more s a n cost (x ∷ parts) w p m r more h = (ends_more s a n cost x.place w.0 p m r more h, w.1)
+goes_more s a n cost (x ∷ parts) w p m r more h = (ends_more s a n cost x.offset w.0 p m r more h, w.1)
 
 goes_by : (s : List ℕ) (p a end : ℕ) (A : Type 0) (parts : List Part) → inline_at s p ≡ Some (Pointer a end) → IsWay s A a parts → GoesOn s p 1 (1 + 0) parts
 goes_by s p a end A [] e w = tt
@@ -175,7 +175,7 @@ halted_below s m l a m1 l1 sound unseen inside w =
     let long : a < length m = omega (arith, inside, sound.len) in
     let here : mark (set m a 1) a ≡ 1 = mark_same m a 1 long in
     record {
-      parts = record { place = a; cost = w.cost } ∷ w.rest.parts;
+      parts = record { offset = a; cost = w.cost } ∷ w.rest.parts;
       passed = (w.part, w.rest.passed);
       once = (not_true (is_under w.rest.parts a) (λ u. let none = w.rest.fresh a u in omega (arith, here, none)), w.rest.once);
       fresh = λ q u. elim (or_cases (q == a) (is_under w.rest.parts q) u) [
@@ -213,7 +213,7 @@ way_out : (s : List ℕ) (A B : Type 0) (p : ℕ) (parts : List Part) → (A →
 way_out s A B p [] f w = f w
 way_out s A B p (x ∷ parts) f w = w
 
--- a place that is known, and is not under check, is good
+-- an offset that is known, and is not under check, is good
 known_good : (s m m1 : List ℕ) (p : ℕ) → (mark m p ≢ 1) → (1 ≤ mark m p → mark m1 p ≡ mark m p) → (1 ≤ mark m p) ⊎ (length s ≤ p) → (holds (map (leb 2) m1) p ≡ true) ⊎ (length s ≤ p)
 known_good s m m1 p idle kept (inl seen) =
     inl (marked m1 p ∙ good_when m1 p (mark m1 p) refl (let same = kept seen in let other : 2 ≤ mark m p = omega (arith, idle, seen) in omega (arith, same, other)))

@@ -1,4 +1,4 @@
--- A set whose places are bits of words.
+-- A set whose offsets are bits of words.
 use Rattle.std.proofs.Common.{◌≡◌, ◌≢◌, ℕ, ◌+◌, ◌-◌, ◌*◌, ◌^◌, ◌<◌, ◌≤◌, ◌/◌, ◌%◌, ◌==◌, ◌||◌, List, length, Bool, true, false, Option, Some, None, w64, bit_or, slice_index, set, replicate, refl, sym, ◌∙◌, ap, subst, inl, inr, arith, get_or-set_other, get_or-set_same}
 use Rattle.std.proofs.Math.Nat.{div-add-mod, mod-lt, div-le_self}
 use Rattle.std.proofs.lemmas.Bool.{cases_eq, cases_lt, eq-eqb, ne_eqb}
@@ -9,7 +9,7 @@ use Rattle.std.proofs.lemmas.Nat.{shr-shr}
 use Rattle.std.specs.Int.{bit_at, trailing_zeros}
 use Rattle.std.specs.Option.{MatchOption}
 use Rattle.mmdb_check.specs.Checking.{holds}
-use Rattle.mmdb_check.specs.Places.{set_of, HasNoneFrom, IsNext, HasNoBit, IsLowest}
+use Rattle.mmdb_check.specs.OffsetSet.{set_of, HasNoneFrom, IsNext, HasNoBit, IsLowest}
 
 or_same : (x : Bool) → (x || true) ≡ true
 or_same true = refl
@@ -19,7 +19,7 @@ or_not : (x : Bool) → x ≡ (x || false)
 or_not true = refl
 or_not false = refl
 
--- whether a place has its bit
+-- whether an offset has its bit
 abbrev pub has_bit : List ℕ → ℕ → Bool
 has_bit words q = bit_at (slice_index words (q / 64)) (q % 64) == 1
 
@@ -83,7 +83,7 @@ module _ (words : List ℕ) (p : ℕ) (inside : p / 64 < length words) where
         holds-past (set words (p / 64) new) n q high ∙ sym (ap (λ b. b || (p == q)) (holds-past words n q high) ∙ apart)
   ]
 
--- ---- no places
+-- ---- no offsets
 
 zero-bit : (k : ℕ) → (bit_at 0 k == 1) ≡ false
 zero-bit k = ap (λ b. b == 1) (bit_at-zero k)
@@ -100,13 +100,13 @@ holds_none words m n q e = elim (cases_lt q n) [
   | inr high ↦ holds-past words n q high
 ]
 
--- ---- the next place
+-- ---- the next offset
 
--- none of the places from a up to b has its bit
+-- none of the offsets from a up to b has its bit
 abbrev pub NoneIn : List ℕ → ℕ → ℕ → Type 0
 NoneIn words a b = (q : ℕ) → a ≤ q → q < b → has_bit words q ≡ false
 
--- the place of a bit in a word
+-- the offset of a bit in a word
 bit-in : (words : List ℕ) (j k q : ℕ) → q ≡ j * 64 + k → k < 64 → has_bit words q ≡ (bit_at (slice_index words j) k == 1)
 bit-in words j k q e l =
     let part : q / 64 ≡ j = omega (arith, e, l, div-add-mod q 64, mod-lt q {m = 64} (omega arith)) in
@@ -139,7 +139,7 @@ lowest-bit w from fits some =
           ap (bit_at w) (omega arith) ∙ sym (shifted w from i) ∙ at.2 i (omega arith));
     }
 
--- a word without a bit from one on has no place there
+-- a word without a bit from one on has no offset there
 pub none-in-word : (words : List ℕ) (first j k : ℕ) → HasNoBit (slice_index words j) k → NoneIn words first (j * 64 + k) → NoneIn words first ((j + 1) * 64)
 none-in-word words first j k none before q from below = elim (cases_lt q (j * 64 + k)) [
   | inl low ↦ before q from low
@@ -160,7 +160,7 @@ none-is words n first p l before q from = elim (cases_lt q n) [
   | inr high ↦ holds-past words n q high
 ]
 
--- what is answered of a place that is the next one, if it is one of the section
+-- what is answered of an offset that is the next one, if it is one of the section
 answered : (words : List ℕ) (n first p : ℕ) (s : List Bool) → set_of words n ≡ s → first ≤ p → has_bit words p ≡ true → NoneIn words first p → (r : Option ℕ)
     → MatchOption r (length s ≤ p) (λ same. (same ≡ p) × (p < length s)) → MatchOption r (HasNoneFrom s first) (IsNext s first)
 answered words n first p s e after is before None past =
@@ -170,7 +170,7 @@ answered words n first p s e after is before (Some x) (same, inside) =
     let long = ap length e in
     subst (λ z. IsNext z first x) e (subst (IsNext (set_of words n) first) (sym same) (next-is words n first p after (omega (arith, inside, long, length-set_of words n)) is before))
 
--- the lowest bit of a word is the next place
+-- the lowest bit of a word is the next offset
 pub next-in-word : (words : List ℕ) (n first j k bit : ℕ) (s : List Bool) → set_of words n ≡ s → IsLowest (slice_index words j) k bit
     → first ≤ j * 64 + k → NoneIn words first (j * 64 + k) → (r : Option ℕ)
     → MatchOption r (length s ≤ j * 64 + bit) (λ same. (same ≡ j * 64 + bit) × (j * 64 + bit < length s)) → MatchOption r (HasNoneFrom s first) (IsNext s first)

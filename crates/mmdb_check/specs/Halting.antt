@@ -6,7 +6,7 @@ use Rattle.mmdb_check.specs.Checking.{Costs}
 use Rattle.mmdb_check.specs.Values.{work_of}
 use Rattle.mmdb_check.specs.Memory.{mark, is_good, Sound}
 
--- Of n values that stand one after the other from p, a part was passed in the order of the file: up to the place q,
+-- Of n values that stand one after the other from p, a part was passed in the order of the file: up to the offset q,
 -- where so many values are still to come. It costs one for each value and pointer, and one for each byte of a text.
 pub data Passes : List ℕ → ℕ → ℕ → ℕ → ℕ → ℕ → Type 0 where
   none_passed : {s : List ℕ} {p n : ℕ} → Passes s p n p n 0
@@ -22,40 +22,40 @@ abbrev pub EndsAtPointer : List ℕ → ℕ → ℕ → ℕ → ℕ → Type 0
 EndsAtPointer s p n cost target =
     (q : ℕ) × (left : ℕ) × (end : ℕ) × (before : ℕ) × Passes s p n q (suc left) before × (inline_at s q ≡ Some (Pointer target end)) × (cost ≡ before + 1)
 
--- a place under check, and what the part of its value cost that was passed
+-- an offset under check, and what the part of its value cost that was passed
 pub record Part : Type 0 where
-  pub place : ℕ
+  pub offset : ℕ
   pub cost : ℕ
 
 abbrev pub is_under : List Part → ℕ → Bool
 is_under [] q = false
-is_under (x ∷ parts) q = (q == x.place) || is_under parts q
+is_under (x ∷ parts) q = (q == x.offset) || is_under parts q
 
 -- each stands once
 abbrev pub Once : List Part → Type 0
 Once [] = Unit {0}
-Once (x ∷ parts) = (is_under parts x.place ≡ false) × Once parts
+Once (x ∷ parts) = (is_under parts x.offset ≡ false) × Once parts
 
--- each of these places is the target of the pointer that was passed last before it, the first of one from p
+-- each of these offsets is the target of the pointer that was passed last before it, the first of one from p
 abbrev pub GoesOn : List ℕ → ℕ → ℕ → ℕ → List Part → Type 0
 GoesOn s p n cost [] = Unit {0}
-GoesOn s p n cost (x ∷ parts) = EndsAtPointer s p n cost x.place × GoesOn s x.place 1 x.cost parts
+GoesOn s p n cost (x ∷ parts) = EndsAtPointer s p n cost x.offset × GoesOn s x.offset 1 x.cost parts
 
--- the places under check: p, and in turn the targets of the pointers that are followed; none where p is no place to
+-- the offsets under check: p, and in turn the targets of the pointers that are followed; none where p is no offset to
 -- be checked
 abbrev pub IsWay : List ℕ → Type 0 → ℕ → List Part → Type 0
-IsWay s NoPlace p [] = NoPlace
-IsWay s NoPlace p (x ∷ parts) = (x.place ≡ p) × GoesOn s x.place 1 x.cost parts
+IsWay s NoOffset p [] = NoOffset
+IsWay s NoOffset p (x ∷ parts) = (x.offset ≡ p) × GoesOn s x.offset 1 x.cost parts
 
 abbrev pub ArePassed : List ℕ → List Part → Type 0
 ArePassed s [] = Unit {0}
-ArePassed s (x ∷ parts) = CostOfPart s x.place 1 x.cost × ArePassed s parts
+ArePassed s (x ∷ parts) = CostOfPart s x.offset 1 x.cost × ArePassed s parts
 
 abbrev pub parts_cost : List Part → ℕ
 parts_cost [] = 0
 parts_cost (x ∷ parts) = x.cost + parts_cost parts
 
--- What was charged is the cost of the good places, and of the parts passed of the places under check, from the place
+-- What was charged is the cost of the good offsets, and of the parts passed of the offsets under check, from the offset
 -- p on, none of which is good.
 pub record IsHalted (s : List ℕ) (good : ℕ → Bool) (p charged : ℕ) : Type 0 where
   pub parts : List Part
@@ -67,7 +67,7 @@ pub record IsHalted (s : List ℕ) (good : ℕ → Bool) (p charged : ℕ) : Typ
   pub good_cost : Costs s good cost
   pub total : charged ≡ cost + parts_cost parts
 
--- The same between two memories, where so much was charged that no place under check was charged for.
+-- The same between two memories, where so much was charged that no offset under check was charged for.
 pub record Halted (s m : List ℕ) (l cost : ℕ) (m' : List ℕ) (l' : ℕ) : Type 0 where
   pub parts : List Part
   pub passed : ArePassed s parts
@@ -78,7 +78,7 @@ pub record Halted (s m : List ℕ) (l cost : ℕ) (m' : List ℕ) (l' : ℕ) : T
   pub sound : Sound s m'
   pub spent : l' + (cost + parts_cost parts) + work_of s (is_good m') ≡ l + work_of s (is_good m)
 
--- the same of the check of the place p
+-- the same of the check of the offset p
 pub record HaltedAt (s m : List ℕ) (l p : ℕ) (m' : List ℕ) (l' : ℕ) : Type 0 where
   pub rest : Halted s m l 0 m' l'
   pub way : IsWay s ((1 ≤ mark m p) ⊎ (length s ≤ p)) p rest.parts

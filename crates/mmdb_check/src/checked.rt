@@ -6,16 +6,16 @@ ghost use Rattle.mmdb_check.specs.Halting.{IsHalted};
 ghost use Rattle.mmdb_check.specs.Memory.{Ready};
 
 use crate::work::{Refusal, UNSEEN, Work};
+use mmdb_format::decode_error_kind::DecodeErrorKind;
 use mmdb_format::error::MaxMindDbError;
-use mmdb_format::fault::Fault;
 use mmdb_format::message::{Message, Text};
 use std::alloc::Global;
 use std::marker::Model;
 
-/// A section of a file, and the places in it that were found good.
+/// A section of a file, and the offsets in it that were found good.
 ///
-/// A place is good whose value is a finite tree of valid texts, at most 128 containers and pointers deep, and
-/// whose pointers lead to good places alone. Each good place costs its own values: one for each value and
+/// An offset is good whose value is a finite tree of valid texts, at most 128 containers and pointers deep, and
+/// whose pointers lead to good offsets alone. Each good offset costs its own values: one for each value and
 /// pointer that stands there under no pointer, and one for each byte of a text among them. Together they may
 /// cost eight times the section's length.
 #[derive(Drop)]
@@ -33,7 +33,7 @@ impl<'s> Model for Checked<'s> {
 }
 
 impl<'s> Checked<'s> {
-    /// A check of this section, no place of which is good yet. It takes a byte of memory for each byte of the
+    /// A check of this section, no offset of which is good yet. It takes a byte of memory for each byte of the
     /// section, and is refused, as `Memory`, only where there is none.
     pub fn new(alloc: Global, section: &'s [u8]) -> Result<Checked<'s>, MaxMindDbError>
         ensures section { IfOk result (λ c. c.section ≡ section.now) }
@@ -50,8 +50,8 @@ impl<'s> Checked<'s> {
                 marks,
                 left,
                 refusal: Refusal {
-                    fault: Fault::EndOfBuffer,
-                    place: 0,
+                    fault: DecodeErrorKind::EndOfBuffer,
+                    offset: 0,
                 },
             },
             failed: false,
@@ -59,22 +59,22 @@ impl<'s> Checked<'s> {
     }
 }
 
-/// Checks the value at a place, and all that it leads to: keys may be of any type, and pointers may lead to
+/// Checks the value at an offset, and all that it leads to: keys may be of any type, and pointers may lead to
 /// pointers.
 ///
 /// It succeeds, whatever memory there is, exactly where no check was refused before, the value can be found
-/// good, and the good places that would result keep the allowance. Refused are, as `InvalidDatabase`, a value
-/// that can't be read, a text that is not UTF-8, a pointer to a place under check and more than 128 levels; as
+/// good, and the good offsets that would result keep the allowance. Refused are, as `InvalidDatabase`, a value
+/// that can't be read, a text that is not UTF-8, a pointer to an offset under check and more than 128 levels; as
 /// `ResourceLimit` more work than is allowed; as `InvalidInput`, and nothing else is, every check after a
 /// refusal. `Memory` takes the place of a refusal whose text finds none. Offsets count from the section's start.
-pub fn check_value(alloc: Global, c: &mut Checked, place: usize) -> Result<(), MaxMindDbError>
+pub fn check_value(alloc: Global, c: &mut Checked, offset: usize) -> Result<(), MaxMindDbError>
     ensures section { c.new.section ≡ c.old.section }
-    ensures exact { IsOk result ↔ ((c.old.failed ≡ false) × CanAdd c.old.section (holds c.old.good) place) }
-    ensures ok { OnOk result (Added c.old.section (holds c.old.good) (holds c.new.good) place) }
+    ensures exact { IsOk result ↔ ((c.old.failed ≡ false) × CanAdd c.old.section (holds c.old.good) offset) }
+    ensures ok { OnOk result (Added c.old.section (holds c.old.good) (holds c.new.good) offset) }
     ensures charged { OnOk result (Costs c.new.section (holds c.new.good) c.new.charged) }
     ensures going { OnOk result (c.new.failed ≡ false) }
     ensures err { OnErr result (c.new.failed ≡ true) }
-    ensures halted { OnErr result (c.old.failed ≡ false → IsHalted c.new.section (holds c.new.good) place c.new.charged) }
+    ensures halted { OnErr result (c.old.failed ≡ false → IsHalted c.new.section (holds c.new.good) offset c.new.charged) }
     ensures after_err { IsRefusedAs OfInput result ↔ (c.old.failed ≡ true) }
 {
     if c.failed {
@@ -83,20 +83,20 @@ pub fn check_value(alloc: Global, c: &mut Checked, place: usize) -> Result<(), M
         });
     }
     c.failed = true;
-    match c.work.target(place, 0) {
+    match c.work.target(offset, 0) {
         Ok(_) => {
             c.failed = false;
             Ok(())
         }
         Err(_) => {
             let refusal = c.work.refusal;
-            Err(refusal.fault.refusal(alloc, refusal.place))
+            Err(refusal.fault.refusal(alloc, refusal.offset))
         }
     }
 }
 
 impl Checked<'_> {
-    // The good places keep the allowance.
+    // The good offsets keep the allowance.
     pub(crate) fn keeps_allowance(&self)
         requires { self.now.failed ≡ false }
         ensures { IsAllowed self.now.section (holds self.now.good) }

@@ -1,4 +1,4 @@
-//! The check of a value and of all that it leads to, with a memory of the places that were found good.
+//! The check of a value and of all that it leads to, with a memory of the offsets that were found good.
 #![tactic(auto)]
 
 pub mod checked;
@@ -6,5 +6,5 @@ pub mod checked;
 pub mod fuzzing;
 mod inline;
 pub mod laws;
-pub mod places;
+pub mod offset_set;
 mod work;

@@ -35,10 +35,10 @@ unfolding entered_parts
 parts_in σ header n left h k = let yes : nat_lt σ.levels 512 ≡ true = grind (arith, nat_tests) in rw (yes, k) refl
 
 -- what stands behind a header
-pub content_none : (header : Header) (σ : State) → content_at σ.section header ≡ None → content_of header σ.section σ.place σ.levels ≡ None
+pub content_none : (header : Header) (σ : State) → content_at σ.section header ≡ None → content_of header σ.section σ.offset σ.levels ≡ None
 unfolding content_of
 content_none header σ h = rw h refl
 
-pub content_some : (header : Header) (σ : State) (c : Scalar) → content_at σ.section header ≡ Some c → content_of header σ.section σ.place σ.levels ≡ Some (record { value = c; next = content_end header; values = 0; bytes = scalar_payload c })
+pub content_some : (header : Header) (σ : State) (c : Scalar) → content_at σ.section header ≡ Some c → content_of header σ.section σ.offset σ.levels ≡ Some (record { value = c; next = content_end header; values = 0; bytes = scalar_payload c })
 unfolding content_of
 content_some header σ c h = rw h refl

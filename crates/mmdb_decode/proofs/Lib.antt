@@ -24,4 +24,4 @@ pub mod RecordStandingLaws
 pub mod ContainerTrees
 pub mod TableLaws
 pub mod FieldNameLaws
-pub mod RememberedLaws
+pub mod MemoLaws

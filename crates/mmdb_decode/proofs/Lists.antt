@@ -14,7 +14,7 @@ use Rattle.mmdb_decode.proofs.ReadingLaws.{seen, decoded-elements, decoded-list,
 use Rattle.mmdb_decode.proofs.StepLaws.{read_free, decoded_begun, some_back, back_trans}
 
 given_here : {A : Type 0} (v : A) (σ : State) → Within σ.budget → decoded false (given v) σ ≡ Some (v, σ)
-given_here v σ w = read_free (given v) σ v σ.place w refl
+given_here v σ w = read_free (given v) σ v σ.offset w refl
 
 -- nothing is left
 pub list_done : {A : Type 0} (read : Meaning A) (whole : Option (List A × State)) (xs : List A) (n : ℕ) (σ τ : State) → whole ≡ seen (λ vs. xs ++ vs) (decoded false (elements read n) σ) → n ≡ 0 → τ ≡ σ → Within τ.budget → whole ≡ Some (xs, τ)
@@ -69,7 +69,7 @@ enters_by σ τ items (Some at) h = enters_left σ τ items at (spent_of (begun 
 
 pub enters : (σ τ : State) (items : Items) → entered_array σ ≡ Some (items, τ) → Enters σ τ items
 unfolding entered_array
-enters σ τ items h = enters_by σ τ items (array_at σ.section σ.place σ.levels) h
+enters σ τ items h = enters_by σ τ items (array_at σ.section σ.offset σ.levels) h
 
 pub same_items : (a b c : Items) (m : ℕ) → b ≡ record a { remaining = b.remaining } → c ≡ record b { remaining = m } → c ≡ record a { remaining = c.remaining }
 same_items a b c m h k = rw k (ap (λ (i : Items). record i { remaining = m }) h)
@@ -94,42 +94,42 @@ pub given_up_list : (σ τ ρ π : State) (items : Items) (levels : ℕ) → Ent
 given_up_list σ τ ρ π items levels h k e = rw e (record { section = k.section ∙ h.section; charges = back_trans σ.budget τ.budget ρ.budget h.charges k.charges })
 
 -- a list of at most so many elements
-few_by : {A : Type 0} (most : ℕ) (read : Meaning A) (σ : State) (at : Entered) → array_at σ.section σ.place σ.levels ≡ Some at → nat_le at.count most ≡ true → decoded true (few_at most read) σ ≡ decoded true (list_at read) σ
+few_by : {A : Type 0} (most : ℕ) (read : Meaning A) (σ : State) (at : Entered) → array_at σ.section σ.offset σ.levels ≡ Some at → nat_le at.count most ≡ true → decoded true (few_at most read) σ ≡ decoded true (list_at read) σ
 unfolding decoded few_at
 few_by most read σ at h k = rw (h, k) refl
 
-few_past : {A : Type 0} (most : ℕ) (read : Meaning A) (σ : State) (at : Entered) → array_at σ.section σ.place σ.levels ≡ Some at → nat_le at.count most ≡ false → decoded true (few_at most read) σ ≡ None
+few_past : {A : Type 0} (most : ℕ) (read : Meaning A) (σ : State) (at : Entered) → array_at σ.section σ.offset σ.levels ≡ Some at → nat_le at.count most ≡ false → decoded true (few_at most read) σ ≡ None
 unfolding decoded few_at
 few_past most read σ at h k = rw (h, k) refl
 
-few_no_array : {A : Type 0} (most : ℕ) (read : Meaning A) (σ : State) → array_at σ.section σ.place σ.levels ≡ None → decoded true (few_at most read) σ ≡ None
+few_no_array : {A : Type 0} (most : ℕ) (read : Meaning A) (σ : State) → array_at σ.section σ.offset σ.levels ≡ None → decoded true (few_at most read) σ ≡ None
 unfolding decoded few_at
 few_no_array most read σ h = rw h refl
 
-pub few_none_by : {A : Type 0} (most : ℕ) (read : Meaning A) (σ : State) (at : Entered) (b : Bool) → array_at σ.section σ.place σ.levels ≡ Some at → nat_le at.count most ≡ b → decoded true (list_at read) σ ≡ None → decoded true (few_at most read) σ ≡ None
+pub few_none_by : {A : Type 0} (most : ℕ) (read : Meaning A) (σ : State) (at : Entered) (b : Bool) → array_at σ.section σ.offset σ.levels ≡ Some at → nat_le at.count most ≡ b → decoded true (list_at read) σ ≡ None → decoded true (few_at most read) σ ≡ None
 few_none_by most read σ at true h e k = few_by most read σ at h e ∙ k
 few_none_by most read σ at false h e k = few_past most read σ at h e
 
-few_none_of : {A : Type 0} (most : ℕ) (read : Meaning A) (σ : State) (o : Option Entered) → array_at σ.section σ.place σ.levels ≡ o → decoded true (list_at read) σ ≡ None → decoded true (few_at most read) σ ≡ None
+few_none_of : {A : Type 0} (most : ℕ) (read : Meaning A) (σ : State) (o : Option Entered) → array_at σ.section σ.offset σ.levels ≡ o → decoded true (list_at read) σ ≡ None → decoded true (few_at most read) σ ≡ None
 few_none_of most read σ None h k = few_no_array most read σ h
 few_none_of most read σ (Some at) h k = few_none_by most read σ at (nat_le at.count most) h refl k
 
 -- where no list is read, none of few elements is
 pub few_none : {A : Type 0} (most : ℕ) (read : Meaning A) (σ : State) → decoded true (list_at read) σ ≡ None → decoded true (few_at most read) σ ≡ None
-few_none most read σ k = few_none_of most read σ (array_at σ.section σ.place σ.levels) refl k
+few_none most read σ k = few_none_of most read σ (array_at σ.section σ.offset σ.levels) refl k
 
 -- the array that was entered
 entered_left : (σ τ : State) (items : Items) (at : Entered) (o : Option (Option Charges)) → (o >>= λ left. Some (entry σ at left)) ≡ Some (items, τ) → at.count ≡ items.remaining
 entered_left σ τ items at None h = absurd (cc)
 entered_left σ τ items at (Some left) h = let p : ◌≡◌ {A = Items × State} (entry σ at left) (items, τ) = cc in ap (λ (x : Items × State). x.0.remaining) p
 
-entered_of : (σ τ : State) (items : Items) (o : Option Entered) → array_at σ.section σ.place σ.levels ≡ o → (o >>= λ at. spent_of (begun true σ.budget) at.count 0 >>= λ left. Some (entry σ at left)) ≡ Some (items, τ) → (at : Entered) × (array_at σ.section σ.place σ.levels ≡ Some at) × (at.count ≡ items.remaining)
+entered_of : (σ τ : State) (items : Items) (o : Option Entered) → array_at σ.section σ.offset σ.levels ≡ o → (o >>= λ at. spent_of (begun true σ.budget) at.count 0 >>= λ left. Some (entry σ at left)) ≡ Some (items, τ) → (at : Entered) × (array_at σ.section σ.offset σ.levels ≡ Some at) × (at.count ≡ items.remaining)
 entered_of σ τ items None e h = absurd (cc)
 entered_of σ τ items (Some at) e h = (at, e, entered_left σ τ items at (spent_of (begun true σ.budget) at.count 0) h)
 
-entered_from : (σ τ : State) (items : Items) → entered_array σ ≡ Some (items, τ) → (at : Entered) × (array_at σ.section σ.place σ.levels ≡ Some at) × (at.count ≡ items.remaining)
+entered_from : (σ τ : State) (items : Items) → entered_array σ ≡ Some (items, τ) → (at : Entered) × (array_at σ.section σ.offset σ.levels ≡ Some at) × (at.count ≡ items.remaining)
 unfolding entered_array
-entered_from σ τ items h = entered_of σ τ items (array_at σ.section σ.place σ.levels) refl h
+entered_from σ τ items h = entered_of σ τ items (array_at σ.section σ.offset σ.levels) refl h
 
 pub few_read : {A : Type 0} (most : ℕ) (read : Meaning A) (σ τ : State) (items : Items) → entered_array σ ≡ Some (items, τ) → items.remaining ≤ most → decoded true (few_at most read) σ ≡ decoded true (list_at read) σ
 few_read most read σ τ items h k = let x = entered_from σ τ items h in let few : nat_le x.0.count most ≡ true = grind (arith, nat_tests, x.2) in few_by most read σ x.0 x.1 few

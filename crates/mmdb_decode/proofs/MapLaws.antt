@@ -20,7 +20,7 @@ abbrev entries_of : State → Entered → Entries
 entries_of σ at = record { remaining = at.count; after = at.after; levels = σ.levels }
 
 abbrev inside_of : State → Entered → Option Charges → State
-inside_of σ at left = record { section = σ.section; place = at.body; levels = at.levels; budget = left }
+inside_of σ at left = record { section = σ.section; offset = at.body; levels = at.levels; budget = left }
 
 abbrev entry : State → Entered → Option Charges → Entries × State
 entry σ at left = (entries_of σ at, inside_of σ at left)
@@ -55,18 +55,18 @@ map_entered pairs σ (Some at) = map_budget σ (at) (begun true σ.budget) (pair
 -- a map: its header, its pairs, its end
 pub decoded-in_map : {A : Type 0} (pairs : ℕ → Meaning A) (σ : State) → decoded true (in_map pairs) σ ≡ (entered_map σ >>= λ x. map_end x.0 (decoded false (pairs x.0.remaining) x.1))
 unfolding decoded in_map entered_map
-decoded-in_map pairs σ = map_entered pairs σ (map_at σ.section σ.place σ.levels)
+decoded-in_map pairs σ = map_entered pairs σ (map_at σ.section σ.offset σ.levels)
 
 -- the steps of entering
-pub map_none : (σ : State) → map_at σ.section σ.place σ.levels ≡ None → entered_map σ ≡ None
+pub map_none : (σ : State) → map_at σ.section σ.offset σ.levels ≡ None → entered_map σ ≡ None
 unfolding entered_map
 map_none σ h = rw h refl
 
-pub map_past : (σ : State) (at : Entered) → map_at σ.section σ.place σ.levels ≡ Some at → spent_of (begun true σ.budget) (2 * at.count) 0 ≡ None → entered_map σ ≡ None
+pub map_past : (σ : State) (at : Entered) → map_at σ.section σ.offset σ.levels ≡ Some at → spent_of (begun true σ.budget) (2 * at.count) 0 ≡ None → entered_map σ ≡ None
 unfolding entered_map
 map_past σ at h k = rw (h, k) refl
 
-pub map_in : (σ : State) (at : Entered) (left : Option Charges) → map_at σ.section σ.place σ.levels ≡ Some at → spent_of (begun true σ.budget) (2 * at.count) 0 ≡ Some left → entered_map σ ≡ Some (record { remaining = at.count; after = at.after; levels = σ.levels }, state σ.section at.body at.levels left)
+pub map_in : (σ : State) (at : Entered) (left : Option Charges) → map_at σ.section σ.offset σ.levels ≡ Some at → spent_of (begun true σ.budget) (2 * at.count) 0 ≡ Some left → entered_map σ ≡ Some (record { remaining = at.count; after = at.after; levels = σ.levels }, state σ.section at.body at.levels left)
 unfolding entered_map
 map_in σ at left h k = rw (h, k) refl
 
@@ -95,24 +95,24 @@ enters_by σ τ entries (Some at) h = enters_left σ τ entries at (spent_of (be
 
 pub enters_map : (σ τ : State) (entries : Entries) → entered_map σ ≡ Some (entries, τ) → Enters σ τ entries
 unfolding entered_map
-enters_map σ τ entries h = enters_by σ τ entries (map_at σ.section σ.place σ.levels) h
+enters_map σ τ entries h = enters_by σ τ entries (map_at σ.section σ.offset σ.levels) h
 
 -- a key that is read
-pub key_none : (free : ℕ) (σ : State) → key_bytes_at σ.section σ.place ≡ None → decoded false (key_past free) σ ≡ None
+pub key_none : (free : ℕ) (σ : State) → key_bytes_at σ.section σ.offset ≡ None → decoded false (key_past free) σ ≡ None
 unfolding key_past decoded
 key_none free σ h = rw h refl
 
-pub key_step : (free : ℕ) (σ : State) (key : List ℕ × ℕ) (left : Option Charges) → key_bytes_at σ.section σ.place ≡ Some key → spent_of σ.budget 0 (length key.0 - free) ≡ Some left → decoded false (key_past free) σ ≡ Some (key.0, state σ.section key.1 σ.levels left)
+pub key_step : (free : ℕ) (σ : State) (key : List ℕ × ℕ) (left : Option Charges) → key_bytes_at σ.section σ.offset ≡ Some key → spent_of σ.budget 0 (length key.0 - free) ≡ Some left → decoded false (key_past free) σ ≡ Some (key.0, state σ.section key.1 σ.levels left)
 unfolding key_past decoded
 key_step free σ key left h k = rw (h, k) refl
 
-pub key_over : (free : ℕ) (σ : State) (key : List ℕ × ℕ) → key_bytes_at σ.section σ.place ≡ Some key → spent_of σ.budget 0 (length key.0 - free) ≡ None → decoded false (key_past free) σ ≡ None
+pub key_over : (free : ℕ) (σ : State) (key : List ℕ × ℕ) → key_bytes_at σ.section σ.offset ≡ Some key → spent_of σ.budget 0 (length key.0 - free) ≡ None → decoded false (key_past free) σ ≡ None
 unfolding key_past decoded
 key_over free σ key h k = rw (h, k) refl
 
 -- pairs, one after the other
 pub pairs_done : {P : Type 0} (key : Meaning (List ℕ)) (fields : Fields P) (whole : Option (P × State)) (p : P) (n : ℕ) (σ τ : State) → whole ≡ decoded false (pairs_from key fields p n) σ → n ≡ 0 → τ ≡ σ → Within τ.budget → whole ≡ Some (p, τ)
-pairs_done key fields whole p n σ τ h z e w = h ∙ (rw (z, ← e) (read_free (given p) τ p τ.place w refl))
+pairs_done key fields whole p n σ τ h z e w = h ∙ (rw (z, ← e) (read_free (given p) τ p τ.offset w refl))
 
 pairs_inner : {P : Type 0} (key : Meaning (List ℕ)) (fields : Fields P) (p : P) (n : ℕ) (o : Option (List ℕ × State)) → (o >>= λ x. decoded false (followed (fields p x.0) (λ q. pairs_from key fields q n)) x.1) ≡ (o >>= λ x. decoded false (fields p x.0) x.1 >>= λ y. decoded false (pairs_from key fields y.0 n) y.1)
 pairs_inner key fields p n None = refl

@@ -44,7 +44,7 @@ followed_by g σ (Some x) = after-plus σ σ.budget x (g x.value σ.section x.ne
 -- a reading after a reading, in any state
 pub decoded-followed : {A B : Type 0} → (f : Meaning A) (g : A → Meaning B) (σ : State) → decoded false (followed f g) σ ≡ (decoded false f σ >>= λ x. decoded false (g x.0) x.1)
 unfolding decoded
-decoded-followed f g σ = followed_by g σ (f σ.section σ.place σ.levels)
+decoded-followed f g σ = followed_by g σ (f σ.section σ.offset σ.levels)
 
 -- a datum that is seen through a function
 abbrev pub seen : {A B : Type 0} → (A → B) → Option (A × State) → Option (B × State)
@@ -61,7 +61,7 @@ seen_after f σ budget (Some r) = seen_settled f σ r (spent_of budget r.values 
 
 pub decoded-mapped : {A B : Type 0} (starts : Bool) (f : A → B) (read : Meaning A) (σ : State) → decoded starts (mapped f read) σ ≡ seen f (decoded starts read σ)
 unfolding decoded
-decoded-mapped starts f read σ = seen_after f σ (begun starts σ.budget) (read σ.section σ.place σ.levels)
+decoded-mapped starts f read σ = seen_after f σ (begun starts σ.budget) (read σ.section σ.offset σ.levels)
 
 pub none_seen : {A B : Type 0} (f : A → B) (r : Option (A × State)) → r ≡ None → seen f r ≡ None
 none_seen f r h = rw h refl
@@ -82,7 +82,7 @@ abbrev pub items_of : State → Entered → Items
 items_of σ at = record { remaining = at.count; after = at.after; levels = σ.levels }
 
 abbrev pub inside_of : State → Entered → Option Charges → State
-inside_of σ at left = record { section = σ.section; place = at.body; levels = at.levels; budget = left }
+inside_of σ at left = record { section = σ.section; offset = at.body; levels = at.levels; budget = left }
 
 abbrev pub entry : State → Entered → Option Charges → Items × State
 entry σ at left = (items_of σ at, inside_of σ at left)
@@ -117,7 +117,7 @@ list_entered read σ (Some at) = list_budget σ (at) (begun true σ.budget) (ele
 -- a list: its header, its elements, its end
 pub decoded-list : {A : Type 0} (read : Meaning A) (σ : State) → decoded true (list_at read) σ ≡ (entered_array σ >>= λ x. list_end x.0 (decoded false (elements read x.0.remaining) x.1))
 unfolding decoded list_at entered_array
-decoded-list read σ = list_entered read σ (array_at σ.section σ.place σ.levels)
+decoded-list read σ = list_entered read σ (array_at σ.section σ.offset σ.levels)
 
 -- a value that is tested
 abbrev pub closing : {R : Type 0} → State → Option R → Option (R × State)
@@ -144,7 +144,7 @@ checked_reading f σ budget (Some r) = checked_value f σ budget r (f r.value) �
 
 pub decoded-checked : {P R : Type 0} (starts : Bool) (f : P → Option R) (read : Meaning P) (σ : State) → decoded starts (checked f read) σ ≡ (decoded starts read σ >>= λ x. closing x.1 (f x.0))
 unfolding decoded
-decoded-checked starts f read σ = checked_reading f σ (begun starts σ.budget) (read σ.section σ.place σ.levels)
+decoded-checked starts f read σ = checked_reading f σ (begun starts σ.budget) (read σ.section σ.offset σ.levels)
 
 pub checked_ok : {P R : Type 0} (starts : Bool) (f : P → Option R) (read : Meaning P) (σ τ : State) (p : P) (v : R) → decoded starts read σ ≡ Some (p, τ) → f p ≡ Some v → decoded starts (checked f read) σ ≡ Some (v, τ)
 checked_ok starts f read σ τ p v h k = decoded-checked starts f read σ ∙ rw (h, k) refl

@@ -5,7 +5,7 @@ use Rattle.std.specs.Str.{is_utf8}
 use Rattle.std.proofs.Common.{◌≡◌, ◌↔◌, ℕ, ◌+◌, ℤ, List, Option, Some, None, Bool, true, false, nat_eq, refl, sym, ◌∙◌, ap, cond, subst}
 use Rattle.mmdb_format.specs.declared.header.Header.{Header}
 use Rattle.mmdb_format.specs.Header.{◌>>=◌, bytes_at}
-use Rattle.mmdb_format.specs.Contents.{Scalar, text, bytes, boolean, signed32, number16, number32, number64, number128, double_bits, float_bits, content_at, content_end, scalar_payload, scalar_is_text, short_number, full_number, truth_of}
+use Rattle.mmdb_format.specs.Contents.{Scalar, text, bytes, boolean, signed32, number16, number32, number64, number128, double_bits, float_bits, content_at, content_end, scalar_payload, scalar_is_text, variable_width_integer, fixed_width_integer, truth_of}
 use Rattle.mmdb_decode.specs.Reading.{Reading, Meaning}
 use Rattle.mmdb_decode.specs.Scalars.{number_of, bits_of, bytes_of, bool_at, u16_at, u32_at, u64_at, u128_at, i32_at, double_at, float_at, text_at, byte_string_at, if_text}
 use Rattle.mmdb_decode.specs.TypedReads.{ScalarStands, ReadsScalars}
@@ -51,27 +51,27 @@ end_not_bool header kind n k = rw (k, n) refl
 
 pub reads_u16 : ReadsScalars u16_at number16
 unfolding number_of
-reads_u16 = tested u16_at number16 (λ v. refl) (reads_any 5 (λ s header. short_number s header 2) after_bytes number16 (record { plain = refl; content = content_of_16; back = λ s header v. content_is s header (number16 v); ends = λ header. end_not_bool header 5 refl }))
+reads_u16 = tested u16_at number16 (λ v. refl) (reads_any 5 (λ s header. variable_width_integer s header 2) after_bytes number16 (record { plain = refl; content = content_of_16; back = λ s header v. content_is s header (number16 v); ends = λ header. end_not_bool header 5 refl }))
 
 pub reads_u32 : ReadsScalars u32_at number32
 unfolding number_of
-reads_u32 = tested u32_at number32 (λ v. refl) (reads_any 6 (λ s header. short_number s header 4) after_bytes number32 (record { plain = refl; content = content_of_32; back = λ s header v. content_is s header (number32 v); ends = λ header. end_not_bool header 6 refl }))
+reads_u32 = tested u32_at number32 (λ v. refl) (reads_any 6 (λ s header. variable_width_integer s header 4) after_bytes number32 (record { plain = refl; content = content_of_32; back = λ s header v. content_is s header (number32 v); ends = λ header. end_not_bool header 6 refl }))
 
 pub reads_u64 : ReadsScalars u64_at number64
 unfolding number_of
-reads_u64 = tested u64_at number64 (λ v. refl) (reads_any 9 (λ s header. short_number s header 8) after_bytes number64 (record { plain = refl; content = content_of_64; back = λ s header v. content_is s header (number64 v); ends = λ header. end_not_bool header 9 refl }))
+reads_u64 = tested u64_at number64 (λ v. refl) (reads_any 9 (λ s header. variable_width_integer s header 8) after_bytes number64 (record { plain = refl; content = content_of_64; back = λ s header v. content_is s header (number64 v); ends = λ header. end_not_bool header 9 refl }))
 
 pub reads_u128 : ReadsScalars u128_at number128
 unfolding number_of
-reads_u128 = tested u128_at number128 (λ v. refl) (reads_any 10 (λ s header. short_number s header 16) after_bytes number128 (record { plain = refl; content = content_of_128; back = λ s header v. content_is s header (number128 v); ends = λ header. end_not_bool header 10 refl }))
+reads_u128 = tested u128_at number128 (λ v. refl) (reads_any 10 (λ s header. variable_width_integer s header 16) after_bytes number128 (record { plain = refl; content = content_of_128; back = λ s header v. content_is s header (number128 v); ends = λ header. end_not_bool header 10 refl }))
 
 pub reads_double : ReadsScalars double_at double_bits
 unfolding bits_of
-reads_double = tested double_at double_bits (λ v. refl) (reads_any 3 (λ s header. full_number s header 8) after_bytes double_bits (record { plain = refl; content = double_content; back = λ s header v. content_is s header (double_bits v); ends = λ header. end_not_bool header 3 refl }))
+reads_double = tested double_at double_bits (λ v. refl) (reads_any 3 (λ s header. fixed_width_integer s header 8) after_bytes double_bits (record { plain = refl; content = double_content; back = λ s header v. content_is s header (double_bits v); ends = λ header. end_not_bool header 3 refl }))
 
 pub reads_float : ReadsScalars float_at float_bits
 unfolding bits_of
-reads_float = tested float_at float_bits (λ v. refl) (reads_any 15 (λ s header. full_number s header 4) after_bytes float_bits (record { plain = refl; content = float_content; back = λ s header v. content_is s header (float_bits v); ends = λ header. end_not_bool header 15 refl }))
+reads_float = tested float_at float_bits (λ v. refl) (reads_any 15 (λ s header. fixed_width_integer s header 4) after_bytes float_bits (record { plain = refl; content = float_content; back = λ s header v. content_is s header (float_bits v); ends = λ header. end_not_bool header 15 refl }))
 
 pub reads_bool : ReadsScalars bool_at boolean
 unfolding bool_at
@@ -102,7 +102,7 @@ reads_text s p d v q c b = (
 
 -- signed numbers
 abbrev number : Meaning ℕ
-number s p d = typed 8 (λ header. short_number s header 4) after_bytes (λ n. 0) s p d
+number s p d = typed 8 (λ header. variable_width_integer s header 4) after_bytes (λ n. 0) s p d
 
 abbrev signed_of : ℕ → Scalar
 signed_of n = signed32 (cast_signed w32 n)
@@ -110,9 +110,9 @@ signed_of n = signed32 (cast_signed w32 n)
 pub reads_i32 : ReadsScalars i32_at signed32
 unfolding number_of
 reads_i32 s p d z q c b = (
-  λ h. taken_signed (number s p d) (typed_sound 8 (λ header. short_number s header 4) after_bytes (λ n. 0) signed_of s (signed_content s) (λ header. end_not_bool header 8 refl) p d) h,
+  λ h. taken_signed (number s p d) (typed_sound 8 (λ header. variable_width_integer s header 4) after_bytes (λ n. 0) signed_of s (signed_content s) (λ header. end_not_bool header 8 refl) p d) h,
   λ h.
-      let w = typed_complete 8 (λ header. short_number s header 4) after_bytes (λ n. 0) s (signed32 z) (λ n. cast_signed w32 n ≡ z) refl (λ header k. let g = content_is s header (signed32 z) k in (g.0, g.1, g.2, g.3)) (λ header. end_not_bool header 8 refl) p d q h.0 in
+      let w = typed_complete 8 (λ header. variable_width_integer s header 4) after_bytes (λ n. 0) s (signed32 z) (λ n. cast_signed w32 n ≡ z) refl (λ header k. let g = content_is s header (signed32 z) k in (g.0, g.1, g.2, g.3)) (λ header. end_not_bool header 8 refl) p d q h.0 in
       rw (w.2, w.1, h.2, h.3) refl,
 )
   where

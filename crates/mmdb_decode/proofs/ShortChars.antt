@@ -21,7 +21,7 @@ three c l h = rw (le-ltb c 128 (omega arith), le-ltb c 2048 l, lt-ltb c 65536 h)
 char : (l : List ℕ) (c : ℕ) → c < 55296 → l ≡ encode c → IsUtf8 l
 char l c h e = subst IsUtf8 (sym e) (IsUtf8-encode c (low_scalar c h))
 
--- the byte k places on, and what follows it
+-- the byte k offsets on, and what follows it
 step : (bs : List ℕ) (at k : ℕ) → at + k < length bs → drop (at + k) bs ≡ get_or bs (at + k) 0 ∷ drop (at + (k + 1)) bs
 step bs at k h = let e : suc (at + k) ≡ at + (k + 1) = omega arith in drop-cons bs (at + k) 0 h ∙ ap (λ (n : ℕ). get_or bs (at + k) 0 ∷ drop n bs) e
 

@@ -40,12 +40,12 @@ beyond σ next = (tt, state σ.section next σ.levels σ.budget)
 abbrev inside : State → Header → Option Charges → Unit {0} × State
 inside σ header left = (tt, state σ.section header.body σ.levels left)
 
-pub skip_headless : (n : ℕ) (σ : State) → header_at σ.section σ.place ≡ None → decoded false (skip_within n) σ ≡ None
+pub skip_headless : (n : ℕ) (σ : State) → header_at σ.section σ.offset ≡ None → decoded false (skip_within n) σ ≡ None
 unfolding decoded skip_within
 skip_headless zero σ h = rw h refl
 skip_headless (suc n) σ h = rw h refl
 
-pub skip_deep : (σ : State) (header : Header) (parts : ℕ) → header_at σ.section σ.place ≡ Some header → parts_of header ≡ Some parts → decoded false (skip_within 0) σ ≡ None
+pub skip_deep : (σ : State) (header : Header) (parts : ℕ) → header_at σ.section σ.offset ≡ Some header → parts_of header ≡ Some parts → decoded false (skip_within 0) σ ≡ None
 unfolding decoded skip_within
 skip_deep σ header parts h k = rw (h, k) refl
 
@@ -54,7 +54,7 @@ unfolding decoded
 scalar_alone σ header w None = refl
 scalar_alone σ header w (Some next) = read_free {A = Unit {0}} (λ s p d. Some (record { value = tt; next = next; values = 0; bytes = 0 })) σ tt next w refl
 
-pub skip_plain : (n : ℕ) (σ : State) (header : Header) → Within σ.budget → header_at σ.section σ.place ≡ Some header → parts_of header ≡ None → decoded false (skip_within n) σ ≡ scalar_passed σ header
+pub skip_plain : (n : ℕ) (σ : State) (header : Header) → Within σ.budget → header_at σ.section σ.offset ≡ Some header → parts_of header ≡ None → decoded false (skip_within n) σ ≡ scalar_passed σ header
 unfolding decoded skip_within scalar_passed
 skip_plain zero σ header w h k = rw (h, k) (scalar_alone σ header w (passed_end σ.section header))
 skip_plain (suc n) σ header w h k = rw (h, k) (scalar_alone σ header w (passed_end σ.section header))
@@ -82,7 +82,7 @@ inline_same n σ header parts None = refl
 inline_same n σ header parts (Some left) = refl
 
 -- a container is its parts, one nesting down
-pub skip_parts : (n : ℕ) (σ : State) (header : Header) (parts : ℕ) → header_at σ.section σ.place ≡ Some header → parts_of header ≡ Some parts → decoded false (skip_within (suc n)) σ ≡ (entered_inline σ header parts >>= λ x. decoded false (passes (skip_within n) parts) x.1)
+pub skip_parts : (n : ℕ) (σ : State) (header : Header) (parts : ℕ) → header_at σ.section σ.offset ≡ Some header → parts_of header ≡ Some parts → decoded false (skip_within (suc n)) σ ≡ (entered_inline σ header parts >>= λ x. decoded false (passes (skip_within n) parts) x.1)
 unfolding decoded skip_within entered_inline
 skip_parts n σ header parts h k = rw (h, k) (inline_budget σ header parts σ.budget (passes (skip_within n) parts σ.section header.body σ.levels) ∙ inline_same n σ header parts (spent_of σ.budget parts 0))
 
@@ -90,7 +90,7 @@ pub passes_step : (read : Meaning (Unit {0})) (n : ℕ) (σ : State) → decoded
 passes_step read n σ = decoded-followed read (λ _. passes read n) σ
 
 pub pass_done : (read : Meaning (Unit {0})) (whole : Option (Unit {0} × State)) (n : ℕ) (σ : State) → whole ≡ decoded false (passes read n) σ → n ≡ 0 → Within σ.budget → whole ≡ Some (tt, σ)
-pass_done read whole n σ h z w = h ∙ (rw z (read_free {A = Unit {0}} (given tt) σ tt σ.place w refl))
+pass_done read whole n σ h z w = h ∙ (rw z (read_free {A = Unit {0}} (given tt) σ tt σ.offset w refl))
 
 pub pass_goes_on : (read : Meaning (Unit {0})) (whole : Option (Unit {0} × State)) (n m : ℕ) (σ τ : State) → whole ≡ decoded false (passes read n) σ → n ≡ suc m → decoded false read σ ≡ Some (tt, τ) → whole ≡ decoded false (passes read m) τ
 pass_goes_on read whole n m σ τ h e k = h ∙ (rw e (passes_step read m σ ∙ rw k refl))
@@ -106,25 +106,25 @@ pub inline_kept : (σ τ : State) (header : Header) (parts : ℕ) → entered_in
 unfolding entered_inline
 inline_kept σ τ header parts h = inline_kept_by σ τ header (spent_of σ.budget parts 0) (some_back false σ.budget parts 0) h
 
-pub plain_takes : {E : Type 0} (n : ℕ) (σ τ : State) (header : Header) (r : Result (Unit {0}) E) → Within σ.budget → header_at σ.section σ.place ≡ Some header → parts_of header ≡ None → Takes (λ x. tt) (scalar_passed σ header) σ τ r → Takes (λ x. tt) (decoded false (skip_within n) σ) σ τ r
+pub plain_takes : {E : Type 0} (n : ℕ) (σ τ : State) (header : Header) (r : Result (Unit {0}) E) → Within σ.budget → header_at σ.section σ.offset ≡ Some header → parts_of header ≡ None → Takes (λ x. tt) (scalar_passed σ header) σ τ r → Takes (λ x. tt) (decoded false (skip_within n) σ) σ τ r
 plain_takes n σ τ header (Ok x) w h k e = skip_plain n σ header w h k ∙ e
 plain_takes n σ τ header (Err x) w h k e = (e.0, skip_plain n σ header w h k ∙ e.1)
 
-pub parts_are : (n m : ℕ) (σ τ : State) (header : Header) (parts : ℕ) → n ≡ suc m → header_at σ.section σ.place ≡ Some header → parts_of header ≡ Some parts → entered_inline σ header parts ≡ Some (tt, τ) → decoded false (skip_within n) σ ≡ decoded false (passes (skip_within m) parts) τ
+pub parts_are : (n m : ℕ) (σ τ : State) (header : Header) (parts : ℕ) → n ≡ suc m → header_at σ.section σ.offset ≡ Some header → parts_of header ≡ Some parts → entered_inline σ header parts ≡ Some (tt, τ) → decoded false (skip_within n) σ ≡ decoded false (passes (skip_within m) parts) τ
 parts_are n m σ τ header parts z h k e = rw z (skip_parts m σ header parts h k ∙ rw e refl)
 
-pub parts_no : (n m : ℕ) (σ : State) (header : Header) (parts : ℕ) → n ≡ suc m → header_at σ.section σ.place ≡ Some header → parts_of header ≡ Some parts → entered_inline σ header parts ≡ None → decoded false (skip_within n) σ ≡ None
+pub parts_no : (n m : ℕ) (σ : State) (header : Header) (parts : ℕ) → n ≡ suc m → header_at σ.section σ.offset ≡ Some header → parts_of header ≡ Some parts → entered_inline σ header parts ≡ None → decoded false (skip_within n) σ ≡ None
 parts_no n m σ header parts z h k e = rw z (skip_parts m σ header parts h k ∙ rw e refl)
 
-pub parts_yes : (n m : ℕ) (σ τ ρ : State) (header : Header) (parts left : ℕ) → n ≡ suc m → header_at σ.section σ.place ≡ Some header → parts_of header ≡ Some parts → entered_inline σ header parts ≡ Some (tt, τ) → decoded false (passes (skip_within m) parts) τ ≡ decoded false (passes (skip_within m) left) ρ → left ≡ 0 → Within ρ.budget → decoded false (skip_within n) σ ≡ Some (tt, ρ)
+pub parts_yes : (n m : ℕ) (σ τ ρ : State) (header : Header) (parts left : ℕ) → n ≡ suc m → header_at σ.section σ.offset ≡ Some header → parts_of header ≡ Some parts → entered_inline σ header parts ≡ Some (tt, τ) → decoded false (passes (skip_within m) parts) τ ≡ decoded false (passes (skip_within m) left) ρ → left ≡ 0 → Within ρ.budget → decoded false (skip_within n) σ ≡ Some (tt, ρ)
 parts_yes n m σ τ ρ header parts left z h k e r l w = pass_done (skip_within m) _ left ρ (parts_are n m σ τ header parts z h k e ∙ r) l w
 
-pub parts_stop : (n m : ℕ) (σ τ ρ : State) (header : Header) (parts left fewer : ℕ) → n ≡ suc m → header_at σ.section σ.place ≡ Some header → parts_of header ≡ Some parts → entered_inline σ header parts ≡ Some (tt, τ) → decoded false (passes (skip_within m) parts) τ ≡ decoded false (passes (skip_within m) left) ρ → left ≡ suc fewer → decoded false (skip_within m) ρ ≡ None → decoded false (skip_within n) σ ≡ None
+pub parts_stop : (n m : ℕ) (σ τ ρ : State) (header : Header) (parts left fewer : ℕ) → n ≡ suc m → header_at σ.section σ.offset ≡ Some header → parts_of header ≡ Some parts → entered_inline σ header parts ≡ Some (tt, τ) → decoded false (passes (skip_within m) parts) τ ≡ decoded false (passes (skip_within m) left) ρ → left ≡ suc fewer → decoded false (skip_within m) ρ ≡ None → decoded false (skip_within n) σ ≡ None
 parts_stop n m σ τ ρ header parts left fewer z h k e r l d = pass_stops (skip_within m) _ left fewer ρ (parts_are n m σ τ header parts z h k e ∙ r) l d
 
 -- a skip from the start begins a budget
 abbrev pub begins : State → State
-begins σ = record { section = σ.section; place = σ.place; levels = σ.levels; budget = begun true σ.budget }
+begins σ = record { section = σ.section; offset = σ.offset; levels = σ.levels; budget = begun true σ.budget }
 
 begins_settled : {A : Type 0} (σ : State) (r : Reading A) (o : Option (Option Charges)) → settled σ r o ≡ settled (begins σ) r o
 begins_settled σ r None = refl
@@ -136,7 +136,7 @@ begins_by σ budget (Some r) = begins_settled σ r (spent_of budget r.values r.b
 
 pub decoded_begins : {A : Type 0} (read : Meaning A) (σ : State) → decoded true read σ ≡ decoded false read (begins σ)
 unfolding decoded
-decoded_begins {A = A} read σ = begins_by {A = A} σ (begun true σ.budget) (read σ.section σ.place σ.levels)
+decoded_begins {A = A} read σ = begins_by {A = A} σ (begun true σ.budget) (read σ.section σ.offset σ.levels)
 
 begins_back : (σ : State) (budget : Option Charges) → NoneBack budget (begun true budget)
 begins_back σ None = tt
@@ -175,5 +175,5 @@ unfolding skip_within
 scalar_skipped zero s p levels next header h k e = rw (h, k, e) refl
 scalar_skipped (suc n) s p levels next header h k e = rw (h, k, e) refl
 
-pub scalar_left : (σ : State) (next : ℕ) → Within σ.budget → IsSome σ.budget → skip_at σ.section σ.place σ.levels ≡ Some (free_of_charge (tt, next)) → decoded true skip_at σ ≡ Some (tt, record { section = σ.section; place = next; levels = σ.levels; budget = σ.budget })
+pub scalar_left : (σ : State) (next : ℕ) → Within σ.budget → IsSome σ.budget → skip_at σ.section σ.offset σ.levels ≡ Some (free_of_charge (tt, next)) → decoded true skip_at σ ≡ Some (tt, record { section = σ.section; offset = next; levels = σ.levels; budget = σ.budget })
 scalar_left σ next w s h = decoded_begun true skip_at σ s ∙ read_free skip_at σ tt next w h

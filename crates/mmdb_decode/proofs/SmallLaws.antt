@@ -31,15 +31,15 @@ pub whole_behind : (n m : ℕ) (s : List ℕ) (p : ℕ) (header : Header) → n 
 unfolding whole_within
 whole_behind n m s p header e h k = rw (e, h, k) refl
 
-pub whole_none : (σ : State) → whole_within (512 - σ.levels) σ.section σ.place ≡ None → decoded true whole_at σ ≡ None
+pub whole_none : (σ : State) → whole_within (512 - σ.levels) σ.section σ.offset ≡ None → decoded true whole_at σ ≡ None
 unfolding whole_at decoded
 whole_none σ h = rw h refl
 
-whole_is : (σ : State) (z : ℤ) (next : ℕ) → whole_within (512 - σ.levels) σ.section σ.place ≡ Some (z, next) → whole_at σ.section σ.place σ.levels ≡ Some (record { value = z; next = next; values = 0; bytes = 0 })
+whole_is : (σ : State) (z : ℤ) (next : ℕ) → whole_within (512 - σ.levels) σ.section σ.offset ≡ Some (z, next) → whole_at σ.section σ.offset σ.levels ≡ Some (record { value = z; next = next; values = 0; bytes = 0 })
 unfolding whole_at
 whole_is σ z next h = rw h refl
 
-pub whole_some : (σ : State) (z : ℤ) (next : ℕ) (left : Option Charges) → left ≡ begun true σ.budget → Within left → whole_within (512 - σ.levels) σ.section σ.place ≡ Some (z, next) → decoded true whole_at σ ≡ Some (z, state σ.section next σ.levels left)
+pub whole_some : (σ : State) (z : ℤ) (next : ℕ) (left : Option Charges) → left ≡ begun true σ.budget → Within left → whole_within (512 - σ.levels) σ.section σ.offset ≡ Some (z, next) → decoded true whole_at σ ≡ Some (z, state σ.section next σ.levels left)
 whole_some σ z next left e w h = read_started whole_at σ z next left e w (whole_is σ z next h)
 
 -- the pointer of the deepest level

@@ -16,7 +16,7 @@ use Rattle.mmdb_decode.specs.declared.refused.Refused.{Refused}
 use Rattle.mmdb_decode.specs.declared.refused.Refused.TheVariants.{OutOfMemory, Unreadable}
 
 abbrev pub state : List ℕ → ℕ → ℕ → Option Charges → State
-state s p d budget = record { section = s; place = p; levels = d; budget = budget }
+state s p d budget = record { section = s; offset = p; levels = d; budget = budget }
 
 pub none_back : (budget : Option Charges) → NoneBack budget budget
 none_back None = tt
@@ -32,11 +32,11 @@ refuses false (ResourceLimit m o p) read h = h
 refuses false (InvalidNetwork e) read h = h
 refuses false (InvalidInput m) read h = h
 
-pub unread : {A : Type 0} (starts : Bool) (read : Meaning A) (σ : State) → read σ.section σ.place σ.levels ≡ None → decoded starts read σ ≡ None
+pub unread : {A : Type 0} (starts : Bool) (read : Meaning A) (σ : State) → read σ.section σ.offset σ.levels ≡ None → decoded starts read σ ≡ None
 unfolding decoded
 unread starts read σ h = rw h refl
 
-pub unread_gives_up : {A : Type 0} (free starts : Bool) (e : MaxMindDbError) (read : Meaning A) (σ : State) → read σ.section σ.place σ.levels ≡ None → GivenUp σ σ × Refuses free e (decoded starts read σ)
+pub unread_gives_up : {A : Type 0} (free starts : Bool) (e : MaxMindDbError) (read : Meaning A) (σ : State) → read σ.section σ.offset σ.levels ≡ None → GivenUp σ σ × Refuses free e (decoded starts read σ)
 unread_gives_up free starts e read σ h = (record { section = refl; charges = none_back σ.budget }, refuses free e (decoded starts read σ) (unread starts read σ h))
 
 nothing_charged : (c : Charges) → (c.values ≤ most_values) × (c.bytes ≤ most_bytes) → charged c 0 0 ≡ Some c
@@ -47,17 +47,17 @@ nothing_spent None h = refl
 nothing_spent (Some c) h = ap (option_map Some) (nothing_charged c h)
 
 -- a reading that is within the limits
-pub read_at : {A : Type 0} (starts : Bool) (read : Meaning A) (σ : State) (r : Reading A) (left : Option Charges) → read σ.section σ.place σ.levels ≡ Some r → spent_of (begun starts σ.budget) r.values r.bytes ≡ Some left → decoded starts read σ ≡ Some (r.value, state σ.section r.next σ.levels left)
+pub read_at : {A : Type 0} (starts : Bool) (read : Meaning A) (σ : State) (r : Reading A) (left : Option Charges) → read σ.section σ.offset σ.levels ≡ Some r → spent_of (begun starts σ.budget) r.values r.bytes ≡ Some left → decoded starts read σ ≡ Some (r.value, state σ.section r.next σ.levels left)
 unfolding decoded
 read_at starts read σ r left h k = rw (h, k) refl
 
 -- a reading past the limits
-pub read_past : {A : Type 0} (starts : Bool) (read : Meaning A) (σ : State) (r : Reading A) → read σ.section σ.place σ.levels ≡ Some r → spent_of (begun starts σ.budget) r.values r.bytes ≡ None → decoded starts read σ ≡ None
+pub read_past : {A : Type 0} (starts : Bool) (read : Meaning A) (σ : State) (r : Reading A) → read σ.section σ.offset σ.levels ≡ Some r → spent_of (begun starts σ.budget) r.values r.bytes ≡ None → decoded starts read σ ≡ None
 unfolding decoded
 read_past starts read σ r h k = rw (h, k) refl
 
 -- a reading with no cost
-pub read_free : {A : Type 0} (read : Meaning A) (σ : State) (v : A) (next : ℕ) → Within σ.budget → read σ.section σ.place σ.levels ≡ Some (record { value = v; next = next; values = 0; bytes = 0 }) → decoded false read σ ≡ Some (v, state σ.section next σ.levels σ.budget)
+pub read_free : {A : Type 0} (read : Meaning A) (σ : State) (v : A) (next : ℕ) → Within σ.budget → read σ.section σ.offset σ.levels ≡ Some (record { value = v; next = next; values = 0; bytes = 0 }) → decoded false read σ ≡ Some (v, state σ.section next σ.levels σ.budget)
 read_free read σ v next w h = read_at false read σ (record { value = v; next = next; values = 0; bytes = 0 }) σ.budget h (nothing_spent σ.budget w)
 
 pub declines : {A : Type 0} (free : Bool) (r : Refused) (read : Option A) → read ≡ None → Declines free r read
@@ -114,22 +114,22 @@ kept_after starts σ τ v (Some r) h = kept_settled σ τ r v (spent_of (begun s
 
 pub kept_decoded : {A : Type 0} (starts : Bool) (read : Meaning A) (σ τ : State) (v : A) → decoded starts read σ ≡ Some (v, τ) → Kept σ τ
 unfolding decoded
-kept_decoded starts read σ τ v h = kept_after starts σ τ v (read σ.section σ.place σ.levels) h
+kept_decoded starts read σ τ v h = kept_after starts σ τ v (read σ.section σ.offset σ.levels) h
 
 pub kept_reads : {X A : Type 0} (view : X → A) (free starts : Bool) (read : Meaning A) (σ τ : State) (r : Result X MaxMindDbError) → Reads view free (decoded starts read σ) σ τ r → OnOk r (Kept σ τ)
 kept_reads view free starts read σ τ (Ok x) h = kept_decoded starts read σ τ (view x) h
 kept_reads view free starts read σ τ (Err e) h = tt
 
 -- an array that is entered
-pub entered_none : (σ : State) → array_at σ.section σ.place σ.levels ≡ None → entered_array σ ≡ None
+pub entered_none : (σ : State) → array_at σ.section σ.offset σ.levels ≡ None → entered_array σ ≡ None
 unfolding entered_array
 entered_none σ h = rw h refl
 
-pub entered_past : (σ : State) (at : Entered) → array_at σ.section σ.place σ.levels ≡ Some at → spent_of (begun true σ.budget) at.count 0 ≡ None → entered_array σ ≡ None
+pub entered_past : (σ : State) (at : Entered) → array_at σ.section σ.offset σ.levels ≡ Some at → spent_of (begun true σ.budget) at.count 0 ≡ None → entered_array σ ≡ None
 unfolding entered_array
 entered_past σ at h k = rw (h, k) refl
 
-pub entered_at : (σ : State) (at : Entered) (left : Option Charges) → array_at σ.section σ.place σ.levels ≡ Some at → spent_of (begun true σ.budget) at.count 0 ≡ Some left → entered_array σ ≡ Some (record { remaining = at.count; after = at.after; levels = σ.levels }, state σ.section at.body at.levels left)
+pub entered_at : (σ : State) (at : Entered) (left : Option Charges) → array_at σ.section σ.offset σ.levels ≡ Some at → spent_of (begun true σ.budget) at.count 0 ≡ Some left → entered_array σ ≡ Some (record { remaining = at.count; after = at.after; levels = σ.levels }, state σ.section at.body at.levels left)
 unfolding entered_array
 entered_at σ at left h k = rw (h, k) refl
 
@@ -188,5 +188,5 @@ pub nothing_taken : {A : Type 0} (read : Option (A × State)) (σ : State) → r
 nothing_taken read σ h = (record { section = refl; charges = none_back σ.budget }, h)
 
 -- a reading with no cost that begins a budget
-pub read_started : {A : Type 0} (read : Meaning A) (σ : State) (v : A) (next : ℕ) (left : Option Charges) → left ≡ begun true σ.budget → Within left → read σ.section σ.place σ.levels ≡ Some (record { value = v; next = next; values = 0; bytes = 0 }) → decoded true read σ ≡ Some (v, state σ.section next σ.levels left)
+pub read_started : {A : Type 0} (read : Meaning A) (σ : State) (v : A) (next : ℕ) (left : Option Charges) → left ≡ begun true σ.budget → Within left → read σ.section σ.offset σ.levels ≡ Some (record { value = v; next = next; values = 0; bytes = 0 }) → decoded true read σ ≡ Some (v, state σ.section next σ.levels left)
 read_started read σ v next left e w h = read_at true read σ (record { value = v; next = next; values = 0; bytes = 0 }) left h (rw (← e) (nothing_spent left w))

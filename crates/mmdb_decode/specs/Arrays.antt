@@ -9,7 +9,7 @@ use Rattle.mmdb_decode.specs.Reading.{Reading, Meaning, given, followed, mapped}
 use Rattle.mmdb_decode.specs.Scalars.{direct_of}
 
 -- A container of one type that is entered, which is one level: how many parts its header tells, where
--- they begin, and the place after a pointer that led to it.
+-- they begin, and the offset after a pointer that led to it.
 unfoldable pub container_at : ℕ → List ℕ → ℕ → ℕ → Option Entered
 container_at kind s p d =
     direct_of kind s p d >>= λ at.
@@ -52,9 +52,9 @@ levels_before_array items = items.levels
 -- an array that a decoder enters, with what is left of it
 unfoldable pub entered_array : State → Option (Items × State)
 entered_array σ =
-    array_at σ.section σ.place σ.levels >>= λ at.
+    array_at σ.section σ.offset σ.levels >>= λ at.
     spent_of (begun true σ.budget) at.count 0 >>= λ left.
-    Some (record { remaining = at.count; after = at.after; levels = σ.levels }, record { section = σ.section; place = at.body; levels = at.levels; budget = left })
+    Some (record { remaining = at.count; after = at.after; levels = σ.levels }, record { section = σ.section; offset = at.body; levels = at.levels; budget = left })
 
 -- an array of a given number of elements
 abbrev pub if_sized : ℕ → Items × State → Option (Items × State)
@@ -65,4 +65,4 @@ entered_array_of len σ = entered_array σ >>= if_sized len
 
 -- the decoder behind an array
 abbrev pub left_array : Items → State → State
-left_array items σ = record { section = σ.section; place = unwrap_or items.after σ.place; levels = items.levels; budget = σ.budget }
+left_array items σ = record { section = σ.section; offset = unwrap_or items.after σ.offset; levels = items.levels; budget = σ.budget }

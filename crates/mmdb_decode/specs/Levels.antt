@@ -7,12 +7,12 @@ use Rattle.mmdb_format.specs.Contents.{Scalar, content_at, content_end, scalar_p
 use Rattle.mmdb_decode.specs.Reading.{Meaning}
 use Rattle.mmdb_decode.specs.State.{State, spent_of}
 
--- one level down to a pointer's target, with the place after the pointer
+-- one level down to a pointer's target, with the offset after the pointer
 unfoldable pub entered_pointer : State → Header → Option (ℕ × State)
 entered_pointer σ header =
     if nat_lt σ.levels most_levels then
     (pointer_at σ.section header.body header.size >>= λ to.
-    Some (to.next, record { section = σ.section; place = to.target; levels = σ.levels + 1; budget = σ.budget }))
+    Some (to.next, record { section = σ.section; offset = to.target; levels = σ.levels + 1; budget = σ.budget }))
     else None
 
 -- one level down to a container's first part, with its parts charged
@@ -20,7 +20,7 @@ unfoldable pub entered_parts : State → Header → ℕ → Option State
 entered_parts σ header count =
     if nat_lt σ.levels most_levels then
     (spent_of σ.budget count 0 >>= λ left.
-    Some (record { section = σ.section; place = header.body; levels = σ.levels + 1; budget = left }))
+    Some (record { section = σ.section; offset = header.body; levels = σ.levels + 1; budget = left }))
     else None
 
 -- what stands behind a header that was read

@@ -12,7 +12,7 @@ pub mod Selecting
 pub mod Levels
 pub mod FieldShapes
 pub mod Tables
-pub mod Remembering
+pub mod Memos
 pub mod Limits
 pub mod Shapes
 pub mod TypedReads

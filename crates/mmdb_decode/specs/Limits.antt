@@ -1,4 +1,4 @@
--- The limits of a whole reading, and that a place has at most one.
+-- The limits of a whole reading, and that an offset has at most one.
 use Rattle.std.specs.Prelude.{◌≡◌, ◌↔◌, ℕ, ◌+◌, ◌≤◌, List, Some, true}
 use Rattle.mmdb_decode.specs.Reading.{Reading, Meaning}
 use Rattle.mmdb_decode.specs.State.{most_values, most_bytes}
@@ -15,7 +15,7 @@ AnswerIsWithinLimits A =
     (read : Meaning A) (s : List ℕ) (p : ℕ) (v : A) →
     (answer true read s p ≡ Some v) ↔ ((r : Reading A) × (read s p 0 ≡ Some r) × IsWithinLimits r × (r.value ≡ v))
 
--- two readings of one meaning at one place are one: they have the same value, the same end and the same
+-- two readings of one meaning at one offset are one: they have the same value, the same end and the same
 -- costs
 abbrev pub OneReading : {A : Type 0} → Meaning A → Type 0
 OneReading {A = A} read =

@@ -69,13 +69,13 @@ levels_before_map entries = entries.levels
 -- a map that a decoder enters, with what is left of it
 unfoldable pub entered_map : State → Option (Entries × State)
 entered_map σ =
-    map_at σ.section σ.place σ.levels >>= λ at.
+    map_at σ.section σ.offset σ.levels >>= λ at.
     spent_of (begun true σ.budget) (2 * at.count) 0 >>= λ left.
-    Some (record { remaining = at.count; after = at.after; levels = σ.levels }, record { section = σ.section; place = at.body; levels = at.levels; budget = left })
+    Some (record { remaining = at.count; after = at.after; levels = σ.levels }, record { section = σ.section; offset = at.body; levels = at.levels; budget = left })
 
 -- the decoder behind a map
 abbrev pub left_map : Entries → State → State
-left_map entries σ = record { section = σ.section; place = unwrap_or entries.after σ.place; levels = entries.levels; budget = σ.budget }
+left_map entries σ = record { section = σ.section; offset = unwrap_or entries.after σ.offset; levels = entries.levels; budget = σ.budget }
 
 -- what the step to the next key did: it read the key, nothing was left, or no key stands there
 pub record KeyRead (read : Meaning (List ℕ)) (old new : State) (before after : Entries) (key : List ℕ) : Type 0 where

@@ -6,7 +6,7 @@ use Rattle.mmdb_format.specs.Header.{◌>>=◌}
 use Rattle.mmdb_format.specs.Pointer.{direct_at}
 use Rattle.mmdb_format.specs.Kinds.{kind_of_number}
 
--- the type of the value at a place
+-- the type of the value at an offset
 unfoldable pub kind_at : List ℕ → ℕ → Option Kind
 kind_at s p = direct_at s p 0 >>= λ at. Some (kind_of_number at.header.kind)
 
@@ -14,6 +14,6 @@ kind_at s p = direct_at s p 0 >>= λ at. Some (kind_of_number at.header.kind)
 abbrev pub is_empty_container : Header → Bool
 is_empty_container header = (nat_eq header.kind 7 || nat_eq header.kind 11) && nat_eq header.size 0
 
--- whether the value at a place is such
+-- whether the value at an offset is such
 unfoldable pub empty_at : List ℕ → ℕ → Option Bool
 empty_at s p = direct_at s p 0 >>= λ at. Some (is_empty_container at.header)

@@ -1,4 +1,4 @@
--- What a reading gives: a value, the place after it, and what it costs after the first value.
+-- What a reading gives: a value, the offset after it, and what it costs after the first value.
 use Rattle.std.specs.Prelude.{ℕ, ◌+◌, List, Option, Some}
 use Rattle.mmdb_format.specs.Header.{◌>>=◌}
 
@@ -8,7 +8,7 @@ pub record Reading (A : Type 0) : Type 0 where
   pub values : ℕ
   pub bytes : ℕ
 
--- what stands in a section at a place, below a number of levels
+-- what stands in a section at an offset, below a number of levels
 abbrev pub Meaning : Type 0 → Type 0
 Meaning A = List ℕ → ℕ → ℕ → Option (Reading A)
 

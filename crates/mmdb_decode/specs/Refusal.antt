@@ -36,7 +36,7 @@ abbrev pub Reads : {X A : Type 0} → (X → A) → Bool → Option (A × State)
 Reads view free read old new (Ok x) = read ≡ Some (view x, new)
 Reads view free read old new (Err e) = GivenUp old new × Refuses free e read
 
--- What is read at a place of a section from the start: the value that stands there below no level, if
+-- What is read at an offset of a section from the start: the value that stands there below no level, if
 -- it is within the limits.
 unfoldable pub answer : {A : Type 0} → Bool → Meaning A → List ℕ → ℕ → Option A
-answer starts read s p = option_map (λ x. x.0) (decoded starts read (record { section = s; place = p; levels = 0; budget = None }))
+answer starts read s p = option_map (λ x. x.0) (decoded starts read (record { section = s; offset = p; levels = 0; budget = None }))

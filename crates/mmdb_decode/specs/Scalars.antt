@@ -6,14 +6,14 @@ use Rattle.std.specs.Str.{is_utf8}
 use Rattle.mmdb_format.specs.declared.header.Direct.{Direct}
 use Rattle.mmdb_format.specs.Header.{◌>>=◌}
 use Rattle.mmdb_format.specs.Pointer.{direct_at}
-use Rattle.mmdb_format.specs.Contents.{bytes_of_content, short_number, full_number, truth_of, end_of}
+use Rattle.mmdb_format.specs.Contents.{bytes_of_content, variable_width_integer, fixed_width_integer, truth_of, end_of}
 use Rattle.mmdb_decode.specs.Reading.{Reading, Meaning, mapped, checked}
 
 -- a header of one type, directly or behind one pointer
 unfoldable pub direct_of : ℕ → List ℕ → ℕ → ℕ → Option Direct
 direct_of kind s p d = direct_at s p d >>= λ at. if nat_eq at.header.kind kind then Some at else None
 
--- a value and the place after it, as a reading with no cost, or with that of its bytes
+-- a value and the offset after it, as a reading with no cost, or with that of its bytes
 abbrev pub free_of_charge : {A : Type 0} → A × ℕ → Reading A
 free_of_charge x = record { value = x.0; next = x.1; values = 0; bytes = 0 }
 
@@ -24,7 +24,7 @@ costs_its_length x = record { value = x.0; next = x.1; values = 0; bytes = lengt
 unfoldable pub number_of : ℕ → ℕ → Meaning ℕ
 number_of kind most s p d =
     direct_of kind s p d >>= λ at.
-    short_number s at.header most >>= λ n.
+    variable_width_integer s at.header most >>= λ n.
     Some (free_of_charge (n, end_of at (at.header.body + at.header.size)))
 
 abbrev pub u16_at : Meaning ℕ
@@ -47,7 +47,7 @@ i32_at = mapped (cast_signed w32) (number_of 8 4)
 unfoldable pub bits_of : ℕ → ℕ → Meaning ℕ
 bits_of kind size s p d =
     direct_of kind s p d >>= λ at.
-    full_number s at.header size >>= λ n.
+    fixed_width_integer s at.header size >>= λ n.
     Some (free_of_charge (n, end_of at (at.header.body + at.header.size)))
 
 abbrev pub double_at : Meaning ℕ

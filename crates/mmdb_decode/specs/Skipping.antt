@@ -70,9 +70,9 @@ SkippingIsPassing =
 unfoldable pub scalar_passed : State → Header → Option (Unit {0} × State)
 scalar_passed σ header =
     passed_end σ.section header >>= λ next.
-    Some (tt, record { section = σ.section; place = next; levels = σ.levels; budget = σ.budget })
+    Some (tt, record { section = σ.section; offset = next; levels = σ.levels; budget = σ.budget })
 
 unfoldable pub entered_inline : State → Header → ℕ → Option (Unit {0} × State)
 entered_inline σ header parts =
     spent_of σ.budget parts 0 >>= λ left.
-    Some (tt, record { section = σ.section; place = header.body; levels = σ.levels; budget = left })
+    Some (tt, record { section = σ.section; offset = header.body; levels = σ.levels; budget = left })

@@ -15,11 +15,11 @@ whole_number (number32 n) = Some (pos n)
 whole_number (number64 n) = Some (pos n)
 whole_number _ = None
 
--- the number behind a header, and the place after it
+-- the number behind a header, and the offset after it
 unfoldable pub whole_here : List ℕ → Header → Option (ℤ × ℕ)
 whole_here s header = content_at s header >>= λ c. whole_number c >>= λ z. Some (z, content_end header)
 
--- the number behind at most so many pointers, and the place after it, or after the first pointer
+-- the number behind at most so many pointers, and the offset after it, or after the first pointer
 unfoldable pub whole_within : ℕ → List ℕ → ℕ → Option (ℤ × ℕ)
 whole_within zero s p = header_at s p >>= λ header. whole_here s header
 whole_within (suc n) s p =

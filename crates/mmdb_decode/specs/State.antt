@@ -31,18 +31,18 @@ spent_of (Some c) values bytes = option_map Some (charged c values bytes)
 -- what contracts see of a decoder
 pub record State : Type 0 where
   pub section : List ℕ
-  pub place : ℕ
+  pub offset : ℕ
   pub levels : ℕ
   pub budget : Option Charges
 
--- a decoder at the start: at this place, below no level, under no budget
+-- a decoder at the start: at this offset, below no level, under no budget
 abbrev pub begin : List ℕ → ℕ → State
-begin section place = record { section = section; place = place; levels = 0; budget = None }
+begin section offset = record { section = section; offset = offset; levels = 0; budget = None }
 
 -- the decoder after a reading that left a budget
 abbrev pub settled : {A : Type 0} → State → Reading A → Option (Option Charges) → Option (A × State)
 settled σ r None = None
-settled σ r (Some left) = Some (r.value, record { section = σ.section; place = r.next; levels = σ.levels; budget = left })
+settled σ r (Some left) = Some (r.value, record { section = σ.section; offset = r.next; levels = σ.levels; budget = left })
 
 abbrev pub after : {A : Type 0} → State → Option Charges → Reading A → Option (A × State)
 after σ budget r = settled σ r (spent_of budget r.values r.bytes)
@@ -50,7 +50,7 @@ after σ budget r = settled σ r (spent_of budget r.values r.bytes)
 -- What a decoder that reads by a meaning gives, and the decoder then; None where nothing stands there
 -- within the limits. The flag says whether the reading begins a budget where none has begun.
 unfoldable pub decoded : {A : Type 0} → Bool → Meaning A → State → Option (A × State)
-decoded starts read σ = read σ.section σ.place σ.levels >>= after σ (begun starts σ.budget)
+decoded starts read σ = read σ.section σ.offset σ.levels >>= after σ (begun starts σ.budget)
 
 -- no charge was given back
 abbrev pub NoneBack : Option Charges → Option Charges → Type 0

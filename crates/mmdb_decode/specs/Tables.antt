@@ -7,7 +7,7 @@ use Rattle.mmdb_decode.specs.Maps.{Fields}
 use Rattle.mmdb_decode.specs.Arrays.{few_at}
 use Rattle.mmdb_decode.specs.FieldShapes.{Shape}
 use Rattle.std.specs.declared.alloc.Global.{Global}
-use Rattle.mmdb_decode.specs.declared.fields.Met.{Met}
+use Rattle.mmdb_decode.specs.declared.fields.FieldsSeen.{FieldsSeen}
 
 -- A field is optional, or a part, which has a value of its own where it is absent.
 pub data Table (R : Type 0) : Type 1 where
@@ -44,7 +44,7 @@ Parts end = Unit {0}
 Parts (optional name shape get rest) = Option shape.Datum × Parts rest
 Parts (part name shape none is_absent get rest) = (Bool × shape.Datum) × Parts rest
 
-abbrev pub flags : Met → List Bool
+abbrev pub flags : FieldsSeen → List Bool
 flags m = m.0 ∷ m.1 ∷ m.2 ∷ m.3 ∷ m.4 ∷ m.5 ∷ m.6 ∷ m.7 ∷ m.8 ∷ []
 
 abbrev pub first_flag : List Bool → Bool

@@ -40,7 +40,7 @@ ReadsSmallNumbers =
     (low high : ℤ) (s : List ℕ) (p d : ℕ) (z : ℤ) (q c b : ℕ) → d ≤ most_levels →
     (small_at low high s p d ≡ Some (record { value = z; next = q; values = c; bytes = b })) ↔ (WholeNumberStands s p d z q × (low ≤ℤ z) × (z ≤ℤ high) × (c ≡ 0) × (b ≡ 0))
 
--- A container of this type stands at p, and tells how many parts it has, where they begin, the place after
+-- A container of this type stands at p, and tells how many parts it has, where they begin, the offset after
 -- a pointer that led to it, and their levels: it stands there directly, or behind one pointer, and a level
 -- is left for the pointer and for itself.
 abbrev pub ContainerStands : ℕ → List ℕ → ℕ → ℕ → Entered → Type 0

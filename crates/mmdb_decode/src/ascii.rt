@@ -2,7 +2,7 @@
 ghost use Rattle.std.specs.Prelude.{◌≡◌, ◌+◌, ◌<◌, ◌≤◌, ℕ, true, length, slice_index};
 ghost use Rattle.std.specs.Str.{IsAscii};
 
-/// Whether the four bytes from a place on are ASCII.
+/// Whether the four bytes from an offset on are ASCII.
 #[inline(always)]
 fn are_four_ascii(bytes: &[u8], at: usize) -> bool
     requires { at + 4 ≤ length bytes.now }
@@ -14,7 +14,7 @@ fn are_four_ascii(bytes: &[u8], at: usize) -> bool
         & bytes[at + 3].is_ascii()
 }
 
-/// Whether the eight bytes from a place on are ASCII.
+/// Whether the eight bytes from an offset on are ASCII.
 #[inline(always)]
 pub(crate) fn are_eight_ascii(bytes: &[u8], at: usize) -> bool
     requires { at + 8 ≤ length bytes.now }

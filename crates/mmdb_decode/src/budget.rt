@@ -3,7 +3,7 @@ ghost use Rattle.std.specs.Prelude.{◌≡◌, ◌<◌, ◌^◌, ◌-◌, true};
 ghost use Rattle.std.specs.Result.{result_ok};
 ghost use Rattle.mmdb_decode.specs.State.{spent_of, begun as spec_begun, Within};
 
-use mmdb_format::fault::Fault;
+use mmdb_format::decode_error_kind::DecodeErrorKind;
 
 /// The most values of a budget.
 pub const MAX_VALUES: usize = 65_536;
@@ -24,7 +24,7 @@ pub(crate) fn spent(
     budget: Option<Charges>,
     values: usize,
     bytes: usize,
-) -> Result<Option<Charges>, Fault>
+) -> Result<Option<Charges>, DecodeErrorKind>
     requires within { Within budget }
     requires few { values < 2 ^ 32 }
     requires short { bytes < 2 ^ 32 }
@@ -36,10 +36,10 @@ pub(crate) fn spent(
     let values = charges.values as usize + values;
     let bytes = charges.bytes as usize + bytes;
     if values > MAX_VALUES {
-        return Err(Fault::TooManyValues);
+        return Err(DecodeErrorKind::TooManyValues);
     }
     if bytes > MAX_BYTES {
-        return Err(Fault::TooManyBytes);
+        return Err(DecodeErrorKind::TooManyBytes);
     }
     Ok(Some(Charges {
         values: values as u32,
@@ -49,7 +49,10 @@ pub(crate) fn spent(
 
 /// The budget with so many more bytes charged.
 #[inline(always)]
-pub(crate) fn spent_bytes(budget: Option<Charges>, bytes: usize) -> Result<Option<Charges>, Fault>
+pub(crate) fn spent_bytes(
+    budget: Option<Charges>,
+    bytes: usize,
+) -> Result<Option<Charges>, DecodeErrorKind>
     requires within { Within budget }
     requires short { bytes < 2 ^ 32 }
     ensures value { result_ok result ≡ spent_of budget 0 bytes }
@@ -59,7 +62,7 @@ pub(crate) fn spent_bytes(budget: Option<Charges>, bytes: usize) -> Result<Optio
     };
     let bytes = charges.bytes as usize + bytes;
     if bytes > MAX_BYTES {
-        return Err(Fault::TooManyBytes);
+        return Err(DecodeErrorKind::TooManyBytes);
     }
     Ok(Some(Charges {
         values: charges.values,
@@ -74,7 +77,7 @@ pub(crate) fn spent_past(
     budget: Option<Charges>,
     bytes: usize,
     free: usize,
-) -> Result<Option<Charges>, Fault>
+) -> Result<Option<Charges>, DecodeErrorKind>
     requires within { Within budget }
     requires short { bytes < 2 ^ 32 }
     ensures value { result_ok result ≡ spent_of budget 0 (bytes - free) }

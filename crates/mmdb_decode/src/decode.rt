@@ -11,8 +11,8 @@ ghost use Rattle.mmdb_decode.specs.Refusal.{Reads, Refuses, Kept};
 use crate::decoder::Decoder;
 use crate::items::Items;
 use mmdb_format::content::{Double, Float};
+use mmdb_format::decode_error_kind::DecodeErrorKind;
 use mmdb_format::error::{DecodeResult, MaxMindDbError};
-use mmdb_format::fault::Fault;
 use std::alloc::Global;
 
 /// A type that can be decoded.
@@ -22,7 +22,7 @@ pub trait Decode<'de>: Sized + Drop {
 
     ghost datum: { Self → Datum };
 
-    /// What stands in a section at a place, below so many levels.
+    /// What stands in a section at an offset, below so many levels.
     ghost meaning: { Meaning Datum };
 
     /// Whether a reading at the start begins a budget.
@@ -196,7 +196,7 @@ fn read_between<'de>(
     if low <= number && number <= high {
         return Ok(number);
     }
-    Err(Fault::OutOfRange.refusal(alloc, d.offset()))
+    Err(DecodeErrorKind::OutOfRange.refusal(alloc, d.offset()))
 }
 
 impl<'de> Decode<'de> for u8 {

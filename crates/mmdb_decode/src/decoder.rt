@@ -1,11 +1,10 @@
-//! The decoder: a place in a section, with the levels and the budget.
+//! The decoder: an offset in a section, with the levels and the budget.
 ghost use Rattle.std.specs.Prelude.{◌≡◌, ◌<◌, ◌^◌, true, IfOk, None};
 ghost use Rattle.std.specs.Result.{result_ok};
 ghost use Rattle.mmdb_format.specs.Header.{header_at as spec_header_at};
 ghost use Rattle.mmdb_decode.specs.State.{State, begun as spec_begun, Within};
 ghost use Rattle.mmdb_decode.specs.Peeking.{kind_at};
 
-mod attempts;
 mod containers;
 mod keys;
 mod refusals;
@@ -13,24 +12,25 @@ mod scalars;
 mod selecting;
 mod skipping;
 mod stepping;
+mod try_reads;
 
 use crate::budget::{Charges, begun};
 use crate::peek::kind_of_value;
 use crate::refused::Step;
+use mmdb_format::decode_error_kind::DecodeErrorKind;
 use mmdb_format::error::DecodeResult;
-use mmdb_format::fault::Fault;
 use mmdb_format::header::{Header, header_at};
 use mmdb_format::kind::Kind;
 use std::alloc::Global;
 use std::marker::Model;
 
-/// Reads values of a section from a place on.
+/// Reads values of a section from an offset on.
 ///
 /// After a refusal it is given up: its calls stay safe, and no charge was given back.
 #[derive(Drop)]
 pub struct Decoder<'de> {
     section: &'de [u8],
-    place: usize,
+    offset: usize,
     levels: u16,
     budget: Option<Charges>,
     // What was to be read where a reading was refused, and the name of a field that stood a second time. No contract
@@ -44,19 +44,19 @@ impl<'de> Model for Decoder<'de> {
 
     ghost Value = { State };
 
-    ghost view = { λ d. record { section = d.section.now; place = d.place; levels = d.levels; budget = d.budget } };
+    ghost view = { λ d. record { section = d.section.now; offset = d.offset; levels = d.levels; budget = d.budget } };
 
     ghost invariant = { λ d. Within d.budget };
 }
 
 impl<'de> Decoder<'de> {
-    /// A decoder that reads a section from a place on, at no level and under no budget.
-    pub fn new(section: &'de [u8], place: usize) -> Decoder<'de>
-        ensures { result ≡ record { section = section.now; place = place; levels = 0; budget = None } }
+    /// A decoder that reads a section from an offset on, at no level and under no budget.
+    pub fn new(section: &'de [u8], offset: usize) -> Decoder<'de>
+        ensures { result ≡ record { section = section.now; offset = offset; levels = 0; budget = None } }
     {
         Decoder {
             section,
-            place,
+            offset,
             levels: 0,
             budget: None,
             step: Step::Name,
@@ -64,12 +64,12 @@ impl<'de> Decoder<'de> {
         }
     }
 
-    /// The place that is read next.
+    /// The offset that is read next.
     #[inline(always)]
     pub fn offset(&self) -> usize
-        ensures { result ≡ self.now.place }
+        ensures { result ≡ self.now.offset }
     {
-        self.place
+        self.offset
     }
 
     // What is charged is within the limits. It does nothing: a proof knows the decoder's invariant
@@ -78,27 +78,27 @@ impl<'de> Decoder<'de> {
     pub(crate) fn stays_within(&self)
         ensures { Within self.now.budget }
     {
-        let _ = &self.place;
+        let _ = &self.offset;
     }
 
-    /// The type of the value at the place, or behind one pointer there. The place stays.
+    /// The type of the value at the offset, or behind one pointer there. The offset stays.
     pub fn peek_kind(&mut self, alloc: Global) -> DecodeResult<Kind>
-        ensures kind { result_ok result ≡ kind_at self.old.section self.old.place }
+        ensures kind { result_ok result ≡ kind_at self.old.section self.old.offset }
         ensures same { self.new ≡ self.old }
     {
-        match kind_of_value(self.section, self.place) {
+        match kind_of_value(self.section, self.offset) {
             Ok(kind) => Ok(kind),
-            Err(fault) => Err(fault.refusal(alloc, self.place)),
+            Err(fault) => Err(fault.refusal(alloc, self.offset)),
         }
     }
 
-    // The header at the place.
+    // The header at the offset.
     #[inline(always)]
-    fn header_here(&self) -> Result<Header, Fault>
-        ensures value { result_ok result ≡ spec_header_at self.now.section self.now.place }
+    fn header_here(&self) -> Result<Header, DecodeErrorKind>
+        ensures value { result_ok result ≡ spec_header_at self.now.section self.now.offset }
         ensures bound { IfOk result (λ h. (h.size < 2 ^ 25) × (h.kind ≡ 1 → h.size < 32)) }
     {
-        header_at(self.section, self.place)
+        header_at(self.section, self.offset)
     }
 
     // Begins a budget.

@@ -9,8 +9,8 @@ ghost use Rattle.std.specs.Str.{IsUtf8};
 
 use crate::ascii::is_short_ascii;
 use crate::utf8::is_short_chars;
-use mmdb_format::content::{content_bytes, full_number, short_number};
-use mmdb_format::fault::Fault;
+use mmdb_format::content::{content_bytes, fixed_width_integer, variable_width_integer};
+use mmdb_format::decode_error_kind::DecodeErrorKind;
 use mmdb_format::header::{Direct, MAX_LEVELS, direct_at};
 use mmdb_format::kind::{BOOL, Kind};
 
@@ -26,81 +26,90 @@ pub struct Entered {
 /// The header of a value of one type.
 #[inline(always)]
 #[tactic(auto, unfolding(crate::specs::Scalars::direct_of))]
-fn direct_of(section: &[u8], place: usize, levels: u16, wanted: u16) -> Result<Direct, Fault>
-    ensures value { result_ok result ≡ spec_direct_of wanted section.now place levels }
+fn direct_of(
+    section: &[u8],
+    offset: usize,
+    levels: u16,
+    wanted: u16,
+) -> Result<Direct, DecodeErrorKind>
+    ensures value { result_ok result ≡ spec_direct_of wanted section.now offset levels }
     ensures bound { IfOk result (λ at. at.header.size < 2 ^ 25) }
 {
-    let at = direct_at(section, place, levels)?;
+    let at = direct_at(section, offset, levels)?;
     if at.header.kind != wanted {
-        return Err(Fault::unexpected(Kind::of_number(wanted), at.header.kind));
+        return Err(DecodeErrorKind::unexpected(Kind::of_number(wanted), at.header.kind));
     }
     Ok(at)
 }
 
-/// A whole number of one type, of at most so many bytes, and the place after it.
+/// A whole number of one type, of at most so many bytes, and the offset after it.
 #[inline(always)]
 #[tactic(auto, unfolding(crate::specs::Scalars::number_of))]
 pub(crate) fn number_at(
     section: &[u8],
-    place: usize,
+    offset: usize,
     levels: u16,
     wanted: u16,
     most: usize,
-) -> Result<(u128, usize), Fault>
+) -> Result<(u128, usize), DecodeErrorKind>
     requires { most ≤ 16 }
-    ensures value { option_map free_of_charge (result_ok result) ≡ number_of wanted most section.now place levels }
+    ensures value { option_map free_of_charge (result_ok result) ≡ number_of wanted most section.now offset levels }
     ensures bound { IfOk result (λ x. x.0 < 256 ^ most) }
 {
-    let at = direct_of(section, place, levels, wanted)?;
-    let n = short_number(section, at.header, most)?;
+    let at = direct_of(section, offset, levels, wanted)?;
+    let n = variable_width_integer(section, at.header, most)?;
     Ok((n, at.after.unwrap_or(at.header.body + at.header.size)))
 }
 
-/// The bits of a number of exactly so many bytes, and the place after it.
+/// The bits of a number of exactly so many bytes, and the offset after it.
 #[inline(always)]
 #[tactic(auto, unfolding(crate::specs::Scalars::bits_of))]
 pub(crate) fn bits_at(
     section: &[u8],
-    place: usize,
+    offset: usize,
     levels: u16,
     wanted: u16,
     size: usize,
-) -> Result<(u128, usize), Fault>
+) -> Result<(u128, usize), DecodeErrorKind>
     requires { size ≤ 16 }
-    ensures value { option_map free_of_charge (result_ok result) ≡ bits_of wanted size section.now place levels }
+    ensures value { option_map free_of_charge (result_ok result) ≡ bits_of wanted size section.now offset levels }
     ensures bound { IfOk result (λ x. x.0 < 256 ^ size) }
 {
-    let at = direct_of(section, place, levels, wanted)?;
-    let n = full_number(section, at.header, size)?;
+    let at = direct_of(section, offset, levels, wanted)?;
+    let n = fixed_width_integer(section, at.header, size)?;
     Ok((n, at.after.unwrap_or(at.header.body + at.header.size)))
 }
 
-/// A truth value, and the place after it.
+/// A truth value, and the offset after it.
 #[inline(always)]
 #[tactic(auto, unfolding(crate::specs::Scalars::bool_at))]
-pub(crate) fn bool_at(section: &[u8], place: usize, levels: u16) -> Result<(bool, usize), Fault>
-    ensures { option_map free_of_charge (result_ok result) ≡ spec_bool_at section.now place levels }
+pub(crate) fn bool_at(
+    section: &[u8],
+    offset: usize,
+    levels: u16,
+) -> Result<(bool, usize), DecodeErrorKind>
+    ensures { option_map free_of_charge (result_ok result) ≡ spec_bool_at section.now offset levels }
 {
-    let at = direct_of(section, place, levels, BOOL)?;
+    let at = direct_of(section, offset, levels, BOOL)?;
     if at.header.size > 1 {
         return Err(at.header.wrong_size());
     }
     Ok((at.header.size == 1, at.after.unwrap_or(at.header.body)))
 }
 
-/// All the bytes of a text or a byte string, and the place after it.
+/// All the bytes of a text or a byte string, and the offset after it.
 #[inline(always)]
 #[tactic(auto, unfolding(crate::specs::Scalars::bytes_of))]
 pub(crate) fn content_bytes_at(
     section: &[u8],
-    place: usize,
+    offset: usize,
     levels: u16,
     wanted: u16,
-) -> Result<(&[u8], usize), Fault>
-    ensures value { option_map (λ x. costs_its_length (x.0.now, x.1)) (result_ok result) ≡ bytes_of wanted section.now place levels }
+) -> Result<(&[u8], usize), DecodeErrorKind>
+    ensures value { option_map (λ x. costs_its_length (x.0.now, x.1)) (result_ok result) ≡ bytes_of wanted section.now offset levels }
     ensures bound { IfOk result (λ x. length x.0.now < 2 ^ 25) }
 {
-    let at = direct_of(section, place, levels, wanted)?;
+    let at = direct_of(section, offset, levels, wanted)?;
     let bytes = content_bytes(section, at.header)?;
     Ok((bytes, at.after.unwrap_or(at.header.body + at.header.size)))
 }
@@ -110,16 +119,16 @@ pub(crate) fn content_bytes_at(
 #[tactic(auto, unfolding(crate::specs::Arrays::container_at))]
 pub(crate) fn container_at(
     section: &[u8],
-    place: usize,
+    offset: usize,
     levels: u16,
     wanted: u16,
-) -> Result<Entered, Fault>
-    ensures value { result_ok result ≡ spec_container_at wanted section.now place levels }
+) -> Result<Entered, DecodeErrorKind>
+    ensures value { result_ok result ≡ spec_container_at wanted section.now offset levels }
     ensures bound { IfOk result (λ at. at.count < 2 ^ 25) }
 {
-    let at = direct_of(section, place, levels, wanted)?;
+    let at = direct_of(section, offset, levels, wanted)?;
     if at.levels >= MAX_LEVELS {
-        return Err(Fault::TooDeep);
+        return Err(DecodeErrorKind::TooDeep);
     }
     Ok(Entered {
         count: at.header.size,
@@ -153,12 +162,12 @@ fn is_text(bytes: &[u8]) -> bool
 /// memory would wait for it.
 #[tactic(auto, using(crate::proofs::Texts::text_yes, crate::proofs::Texts::text_no))]
 #[inline(always)]
-pub fn text_of(bytes: &[u8]) -> Result<&str, Fault>
+pub fn text_of(bytes: &[u8]) -> Result<&str, DecodeErrorKind>
     ensures value { option_map (λ x. x.now) (result_ok result) ≡ if_text bytes.now }
     ensures same { IfOk result (λ x. x.now ≡ bytes.now) }
 {
     if !is_text(bytes) {
-        return Err(Fault::InvalidUtf8);
+        return Err(DecodeErrorKind::InvalidUtf8);
     }
     Ok(unsafe { std::str::from_utf8_unchecked(bytes) })
 }

@@ -14,7 +14,7 @@ use std::alloc::Global;
 
 /// Which parts of a record were met.
 #[derive(Clone, Copy)]
-pub struct Met(
+pub struct FieldsSeen(
     pub bool,
     pub bool,
     pub bool,
@@ -42,7 +42,7 @@ pub trait Fields<'de>: Sized + Drop {
     /// Reads or skips the value after a name.
     fn read_field(
         &mut self,
-        met: &mut Met,
+        met: &mut FieldsSeen,
         alloc: Global,
         name: &'de [u8],
         d: &mut Decoder<'de>,
@@ -52,11 +52,11 @@ pub trait Fields<'de>: Sized + Drop {
 }
 
 /// A record that reads its fields one after the other.
-pub trait Attempts<'de>: Fields<'de> {
+pub trait TryFields<'de>: Fields<'de> {
     /// Reads the fields that are left of a map.
     fn read_rest(
         &mut self,
-        met: &mut Met,
+        met: &mut FieldsSeen,
         alloc: Global,
         d: &mut Decoder<'de>,
         entries: &mut Entries,
@@ -72,12 +72,12 @@ fn read_each<'de, R: Fields<'de>>(
     d: &mut Decoder<'de>,
     entries: &mut Entries,
     fields: &mut R,
-    met: &mut Met,
+    met: &mut FieldsSeen,
 ) -> Result<(), Refused>
     requires { IsSome d.old.budget }
     ensures { RestTaken R.free (decoded false (pairs_from name_at (fields_of R.table) (parts_met R.table (flags met.old) fields.old) (pairs_left entries.old)) d.old) (parts_met R.table (flags met.new) fields.new) d.old d.new entries.old entries.new result }
 {
-    while let Some(name) = d.attempt_next(entries)? {
+    while let Some(name) = d.try_next(entries)? {
         fields.read_field(met, alloc, name, d)?;
     }
     Ok(())
@@ -86,11 +86,11 @@ fn read_each<'de, R: Fields<'de>>(
 /// A record whose fields are read each by itself.
 pub trait EachByItself {}
 
-impl<'de, R: Fields<'de> + EachByItself> Attempts<'de> for R {
+impl<'de, R: Fields<'de> + EachByItself> TryFields<'de> for R {
     #[inline(always)]
     fn read_rest(
         &mut self,
-        met: &mut Met,
+        met: &mut FieldsSeen,
         alloc: Global,
         d: &mut Decoder<'de>,
         entries: &mut Entries,
@@ -101,7 +101,7 @@ impl<'de, R: Fields<'de> + EachByItself> Attempts<'de> for R {
 
 // Reads a map into a record of which no field was met.
 #[inline(always)]
-fn read_map_into<'de, R: Attempts<'de>>(
+fn read_map_into<'de, R: TryFields<'de>>(
     alloc: Global,
     d: &mut Decoder<'de>,
     fields: &mut R,
@@ -109,10 +109,10 @@ fn read_map_into<'de, R: Attempts<'de>>(
     requires { data_of R.table fields.old ≡ no_data R.table }
     ensures { FieldTaken R.free (decoded true (record_of R.table) d.old) (data_of R.table fields.new) d.old d.new result }
 {
-    let mut met = Met(
+    let mut met = FieldsSeen(
         false, false, false, false, false, false, false, false, false,
     );
-    let mut entries = d.attempt_map()?;
+    let mut entries = d.try_map()?;
     match fields.read_rest(&mut met, alloc, d, &mut entries) {
         Ok(()) => {
             d.end_map(entries);
@@ -126,7 +126,7 @@ fn read_map_into<'de, R: Attempts<'de>>(
 }
 
 // The same by a decoder of its own, which can stay in registers.
-pub(crate) fn read_into<'de, R: Attempts<'de>>(
+pub(crate) fn read_into<'de, R: TryFields<'de>>(
     alloc: Global,
     d: &mut Decoder<'de>,
     fields: &mut R,
@@ -147,7 +147,7 @@ pub(crate) fn read_into<'de, R: Attempts<'de>>(
     }
 }
 
-impl<'de, R: Attempts<'de>> Decode<'de> for R {
+impl<'de, R: TryFields<'de>> Decode<'de> for R {
     ghost Datum = { Data R.table };
 
     ghost datum = { data_of R.table };
@@ -168,7 +168,7 @@ impl<'de, R: Attempts<'de>> Decode<'de> for R {
 }
 
 /// Reads a part that stands at most once. One that stands again is refused before its value is read.
-pub fn read_part<'de, R: Attempts<'de>>(
+pub fn read_part<'de, R: TryFields<'de>>(
     alloc: Global,
     d: &mut Decoder<'de>,
     name: &'de [u8],

@@ -9,7 +9,7 @@ use crate::decoder::Decoder;
 use mmdb_format::error::DecodeResult;
 use std::alloc::Global;
 
-/// The value of a type at place 0 of a section.
+/// The value of a type at offset 0 of a section.
 ///
 /// It succeeds, memory apart, exactly where the type's meaning gives a value there, below no level and
 /// within the limits. Of a type whose meaning is not exact its own relation is known, and of Ok alone.

@@ -34,7 +34,7 @@ pub fn answer_is_within_limits<'de, T: Decode<'de>>()
     ensures { AnswerIsWithinLimits T.Datum }
 {}
 
-/// At one place of a section at most one value of a type stands, with one end and one cost: equal offsets
+/// At one offset of a section at most one value of a type stands, with one end and one cost: equal offsets
 /// are read as equal data, or are both refused.
 pub fn same_offset_same_result<'de, T: Decode<'de>>()
     ensures { OneReading T.meaning }

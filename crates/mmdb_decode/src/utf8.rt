@@ -12,7 +12,7 @@ fn goes_on(byte: u8) -> bool
     0x80 <= byte && byte < 0xc0
 }
 
-/// The length of eight characters of ASCII at a place, or of one character: below U+0800, or from U+1000 to U+CFFF,
+/// The length of eight characters of ASCII at an offset, or of one character: below U+0800, or from U+1000 to U+CFFF,
 /// so that its first byte alone leaves out surrogates and encodings that are too long.
 #[inline(always)]
 fn short_chars_len(bytes: &[u8], at: usize) -> Option<usize>

@@ -22,8 +22,8 @@ absent_added db rows fields outcome old new e put = (blanks rows (paths_of field
 
 pub read_added : (db asked : Database) (rows : Rows) (paths : List (List PathElement)) (offset : ℕ) (shown cells : List ℕ) (read : Bool) (outcome : Outcome)
     → asked ≡ db → shown ≡ cells → AreCells rows paths (data_section asked) offset cells → read ≡ are_read paths (data_section asked) offset → outcome ≡ (if read then Found else Refused) → AddsAt db rows paths (Some offset) shown outcome
-read_added db asked rows paths offset shown cells read outcome same put are r told =
-    subst (λ d. AddsAt d rows paths (Some offset) shown outcome) same (subst (λ x. AreCells rows paths (data_section asked) offset x) (sym put) are, told ∙ ap (λ b. if b then Found else Refused) r)
+read_added db asked rows paths offset shown cells read outcome same put are r addition =
+    subst (λ d. AddsAt d rows paths (Some offset) shown outcome) same (subst (λ x. AreCells rows paths (data_section asked) offset x) (sym put) are, addition ∙ ap (λ b. if b then Found else Refused) r)
 
 -- what stands behind what was there
 pub behind : (old new added : List ℕ) (n : ℕ) → n ≡ length old → new ≡ old ++ added → drop n new ≡ added

@@ -2,11 +2,11 @@
 use Rattle.std.proofs.Common.{◌≡◌, ◌≢◌, ℕ, zero, suc, ◌+◌, ◌-◌, ◌<◌, ◌≤◌, List, [], ◌∷◌, length, take, drop, get_or, Bool, true, false, not, ◌&&◌, ◌==◌, if◌then◌else◌, Some, None, nat_lt, cond, refl, sym, ap, ◌∙◌, arith, ne_eqb, eq-eqb}
 use Rattle.std.proofs.lemmas.Bool.Decides.{nat_tests}
 use Rattle.std.proofs.lemmas.List.{take_rest, drop-drop, drop_more, drop_all}
-use Rattle.mmdb_filter.specs.Rows.{place_after}
+use Rattle.mmdb_filter.specs.Rows.{position_after}
 use Rattle.mmdb_filter.specs.declared.rows.Rows.{Rows}
 use Rattle.mmdb_filter.specs.declared.rows.Rows.TheVariants.{Lines}
-use Rattle.mmdb_filter.specs.declared.rows.Place.{Place}
-use Rattle.mmdb_filter.specs.declared.rows.Place.TheVariants.{Cell, Plain, Quoted, Closing, Ended}
+use Rattle.mmdb_filter.specs.declared.rows.Position.{Position}
+use Rattle.mmdb_filter.specs.declared.rows.Position.TheVariants.{Cell, Plain, Quoted, Closing, Ended}
 use Rattle.mmdb_enrich.specs.Columns.{delimiter_of, is_quoted, cell_length, column_of}
 
 column_suc : (rows : Rows) (goes_on : Bool) (n : ℕ) (xs ys : List ℕ) (t : nat_lt (cell_length rows Cell xs) (length xs) ≡ true) → ys ≡ drop (cell_length rows Cell xs + 1) xs → column_of rows goes_on (suc n) xs ≡ column_of rows goes_on n ys
@@ -40,59 +40,59 @@ whole_column rows n p xs z e = ap (λ n. column_of rows false n xs) z ∙ at (na
     at false = refl
 
 -- one byte after another
-pub cell_stops : (rows : Rows) (p : Place) (xs : List ℕ) (at : ℕ) → at < length xs → (get_or xs at 0 == delimiter_of rows && not (is_quoted p)) ≡ true → cell_length rows p (drop at xs) ≡ 0
+pub cell_stops : (rows : Rows) (p : Position) (xs : List ℕ) (at : ℕ) → at < length xs → (get_or xs at 0 == delimiter_of rows && not (is_quoted p)) ≡ true → cell_length rows p (drop at xs) ≡ 0
 unfolding cell_length
-cell_stops rows p xs at l e = ap (cell_length rows p) (drop_more xs at 0 l) ∙ ap (λ b. if b then 0 else suc (cell_length rows (place_after rows p (get_or xs at 0)) (drop (at + 1) xs))) e
+cell_stops rows p xs at l e = ap (cell_length rows p) (drop_more xs at 0 l) ∙ ap (λ b. if b then 0 else suc (cell_length rows (position_after rows p (get_or xs at 0)) (drop (at + 1) xs))) e
 
-pub cell_goes_on : (rows : Rows) (p : Place) (xs : List ℕ) (at : ℕ) → at < length xs → (get_or xs at 0 == delimiter_of rows && not (is_quoted p)) ≡ false → cell_length rows p (drop at xs) ≡ suc (cell_length rows (place_after rows p (get_or xs at 0)) (drop (at + 1) xs))
+pub cell_goes_on : (rows : Rows) (p : Position) (xs : List ℕ) (at : ℕ) → at < length xs → (get_or xs at 0 == delimiter_of rows && not (is_quoted p)) ≡ false → cell_length rows p (drop at xs) ≡ suc (cell_length rows (position_after rows p (get_or xs at 0)) (drop (at + 1) xs))
 unfolding cell_length
-cell_goes_on rows p xs at l e = ap (cell_length rows p) (drop_more xs at 0 l) ∙ ap (λ b. if b then 0 else suc (cell_length rows (place_after rows p (get_or xs at 0)) (drop (at + 1) xs))) e
+cell_goes_on rows p xs at l e = ap (cell_length rows p) (drop_more xs at 0 l) ∙ ap (λ b. if b then 0 else suc (cell_length rows (position_after rows p (get_or xs at 0)) (drop (at + 1) xs))) e
 
-pub cell_ends : (rows : Rows) (p : Place) (xs : List ℕ) (at : ℕ) → length xs ≤ at → cell_length rows p (drop at xs) ≡ 0
+pub cell_ends : (rows : Rows) (p : Position) (xs : List ℕ) (at : ℕ) → length xs ≤ at → cell_length rows p (drop at xs) ≡ 0
 unfolding cell_length
 cell_ends rows p xs at l = ap (cell_length rows p) (drop_all at xs l)
 
 -- of a line, in which nothing is quoted
-unquoted_on : (p : Place) (x : ℕ) → is_quoted p ≡ false → is_quoted (place_after Lines p x) ≡ false
-unfolding place_after
+unquoted_on : (p : Position) (x : ℕ) → is_quoted p ≡ false → is_quoted (position_after Lines p x) ≡ false
+unfolding position_after
 unquoted_on p x e = at (x == 10)
   where
     at : (b : Bool) → is_quoted (if b then Ended else p) ≡ false
     at true = refl
     at false = e
 
-no_tab : (x : ℕ) (p : Place) → ((x == 9) ≡ true → ⊥) → (x == 9 && not (is_quoted p)) ≡ false
+no_tab : (x : ℕ) (p : Position) → ((x == 9) ≡ true → ⊥) → (x == 9 && not (is_quoted p)) ≡ false
 no_tab x p h = ap (λ b. b && not (is_quoted p)) (ne_eqb x 9 (λ e. h (eq-eqb x 9 e)))
 
-pub tab_at : (p : Place) (at : ℕ) (xs : List ℕ) → is_quoted p ≡ false → at < length xs → ((k : ℕ) → k < at → (get_or xs k 0 == 9) ≡ true → ⊥) → (get_or xs at 0 == 9) ≡ true → cell_length Lines p xs ≡ at
+pub tab_at : (p : Position) (at : ℕ) (xs : List ℕ) → is_quoted p ≡ false → at < length xs → ((k : ℕ) → k < at → (get_or xs k 0 == 9) ≡ true → ⊥) → (get_or xs at 0 == 9) ≡ true → cell_length Lines p xs ≡ at
 unfolding cell_length
 tab_at p at [] q l h is = absurd (omega (arith, l))
-tab_at p zero (x ∷ xs) q l h is = ap (λ b. if b then 0 else suc (cell_length Lines (place_after Lines p x) xs)) (ap (λ b. b && not (is_quoted p)) is ∙ ap not q)
+tab_at p zero (x ∷ xs) q l h is = ap (λ b. if b then 0 else suc (cell_length Lines (position_after Lines p x) xs)) (ap (λ b. b && not (is_quoted p)) is ∙ ap not q)
 tab_at p (suc at) (x ∷ xs) q l h is =
-    ap (λ b. if b then 0 else suc (cell_length Lines (place_after Lines p x) xs)) (no_tab x p (h 0 (omega arith)))
-    ∙ ap suc (tab_at (place_after Lines p x) at xs (unquoted_on p x q) (omega (arith, l)) (λ k below. h (suc k) (omega arith)) is)
+    ap (λ b. if b then 0 else suc (cell_length Lines (position_after Lines p x) xs)) (no_tab x p (h 0 (omega arith)))
+    ∙ ap suc (tab_at (position_after Lines p x) at xs (unquoted_on p x q) (omega (arith, l)) (λ k below. h (suc k) (omega arith)) is)
 
-pub no_tab_in : (p : Place) (xs : List ℕ) → is_quoted p ≡ false → ((k : ℕ) → k < length xs → (get_or xs k 0 == 9) ≡ true → ⊥) → cell_length Lines p xs ≡ length xs
+pub no_tab_in : (p : Position) (xs : List ℕ) → is_quoted p ≡ false → ((k : ℕ) → k < length xs → (get_or xs k 0 == 9) ≡ true → ⊥) → cell_length Lines p xs ≡ length xs
 unfolding cell_length
 no_tab_in p [] q h = refl
 no_tab_in p (x ∷ xs) q h =
-    ap (λ b. if b then 0 else suc (cell_length Lines (place_after Lines p x) xs)) (no_tab x p (h 0 (omega arith)))
-    ∙ ap suc (no_tab_in (place_after Lines p x) xs (unquoted_on p x q) (λ k below. h (suc k) (omega arith)))
+    ap (λ b. if b then 0 else suc (cell_length Lines (position_after Lines p x) xs)) (no_tab x p (h 0 (omega arith)))
+    ∙ ap suc (no_tab_in (position_after Lines p x) xs (unquoted_on p x q) (λ k below. h (suc k) (omega arith)))
 
-pub not_quoted : (p : Place) → p ≢ Quoted → is_quoted p ≡ false
+pub not_quoted : (p : Position) → p ≢ Quoted → is_quoted p ≡ false
 not_quoted Cell h = refl
 not_quoted Plain h = refl
 not_quoted Quoted h = absurd (h refl)
 not_quoted Closing h = refl
 not_quoted Ended h = refl
 
-pub is_delimiter : (rows : Rows) (x d : ℕ) (p : Place) → d ≡ delimiter_of rows → x ≡ d → is_quoted p ≡ false → (x == delimiter_of rows && not (is_quoted p)) ≡ true
+pub is_delimiter : (rows : Rows) (x d : ℕ) (p : Position) → d ≡ delimiter_of rows → x ≡ d → is_quoted p ≡ false → (x == delimiter_of rows && not (is_quoted p)) ≡ true
 is_delimiter rows x d p e is q = ap (λ b. b && not (is_quoted p)) (eq-eqb x (delimiter_of rows) (is ∙ e)) ∙ ap not q
 
-pub no_delimiter : (rows : Rows) (x d : ℕ) (p : Place) → d ≡ delimiter_of rows → x ≢ d → (x == delimiter_of rows && not (is_quoted p)) ≡ false
+pub no_delimiter : (rows : Rows) (x d : ℕ) (p : Position) → d ≡ delimiter_of rows → x ≢ d → (x == delimiter_of rows && not (is_quoted p)) ≡ false
 no_delimiter rows x d p e is = ap (λ b. b && not (is_quoted p)) (ne_eqb x (delimiter_of rows) (λ same. is (same ∙ sym e)))
 
-pub quoted_delimiter : (rows : Rows) (x : ℕ) (p : Place) → p ≡ Quoted → (x == delimiter_of rows && not (is_quoted p)) ≡ false
+pub quoted_delimiter : (rows : Rows) (x : ℕ) (p : Position) → p ≡ Quoted → (x == delimiter_of rows && not (is_quoted p)) ≡ false
 quoted_delimiter rows x p e = ap (λ q. x == delimiter_of rows && not (is_quoted q)) e ∙ at (x == delimiter_of rows)
   where
     at : (b : Bool) → b && false ≡ false

@@ -85,33 +85,33 @@ member_kept db asked name fields found offset (Some text) cells outcome same at 
     inl (subst (λ d. IsMember d name fields offset cells) same (subst (IsMember asked name fields offset) (sym kept.0) (some offset at)), kept.1)
 
 -- the member of the record of an address
-pub member_put : (db : Database) (name : List ℕ) (fields : List Field) (line : Line) (leaf : List Bool) (found : Option ℕ) (offset : ℕ) (text : List ℕ) (outcome : Outcome) (told : Added) (old new : List ℕ)
-    → found ≡ Some offset → Answers db line.address leaf (outcome_at found) → MemberAt db name fields offset text outcome → PutsMember line text outcome told old new → PutsMemberFor db name fields line told old new
-member_put db name fields line leaf found offset text outcome told old new at answers (inl (is, here)) puts =
+pub member_put : (db : Database) (name : List ℕ) (fields : List Field) (line : Line) (leaf : List Bool) (found : Option ℕ) (offset : ℕ) (text : List ℕ) (outcome : Outcome) (addition : Added) (old new : List ℕ)
+    → found ≡ Some offset → Answers db line.address leaf (outcome_at found) → MemberAt db name fields offset text outcome → PutsMember line text outcome addition old new → PutsMemberFor db name fields line addition old new
+member_put db name fields line leaf found offset text outcome addition old new at answers (inl (is, here)) puts =
     let there = subst (λ f. Answers db line.address leaf (outcome_at f)) at answers in
-    let (o, b, put) = subst (λ x. PutsMember line text x told old new) here puts in
+    let (o, b, put) = subst (λ x. PutsMember line text x addition old new) here puts in
     (comma_behind line.is_empty ++ text, inr (inr (leaf, offset, text, there, is, refl, b, o)), put)
-member_put db name fields line leaf found offset text outcome told old new at answers (inr (refused, none, here)) puts =
+member_put db name fields line leaf found offset text outcome addition old new at answers (inr (refused, none, here)) puts =
     let there = subst (λ f. Answers db line.address leaf (outcome_at f)) at answers in
-    let (o, b, put) = subst (λ x. PutsMember line text x told old new) here puts in
+    let (o, b, put) = subst (λ x. PutsMember line text x addition old new) here puts in
     ([], inl (refl, o, inr (inr (leaf, offset, there, refused))), put ∙ sym (append-nil old))
 
 -- no record
-pub absent_put : (db : Database) (name : List ℕ) (fields : List Field) (line : Line) (leaf : List Bool) (found : Option ℕ) (told : Added) (old : List ℕ)
-    → found ≡ None → Answers db line.address leaf (outcome_at found) → told.outcome ≡ Absent → PutsMemberFor db name fields line told old old
-absent_put db name fields line leaf found told old none answers o =
+pub absent_put : (db : Database) (name : List ℕ) (fields : List Field) (line : Line) (leaf : List Bool) (found : Option ℕ) (addition : Added) (old : List ℕ)
+    → found ≡ None → Answers db line.address leaf (outcome_at found) → addition.outcome ≡ Absent → PutsMemberFor db name fields line addition old old
+absent_put db name fields line leaf found addition old none answers o =
     ([], inr (inl (refl, o, (leaf, subst (λ f. Answers db line.address leaf (outcome_at f)) none answers))), sym (append-nil old))
 
 -- the address is refused
-pub refused_put : (db : Database) (name : List ℕ) (fields : List Field) (line : Line) (told : Added) (old : List ℕ) → IsMemberRefused db fields line.address → told.outcome ≡ Refused → PutsMemberFor db name fields line told old old
-refused_put db name fields line told old refused o = ([], inl (refl, o, refused), sym (append-nil old))
+pub refused_put : (db : Database) (name : List ℕ) (fields : List Field) (line : Line) (addition : Added) (old : List ℕ) → IsMemberRefused db fields line.address → addition.outcome ≡ Refused → PutsMemberFor db name fields line addition old old
+refused_put db name fields line addition old refused o = ([], inl (refl, o, refused), sym (append-nil old))
 
 -- as many bytes behind as behind the brace, or none
-pub behind_put : (line : Line) (text : List ℕ) (outcome : Outcome) (told : Added) (old new : List ℕ) → (outcome ≡ Found) ⊎ (outcome ≡ Refused) → PutsMember line text outcome told old new → told.behind ≤ line.behind
-behind_put line text outcome told old new (inl here) puts =
-    let (o, b, put) = subst (λ x. PutsMember line text x told old new) here puts in omega (arith, b)
-behind_put line text outcome told old new (inr here) puts =
-    let (o, b, put) = subst (λ x. PutsMember line text x told old new) here puts in omega (arith, b)
+pub behind_put : (line : Line) (text : List ℕ) (outcome : Outcome) (addition : Added) (old new : List ℕ) → (outcome ≡ Found) ⊎ (outcome ≡ Refused) → PutsMember line text outcome addition old new → addition.behind ≤ line.behind
+behind_put line text outcome addition old new (inl here) puts =
+    let (o, b, put) = subst (λ x. PutsMember line text x addition old new) here puts in omega (arith, b)
+behind_put line text outcome addition old new (inr here) puts =
+    let (o, b, put) = subst (λ x. PutsMember line text x addition old new) here puts in omega (arith, b)
 
 -- why the lookup of an address is refused
 pub address_refused : (db : Database) (fields : List Field) (address : IpAddr) (e : MaxMindDbError) → (kind_of e ≡ OfInput) ⊎ (kind_of e ≡ OfDatabase)

@@ -2,25 +2,25 @@
 use Rattle.std.specs.Prelude.{◌≡◌, ℕ, zero, suc, ◌+◌, ◌-◌, List, [], ◌∷◌, length, take, drop, get_or, Option, Some, None, Bool, true, false, not, ◌&&◌, ◌==◌, nat_lt, if◌then◌else◌}
 use Rattle.std.specs.Net.Grammar.{IsIpText}
 use Rattle.std.specs.declared.net.ip_addr.IpAddr.{IpAddr}
-use Rattle.mmdb_filter.specs.Rows.{place_after}
+use Rattle.mmdb_filter.specs.Rows.{position_after}
 use Rattle.mmdb_filter.specs.declared.rows.Rows.{Rows}
 use Rattle.mmdb_filter.specs.declared.rows.Rows.TheVariants.{Lines, Csv}
-use Rattle.mmdb_filter.specs.declared.rows.Place.{Place}
-use Rattle.mmdb_filter.specs.declared.rows.Place.TheVariants.{Cell, Quoted}
+use Rattle.mmdb_filter.specs.declared.rows.Position.{Position}
+use Rattle.mmdb_filter.specs.declared.rows.Position.TheVariants.{Cell, Quoted}
 
 -- what stands between cells: tabs between those of a line
 abbrev pub delimiter_of : Rows → ℕ
 delimiter_of Lines = 9
 delimiter_of (Csv delimiter) = delimiter
 
-abbrev pub is_quoted : Place → Bool
+abbrev pub is_quoted : Position → Bool
 is_quoted Quoted = true
 is_quoted _ = false
 
 -- how many bytes stand before the first delimiter that is not between quotes, or all
-unfoldable pub cell_length : Rows → Place → List ℕ → ℕ
-cell_length rows place [] = 0
-cell_length rows place (x ∷ xs) = if x == delimiter_of rows && not (is_quoted place) then 0 else suc (cell_length rows (place_after rows place x) xs)
+unfoldable pub cell_length : Rows → Position → List ℕ → ℕ
+cell_length rows position [] = 0
+cell_length rows position (x ∷ xs) = if x == delimiter_of rows && not (is_quoted position) then 0 else suc (cell_length rows (position_after rows position x) xs)
 
 -- the cell behind so many delimiters; none where the text ends before, or goes on where the cell does not end
 abbrev pub column_of : Rows → Bool → ℕ → List ℕ → Option (List ℕ)

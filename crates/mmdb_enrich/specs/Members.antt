@@ -44,10 +44,10 @@ AddsMember db path name fields text goes_on extra behind outcome =
 
 -- Bytes grow by a member, as the first or behind a comma; by nothing where a field is refused.
 abbrev pub PutsMember : Line → List ℕ → Outcome → Added → List ℕ → List ℕ → Type 0
-PutsMember line text Found told old new = (told.outcome ≡ Found) × (told.behind ≡ line.behind) × (new ≡ old ++ (comma_behind line.is_empty ++ text))
-PutsMember line text outcome told old new = (told.outcome ≡ outcome) × (told.behind ≡ 0) × (new ≡ old)
+PutsMember line text Found addition old new = (addition.outcome ≡ Found) × (addition.behind ≡ line.behind) × (new ≡ old ++ (comma_behind line.is_empty ++ text))
+PutsMember line text outcome addition old new = (addition.outcome ≡ outcome) × (addition.behind ≡ 0) × (new ≡ old)
 
 -- Bytes grow by what is added to an object for its address.
 abbrev pub PutsMemberFor : Database → List ℕ → List Field → Line → Added → List ℕ → List ℕ → Type 0
-PutsMemberFor db name fields line told old new =
-    (extra : List ℕ) × AddsMemberFor db name fields line.is_empty line.behind line.address extra told.behind told.outcome × (new ≡ old ++ extra)
+PutsMemberFor db name fields line addition old new =
+    (extra : List ℕ) × AddsMemberFor db name fields line.is_empty line.behind line.address extra addition.behind addition.outcome × (new ≡ old ++ extra)

@@ -9,7 +9,7 @@ use Rattle.mmdb_filter.specs.declared.rows.Rows.{Rows}
 use Rattle.mmdb_enrich.specs.Added.{AddsAt, AddsFor}
 use Rattle.mmdb_enrich.specs.Kept.{AreKept}
 use Rattle.mmdb_enrich.specs.Wanted.{cells}
-use Rattle.mmdb_enrich.specs.declared.cache.Place.{Place}
+use Rattle.mmdb_enrich.specs.declared.cache.Bucket.{Bucket}
 
 -- the paths of the fields
 abbrev pub paths_of : Vec (Vec PathElement) → List (List PathElement)
@@ -22,5 +22,5 @@ abbrev pub AddsForTo : Database → Rows → Vec (Vec PathElement) → Option Ip
 AddsForTo db rows fields address outcome old new = (extra : List ℕ) × AddsFor db rows (paths_of fields) address extra outcome × (new.items ≡ old.items ++ extra)
 
 -- What a cache keeps are cells of these fields.
-abbrev pub AreKeptFor : Database → Rows → Vec (Vec PathElement) → List Place → Type 0
-AreKeptFor db rows fields places = AreKept (cells db rows (paths_of fields)) places
+abbrev pub AreKeptFor : Database → Rows → Vec (Vec PathElement) → List Bucket → Type 0
+AreKeptFor db rows fields buckets = AreKept (cells db rows (paths_of fields)) buckets

@@ -10,8 +10,8 @@ use std::alloc::{AllocError, Global};
 use std::marker::Model;
 use std::mem;
 
-/// How many places there are for records, of which each keeps two.
-const PLACES: usize = 65_536;
+/// How many buckets there are for records, of which each keeps two.
+const BUCKETS: usize = 65_536;
 
 /// The most bytes of the cells of a record that is kept.
 const MOST_BYTES: usize = 512;
@@ -28,9 +28,9 @@ pub(crate) struct Slot {
     cells: KeptCells,
 }
 
-/// The last two records of a place.
+/// The last two records of a bucket.
 #[derive(Drop)]
-pub struct Place {
+pub struct Bucket {
     newer: Slot,
     older: Slot,
 }
@@ -42,12 +42,12 @@ pub(crate) struct Kept<'c> {
     pub(crate) outcome: Outcome,
 }
 
-/// What was added for the last records, each at the place that its offset gives. At most 512 bytes of a record are
-/// kept, and those that do not stand in their place take at most 8 MiB.
+/// What was added for the last records, each at the bucket that its offset gives. At most 512 bytes of a record are
+/// kept, and those that do not stand in their bucket take at most 8 MiB.
 #[derive(Drop)]
 pub struct Cache {
     alloc: Global,
-    places: Vec<Place>,
+    buckets: Vec<Bucket>,
     /// How many bytes of the heap are left for cells.
     heap_left: usize,
 }
@@ -55,13 +55,13 @@ pub struct Cache {
 impl Model for Cache {
     ghost use Rattle.std.specs.Prelude.{List};
     ghost use Rattle.mmdb_enrich.specs.Kept.{IsBounded};
-    ghost use Rattle.mmdb_enrich.specs.declared.cache.Place.{Place as SpecPlace};
+    ghost use Rattle.mmdb_enrich.specs.declared.cache.Bucket.{Bucket as SpecBucket};
 
-    ghost Value = { List SpecPlace };
+    ghost Value = { List SpecBucket };
 
-    ghost view = { λ cache. cache.places.items };
+    ghost view = { λ cache. cache.buckets.items };
 
-    ghost invariant = { λ cache. IsBounded cache.places.items cache.heap_left };
+    ghost invariant = { λ cache. IsBounded cache.buckets.items cache.heap_left };
 }
 
 impl Slot {
@@ -90,13 +90,13 @@ impl Slot {
     }
 }
 
-impl Place {
+impl Bucket {
     // Of no record.
-    fn empty() -> Place
+    fn empty() -> Bucket
         ensures newer { (result.newer.offset ≡ None) × (bytes_of result.newer.cells ≡ []) × (heap_of result.newer.cells ≡ 0) }
         ensures older { (result.older.offset ≡ None) × (bytes_of result.older.cells ≡ []) × (heap_of result.older.cells ≡ 0) }
     {
-        Place {
+        Bucket {
             newer: Slot::empty(),
             older: Slot::empty(),
         }
@@ -125,17 +125,17 @@ impl Place {
 }
 
 impl Cache {
-    /// Of no record. It takes memory for each place at once.
+    /// Of no record. It takes memory for each bucket at once.
     pub fn new(alloc: Global) -> Result<Cache, AllocError>
         ensures { IfOk result (λ cache. (wanted : Wanted) → AreKept wanted cache) }
     {
-        let mut places = Vec::with_capacity(alloc, PLACES)?;
-        for _ in 0..PLACES {
-            places.push(Place::empty())?;
+        let mut buckets = Vec::with_capacity(alloc, BUCKETS)?;
+        for _ in 0..BUCKETS {
+            buckets.push(Bucket::empty())?;
         }
         Ok(Cache {
             alloc,
-            places,
+            buckets,
             heap_left: MOST_HEAP,
         })
     }
@@ -145,7 +145,7 @@ impl Cache {
     pub(crate) fn kept(&self, offset: usize) -> Option<Kept<'_>>
         ensures { IfSome result (λ kept. (wanted : Wanted) → AreKept wanted self.now → AddsOf wanted offset kept.cells.now kept.outcome) }
     {
-        let slot = self.places[offset % PLACES].slot_of(offset);
+        let slot = self.buckets[offset % BUCKETS].slot_of(offset);
         if !slot.is_of(offset) {
             return None;
         }
@@ -155,7 +155,7 @@ impl Cache {
         })
     }
 
-    /// Keeps the cells of a record in the stead of the older one at its place, unless they are many or there is no
+    /// Keeps the cells of a record in the stead of the older one at its bucket, unless they are many or there is no
     /// memory.
     pub(crate) fn keep(&mut self, offset: usize, cells: &[u8], outcome: Outcome)
         ensures { (wanted : Wanted) → AreKept wanted self.old → AddsOf wanted offset cells.now outcome → AreKept wanted self.new }
@@ -166,13 +166,13 @@ impl Cache {
         let Ok(cells) = KeptCells::of(self.alloc, cells) else {
             return;
         };
-        let at = offset % PLACES;
-        let left = self.heap_left + self.places[at].older.cells.heap();
+        let at = offset % BUCKETS;
+        let left = self.heap_left + self.buckets[at].older.cells.heap();
         if cells.heap() > left {
             return;
         }
         self.heap_left = left - cells.heap();
-        self.places[at].put(Slot {
+        self.buckets[at].put(Slot {
             offset: Some(offset),
             outcome,
             cells,

@@ -79,7 +79,7 @@ fn put_read(
     read: &Result<Option<Value<'_>>, MaxMindDbError>,
     out: &mut Vec<u8>,
 ) -> Result<bool, AllocError>
-    ensures { IfOk result (λ told. (answer : Option (Option Tree)) → IsReadAs answer read.now → (cell : List ℕ) × IsCell rows answer cell × (out.new.items ≡ out.old.items ++ cell) × (told ≡ is_some answer)) }
+    ensures { IfOk result (λ addition. (answer : Option (Option Tree)) → IsReadAs answer read.now → (cell : List ℕ) × IsCell rows answer cell × (out.new.items ≡ out.old.items ++ cell) × (addition ≡ is_some answer)) }
 {
     match read {
         Ok(Some(value)) => {

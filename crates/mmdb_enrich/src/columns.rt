@@ -1,10 +1,10 @@
 //! The address in a row.
 ghost use Rattle.std.specs.Prelude.{◌≡◌, ◌≤◌, length, option_map};
-ghost use Rattle.mmdb_filter.specs.declared.rows.Place.TheVariants.{Cell};
+ghost use Rattle.mmdb_filter.specs.declared.rows.Position.TheVariants.{Cell};
 ghost use Rattle.mmdb_enrich.specs.Columns.{delimiter_of as spec_delimiter_of, cell_length as spec_cell_length, column_of as spec_column_of, value_of as spec_value_of, ReadsAddress};
 
 use memchr::memchr;
-use mmdb_filter::{Place, Rows};
+use mmdb_filter::{Position, Rows};
 use std::net::IpAddr;
 
 /// What stands between cells: tabs between those of a line.
@@ -24,12 +24,12 @@ fn quoted_cell_length(rows: Rows, text: &[u8]) -> usize
     ensures within { result ≤ length text.now }
 {
     let delimiter = delimiter_of(rows);
-    let mut place = Place::Cell;
+    let mut position = Position::Cell;
     for at in 0..text.len() {
-        if text[at] == delimiter && place != Place::Quoted {
+        if text[at] == delimiter && position != Position::Quoted {
             return at;
         }
-        place = place.after(rows, text[at]);
+        position = position.after(rows, text[at]);
     }
     text.len()
 }

@@ -77,7 +77,7 @@ impl<'a, 'f, S: AsSlice<u8> + Drop> Enrichment<'a, 'f, S> {
 
     // Adds empty cells.
     fn put_none(&self, outcome: Outcome, out: &mut Vec<u8>) -> Result<Outcome, AllocError>
-        ensures { IfOk result (λ told. (told ≡ outcome) × (out.new.items ≡ out.old.items ++ blanks self.now.rows (paths_of self.now.paths))) }
+        ensures { IfOk result (λ addition. (addition ≡ outcome) × (out.new.items ≡ out.old.items ++ blanks self.now.rows (paths_of self.now.paths))) }
     {
         put_blanks(self.rows, self.paths.as_slice(), out)?;
         Ok(outcome)

@@ -75,7 +75,7 @@ fn kept_of(member: &Option<Vec<u8>>) -> Kept<'_>
 
 // Adds a member to an object: as the first, or behind a comma. Nothing is added where a field was refused.
 fn put_member(line: &Line, member: Kept<'_>, out: &mut Vec<u8>) -> Result<Added, AllocError>
-    ensures { IfOk result (λ told. PutsMember line.now member.entry.cells.now member.entry.outcome told out.old.items out.new.items) }
+    ensures { IfOk result (λ addition. PutsMember line.now member.entry.cells.now member.entry.outcome addition out.old.items out.new.items) }
 {
     if member.outcome != Outcome::Found {
         return Ok(nothing(member.outcome));
@@ -109,7 +109,7 @@ impl<'a, 'f, S: AsSlice<u8> + Drop> JsonEnrichment<'a, 'f, S> {
         requires at { offset_found found.now ≡ Some offset }
         requires asked { database_asked found.now ≡ self.now.reader.now }
         requires kept { AreKept (spec_member self.now.reader.now self.now.name.now self.now.fields.items) cache.old }
-        ensures added { IfOk result (λ told. (text : List ℕ) × (outcome : SpecOutcome) × MemberAt self.now.reader.now self.now.name.now self.now.fields.items offset text outcome × PutsMember line.now text outcome told out.old.items out.new.items) }
+        ensures added { IfOk result (λ addition. (text : List ℕ) × (outcome : SpecOutcome) × MemberAt self.now.reader.now self.now.name.now self.now.fields.items offset text outcome × PutsMember line.now text outcome addition out.old.items out.new.items) }
         ensures kept { AreKept (spec_member self.now.reader.now self.now.name.now self.now.fields.items) cache.new }
     {
         let member = member_of(self.alloc, found, self.name, self.fields.as_slice())?;
@@ -126,8 +126,8 @@ impl<'a, 'f, S: AsSlice<u8> + Drop> JsonEnrichment<'a, 'f, S> {
         out: &mut Vec<u8>,
     ) -> Result<Added, AllocError>
         requires kept { AreKept (spec_member self.now.reader.now self.now.name.now self.now.fields.items) cache.old }
-        ensures added { IfOk result (λ told. PutsMemberFor self.now.reader.now self.now.name.now self.now.fields.items line.now told out.old.items out.new.items) }
-        ensures behind { IfOk result (λ told. told.behind ≤ line.now.behind) }
+        ensures added { IfOk result (λ addition. PutsMemberFor self.now.reader.now self.now.name.now self.now.fields.items line.now addition out.old.items out.new.items) }
+        ensures behind { IfOk result (λ addition. addition.behind ≤ line.now.behind) }
         ensures kept { AreKept (spec_member self.now.reader.now self.now.name.now self.now.fields.items) cache.new }
     {
         let Ok(found) = self.reader.lookup(line.address) else {

@@ -9,8 +9,8 @@ use Rattle.mmdb_filter.specs.Passing.{Passes, PassesFront}
 use Rattle.mmdb_filter.specs.declared.counts.Counts.{Counts}
 use Rattle.mmdb_filter.specs.declared.counts.Outcome.{Outcome}
 use Rattle.mmdb_filter.specs.declared.rows.Rows.{Rows}
-use Rattle.mmdb_filter.specs.declared.rows.Place.{Place}
-use Rattle.mmdb_filter.specs.declared.rows.Place.TheVariants.{Cell, Ended}
+use Rattle.mmdb_filter.specs.declared.rows.Position.{Position}
+use Rattle.mmdb_filter.specs.declared.rows.Position.TheVariants.{Cell, Ended}
 use Rattle.mmdb_filter.proofs.PassLaws.{nothing_left}
 use Rattle.mmdb_filter.proofs.RowLaws.{row_from_some, row_from_empty}
 use Rattle.mmdb_filter.proofs.TextLaws.{or_less, seen_same}
@@ -27,62 +27,62 @@ pub started : (rows : Rows) (Adds : MayAdd) (input old : Option (List ℕ)) → 
 started rows Adds None old = tt
 started rows Adds (Some all) old = ([], Appends-nil old, λ to_end lines are. (lines, are, refl, refl))
 
--- what is seen of a piece is seen of the row
-pub seen_whole : (rows : Rows) (place : Place) (piece ys : List ℕ) → (place ≢ Ended → length piece < 65539 → ys ≡ [])
-    → (seen_of (piece ++ row_from rows place ys) ≡ seen_of piece) × (is_long (piece ++ row_from rows place ys) ≡ is_long piece)
-seen_whole rows place piece ys ready = at (or_less (length piece) 65539)
+-- what is seen of a chunk is seen of the row
+pub seen_whole : (rows : Rows) (position : Position) (chunk ys : List ℕ) → (position ≢ Ended → length chunk < 65539 → ys ≡ [])
+    → (seen_of (chunk ++ row_from rows position ys) ≡ seen_of chunk) × (is_long (chunk ++ row_from rows position ys) ≡ is_long chunk)
+seen_whole rows position chunk ys ready = at (or_less (length chunk) 65539)
   where
-    at : (length piece < 65539) ⊎ (65539 ≤ length piece) → (seen_of (piece ++ row_from rows place ys) ≡ seen_of piece) × (is_long (piece ++ row_from rows place ys) ≡ is_long piece)
-    at (inr h) = seen_same piece (row_from rows place ys) h
+    at : (length chunk < 65539) ⊎ (65539 ≤ length chunk) → (seen_of (chunk ++ row_from rows position ys) ≡ seen_of chunk) × (is_long (chunk ++ row_from rows position ys) ≡ is_long chunk)
+    at (inr h) = seen_same chunk (row_from rows position ys) h
     at (inl h) =
-        let same : piece ++ row_from rows place ys ≡ piece = ap (λ r. piece ++ r) (nothing_left rows place ys (λ e. ready e h)).0 ∙ append-nil piece in
+        let same : chunk ++ row_from rows position ys ≡ chunk = ap (λ r. chunk ++ r) (nothing_left rows position ys (λ e. ready e h)).0 ∙ append-nil chunk in
         (ap seen_of same, ap is_long same)
 
 more_are : (rows : Rows) (Adds : MayAdd) (to_end : Bool) (line : Line) (lines : List Line) (xs : List ℕ) → 0 < length xs → line.bytes ≡ row_from rows Cell xs → IsAdded Adds line.bytes line.extra line.behind line.outcome → AreLines rows Adds to_end lines (rows_after rows Cell xs) → AreLines rows Adds to_end (line ∷ lines) xs
 more_are rows Adds true line lines xs s is a are = (s, is, a, are)
 more_are rows Adds false line lines xs s is a are = (s, is, a, are)
 
--- a row of which a piece was read
-begins : (rows : Rows) (Adds : MayAdd) (to_end : Bool) (lines : List Line) (place : Place) (piece extra xs ys : List ℕ) (behind : ℕ) (outcome : Outcome)
-    → (row_from rows Cell xs ≡ piece ++ row_from rows place ys) × (rows_after rows Cell xs ≡ rows_after rows place ys) → (place ≢ Ended → length piece < 65539 → ys ≡ []) → 0 < length piece
-    → IsAdded Adds piece extra behind outcome → AreLines rows Adds to_end lines (rows_after rows place ys)
-    → AreLines rows Adds to_end (record { bytes = piece ++ row_from rows place ys; extra = extra; behind = behind; outcome = outcome } ∷ lines) xs
-begins rows Adds to_end lines place piece extra xs ys behind outcome leads ready some added are =
-    let line : Line = record { bytes = piece ++ row_from rows place ys; extra = extra; behind = behind; outcome = outcome } in
-    let more : 0 < length (row_from rows Cell xs) = omega (arith, ap length leads.0, length-append piece (row_from rows place ys)) in
-    let seen = seen_whole rows place piece ys ready in
+-- a row of which a chunk was read
+begins : (rows : Rows) (Adds : MayAdd) (to_end : Bool) (lines : List Line) (position : Position) (chunk extra xs ys : List ℕ) (behind : ℕ) (outcome : Outcome)
+    → (row_from rows Cell xs ≡ chunk ++ row_from rows position ys) × (rows_after rows Cell xs ≡ rows_after rows position ys) → (position ≢ Ended → length chunk < 65539 → ys ≡ []) → 0 < length chunk
+    → IsAdded Adds chunk extra behind outcome → AreLines rows Adds to_end lines (rows_after rows position ys)
+    → AreLines rows Adds to_end (record { bytes = chunk ++ row_from rows position ys; extra = extra; behind = behind; outcome = outcome } ∷ lines) xs
+begins rows Adds to_end lines position chunk extra xs ys behind outcome leads ready some added are =
+    let line : Line = record { bytes = chunk ++ row_from rows position ys; extra = extra; behind = behind; outcome = outcome } in
+    let more : 0 < length (row_from rows Cell xs) = omega (arith, ap length leads.0, length-append chunk (row_from rows position ys)) in
+    let seen = seen_whole rows position chunk ys ready in
     more_are rows Adds to_end line lines xs (row_from_some rows Cell xs more) (sym leads.0)
-    (subst (λ t. Adds t (is_long line.bytes) extra behind outcome × StandsBehind t (is_long line.bytes) behind) (sym seen.0) (subst (λ b. Adds (seen_of piece) b extra behind outcome × StandsBehind (seen_of piece) b behind) (sym seen.1) added))
+    (subst (λ t. Adds t (is_long line.bytes) extra behind outcome × StandsBehind t (is_long line.bytes) behind) (sym seen.0) (subst (λ b. Adds (seen_of chunk) b extra behind outcome × StandsBehind (seen_of chunk) b behind) (sym seen.1) added))
     (subst (AreLines rows Adds to_end lines) (sym leads.1) are)
 
-pub next_row : (rows : Rows) (Adds : MayAdd) (input left mid next old now new : Option (List ℕ)) (c : Counts) (place : Place) (piece extra : List ℕ) (behind : ℕ) (outcome : Outcome)
-    → Leads rows Cell left piece place mid → (place ≢ Ended → length piece < 65539 → OnSome left (IsAtEnd mid)) → 0 < length piece → IsAdded Adds piece extra behind outcome
-    → ((place ≢ Ended → length piece < 65539 → IsAtEnd mid) → Passes rows place piece extra behind mid next now new)
+pub next_row : (rows : Rows) (Adds : MayAdd) (input left mid next old now new : Option (List ℕ)) (c : Counts) (position : Position) (chunk extra : List ℕ) (behind : ℕ) (outcome : Outcome)
+    → Leads rows Cell left chunk position mid → (position ≢ Ended → length chunk < 65539 → OnSome left (IsAtEnd mid)) → 0 < length chunk → IsAdded Adds chunk extra behind outcome
+    → ((position ≢ Ended → length chunk < 65539 → IsAtEnd mid) → Passes rows position chunk extra behind mid next now new)
     → UnderWay rows Adds input left old now c → UnderWay rows Adds input next old new (count_one c outcome)
-next_row rows Adds None left mid next old now new c place piece extra behind outcome leads ready some added passes way = tt
-next_row rows Adds (Some all) None mid next old now new c place piece extra behind outcome leads ready some added passes way = absurd way
-next_row rows Adds (Some all) (Some xs) None next old now new c place piece extra behind outcome leads ready some added passes way = absurd leads
-next_row rows Adds (Some all) (Some xs) (Some ys) next old now new c place piece extra behind outcome leads ready some added passes way =
+next_row rows Adds None left mid next old now new c position chunk extra behind outcome leads ready some added passes way = tt
+next_row rows Adds (Some all) None mid next old now new c position chunk extra behind outcome leads ready some added passes way = absurd way
+next_row rows Adds (Some all) (Some xs) None next old now new c position chunk extra behind outcome leads ready some added passes way = absurd leads
+next_row rows Adds (Some all) (Some xs) (Some ys) next old now new c position chunk extra behind outcome leads ready some added passes way =
     let (done, appended, goes_on) = way in
     let (after, put) = passes ready in
-    let line : Line = record { bytes = piece ++ row_from rows place ys; extra = extra; behind = behind; outcome = outcome } in
+    let line : Line = record { bytes = chunk ++ row_from rows position ys; extra = extra; behind = behind; outcome = outcome } in
     subst (λ n. UnderWay rows Adds (Some all) n old new (count_one c outcome)) (sym after) (
       done ++ row_with line.bytes extra behind,
       Appends-trans old now new done (row_with line.bytes extra behind) appended put,
       λ to_end lines are.
-          let (whole, wholes, text, counts) = goes_on to_end (line ∷ lines) (begins rows Adds to_end lines place piece extra xs ys behind outcome leads ready some added are) in
+          let (whole, wholes, text, counts) = goes_on to_end (line ∷ lines) (begins rows Adds to_end lines position chunk extra xs ys behind outcome leads ready some added are) in
           (whole, wholes, text ∙ sym (append_assoc done (row_with line.bytes extra behind) (written lines)), counts),
     )
 
-pub finished : (rows : Rows) (Adds : MayAdd) (input left mid old now : Option (List ℕ)) (c : Counts) (place : Place) (piece : List ℕ)
-    → Leads rows Cell left piece place mid → (place ≢ Ended → length piece < 65539 → OnSome left (IsAtEnd mid)) → piece ≡ [] → UnderWay rows Adds input left old now c → IsFiltered rows Adds input old now c
-finished rows Adds None left mid old now c place piece leads ready none way = tt
-finished rows Adds (Some all) None mid old now c place piece leads ready none way = absurd way
-finished rows Adds (Some all) (Some xs) None old now c place piece leads ready none way = absurd leads
-finished rows Adds (Some all) (Some xs) (Some ys) old now c place piece leads ready none way =
+pub finished : (rows : Rows) (Adds : MayAdd) (input left mid old now : Option (List ℕ)) (c : Counts) (position : Position) (chunk : List ℕ)
+    → Leads rows Cell left chunk position mid → (position ≢ Ended → length chunk < 65539 → OnSome left (IsAtEnd mid)) → chunk ≡ [] → UnderWay rows Adds input left old now c → IsFiltered rows Adds input old now c
+finished rows Adds None left mid old now c position chunk leads ready none way = tt
+finished rows Adds (Some all) None mid old now c position chunk leads ready none way = absurd way
+finished rows Adds (Some all) (Some xs) None old now c position chunk leads ready none way = absurd leads
+finished rows Adds (Some all) (Some xs) (Some ys) old now c position chunk leads ready none way =
     let (done, appended, goes_on) = way in
     let left : row_from rows Cell xs ≡ [] =
-    leads.0 ∙ ap (λ p. p ++ row_from rows place ys) none ∙ (nothing_left rows place ys (λ e. ready e (omega (arith, ap length none)))).0 in
+    leads.0 ∙ ap (λ p. p ++ row_from rows position ys) none ∙ (nothing_left rows position ys (λ e. ready e (omega (arith, ap length none)))).0 in
     let e : xs ≡ [] = row_from_empty rows xs left in
     let (whole, wholes, text, counts) = goes_on true [] e in
     (whole, wholes, subst (λ t. Appends old now t) (sym (text ∙ append-nil done)) appended, sym counts)
@@ -96,16 +96,16 @@ given_up rows Adds (Some all) (Some xs) old now c way =
     let (whole, wholes, text, counts) = goes_on false [] tt in
     (whole, wholes, (done, [], text, appended))
 
-pub given_up_in : (rows : Rows) (Adds : MayAdd) (input left mid old now new : Option (List ℕ)) (c : Counts) (place : Place) (piece extra : List ℕ) (behind : ℕ) (outcome : Outcome)
-    → Leads rows Cell left piece place mid → (place ≢ Ended → length piece < 65539 → OnSome left (IsAtEnd mid)) → 0 < length piece → IsAdded Adds piece extra behind outcome
-    → ((place ≢ Ended → length piece < 65539 → IsAtEnd mid) → PassesFront rows place piece extra behind mid now new)
+pub given_up_in : (rows : Rows) (Adds : MayAdd) (input left mid old now new : Option (List ℕ)) (c : Counts) (position : Position) (chunk extra : List ℕ) (behind : ℕ) (outcome : Outcome)
+    → Leads rows Cell left chunk position mid → (position ≢ Ended → length chunk < 65539 → OnSome left (IsAtEnd mid)) → 0 < length chunk → IsAdded Adds chunk extra behind outcome
+    → ((position ≢ Ended → length chunk < 65539 → IsAtEnd mid) → PassesFront rows position chunk extra behind mid now new)
     → UnderWay rows Adds input left old now c → IsBegun rows Adds input old new
-given_up_in rows Adds None left mid old now new c place piece extra behind outcome leads ready some added passes way = tt
-given_up_in rows Adds (Some all) None mid old now new c place piece extra behind outcome leads ready some added passes way = absurd way
-given_up_in rows Adds (Some all) (Some xs) None old now new c place piece extra behind outcome leads ready some added passes way = absurd leads
-given_up_in rows Adds (Some all) (Some xs) (Some ys) old now new c place piece extra behind outcome leads ready some added passes way =
+given_up_in rows Adds None left mid old now new c position chunk extra behind outcome leads ready some added passes way = tt
+given_up_in rows Adds (Some all) None mid old now new c position chunk extra behind outcome leads ready some added passes way = absurd way
+given_up_in rows Adds (Some all) (Some xs) None old now new c position chunk extra behind outcome leads ready some added passes way = absurd leads
+given_up_in rows Adds (Some all) (Some xs) (Some ys) old now new c position chunk extra behind outcome leads ready some added passes way =
     let (done, appended, goes_on) = way in
     let (front, rest, split, more) = passes ready in
-    let line : Line = record { bytes = piece ++ row_from rows place ys; extra = extra; behind = behind; outcome = outcome } in
-    let (whole, wholes, text, counts) = goes_on false (line ∷ []) (begins rows Adds false [] place piece extra xs ys behind outcome leads ready some added tt) in
+    let line : Line = record { bytes = chunk ++ row_from rows position ys; extra = extra; behind = behind; outcome = outcome } in
+    let (whole, wholes, text, counts) = goes_on false (line ∷ []) (begins rows Adds false [] position chunk extra xs ys behind outcome leads ready some added tt) in
     (whole, wholes, (done ++ front, rest, text ∙ ap (λ t. done ++ t) (append-nil (row_with line.bytes extra behind) ∙ split) ∙ sym (append_assoc done front rest), Appends-trans old now new done front appended more))

@@ -4,13 +4,13 @@ use Rattle.std.proofs.lemmas.List.{drop_more, take_more, append_cancel_left}
 use Rattle.std.proofs.KnownBytes.{starts_with_rest}
 use Rattle.std.specs.Io.{StartsWith}
 use Rattle.std.specs.Io.KnownBytes.{Keeps, Consumes}
-use Rattle.mmdb_filter.specs.Rows.{is_ended, place_after, row_from, rows_after, Goes, Leads}
+use Rattle.mmdb_filter.specs.Rows.{is_ended, position_after, row_from, rows_after, Goes, Leads}
 use Rattle.mmdb_filter.specs.declared.rows.Rows.{Rows}
 use Rattle.mmdb_filter.specs.declared.rows.Rows.TheVariants.{Lines}
-use Rattle.mmdb_filter.specs.declared.rows.Place.{Place}
-use Rattle.mmdb_filter.specs.declared.rows.Place.TheVariants.{Cell, Plain, Quoted, Closing, Ended}
+use Rattle.mmdb_filter.specs.declared.rows.Position.{Position}
+use Rattle.mmdb_filter.specs.declared.rows.Position.TheVariants.{Cell, Plain, Quoted, Closing, Ended}
 
-pub not_ended : (p : Place) → p ≢ Ended → is_ended p ≡ false
+pub not_ended : (p : Position) → p ≢ Ended → is_ended p ≡ false
 not_ended Cell h = refl
 not_ended Plain h = refl
 not_ended Quoted h = refl
@@ -28,16 +28,16 @@ unfolding rows_after
 rows_after_ended rows [] = refl
 rows_after_ended rows (x ∷ xs) = refl
 
-pub row_from_nothing : (rows : Rows) (p : Place) → row_from rows p [] ≡ []
+pub row_from_nothing : (rows : Rows) (p : Position) → row_from rows p [] ≡ []
 unfolding row_from
 row_from_nothing rows p = refl
 
-pub rows_after_nothing : (rows : Rows) (p : Place) → rows_after rows p [] ≡ []
+pub rows_after_nothing : (rows : Rows) (p : Position) → rows_after rows p [] ≡ []
 unfolding rows_after
 rows_after_nothing rows p = refl
 
 -- a row that has begun has a byte
-pub row_from_some : (rows : Rows) (p : Place) (xs : List ℕ) → 0 < length (row_from rows p xs) → 0 < length xs
+pub row_from_some : (rows : Rows) (p : Position) (xs : List ℕ) → 0 < length (row_from rows p xs) → 0 < length xs
 unfolding row_from
 row_from_some rows p [] h = h
 row_from_some rows p (x ∷ xs) h = omega arith
@@ -47,35 +47,35 @@ unfolding row_from
 row_from_empty rows [] e = refl
 row_from_empty rows (x ∷ xs) e = absurd (omega (arith, ap length e))
 
-pub goes_nowhere : (rows : Rows) (p : Place) (xs : List ℕ) → Goes rows p xs [] p xs
+pub goes_nowhere : (rows : Rows) (p : Position) (xs : List ℕ) → Goes rows p xs [] p xs
 goes_nowhere rows p xs = (refl, refl)
 
-pub goes_byte : (rows : Rows) (p : Place) (x : ℕ) (xs : List ℕ) → is_ended p ≡ false → Goes rows p (x ∷ xs) (x ∷ []) (place_after rows p x) xs
+pub goes_byte : (rows : Rows) (p : Position) (x : ℕ) (xs : List ℕ) → is_ended p ≡ false → Goes rows p (x ∷ xs) (x ∷ []) (position_after rows p x) xs
 unfolding row_from rows_after
-goes_byte rows p x xs e = (ap (λ b. if b then [] else x ∷ row_from rows (place_after rows p x) xs) e, ap (λ b. if b then x ∷ xs else rows_after rows (place_after rows p x) xs) e)
+goes_byte rows p x xs e = (ap (λ b. if b then [] else x ∷ row_from rows (position_after rows p x) xs) e, ap (λ b. if b then x ∷ xs else rows_after rows (position_after rows p x) xs) e)
 
-pub goes_on : (rows : Rows) (p q r : Place) (xs bs ys cs zs : List ℕ) → Goes rows p xs bs q ys → Goes rows q ys cs r zs → Goes rows p xs (bs ++ cs) r zs
+pub goes_on : (rows : Rows) (p q r : Position) (xs bs ys cs zs : List ℕ) → Goes rows p xs bs q ys → Goes rows q ys cs r zs → Goes rows p xs (bs ++ cs) r zs
 goes_on rows p q r xs bs ys cs zs a b = (a.0 ∙ ap (λ t. bs ++ t) b.0 ∙ sym (append_assoc bs cs (row_from rows r zs)), a.1 ∙ b.1)
 
 -- one byte of a slice further
-pub goes_one : (rows : Rows) (p q : Place) (at : ℕ) (bytes : List ℕ) (ys xs : List ℕ) → at < length bytes → is_ended q ≡ false
-    → Goes rows p xs (take at bytes) q (drop at bytes ++ ys) → Goes rows p xs (take (at + 1) bytes) (place_after rows q (get_or bytes at 0)) (drop (at + 1) bytes ++ ys)
+pub goes_one : (rows : Rows) (p q : Position) (at : ℕ) (bytes : List ℕ) (ys xs : List ℕ) → at < length bytes → is_ended q ≡ false
+    → Goes rows p xs (take at bytes) q (drop at bytes ++ ys) → Goes rows p xs (take (at + 1) bytes) (position_after rows q (get_or bytes at 0)) (drop (at + 1) bytes ++ ys)
 goes_one rows p q at bytes ys xs l e g =
     let here : drop at bytes ++ ys ≡ get_or bytes at 0 ∷ (drop (at + 1) bytes ++ ys) = ap (λ t. t ++ ys) (drop_more bytes at 0 l) in
-    let further = goes_on rows p q (place_after rows q (get_or bytes at 0)) xs (take at bytes) (drop at bytes ++ ys) (get_or bytes at 0 ∷ []) (drop (at + 1) bytes ++ ys) g
-    (subst (λ t. Goes rows q t (get_or bytes at 0 ∷ []) (place_after rows q (get_or bytes at 0)) (drop (at + 1) bytes ++ ys)) (sym here) (goes_byte rows q (get_or bytes at 0) (drop (at + 1) bytes ++ ys) e)) in
-    subst (λ t. Goes rows p xs t (place_after rows q (get_or bytes at 0)) (drop (at + 1) bytes ++ ys)) (sym (take_more bytes at 0 l)) further
+    let further = goes_on rows p q (position_after rows q (get_or bytes at 0)) xs (take at bytes) (drop at bytes ++ ys) (get_or bytes at 0 ∷ []) (drop (at + 1) bytes ++ ys) g
+    (subst (λ t. Goes rows q t (get_or bytes at 0 ∷ []) (position_after rows q (get_or bytes at 0)) (drop (at + 1) bytes ++ ys)) (sym here) (goes_byte rows q (get_or bytes at 0) (drop (at + 1) bytes ++ ys) e)) in
+    subst (λ t. Goes rows p xs t (position_after rows q (get_or bytes at 0)) (drop (at + 1) bytes ++ ys)) (sym (take_more bytes at 0 l)) further
 
-line_feed : (p : Place) (x : ℕ) → x ≡ 10 → place_after Lines p x ≡ Ended
-unfolding place_after
+line_feed : (p : Position) (x : ℕ) → x ≡ 10 → position_after Lines p x ≡ Ended
+unfolding position_after
 line_feed p x e = ap (λ b. if b then Ended else p) (eq-eqb x 10 e)
 
-no_line_feed : (p : Place) (x : ℕ) → ((x == 10) ≡ true → ⊥) → place_after Lines p x ≡ p
-unfolding place_after
+no_line_feed : (p : Position) (x : ℕ) → ((x == 10) ≡ true → ⊥) → position_after Lines p x ≡ p
+unfolding position_after
 no_line_feed p x h = ap (λ b. if b then Ended else p) (ne_eqb x 10 (λ e. h (eq-eqb x 10 e)))
 
 -- bytes that are no line feed
-pub goes_plain : (p : Place) (at : ℕ) (bytes ys : List ℕ) → is_ended p ≡ false → at ≤ length bytes → ((k : ℕ) → k < at → (get_or bytes k 0 == 10) ≡ true → ⊥)
+pub goes_plain : (p : Position) (at : ℕ) (bytes ys : List ℕ) → is_ended p ≡ false → at ≤ length bytes → ((k : ℕ) → k < at → (get_or bytes k 0 == 10) ≡ true → ⊥)
     → Goes Lines p (bytes ++ ys) (take at bytes) p (drop at bytes ++ ys)
 goes_plain p zero bytes ys e l h = goes_nowhere Lines p (bytes ++ ys)
 goes_plain p (suc at) bytes ys e l h =
@@ -86,31 +86,31 @@ goes_plain p (suc at) bytes ys e l h =
     (subst (λ q. Goes Lines p (bytes ++ ys) (take (at + 1) bytes) q (drop (at + 1) bytes ++ ys)) (no_line_feed p (get_or bytes at 0) (h at (omega arith))) one)
 
 -- and the line feed behind them
-pub goes_through : (p : Place) (at : ℕ) (bytes ys : List ℕ) → is_ended p ≡ false → at < length bytes → ((k : ℕ) → k < at → (get_or bytes k 0 == 10) ≡ true → ⊥) → (get_or bytes at 0 == 10) ≡ true
+pub goes_through : (p : Position) (at : ℕ) (bytes ys : List ℕ) → is_ended p ≡ false → at < length bytes → ((k : ℕ) → k < at → (get_or bytes k 0 == 10) ≡ true → ⊥) → (get_or bytes at 0 == 10) ≡ true
     → Goes Lines p (bytes ++ ys) (take (at + 1) bytes) Ended (drop (at + 1) bytes ++ ys)
 goes_through p at bytes ys e l h is =
     let before = goes_plain p at bytes ys e (omega arith) h in
     subst (λ q. Goes Lines p (bytes ++ ys) (take (at + 1) bytes) q (drop (at + 1) bytes ++ ys)) (line_feed p (get_or bytes at 0) (eqb-true _ _ is)) (goes_one Lines p p at bytes ys (bytes ++ ys) l e before)
 
 -- the same where bytes may be unknown
-pub leads_nowhere : (rows : Rows) (p : Place) (left : Option (List ℕ)) → Leads rows p left [] p left
+pub leads_nowhere : (rows : Rows) (p : Position) (left : Option (List ℕ)) → Leads rows p left [] p left
 leads_nowhere rows p None = tt
 leads_nowhere rows p (Some xs) = goes_nowhere rows p xs
 
-pub leads_on : (rows : Rows) (p q r : Place) (a b c : Option (List ℕ)) (bs cs : List ℕ) → Leads rows p a bs q b → Leads rows q b cs r c → Leads rows p a (bs ++ cs) r c
+pub leads_on : (rows : Rows) (p q r : Position) (a b c : Option (List ℕ)) (bs cs : List ℕ) → Leads rows p a bs q b → Leads rows q b cs r c → Leads rows p a (bs ++ cs) r c
 leads_on rows p q r None b c bs cs g h = tt
 leads_on rows p q r (Some xs) None c bs cs g h = absurd g
 leads_on rows p q r (Some xs) (Some ys) None bs cs g h = absurd h
 leads_on rows p q r (Some xs) (Some ys) (Some zs) bs cs g h = goes_on rows p q r xs bs ys cs zs g h
 
-pub leads_kept : (rows : Rows) (p q : Place) (a b c : Option (List ℕ)) (bs : List ℕ) → Leads rows p a bs q b → Keeps b c → Leads rows p a bs q c
+pub leads_kept : (rows : Rows) (p q : Position) (a b c : Option (List ℕ)) (bs : List ℕ) → Leads rows p a bs q b → Keeps b c → Leads rows p a bs q c
 leads_kept rows p q None b c bs g k = tt
 leads_kept rows p q (Some xs) None c bs g k = absurd g
 leads_kept rows p q (Some xs) (Some ys) None bs g k = absurd k
 leads_kept rows p q (Some xs) (Some ys) (Some zs) bs g k = subst (λ t. Goes rows p xs bs q t) (sym k) g
 
 -- what was consumed of the bytes that the input showed
-pub leads_shown : (rows : Rows) (p q : Place) (a c : Option (List ℕ)) (shown : List ℕ) (room n : ℕ) → n ≤ room → IfSome a (λ xs. StartsWith xs shown) → Consumes a c (take n shown)
+pub leads_shown : (rows : Rows) (p q : Position) (a c : Option (List ℕ)) (shown : List ℕ) (room n : ℕ) → n ≤ room → IfSome a (λ xs. StartsWith xs shown) → Consumes a c (take n shown)
     → ((ys : List ℕ) → Goes rows p (take room shown ++ ys) (take n (take room shown)) q (drop n (take room shown) ++ ys)) → Leads rows p a (take n shown) q c
 leads_shown rows p q None c shown room n l front e g = tt
 leads_shown rows p q (Some xs) None shown room n l front e g = absurd e

@@ -63,11 +63,11 @@ seen_front row h = take-take most_seen (text_length row) row (omega (arith, (tex
 pub long : (row : List ℕ) → most_seen + 3 ≤ length row → is_long row ≡ true
 long row h = lt_true most_seen (length (text_of row)) (omega (arith, (text_within row).0, (text_within row).1, length-take-le (text_length row) row (text_within row).0))
 
-pub seen_same : (piece rest : List ℕ) → 65539 ≤ length piece → (seen_of (piece ++ rest) ≡ seen_of piece) × (is_long (piece ++ rest) ≡ is_long piece)
-seen_same piece rest h =
-    let enough : most_seen + 3 ≤ length piece = omega (arith, most) in
-    let more : most_seen + 3 ≤ length (piece ++ rest) = omega (arith, most, length-append piece rest) in
-    (seen_front (piece ++ rest) more ∙ take-append-le most_seen piece rest (omega arith) ∙ sym (seen_front piece enough), long (piece ++ rest) more ∙ sym (long piece enough))
+pub seen_same : (chunk rest : List ℕ) → 65539 ≤ length chunk → (seen_of (chunk ++ rest) ≡ seen_of chunk) × (is_long (chunk ++ rest) ≡ is_long chunk)
+seen_same chunk rest h =
+    let enough : most_seen + 3 ≤ length chunk = omega (arith, most) in
+    let more : most_seen + 3 ≤ length (chunk ++ rest) = omega (arith, most, length-append chunk rest) in
+    (seen_front (chunk ++ rest) more ∙ take-append-le most_seen chunk rest (omega arith) ∙ sym (seen_front chunk enough), long (chunk ++ rest) more ∙ sym (long chunk enough))
 
 pub or_less : (m n : ℕ) → (m < n) ⊎ (n ≤ m)
 or_less m n = at (nat_lt m n) refl

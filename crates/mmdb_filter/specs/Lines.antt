@@ -6,7 +6,7 @@ use Rattle.mmdb_filter.specs.Rows.{row_from, rows_after}
 use Rattle.mmdb_filter.specs.declared.counts.Counts.{Counts}
 use Rattle.mmdb_filter.specs.declared.counts.Outcome.{Outcome}
 use Rattle.mmdb_filter.specs.declared.rows.Rows.{Rows}
-use Rattle.mmdb_filter.specs.declared.rows.Place.TheVariants.{Cell}
+use Rattle.mmdb_filter.specs.declared.rows.Position.TheVariants.{Cell}
 
 -- the length of a row without its end, `\n` or `\r\n`
 unfoldable pub text_length : List ℕ → ℕ

@@ -3,10 +3,10 @@ ghost use Rattle.std.specs.Prelude.{◌≡◌, ◌++◌, List, ℕ, Bool, IfOk, 
 ghost use Rattle.mmdb_filter.specs.Lines.{StandsBehind, IsFiltered, IsBegun};
 ghost use Rattle.mmdb_filter.specs.declared.counts.Outcome.{Outcome as SpecOutcome};
 
+use crate::chunk::read_chunk;
 use crate::counts::{Counts, Outcome};
 use crate::pass::pass_on;
-use crate::piece::read_piece;
-use crate::rows::{Place, Rows};
+use crate::rows::{Position, Rows};
 use crate::text::seen;
 use std::alloc::Global;
 use std::io::{self, BufRead, ErrorKind, Write};
@@ -42,22 +42,22 @@ pub trait Additions {
         out: &mut Vec<u8>,
     ) -> io::Result<Added>
         requires { fits self.now memory.old }
-        ensures added { IfOk result (λ told. (extra : List ℕ) × adds self.now text.now is_long extra told.behind told.outcome × (out.new.items ≡ out.old.items ++ extra)) }
-        ensures behind { IfOk result (λ told. StandsBehind text.now is_long told.behind) }
+        ensures added { IfOk result (λ addition. (extra : List ℕ) × adds self.now text.now is_long extra addition.behind addition.outcome × (out.new.items ≡ out.old.items ++ extra)) }
+        ensures behind { IfOk result (λ addition. StandsBehind text.now is_long addition.behind) }
         ensures fits { fits self.now memory.new };
 }
 
-/// Who is told how far the filter is.
+/// Who is addition how far the filter is.
 pub trait Progress {
     /// So many rows passed.
     fn passed(&mut self, rows: u64);
 }
 
-/// After so many rows it is told how many passed.
+/// After so many rows it is addition how many passed.
 const STEP: u64 = 65_536;
 
 /// Copies all rows, with what is added to each before its last bytes, and counts how they fared. A last row without
-/// an end stays without. A long row passes in pieces. `out` is not flushed.
+/// an end stays without. A long row passes in chunks. `out` is not flushed.
 ///
 /// An `Err` is of the input, the output or memory; a beginning of that was written then.
 pub fn filter_rows<A: Additions, R: BufRead, W: Write, P: Progress>(
@@ -75,22 +75,30 @@ pub fn filter_rows<A: Additions, R: BufRead, W: Write, P: Progress>(
     ensures fits { A.fits additions.now memory.new }
 {
     let mut counts = Counts::new();
-    let mut piece = Vec::new(alloc);
+    let mut chunk = Vec::new(alloc);
     let mut added = Vec::new(alloc);
     for passed in 0..u64::MAX {
         if passed % STEP == 0 && passed > 0 {
             progress.passed(passed);
         }
-        piece.clear();
-        let place = read_piece(input, rows, Place::Cell, &mut piece)?;
-        if piece.is_empty() {
+        chunk.clear();
+        let position = read_chunk(input, rows, Position::Cell, &mut chunk)?;
+        if chunk.is_empty() {
             return Ok(counts);
         }
         added.clear();
-        let (text, is_long) = seen(piece.as_slice());
-        let told = additions.add(memory, text, is_long, &mut added)?;
-        pass_on(input, rows, place, &mut piece, &mut added, told.behind, out)?;
-        counts.count(told.outcome);
+        let (text, is_long) = seen(chunk.as_slice());
+        let addition = additions.add(memory, text, is_long, &mut added)?;
+        pass_on(
+            input,
+            rows,
+            position,
+            &mut chunk,
+            &mut added,
+            addition.behind,
+            out,
+        )?;
+        counts.count(addition.outcome);
     }
     Err(io::Error::from(ErrorKind::FileTooLarge))
 }

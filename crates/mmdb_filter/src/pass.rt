@@ -1,52 +1,52 @@
-//! Rows longer than a piece.
+//! Rows longer than a chunk.
 ghost use Rattle.std.specs.Prelude.{◌≡◌, ◌≢◌, ◌-◌, ◌<◌, ◌≤◌, OnOk, OnErr, length, take, drop};
 ghost use Rattle.std.specs.Io.KnownBytes.{Appends, IsAtEnd};
 ghost use Rattle.mmdb_filter.specs.Lines.{AppendsFront};
 ghost use Rattle.mmdb_filter.specs.Passing.{Passes, PassesFront};
-ghost use Rattle.mmdb_filter.specs.declared.rows.Place.TheVariants as spec_place;
+ghost use Rattle.mmdb_filter.specs.declared.rows.Position.TheVariants as spec_position;
 
-use crate::piece::{PIECE, read_piece};
+use crate::chunk::{PIECE, read_chunk};
 use crate::put::{put_all, put_row};
-use crate::rows::{Place, Rows};
+use crate::rows::{Position, Rows};
 use std::io::{self, BufRead, ErrorKind, Write};
 
-// Writes all of a piece but the last two bytes, in which the row's end may begin, and keeps those.
-fn put_front<W: Write>(out: &mut W, piece: &mut Vec<u8>) -> io::Result<()>
-    requires { 2 ≤ length piece.old.items }
-    ensures whole { OnOk result (Appends (W.contents out.old) (W.contents out.new) (take (length piece.old.items - 2) piece.old.items)) }
-    ensures kept { OnOk result (piece.new.items ≡ drop (length piece.old.items - 2) piece.old.items) }
-    ensures begun { OnErr result (AppendsFront (W.contents out.old) (W.contents out.new) (take (length piece.old.items - 2) piece.old.items)) }
+// Writes all of a chunk but the last two bytes, in which the row's end may begin, and keeps those.
+fn put_front<W: Write>(out: &mut W, chunk: &mut Vec<u8>) -> io::Result<()>
+    requires { 2 ≤ length chunk.old.items }
+    ensures whole { OnOk result (Appends (W.contents out.old) (W.contents out.new) (take (length chunk.old.items - 2) chunk.old.items)) }
+    ensures kept { OnOk result (chunk.new.items ≡ drop (length chunk.old.items - 2) chunk.old.items) }
+    ensures begun { OnErr result (AppendsFront (W.contents out.old) (W.contents out.new) (take (length chunk.old.items - 2) chunk.old.items)) }
 {
-    let (front, back) = piece.as_slice().split_at(piece.len() - 2);
+    let (front, back) = chunk.as_slice().split_at(chunk.len() - 2);
     put_all(out, front)?;
     let kept = [back[0], back[1]];
-    piece.clear();
-    piece.extend_from_slice(&kept)?;
+    chunk.clear();
+    chunk.extend_from_slice(&kept)?;
     Ok(())
 }
 
-/// Writes a row, of which the first piece was read, with what is added before its end and so many bytes of its
-/// text: none, where the row is longer. The rest of it passes in pieces.
+/// Writes a row, of which the first chunk was read, with what is added before its end and so many bytes of its
+/// text: none, where the row is longer. The rest of it passes in chunks.
 pub(crate) fn pass_on<R: BufRead, W: Write>(
     input: &mut R,
     rows: Rows,
-    place: Place,
-    piece: &mut Vec<u8>,
+    position: Position,
+    chunk: &mut Vec<u8>,
     added: &mut Vec<u8>,
     behind: usize,
     out: &mut W,
 ) -> io::Result<()>
-    requires { 65539 ≤ length piece.old.items → behind ≡ 0 }
-    ensures whole { (place ≢ spec_place.Ended → length piece.old.items < 65539 → IsAtEnd (R.remaining input.old)) → OnOk result (Passes rows place piece.old.items added.old.items behind (R.remaining input.old) (R.remaining input.new) (W.contents out.old) (W.contents out.new)) }
-    ensures begun { (place ≢ spec_place.Ended → length piece.old.items < 65539 → IsAtEnd (R.remaining input.old)) → OnErr result (PassesFront rows place piece.old.items added.old.items behind (R.remaining input.old) (W.contents out.old) (W.contents out.new)) }
+    requires { 65539 ≤ length chunk.old.items → behind ≡ 0 }
+    ensures whole { (position ≢ spec_position.Ended → length chunk.old.items < 65539 → IsAtEnd (R.remaining input.old)) → OnOk result (Passes rows position chunk.old.items added.old.items behind (R.remaining input.old) (R.remaining input.new) (W.contents out.old) (W.contents out.new)) }
+    ensures begun { (position ≢ spec_position.Ended → length chunk.old.items < 65539 → IsAtEnd (R.remaining input.old)) → OnErr result (PassesFront rows position chunk.old.items added.old.items behind (R.remaining input.old) (W.contents out.old) (W.contents out.new)) }
 {
-    let mut now = place;
+    let mut now = position;
     for _ in 0..u64::MAX {
-        if now == Place::Ended || piece.len() < PIECE {
-            return put_row(out, piece, added, behind);
+        if now == Position::Ended || chunk.len() < PIECE {
+            return put_row(out, chunk, added, behind);
         }
-        put_front(out, piece)?;
-        now = read_piece(input, rows, now, piece)?;
+        put_front(out, chunk)?;
+        now = read_chunk(input, rows, now, chunk)?;
     }
     Err(io::Error::from(ErrorKind::FileTooLarge))
 }

@@ -1,7 +1,7 @@
 //! Where rows end.
 ghost use Rattle.std.specs.Prelude.{◌≡◌, ◌≢◌, ◌<◌, ◌≤◌, ◌++◌, ℕ, List, length, take, drop};
-ghost use Rattle.mmdb_filter.specs.Rows.{place_after, Goes};
-ghost use Rattle.mmdb_filter.specs.declared.rows.Place.TheVariants as spec_place;
+ghost use Rattle.mmdb_filter.specs.Rows.{position_after, Goes};
+ghost use Rattle.mmdb_filter.specs.declared.rows.Position.TheVariants as spec_position;
 
 use memchr::memchr;
 
@@ -19,7 +19,7 @@ pub enum Rows {
 
 /// Where one is in a row, after some of its bytes.
 #[derive(Clone, Copy, Debug, PartialEq, Eq)]
-pub enum Place {
+pub enum Position {
     /// A cell begins.
     Cell,
     /// In a cell, and not between quotes.
@@ -32,37 +32,38 @@ pub enum Place {
     Ended,
 }
 
-impl Place {
-    /// The place one byte on.
+impl Position {
+    /// The position one byte on.
     #[inline(always)]
-    #[tactic(auto, unfolding(crate::specs::Rows::place_after))]
-    pub fn after(self, rows: Rows, byte: u8) -> Place
-        ensures { result ≡ place_after rows self byte }
+    #[tactic(auto, unfolding(crate::specs::Rows::position_after))]
+    pub fn after(self, rows: Rows, byte: u8) -> Position
+        ensures { result ≡ position_after rows self byte }
     {
         match (rows, self) {
-            (Rows::Lines, _) if byte == b'\n' => Place::Ended,
-            (Rows::Lines, place) => place,
-            (Rows::Csv { .. }, Place::Quoted) if byte == b'"' => Place::Closing,
-            (Rows::Csv { .. }, Place::Quoted) => Place::Quoted,
-            (Rows::Csv { .. }, _) if byte == b'\n' => Place::Ended,
-            (Rows::Csv { delimiter }, _) if byte == delimiter => Place::Cell,
-            (Rows::Csv { .. }, Place::Cell | Place::Closing) if byte == b'"' => Place::Quoted,
-            (Rows::Csv { .. }, _) => Place::Plain,
+            (Rows::Lines, _) if byte == b'\n' => Position::Ended,
+            (Rows::Lines, position) => position,
+            (Rows::Csv { .. }, Position::Quoted) if byte == b'"' => Position::Closing,
+            (Rows::Csv { .. }, Position::Quoted) => Position::Quoted,
+            (Rows::Csv { .. }, _) if byte == b'\n' => Position::Ended,
+            (Rows::Csv { delimiter }, _) if byte == delimiter => Position::Cell,
+            (Rows::Csv { .. }, Position::Cell | Position::Closing) if byte == b'"' =>
+                Position::Quoted,
+            (Rows::Csv { .. }, _) => Position::Plain,
         }
     }
 }
 
-// How many of the bytes belong to a row of CSV, and the place behind them.
-fn scan_quotes(rows: Rows, place: Place, bytes: &[u8]) -> (usize, Place)
-    requires { place ≢ spec_place.Ended }
+// How many of the bytes belong to a row of CSV, and the position behind them.
+fn scan_quotes(rows: Rows, position: Position, bytes: &[u8]) -> (usize, Position)
+    requires { position ≢ spec_position.Ended }
     ensures within { result.0 ≤ length bytes.now }
-    ensures goes { (ys : List ℕ) → Goes rows place (bytes.now ++ ys) (take result.0 bytes.now) result.1 (drop result.0 bytes.now ++ ys) }
+    ensures goes { (ys : List ℕ) → Goes rows position (bytes.now ++ ys) (take result.0 bytes.now) result.1 (drop result.0 bytes.now ++ ys) }
     ensures some { 0 < length bytes.now → 0 < result.0 }
-    ensures all { result.1 ≢ spec_place.Ended → result.0 ≡ length bytes.now }
+    ensures all { result.1 ≢ spec_position.Ended → result.0 ≡ length bytes.now }
 {
-    let mut now = place;
+    let mut now = position;
     for at in 0..bytes.len() {
-        if now == Place::Ended {
+        if now == Position::Ended {
             return (at, now);
         }
         now = now.after(rows, bytes[at]);
@@ -70,20 +71,20 @@ fn scan_quotes(rows: Rows, place: Place, bytes: &[u8]) -> (usize, Place)
     (bytes.len(), now)
 }
 
-/// How many of the bytes belong to the row, and the place behind them.
+/// How many of the bytes belong to the row, and the position behind them.
 #[inline(always)]
-pub(crate) fn scan(rows: Rows, place: Place, bytes: &[u8]) -> (usize, Place)
-    requires { place ≢ spec_place.Ended }
+pub(crate) fn scan(rows: Rows, position: Position, bytes: &[u8]) -> (usize, Position)
+    requires { position ≢ spec_position.Ended }
     ensures within { result.0 ≤ length bytes.now }
-    ensures goes { (ys : List ℕ) → Goes rows place (bytes.now ++ ys) (take result.0 bytes.now) result.1 (drop result.0 bytes.now ++ ys) }
+    ensures goes { (ys : List ℕ) → Goes rows position (bytes.now ++ ys) (take result.0 bytes.now) result.1 (drop result.0 bytes.now ++ ys) }
     ensures some { 0 < length bytes.now → 0 < result.0 }
-    ensures all { result.1 ≢ spec_place.Ended → result.0 ≡ length bytes.now }
+    ensures all { result.1 ≢ spec_position.Ended → result.0 ≡ length bytes.now }
 {
     match rows {
         Rows::Lines => match memchr(b'\n', bytes) {
-            Some(at) => (at + 1, Place::Ended),
-            None => (bytes.len(), place),
+            Some(at) => (at + 1, Position::Ended),
+            None => (bytes.len(), position),
         },
-        Rows::Csv { .. } => scan_quotes(rows, place, bytes),
+        Rows::Csv { .. } => scan_quotes(rows, position, bytes),
     }
 }

@@ -9,26 +9,26 @@ abbrev pub ◌>>=◌ : {A B : Type 0} → Option A → (A → Option B) → Opti
 None >>= f = None
 
 -- the number that bytes spell, the most significant first, after the digits n
-abbrev pub spelled_after : ℕ → List ℕ → ℕ
-spelled_after n [] = n
-spelled_after n (b ∷ bs) = spelled_after (n * 256 + b) bs
+abbrev pub big_endian_after : ℕ → List ℕ → ℕ
+big_endian_after n [] = n
+big_endian_after n (b ∷ bs) = big_endian_after (n * 256 + b) bs
 
-abbrev pub spelled : List ℕ → ℕ
-spelled bytes = spelled_after 0 bytes
+abbrev pub big_endian : List ℕ → ℕ
+big_endian bytes = big_endian_after 0 bytes
 
--- n bytes from a place on, where they lie inside the section
+-- n bytes from an offset on, where they lie inside the section
 unfoldable pub bytes_at : List ℕ → ℕ → ℕ → Option (List ℕ)
 bytes_at s p n = if nat_le (p + n) (length s) then Some (take n (drop p s)) else None
 
--- the number that n bytes at a place spell
+-- the number that n bytes at an offset spell
 unfoldable pub number_at : List ℕ → ℕ → ℕ → Option ℕ
-number_at s p n = bytes_at s p n >>= λ bytes. Some (spelled bytes)
+number_at s p n = bytes_at s p n >>= λ bytes. Some (big_endian bytes)
 
 -- a size that one, two or three length bytes tell, with the offset after them
 abbrev pub with_length_end : ℕ → ℕ → Option ℕ → Option (ℕ × ℕ)
-with_length_end place low size = option_map (λ n. (n, place + (low - 28))) size
+with_length_end offset low size = option_map (λ n. (n, offset + (low - 28))) size
 
--- the size that the low five bits of a control byte tell, with the place after the length bytes:
+-- the size that the low five bits of a control byte tell, with the offset after the length bytes:
 -- up to 28 themselves, and above that 29, 285 or 65,821 and the number in one, two or three bytes
 unfoldable pub size_at : List ℕ → ℕ → ℕ → Option (ℕ × ℕ)
 size_at s p low =
@@ -40,7 +40,7 @@ size_at s p low =
 unfoldable pub sized_header : List ℕ → ℕ → ℕ → ℕ → Option Header
 sized_header s p kind low = size_at s p low >>= λ z. Some (record { kind = kind; size = z.0; body = z.1 })
 
--- The header at a place: the type is in the high three bits of the control byte, or, where they are
+-- The header at an offset: the type is in the high three bits of the control byte, or, where they are
 -- 0, seven more than the next byte. A pointer's header is its control byte alone.
 unfoldable pub header_at : List ℕ → ℕ → Option Header
 header_at s p =
@@ -49,6 +49,6 @@ header_at s p =
     else (if nat_eq (control / 32) 1 then Some (record { kind = 1; size = control % 32; body = p + 1 })
     else sized_header s (p + 1) (control / 32) (control % 32))
 
--- a header of this type and size stands at a place, and ends before another
+-- a header of this type and size stands at an offset, and ends before another
 abbrev pub HasHeader : List ℕ → ℕ → ℕ → ℕ → ℕ → Type 0
 HasHeader s p kind size body = header_at s p ≡ Some (record { kind = kind; size = size; body = body })

@@ -4,7 +4,7 @@ use Rattle.mmdb_format.specs.declared.header.Pointer.{Pointer}
 use Rattle.mmdb_format.specs.declared.header.Direct.{Direct}
 use Rattle.mmdb_format.specs.Header.{◌>>=◌, number_at, header_at}
 
--- The place that a pointer leads to: its three value bits and the bytes that follow spell a number, to
+-- The offset that a pointer leads to: its three value bits and the bytes that follow spell a number, to
 -- which 0, 2,048 or 526,336 is added; of four bytes the value bits are ignored.
 abbrev pub target_of : ℕ → ℕ → ℕ → ℕ
 target_of shape high n =
@@ -18,7 +18,7 @@ unfoldable pub pointer_at : List ℕ → ℕ → ℕ → Option Pointer
 pointer_at s p low =
     number_at s p (low / 8 + 1) >>= λ n. Some (record { target = target_of (low / 8) (low % 8) n; next = p + (low / 8 + 1) })
 
--- a pointer stands at a place, leads to another, and ends before a third
+-- a pointer stands at an offset, leads to another, and ends before a third
 pub record PointsTo (s : List ℕ) (p target next : ℕ) : Type 0 where
   pub low : ℕ
   pub header : header_at s p ≡ Some (record { kind = 1; size = low; body = p + 1 })
@@ -36,7 +36,7 @@ behind s levels pointer =
     if nat_eq header.kind 1 then None else Some (record { header = header; after = Some pointer.next; levels = levels + 1 }))
     else None
 
--- a header that is no pointer, directly or behind one pointer, with the place after that pointer and
+-- a header that is no pointer, directly or behind one pointer, with the offset after that pointer and
 -- the levels then used
 unfoldable pub direct_at : List ℕ → ℕ → ℕ → Option Direct
 direct_at s p levels =

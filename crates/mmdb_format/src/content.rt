@@ -1,11 +1,11 @@
 //! The contents of values that hold no others.
 ghost use Rattle.std.specs.Prelude.{◌≡◌, ℕ, ◌<◌, ◌≤◌, ◌^◌, ◌+◌, length, IfOk};
 ghost use Rattle.std.specs.Result.{result_ok};
-ghost use Rattle.mmdb_format.specs.Contents.{content_at as spec_content_at, short_number as spec_short_number, full_number as spec_full_number, content_end as spec_content_end, bytes_of_content, scalar_payload, key_bytes_at as spec_key_bytes_at, passed_end as spec_passed_end};
+ghost use Rattle.mmdb_format.specs.Contents.{content_at as spec_content_at, variable_width_integer as spec_variable_width_integer, fixed_width_integer as spec_fixed_width_integer, content_end as spec_content_end, bytes_of_content, scalar_payload, key_bytes_at as spec_key_bytes_at, passed_end as spec_passed_end};
 ghost use Rattle.mmdb_format.specs.Kinds.{kind_of_number};
 ghost use Rattle.mmdb_format.specs.Views.{content_view, bytes_given, content_given, key_given};
 
-use crate::fault::Fault;
+use crate::decode_error_kind::DecodeErrorKind;
 use crate::header::{Header, bytes_at, direct_at, pointer_at, wide_number_at};
 use crate::kind::{BOOL, BYTES, DOUBLE, FLOAT, I32, Kind, POINTER, TEXT, U16, U32, U64, U128};
 
@@ -39,16 +39,16 @@ pub enum Content<'de> {
 impl Header {
     /// The fault of a size that the type does not have, or that runs past the section.
     #[inline(always)]
-    pub fn wrong_size(self) -> Fault
-        ensures { result ≡ Fault.SizeOf (kind_of_number self.kind) self.size }
+    pub fn wrong_size(self) -> DecodeErrorKind
+        ensures { result ≡ DecodeErrorKind.SizeOf (kind_of_number self.kind) self.size }
     {
-        Fault::SizeOf(Kind::of_number(self.kind), self.size)
+        DecodeErrorKind::SizeOf(Kind::of_number(self.kind), self.size)
     }
 }
 
 /// The bytes of a text or a byte string.
 #[inline(always)]
-pub fn content_bytes(section: &[u8], header: Header) -> Result<&[u8], Fault>
+pub fn content_bytes(section: &[u8], header: Header) -> Result<&[u8], DecodeErrorKind>
     ensures value { bytes_given result ≡ bytes_of_content section.now header }
     ensures inside { IfOk result (λ x. header.body + header.size ≤ length section.now) }
     ensures len { IfOk result (λ x. length x.now ≡ header.size) }
@@ -61,9 +61,13 @@ pub fn content_bytes(section: &[u8], header: Header) -> Result<&[u8], Fault>
 
 /// A number of at most so many bytes.
 #[inline(always)]
-pub fn short_number(section: &[u8], header: Header, most: usize) -> Result<u128, Fault>
+pub fn variable_width_integer(
+    section: &[u8],
+    header: Header,
+    most: usize,
+) -> Result<u128, DecodeErrorKind>
     requires { most ≤ 16 }
-    ensures value { result_ok result ≡ spec_short_number section.now header most }
+    ensures value { result_ok result ≡ spec_variable_width_integer section.now header most }
     ensures bound { IfOk result (λ n. n < 256 ^ most) }
     ensures inside { IfOk result (λ n. header.body + header.size ≤ length section.now) }
 {
@@ -78,9 +82,13 @@ pub fn short_number(section: &[u8], header: Header, most: usize) -> Result<u128,
 
 /// A number of exactly so many bytes.
 #[inline(always)]
-pub fn full_number(section: &[u8], header: Header, size: usize) -> Result<u128, Fault>
+pub fn fixed_width_integer(
+    section: &[u8],
+    header: Header,
+    size: usize,
+) -> Result<u128, DecodeErrorKind>
     requires { size ≤ 16 }
-    ensures value { result_ok result ≡ spec_full_number section.now header size }
+    ensures value { result_ok result ≡ spec_fixed_width_integer section.now header size }
     ensures bound { IfOk result (λ n. n < 256 ^ size) }
     ensures inside { IfOk result (λ n. header.body + header.size ≤ length section.now) }
 {
@@ -96,7 +104,7 @@ pub fn full_number(section: &[u8], header: Header, size: usize) -> Result<u128, 
 /// What stands behind the header of a value that holds no others.
 #[inline(always)]
 #[tactic(auto, unfolding(crate::specs::Contents::content_at))]
-pub fn content_at(section: &[u8], header: Header) -> Result<Content<'_>, Fault>
+pub fn content_at(section: &[u8], header: Header) -> Result<Content<'_>, DecodeErrorKind>
     ensures value { content_given result ≡ spec_content_at section.now header }
     ensures inside { IfOk result (λ c. spec_content_end header < 2 ^ 64) }
     ensures short { IfOk result (λ c. scalar_payload (content_view c) ≤ header.size) }
@@ -104,27 +112,27 @@ pub fn content_at(section: &[u8], header: Header) -> Result<Content<'_>, Fault>
     Ok(match header.kind {
         TEXT => Content::Text(content_bytes(section, header)?),
         DOUBLE => Content::Double(Double {
-            bits: full_number(section, header, 8)? as u64,
+            bits: fixed_width_integer(section, header, 8)? as u64,
         }),
         BYTES => Content::Bytes(content_bytes(section, header)?),
-        U16 => Content::U16(short_number(section, header, 2)? as u16),
-        U32 => Content::U32(short_number(section, header, 4)? as u32),
+        U16 => Content::U16(variable_width_integer(section, header, 2)? as u16),
+        U32 => Content::U32(variable_width_integer(section, header, 4)? as u32),
         I32 => {
-            let bits = short_number(section, header, 4)? as u32;
+            let bits = variable_width_integer(section, header, 4)? as u32;
             Content::I32(bits.cast_signed())
         }
-        U64 => Content::U64(short_number(section, header, 8)? as u64),
-        U128 => Content::U128(short_number(section, header, 16)?),
+        U64 => Content::U64(variable_width_integer(section, header, 8)? as u64),
+        U128 => Content::U128(variable_width_integer(section, header, 16)?),
         BOOL if header.size <= 1 => Content::Bool(header.size == 1),
         BOOL => return Err(header.wrong_size()),
         FLOAT => Content::Float(Float {
-            bits: full_number(section, header, 4)? as u32,
+            bits: fixed_width_integer(section, header, 4)? as u32,
         }),
-        kind => return Err(Fault::UnknownType(kind)),
+        kind => return Err(DecodeErrorKind::UnknownType(kind)),
     })
 }
 
-/// The place after the content.
+/// The offset after the content.
 #[inline(always)]
 pub fn content_end(header: Header) -> usize
     requires { spec_content_end header < 2 ^ 64 }
@@ -150,27 +158,27 @@ impl Content<'_> {
     }
 }
 
-/// The bytes of a map's key and the place after it: a text, directly or behind one pointer.
+/// The bytes of a map's key and the offset after it: a text, directly or behind one pointer.
 #[inline(always)]
 #[tactic(auto, unfolding(crate::specs::Contents::key_bytes_at))]
-pub fn key_bytes_at(section: &[u8], place: usize) -> Result<(&[u8], usize), Fault>
-    ensures value { key_given result ≡ spec_key_bytes_at section.now place }
+pub fn key_bytes_at(section: &[u8], offset: usize) -> Result<(&[u8], usize), DecodeErrorKind>
+    ensures value { key_given result ≡ spec_key_bytes_at section.now offset }
     ensures bound { IfOk result (λ x. length x.0.now < 2 ^ 25) }
 {
-    let at = direct_at(section, place, 0)?;
+    let at = direct_at(section, offset, 0)?;
     if at.header.kind != TEXT {
-        return Err(Fault::KeyOfType(at.header.kind));
+        return Err(DecodeErrorKind::KeyOfType(at.header.kind));
     }
     match bytes_at(section, at.header.body, at.header.size) {
         Some(bytes) => Ok((bytes, at.after.unwrap_or(at.header.body + at.header.size))),
-        None => Err(Fault::KeyTooLong),
+        None => Err(DecodeErrorKind::KeyTooLong),
     }
 }
 
-/// The place after a scalar or a pointer that is passed without being followed.
+/// The offset after a scalar or a pointer that is passed without being followed.
 #[inline(always)]
 #[tactic(auto, unfolding(crate::specs::Contents::passed_end))]
-pub fn passed_end(section: &[u8], header: Header) -> Result<usize, Fault>
+pub fn passed_end(section: &[u8], header: Header) -> Result<usize, DecodeErrorKind>
     requires { header.kind ≡ 1 → header.size < 32 }
     ensures { result_ok result ≡ spec_passed_end section.now header }
 {
@@ -178,7 +186,7 @@ pub fn passed_end(section: &[u8], header: Header) -> Result<usize, Fault>
         let own_bytes = header.size / 8 + 1;
         return match pointer_at(section, header.body, header.size as u8) {
             Ok(pointer) => Ok(pointer.next),
-            Err(_) => Err(Fault::PointerSize(own_bytes)),
+            Err(_) => Err(DecodeErrorKind::PointerSize(own_bytes)),
         };
     }
     content_at(section, header)?;

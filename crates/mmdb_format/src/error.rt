@@ -53,7 +53,7 @@ pub enum MaxMindDbError {
 /// The result of reading a value.
 pub type DecodeResult<T> = Result<T, MaxMindDbError>;
 
-/// The place of an error in its text: nothing where it is not known.
+/// The offset of an error in its text: nothing where it is not known.
 #[derive(Drop)]
 struct At<'a>(&'a Option<usize>);
 

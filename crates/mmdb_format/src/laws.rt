@@ -6,8 +6,8 @@ ghost use Rattle.mmdb_format.specs.Unfolding.{OneTreeUnfolds};
 ghost use Rattle.mmdb_format.specs.declared.error.MaxMindDbError.TheVariants.{InvalidNetwork, Io};
 
 use crate::content::{Content, Double, Float};
+use crate::decode_error_kind::DecodeErrorKind;
 use crate::error::MaxMindDbError;
-use crate::fault::Fault;
 use crate::header::{Direct, Header, Pointer};
 use crate::kind::Kind;
 use crate::message::Text;
@@ -20,7 +20,7 @@ pub fn scalars_equal_where_same()
     ensures double { IsEqualityOf ⟦<Double as PartialEq>⟧.eq (λ x. x.bits) }
     ensures float { IsEqualityOf ⟦<Float as PartialEq>⟧.eq (λ x. x.bits) }
     ensures kind { IsEqualityOf ⟦<Kind as PartialEq>⟧.eq (λ kind. kind) }
-    ensures fault { IsEqualityOf ⟦<Fault as PartialEq>⟧.eq (λ fault. fault) }
+    ensures fault { IsEqualityOf ⟦<DecodeErrorKind as PartialEq>⟧.eq (λ fault. fault) }
     ensures text { IsEqualityOf ⟦<Text as PartialEq>⟧.eq (λ text. text) }
 {}
 
@@ -30,7 +30,7 @@ pub fn scalar_clones_are_same()
     ensures double { IsCloneSame ⟦<Double as Clone>⟧.is_clone }
     ensures float { IsCloneSame ⟦<Float as Clone>⟧.is_clone }
     ensures kind { IsCloneSame ⟦<Kind as Clone>⟧.is_clone }
-    ensures fault { IsCloneSame ⟦<Fault as Clone>⟧.is_clone }
+    ensures fault { IsCloneSame ⟦<DecodeErrorKind as Clone>⟧.is_clone }
     ensures text { IsCloneSame ⟦<Text as Clone>⟧.is_clone }
     ensures header { IsCloneSame ⟦<Header as Clone>⟧.is_clone }
     ensures pointer { IsCloneSame ⟦<Pointer as Clone>⟧.is_clone }
@@ -39,7 +39,7 @@ pub fn scalar_clones_are_same()
     ensures double_given { IsNeverRefused ⟦<Double as Clone>⟧.is_infallible }
     ensures float_given { IsNeverRefused ⟦<Float as Clone>⟧.is_infallible }
     ensures kind_given { IsNeverRefused ⟦<Kind as Clone>⟧.is_infallible }
-    ensures fault_given { IsNeverRefused ⟦<Fault as Clone>⟧.is_infallible }
+    ensures fault_given { IsNeverRefused ⟦<DecodeErrorKind as Clone>⟧.is_infallible }
     ensures text_given { IsNeverRefused ⟦<Text as Clone>⟧.is_infallible }
     ensures header_given { IsNeverRefused ⟦<Header as Clone>⟧.is_infallible }
     ensures pointer_given { IsNeverRefused ⟦<Pointer as Clone>⟧.is_infallible }
@@ -54,7 +54,7 @@ pub fn errors_hold_their_causes()
         ⟦<MaxMindDbError as From<IpNetworkError>>⟧.from_gives }
 {}
 
-/// At most one tree unfolds at a place, and it has one end.
+/// At most one tree unfolds at an offset, and it has one end.
 pub fn one_tree_unfolds()
     ensures { OneTreeUnfolds }
 {}

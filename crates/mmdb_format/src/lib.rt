@@ -2,8 +2,8 @@
 #![tactic(auto)]
 
 pub mod content;
+pub mod decode_error_kind;
 pub mod error;
-pub mod fault;
 pub mod header;
 pub mod kind;
 pub mod laws;

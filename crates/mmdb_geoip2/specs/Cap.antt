@@ -8,4 +8,4 @@ use Rattle.mmdb_decode.specs.State.{State}
 -- and the decoder stands where its first element begins: none was read.
 abbrev pub IsRefusedEarly : {T E : Type 0} → ℕ → State → State → Result T E → Type 0
 IsRefusedEarly most old new r =
-    (x : Items × State) → entered_array old ≡ Some x → most < min (items_left x.0) (length x.1.section - x.1.place) → IsErr r × (new.place ≡ x.1.place)
+    (x : Items × State) → entered_array old ≡ Some x → most < min (items_left x.0) (length x.1.section - x.1.offset) → IsErr r × (new.offset ≡ x.1.offset)

@@ -7,11 +7,11 @@ ghost use Rattle.mmdb_geoip2.specs.CityTables.{city_table, location_table, posta
 
 use crate::fields::fields_by_name;
 use crate::names::Names;
-use mmdb_decode::attempt::attempt_once;
 use mmdb_decode::decoder::Decoder;
-use mmdb_decode::fields::{EachByItself, Fields, Met, read_part};
+use mmdb_decode::fields::{EachByItself, Fields, FieldsSeen, read_part};
 use mmdb_decode::record::named;
 use mmdb_decode::refused::Refused;
+use mmdb_decode::try_decode::try_once;
 use mmdb_format::content::Double;
 use std::alloc::Global;
 
@@ -36,15 +36,15 @@ impl<'de> Fields<'de> for City<'de> {
     #[inline(always)]
     fn read_field(
         &mut self,
-        met: &mut Met,
+        met: &mut FieldsSeen,
         alloc: Global,
         name: &'de [u8],
         d: &mut Decoder<'de>,
     ) -> Result<(), Refused> {
         fields_by_name!(alloc, name, d;
-            "geoname_id" => attempt_once(&mut self.geoname_id),
+            "geoname_id" => try_once(&mut self.geoname_id),
             "names" => read_part(&mut met.0, &mut self.names),
-            _ => attempt_skip(),
+            _ => try_skip(),
         )
     }
 }
@@ -85,18 +85,18 @@ impl<'de> Fields<'de> for Location<'de> {
     #[inline(always)]
     fn read_field(
         &mut self,
-        _met: &mut Met,
+        _met: &mut FieldsSeen,
         alloc: Global,
         name: &'de [u8],
         d: &mut Decoder<'de>,
     ) -> Result<(), Refused> {
         fields_by_name!(alloc, name, d;
-            "accuracy_radius" => attempt_once(&mut self.accuracy_radius),
-            "latitude" => attempt_once(&mut self.latitude),
-            "longitude" => attempt_once(&mut self.longitude),
-            "metro_code" => attempt_once(&mut self.metro_code),
-            "time_zone" => attempt_once(&mut self.time_zone),
-            _ => attempt_skip_scalar(),
+            "accuracy_radius" => try_once(&mut self.accuracy_radius),
+            "latitude" => try_once(&mut self.latitude),
+            "longitude" => try_once(&mut self.longitude),
+            "metro_code" => try_once(&mut self.metro_code),
+            "time_zone" => try_once(&mut self.time_zone),
+            _ => try_skip_scalar(),
         )
     }
 }
@@ -133,14 +133,14 @@ impl<'de> Fields<'de> for Postal<'de> {
     #[inline(always)]
     fn read_field(
         &mut self,
-        _met: &mut Met,
+        _met: &mut FieldsSeen,
         alloc: Global,
         name: &'de [u8],
         d: &mut Decoder<'de>,
     ) -> Result<(), Refused> {
         fields_by_name!(alloc, name, d;
-            "code" => attempt_once(&mut self.code),
-            _ => attempt_skip_scalar(),
+            "code" => try_once(&mut self.code),
+            _ => try_skip_scalar(),
         )
     }
 }
@@ -177,16 +177,16 @@ impl<'de> Fields<'de> for Subdivision<'de> {
     #[inline(always)]
     fn read_field(
         &mut self,
-        met: &mut Met,
+        met: &mut FieldsSeen,
         alloc: Global,
         name: &'de [u8],
         d: &mut Decoder<'de>,
     ) -> Result<(), Refused> {
         fields_by_name!(alloc, name, d;
-            "geoname_id" => attempt_once(&mut self.geoname_id),
-            "iso_code" => attempt_once(&mut self.iso_code),
+            "geoname_id" => try_once(&mut self.geoname_id),
+            "iso_code" => try_once(&mut self.iso_code),
             "names" => read_part(&mut met.0, &mut self.names),
-            _ => attempt_skip(),
+            _ => try_skip(),
         )
     }
 }

@@ -7,11 +7,11 @@ ghost use Rattle.mmdb_geoip2.specs.CountryTables.{continent_table, country_table
 
 use crate::fields::fields_by_name;
 use crate::names::Names;
-use mmdb_decode::attempt::attempt_once;
 use mmdb_decode::decoder::Decoder;
-use mmdb_decode::fields::{EachByItself, Fields, Met, read_part};
+use mmdb_decode::fields::{EachByItself, Fields, FieldsSeen, read_part};
 use mmdb_decode::record::named;
 use mmdb_decode::refused::Refused;
+use mmdb_decode::try_decode::try_once;
 use std::alloc::Global;
 
 /// A continent.
@@ -37,16 +37,16 @@ impl<'de> Fields<'de> for Continent<'de> {
     #[inline(always)]
     fn read_field(
         &mut self,
-        met: &mut Met,
+        met: &mut FieldsSeen,
         alloc: Global,
         name: &'de [u8],
         d: &mut Decoder<'de>,
     ) -> Result<(), Refused> {
         fields_by_name!(alloc, name, d;
-            "code" => attempt_once(&mut self.code),
-            "geoname_id" => attempt_once(&mut self.geoname_id),
+            "code" => try_once(&mut self.code),
+            "geoname_id" => try_once(&mut self.geoname_id),
             "names" => read_part(&mut met.0, &mut self.names),
-            _ => attempt_skip(),
+            _ => try_skip(),
         )
     }
 }
@@ -85,17 +85,17 @@ impl<'de> Fields<'de> for Country<'de> {
     #[inline(always)]
     fn read_field(
         &mut self,
-        met: &mut Met,
+        met: &mut FieldsSeen,
         alloc: Global,
         name: &'de [u8],
         d: &mut Decoder<'de>,
     ) -> Result<(), Refused> {
         fields_by_name!(alloc, name, d;
-            "geoname_id" => attempt_once(&mut self.geoname_id),
-            "is_in_european_union" => attempt_once(&mut self.is_in_european_union),
-            "iso_code" => attempt_once(&mut self.iso_code),
+            "geoname_id" => try_once(&mut self.geoname_id),
+            "is_in_european_union" => try_once(&mut self.is_in_european_union),
+            "iso_code" => try_once(&mut self.iso_code),
             "names" => read_part(&mut met.0, &mut self.names),
-            _ => attempt_skip(),
+            _ => try_skip(),
         )
     }
 }
@@ -139,18 +139,18 @@ impl<'de> Fields<'de> for RepresentedCountry<'de> {
     #[inline(always)]
     fn read_field(
         &mut self,
-        met: &mut Met,
+        met: &mut FieldsSeen,
         alloc: Global,
         name: &'de [u8],
         d: &mut Decoder<'de>,
     ) -> Result<(), Refused> {
         fields_by_name!(alloc, name, d;
-            "geoname_id" => attempt_once(&mut self.geoname_id),
-            "is_in_european_union" => attempt_once(&mut self.is_in_european_union),
-            "iso_code" => attempt_once(&mut self.iso_code),
+            "geoname_id" => try_once(&mut self.geoname_id),
+            "is_in_european_union" => try_once(&mut self.is_in_european_union),
+            "iso_code" => try_once(&mut self.iso_code),
             "names" => read_part(&mut met.0, &mut self.names),
-            "type" => attempt_once(&mut self.representation_type),
-            _ => attempt_skip(),
+            "type" => try_once(&mut self.representation_type),
+            _ => try_skip(),
         )
     }
 }
@@ -187,14 +187,14 @@ impl<'de> Fields<'de> for Traits {
     #[inline(always)]
     fn read_field(
         &mut self,
-        _met: &mut Met,
+        _met: &mut FieldsSeen,
         alloc: Global,
         name: &'de [u8],
         d: &mut Decoder<'de>,
     ) -> Result<(), Refused> {
         fields_by_name!(alloc, name, d;
-            "is_anycast" => attempt_once(&mut self.is_anycast),
-            _ => attempt_skip_scalar(),
+            "is_anycast" => try_once(&mut self.is_anycast),
+            _ => try_skip_scalar(),
         )
     }
 }

@@ -7,11 +7,11 @@ ghost use Rattle.mmdb_geoip2.specs.EnterpriseTables.{enterprise_city_table, ente
 
 use crate::fields::fields_by_name;
 use crate::names::Names;
-use mmdb_decode::attempt::attempt_once;
 use mmdb_decode::decoder::Decoder;
-use mmdb_decode::fields::{EachByItself, Fields, Met, read_part};
+use mmdb_decode::fields::{EachByItself, Fields, FieldsSeen, read_part};
 use mmdb_decode::record::named;
 use mmdb_decode::refused::Refused;
+use mmdb_decode::try_decode::try_once;
 use std::alloc::Global;
 
 /// A city.
@@ -37,16 +37,16 @@ impl<'de> Fields<'de> for City<'de> {
     #[inline(always)]
     fn read_field(
         &mut self,
-        met: &mut Met,
+        met: &mut FieldsSeen,
         alloc: Global,
         name: &'de [u8],
         d: &mut Decoder<'de>,
     ) -> Result<(), Refused> {
         fields_by_name!(alloc, name, d;
-            "confidence" => attempt_once(&mut self.confidence),
-            "geoname_id" => attempt_once(&mut self.geoname_id),
+            "confidence" => try_once(&mut self.confidence),
+            "geoname_id" => try_once(&mut self.geoname_id),
             "names" => read_part(&mut met.0, &mut self.names),
-            _ => attempt_skip(),
+            _ => try_skip(),
         )
     }
 }
@@ -87,18 +87,18 @@ impl<'de> Fields<'de> for Country<'de> {
     #[inline(always)]
     fn read_field(
         &mut self,
-        met: &mut Met,
+        met: &mut FieldsSeen,
         alloc: Global,
         name: &'de [u8],
         d: &mut Decoder<'de>,
     ) -> Result<(), Refused> {
         fields_by_name!(alloc, name, d;
-            "confidence" => attempt_once(&mut self.confidence),
-            "geoname_id" => attempt_once(&mut self.geoname_id),
-            "is_in_european_union" => attempt_once(&mut self.is_in_european_union),
-            "iso_code" => attempt_once(&mut self.iso_code),
+            "confidence" => try_once(&mut self.confidence),
+            "geoname_id" => try_once(&mut self.geoname_id),
+            "is_in_european_union" => try_once(&mut self.is_in_european_union),
+            "iso_code" => try_once(&mut self.iso_code),
             "names" => read_part(&mut met.0, &mut self.names),
-            _ => attempt_skip(),
+            _ => try_skip(),
         )
     }
 }
@@ -137,15 +137,15 @@ impl<'de> Fields<'de> for Postal<'de> {
     #[inline(always)]
     fn read_field(
         &mut self,
-        _met: &mut Met,
+        _met: &mut FieldsSeen,
         alloc: Global,
         name: &'de [u8],
         d: &mut Decoder<'de>,
     ) -> Result<(), Refused> {
         fields_by_name!(alloc, name, d;
-            "code" => attempt_once(&mut self.code),
-            "confidence" => attempt_once(&mut self.confidence),
-            _ => attempt_skip_scalar(),
+            "code" => try_once(&mut self.code),
+            "confidence" => try_once(&mut self.confidence),
+            _ => try_skip_scalar(),
         )
     }
 }
@@ -184,17 +184,17 @@ impl<'de> Fields<'de> for Subdivision<'de> {
     #[inline(always)]
     fn read_field(
         &mut self,
-        met: &mut Met,
+        met: &mut FieldsSeen,
         alloc: Global,
         name: &'de [u8],
         d: &mut Decoder<'de>,
     ) -> Result<(), Refused> {
         fields_by_name!(alloc, name, d;
-            "confidence" => attempt_once(&mut self.confidence),
-            "geoname_id" => attempt_once(&mut self.geoname_id),
-            "iso_code" => attempt_once(&mut self.iso_code),
+            "confidence" => try_once(&mut self.confidence),
+            "geoname_id" => try_once(&mut self.geoname_id),
+            "iso_code" => try_once(&mut self.iso_code),
             "names" => read_part(&mut met.0, &mut self.names),
-            _ => attempt_skip(),
+            _ => try_skip(),
         )
     }
 }
@@ -259,29 +259,29 @@ impl<'de> Fields<'de> for Traits<'de> {
 
     fn read_field(
         &mut self,
-        _met: &mut Met,
+        _met: &mut FieldsSeen,
         alloc: Global,
         name: &'de [u8],
         d: &mut Decoder<'de>,
     ) -> Result<(), Refused> {
         fields_by_name!(alloc, name, d;
-            "autonomous_system_number" => attempt_once(&mut self.autonomous_system_number),
-            "autonomous_system_organization" => attempt_once(&mut self.autonomous_system_organization),
-            "connection_type" => attempt_once(&mut self.connection_type),
-            "domain" => attempt_once(&mut self.domain),
-            "is_anonymous" => attempt_once(&mut self.is_anonymous),
-            "is_anonymous_vpn" => attempt_once(&mut self.is_anonymous_vpn),
-            "is_anycast" => attempt_once(&mut self.is_anycast),
-            "is_hosting_provider" => attempt_once(&mut self.is_hosting_provider),
-            "isp" => attempt_once(&mut self.isp),
-            "is_public_proxy" => attempt_once(&mut self.is_public_proxy),
-            "is_residential_proxy" => attempt_once(&mut self.is_residential_proxy),
-            "is_tor_exit_node" => attempt_once(&mut self.is_tor_exit_node),
-            "mobile_country_code" => attempt_once(&mut self.mobile_country_code),
-            "mobile_network_code" => attempt_once(&mut self.mobile_network_code),
-            "organization" => attempt_once(&mut self.organization),
-            "user_type" => attempt_once(&mut self.user_type),
-            _ => attempt_skip_scalar(),
+            "autonomous_system_number" => try_once(&mut self.autonomous_system_number),
+            "autonomous_system_organization" => try_once(&mut self.autonomous_system_organization),
+            "connection_type" => try_once(&mut self.connection_type),
+            "domain" => try_once(&mut self.domain),
+            "is_anonymous" => try_once(&mut self.is_anonymous),
+            "is_anonymous_vpn" => try_once(&mut self.is_anonymous_vpn),
+            "is_anycast" => try_once(&mut self.is_anycast),
+            "is_hosting_provider" => try_once(&mut self.is_hosting_provider),
+            "isp" => try_once(&mut self.isp),
+            "is_public_proxy" => try_once(&mut self.is_public_proxy),
+            "is_residential_proxy" => try_once(&mut self.is_residential_proxy),
+            "is_tor_exit_node" => try_once(&mut self.is_tor_exit_node),
+            "mobile_country_code" => try_once(&mut self.mobile_country_code),
+            "mobile_network_code" => try_once(&mut self.mobile_network_code),
+            "organization" => try_once(&mut self.organization),
+            "user_type" => try_once(&mut self.user_type),
+            _ => try_skip_scalar(),
         )
     }
 }

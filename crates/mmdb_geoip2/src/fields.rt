@@ -7,9 +7,9 @@ ghost use Rattle.mmdb_decode.specs.Records.{FieldTaken};
 ghost use Rattle.mmdb_decode.specs.Tables.{part_once};
 ghost use Rattle.mmdb_geoip2.specs.Cap.{IsRefusedEarly};
 
-use mmdb_decode::attempt::{Attempt, attempt_items};
 use mmdb_decode::decoder::Decoder;
 use mmdb_decode::refused::Refused;
+use mmdb_decode::try_decode::{TryDecode, try_items};
 use std::alloc::Global;
 
 // Reads the value after a name: a row for each field. What no row names is skipped by the last.
@@ -29,20 +29,20 @@ pub const MAX_SUBDIVISIONS: usize = 32;
 
 // Reads a list of at most 32. A longer one is refused before an element is read, unless at most 32 bytes
 // are left, and never handed out.
-fn read_few<'de, T: Attempt<'de>>(alloc: Global, d: &mut Decoder<'de>) -> Result<Vec<T>, Refused>
+fn read_few<'de, T: TryDecode<'de>>(alloc: Global, d: &mut Decoder<'de>) -> Result<Vec<T>, Refused>
     ensures ok { IfOk result (λ v. decoded true (few_at 32 T.meaning) d.old ≡ Some (map T.datum v.items, d.new)) }
     ensures kept { OnOk result (Kept d.old d.new) }
     ensures err { IfErr result (λ e. Declines false e (decoded true (few_at 32 T.meaning) d.old)) }
     ensures given_up { OnErr result (GivenUp d.old d.new) }
     ensures early { IsRefusedEarly 32 d.old d.new result }
 {
-    let mut items = d.attempt_array()?;
+    let mut items = d.try_array()?;
     let declared = d.remaining(&items);
     if d.hint(&items) > MAX_SUBDIVISIONS {
         items.forget();
         return Err(d.refuse_list());
     }
-    match attempt_items(alloc, d, &mut items) {
+    match try_items(alloc, d, &mut items) {
         Ok(list) => {
             d.end_array(items);
             if declared > MAX_SUBDIVISIONS {
@@ -58,7 +58,7 @@ fn read_few<'de, T: Attempt<'de>>(alloc: Global, d: &mut Decoder<'de>) -> Result
 }
 
 /// Reads a list of at most 32 that stands at most once.
-pub fn read_few_once<'de, T: Attempt<'de>>(
+pub fn read_few_once<'de, T: TryDecode<'de>>(
     alloc: Global,
     d: &mut Decoder<'de>,
     name: &'de [u8],

@@ -5,11 +5,11 @@ ghost use Rattle.std.specs.Prelude.{◌≡◌};
 ghost use Rattle.mmdb_geoip2.specs.NetworkTables.{isp_table, connection_type_table, anonymous_ip_table, density_income_table, domain_table, asn_table};
 
 use crate::fields::fields_by_name;
-use mmdb_decode::attempt::attempt_once;
 use mmdb_decode::decoder::Decoder;
-use mmdb_decode::fields::{EachByItself, Fields, Met};
+use mmdb_decode::fields::{EachByItself, Fields, FieldsSeen};
 use mmdb_decode::record::named;
 use mmdb_decode::refused::Refused;
+use mmdb_decode::try_decode::try_once;
 use std::alloc::Global;
 
 /// The provider of an address.
@@ -48,19 +48,19 @@ impl<'de> Fields<'de> for Isp<'de> {
     #[inline(always)]
     fn read_field(
         &mut self,
-        _met: &mut Met,
+        _met: &mut FieldsSeen,
         alloc: Global,
         name: &'de [u8],
         d: &mut Decoder<'de>,
     ) -> Result<(), Refused> {
         fields_by_name!(alloc, name, d;
-            "autonomous_system_number" => attempt_once(&mut self.autonomous_system_number),
-            "autonomous_system_organization" => attempt_once(&mut self.autonomous_system_organization),
-            "isp" => attempt_once(&mut self.isp),
-            "mobile_country_code" => attempt_once(&mut self.mobile_country_code),
-            "mobile_network_code" => attempt_once(&mut self.mobile_network_code),
-            "organization" => attempt_once(&mut self.organization),
-            _ => attempt_skip_scalar(),
+            "autonomous_system_number" => try_once(&mut self.autonomous_system_number),
+            "autonomous_system_organization" => try_once(&mut self.autonomous_system_organization),
+            "isp" => try_once(&mut self.isp),
+            "mobile_country_code" => try_once(&mut self.mobile_country_code),
+            "mobile_network_code" => try_once(&mut self.mobile_network_code),
+            "organization" => try_once(&mut self.organization),
+            _ => try_skip_scalar(),
         )
     }
 }
@@ -86,14 +86,14 @@ impl<'de> Fields<'de> for ConnectionType<'de> {
     #[inline(always)]
     fn read_field(
         &mut self,
-        _met: &mut Met,
+        _met: &mut FieldsSeen,
         alloc: Global,
         name: &'de [u8],
         d: &mut Decoder<'de>,
     ) -> Result<(), Refused> {
         fields_by_name!(alloc, name, d;
-            "connection_type" => attempt_once(&mut self.connection_type),
-            _ => attempt_skip_scalar(),
+            "connection_type" => try_once(&mut self.connection_type),
+            _ => try_skip_scalar(),
         )
     }
 }
@@ -134,19 +134,19 @@ impl<'de> Fields<'de> for AnonymousIp {
     #[inline(always)]
     fn read_field(
         &mut self,
-        _met: &mut Met,
+        _met: &mut FieldsSeen,
         alloc: Global,
         name: &'de [u8],
         d: &mut Decoder<'de>,
     ) -> Result<(), Refused> {
         fields_by_name!(alloc, name, d;
-            "is_anonymous" => attempt_once(&mut self.is_anonymous),
-            "is_anonymous_vpn" => attempt_once(&mut self.is_anonymous_vpn),
-            "is_hosting_provider" => attempt_once(&mut self.is_hosting_provider),
-            "is_public_proxy" => attempt_once(&mut self.is_public_proxy),
-            "is_residential_proxy" => attempt_once(&mut self.is_residential_proxy),
-            "is_tor_exit_node" => attempt_once(&mut self.is_tor_exit_node),
-            _ => attempt_skip_scalar(),
+            "is_anonymous" => try_once(&mut self.is_anonymous),
+            "is_anonymous_vpn" => try_once(&mut self.is_anonymous_vpn),
+            "is_hosting_provider" => try_once(&mut self.is_hosting_provider),
+            "is_public_proxy" => try_once(&mut self.is_public_proxy),
+            "is_residential_proxy" => try_once(&mut self.is_residential_proxy),
+            "is_tor_exit_node" => try_once(&mut self.is_tor_exit_node),
+            _ => try_skip_scalar(),
         )
     }
 }
@@ -175,15 +175,15 @@ impl<'de> Fields<'de> for DensityIncome {
     #[inline(always)]
     fn read_field(
         &mut self,
-        _met: &mut Met,
+        _met: &mut FieldsSeen,
         alloc: Global,
         name: &'de [u8],
         d: &mut Decoder<'de>,
     ) -> Result<(), Refused> {
         fields_by_name!(alloc, name, d;
-            "average_income" => attempt_once(&mut self.average_income),
-            "population_density" => attempt_once(&mut self.population_density),
-            _ => attempt_skip_scalar(),
+            "average_income" => try_once(&mut self.average_income),
+            "population_density" => try_once(&mut self.population_density),
+            _ => try_skip_scalar(),
         )
     }
 }
@@ -207,14 +207,14 @@ impl<'de> Fields<'de> for Domain<'de> {
     #[inline(always)]
     fn read_field(
         &mut self,
-        _met: &mut Met,
+        _met: &mut FieldsSeen,
         alloc: Global,
         name: &'de [u8],
         d: &mut Decoder<'de>,
     ) -> Result<(), Refused> {
         fields_by_name!(alloc, name, d;
-            "domain" => attempt_once(&mut self.domain),
-            _ => attempt_skip_scalar(),
+            "domain" => try_once(&mut self.domain),
+            _ => try_skip_scalar(),
         )
     }
 }
@@ -243,15 +243,15 @@ impl<'de> Fields<'de> for Asn<'de> {
     #[inline(always)]
     fn read_field(
         &mut self,
-        _met: &mut Met,
+        _met: &mut FieldsSeen,
         alloc: Global,
         name: &'de [u8],
         d: &mut Decoder<'de>,
     ) -> Result<(), Refused> {
         fields_by_name!(alloc, name, d;
-            "autonomous_system_number" => attempt_once(&mut self.autonomous_system_number),
-            "autonomous_system_organization" => attempt_once(&mut self.autonomous_system_organization),
-            _ => attempt_skip_scalar(),
+            "autonomous_system_number" => try_once(&mut self.autonomous_system_number),
+            "autonomous_system_organization" => try_once(&mut self.autonomous_system_organization),
+            _ => try_skip_scalar(),
         )
     }
 }

@@ -9,11 +9,11 @@ ghost use Rattle.mmdb_geoip2.specs.RecordTables.{top_country_table, top_city_tab
 use crate::fields::{fields_by_name, read_few_once};
 use crate::{city, country, enterprise};
 use mmdb_decode::decoder::Decoder;
-use mmdb_decode::fields::{Attempts, Fields, Met, read_part};
+use mmdb_decode::fields::{Fields, FieldsSeen, TryFields, read_part};
 use mmdb_decode::items::Entries;
+use mmdb_decode::memo::{Memo, Recalls, read_part_or_reuse, read_reusing};
 use mmdb_decode::record::named;
 use mmdb_decode::refused::Refused;
-use mmdb_decode::remembered::{Recalls, Remembered, read_part_or_recall, read_recalling};
 use std::alloc::Global;
 
 /// The country of an address.
@@ -47,47 +47,47 @@ impl<'de> Fields<'de> for Country<'de> {
     #[inline(always)]
     fn read_field(
         &mut self,
-        met: &mut Met,
+        met: &mut FieldsSeen,
         alloc: Global,
         name: &'de [u8],
         d: &mut Decoder<'de>,
     ) -> Result<(), Refused> {
-        let mut remembered = None;
-        self.read_field_or_recall(met, &mut remembered, alloc, name, d)
+        let mut memo = None;
+        self.read_field_or_reuse(met, &mut memo, alloc, name, d)
     }
 }
 
 impl<'de> Recalls<'de, country::Country<'de>> for Country<'de> {
     #[inline(always)]
-    fn read_field_or_recall(
+    fn read_field_or_reuse(
         &mut self,
-        met: &mut Met,
-        remembered: &mut Option<Remembered<'de, country::Country<'de>>>,
+        met: &mut FieldsSeen,
+        memo: &mut Option<Memo<'de, country::Country<'de>>>,
         alloc: Global,
         name: &'de [u8],
         d: &mut Decoder<'de>,
     ) -> Result<(), Refused> {
         fields_by_name!(alloc, name, d;
             "continent" => read_part(&mut met.0, &mut self.continent),
-            "country" => read_part_or_recall(&mut met.1, &mut self.country, remembered),
-            "registered_country" => read_part_or_recall(&mut met.2, &mut self.registered_country, remembered),
+            "country" => read_part_or_reuse(&mut met.1, &mut self.country, memo),
+            "registered_country" => read_part_or_reuse(&mut met.2, &mut self.registered_country, memo),
             "represented_country" => read_part(&mut met.3, &mut self.represented_country),
             "traits" => read_part(&mut met.4, &mut self.traits),
-            _ => attempt_skip(),
+            _ => try_skip(),
         )
     }
 }
 
-impl<'de> Attempts<'de> for Country<'de> {
+impl<'de> TryFields<'de> for Country<'de> {
     #[inline(always)]
     fn read_rest(
         &mut self,
-        met: &mut Met,
+        met: &mut FieldsSeen,
         alloc: Global,
         d: &mut Decoder<'de>,
         entries: &mut Entries,
     ) -> Result<(), Refused> {
-        read_recalling(alloc, d, entries, self, met)
+        read_reusing(alloc, d, entries, self, met)
     }
 }
 
@@ -126,22 +126,22 @@ impl<'de> Fields<'de> for City<'de> {
     #[inline(always)]
     fn read_field(
         &mut self,
-        met: &mut Met,
+        met: &mut FieldsSeen,
         alloc: Global,
         name: &'de [u8],
         d: &mut Decoder<'de>,
     ) -> Result<(), Refused> {
-        let mut remembered = None;
-        self.read_field_or_recall(met, &mut remembered, alloc, name, d)
+        let mut memo = None;
+        self.read_field_or_reuse(met, &mut memo, alloc, name, d)
     }
 }
 
 impl<'de> Recalls<'de, city::Country<'de>> for City<'de> {
     #[inline(always)]
-    fn read_field_or_recall(
+    fn read_field_or_reuse(
         &mut self,
-        met: &mut Met,
-        remembered: &mut Option<Remembered<'de, city::Country<'de>>>,
+        met: &mut FieldsSeen,
+        memo: &mut Option<Memo<'de, city::Country<'de>>>,
         alloc: Global,
         name: &'de [u8],
         d: &mut Decoder<'de>,
@@ -149,28 +149,28 @@ impl<'de> Recalls<'de, city::Country<'de>> for City<'de> {
         fields_by_name!(alloc, name, d;
             "city" => read_part(&mut met.0, &mut self.city),
             "continent" => read_part(&mut met.1, &mut self.continent),
-            "country" => read_part_or_recall(&mut met.2, &mut self.country, remembered),
+            "country" => read_part_or_reuse(&mut met.2, &mut self.country, memo),
             "location" => read_part(&mut met.3, &mut self.location),
             "postal" => read_part(&mut met.4, &mut self.postal),
-            "registered_country" => read_part_or_recall(&mut met.5, &mut self.registered_country, remembered),
+            "registered_country" => read_part_or_reuse(&mut met.5, &mut self.registered_country, memo),
             "represented_country" => read_part(&mut met.6, &mut self.represented_country),
             "subdivisions" => read_few_once(&mut met.7, &mut self.subdivisions),
             "traits" => read_part(&mut met.8, &mut self.traits),
-            _ => attempt_skip(),
+            _ => try_skip(),
         )
     }
 }
 
-impl<'de> Attempts<'de> for City<'de> {
+impl<'de> TryFields<'de> for City<'de> {
     #[inline(always)]
     fn read_rest(
         &mut self,
-        met: &mut Met,
+        met: &mut FieldsSeen,
         alloc: Global,
         d: &mut Decoder<'de>,
         entries: &mut Entries,
     ) -> Result<(), Refused> {
-        read_recalling(alloc, d, entries, self, met)
+        read_reusing(alloc, d, entries, self, met)
     }
 }
 
@@ -209,22 +209,22 @@ impl<'de> Fields<'de> for Enterprise<'de> {
     #[inline(always)]
     fn read_field(
         &mut self,
-        met: &mut Met,
+        met: &mut FieldsSeen,
         alloc: Global,
         name: &'de [u8],
         d: &mut Decoder<'de>,
     ) -> Result<(), Refused> {
-        let mut remembered = None;
-        self.read_field_or_recall(met, &mut remembered, alloc, name, d)
+        let mut memo = None;
+        self.read_field_or_reuse(met, &mut memo, alloc, name, d)
     }
 }
 
 impl<'de> Recalls<'de, enterprise::Country<'de>> for Enterprise<'de> {
     #[inline(always)]
-    fn read_field_or_recall(
+    fn read_field_or_reuse(
         &mut self,
-        met: &mut Met,
-        remembered: &mut Option<Remembered<'de, enterprise::Country<'de>>>,
+        met: &mut FieldsSeen,
+        memo: &mut Option<Memo<'de, enterprise::Country<'de>>>,
         alloc: Global,
         name: &'de [u8],
         d: &mut Decoder<'de>,
@@ -232,28 +232,28 @@ impl<'de> Recalls<'de, enterprise::Country<'de>> for Enterprise<'de> {
         fields_by_name!(alloc, name, d;
             "city" => read_part(&mut met.0, &mut self.city),
             "continent" => read_part(&mut met.1, &mut self.continent),
-            "country" => read_part_or_recall(&mut met.2, &mut self.country, remembered),
+            "country" => read_part_or_reuse(&mut met.2, &mut self.country, memo),
             "location" => read_part(&mut met.3, &mut self.location),
             "postal" => read_part(&mut met.4, &mut self.postal),
-            "registered_country" => read_part_or_recall(&mut met.5, &mut self.registered_country, remembered),
+            "registered_country" => read_part_or_reuse(&mut met.5, &mut self.registered_country, memo),
             "represented_country" => read_part(&mut met.6, &mut self.represented_country),
             "subdivisions" => read_few_once(&mut met.7, &mut self.subdivisions),
             "traits" => read_part(&mut met.8, &mut self.traits),
-            _ => attempt_skip(),
+            _ => try_skip(),
         )
     }
 }
 
-impl<'de> Attempts<'de> for Enterprise<'de> {
+impl<'de> TryFields<'de> for Enterprise<'de> {
     #[inline(always)]
     fn read_rest(
         &mut self,
-        met: &mut Met,
+        met: &mut FieldsSeen,
         alloc: Global,
         d: &mut Decoder<'de>,
         entries: &mut Entries,
     ) -> Result<(), Refused> {
-        read_recalling(alloc, d, entries, self, met)
+        read_reusing(alloc, d, entries, self, met)
     }
 }
 

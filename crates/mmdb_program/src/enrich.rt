@@ -5,7 +5,7 @@ use crate::output::{DONE, flush};
 use crate::task::{Column, EnrichTask, JsonTask};
 use csv::{ByteRecord, ReaderBuilder};
 use mmdb_enrich::{Cache, Enrichment, JsonEnrichment, JsonMemory, delimiter_of, put_csv_cell};
-use mmdb_filter::{Counts, MOST_SEEN, Place, Rows, filter_rows, read_piece};
+use mmdb_filter::{Counts, MOST_SEEN, Position, Rows, filter_rows, read_piece};
 use mmdb_reader::Reader;
 use std::alloc::{AllocError, Global};
 use std::convert::AsSlice;

@@ -114,12 +114,12 @@ skip_ends s p d q u r a h =
     let other = is_skipped y.1 n d (omega arith) in
     ap (λ (z : Reading (Unit {0})). z.next) (same_held (skip_within n s p d) (record { value = tt; next = r.next; values = r.values; bytes = 0 }) (record { value = tt; next = q; values = x.parts; bytes = 0 }) other one)
 
--- a place to which a step or a path led
-pub record Leads (s : List ℕ) (o : Option Tree) (place : ℕ) : Type 0 where
+-- an offset to which a step or a path led
+pub record Leads (s : List ℕ) (o : Option Tree) (offset : ℕ) : Type 0 where
   pub part : Tree
   pub end : ℕ
   pub is : o ≡ Some part
-  pub unfolds : Unfolds s place part end
+  pub unfolds : Unfolds s offset part end
 
 leads_from : (s : List ℕ) (o : Option Tree) (p q : ℕ) → p ≡ q → Leads s o p → Leads s o q
 leads_from s o p q e h = subst (λ x. Leads s o x) e h
@@ -144,12 +144,12 @@ elements_lead none_left n d r l h = absurd (omega arith)
 elements_lead (one_more a b) zero d r l h = element_first _ _ d _ _ r a h
 elements_lead (one_more a b) (suc n) d r l h = element_next _ _ d _ n _ _ r a (λ y k. elements_lead b n d y (omega arith) k) h
 
--- what stands at a place, directly or behind one pointer
+-- what stands at an offset, directly or behind one pointer
 record Behind (s : List ℕ) (at : Direct) (u : Tree) (q : ℕ) : Type 0 where
-  pub place : ℕ
+  pub offset : ℕ
   pub end : ℕ
-  pub header : header_at s place ≡ Some at.header
-  pub unfolds : Unfolds s place (past_pointer u) end
+  pub header : header_at s offset ≡ Some at.header
+  pub unfolds : Unfolds s offset (past_pointer u) end
   pub next : end_of at end ≡ q
 
 same_header : (s : List ℕ) (p : ℕ) (x y : Header) → header_at s p ≡ Some x → header_at s p ≡ Some y → x ≡ y
@@ -259,7 +259,7 @@ behind_pointer : (s : List ℕ) (p e : ℕ) (t : Tree) (at : Direct) (x header :
 behind_pointer s p e t at x header a to h i u k j g f =
     let same : a ≡ to = same_pointer s p x header a to h k i j in
     record {
-      place = to.target;
+      offset = to.target;
       end = e;
       header = g;
       unfolds = subst (λ (z : Pointer). Unfolds s z.target t e) same u;
@@ -267,9 +267,9 @@ behind_pointer s p e t at x header a to h i u k j g f =
     }
 
 is_behind : {s : List ℕ} {p q : ℕ} {u : Tree} → Unfolds s p u q → (at : Direct) → HasDirect s p at → Behind s at u q
-is_behind (scalar_here h a) at (direct_here k n f) = record { place = _; end = _; header = k; unfolds = scalar_here h a; next = ends_here at _ f }
-is_behind (array_here h e a) at (direct_here k n f) = record { place = _; end = _; header = k; unfolds = array_here h e a; next = ends_here at _ f }
-is_behind (table_here h e a) at (direct_here k n f) = record { place = _; end = _; header = k; unfolds = table_here h e a; next = ends_here at _ f }
+is_behind (scalar_here h a) at (direct_here k n f) = record { offset = _; end = _; header = k; unfolds = scalar_here h a; next = ends_here at _ f }
+is_behind (array_here h e a) at (direct_here k n f) = record { offset = _; end = _; header = k; unfolds = array_here h e a; next = ends_here at _ f }
+is_behind (table_here h e a) at (direct_here k n f) = record { offset = _; end = _; header = k; unfolds = table_here h e a; next = ends_here at _ f }
 is_behind (pointer_here h e a u) at (direct_here k n f) = let one : at.header.kind ≡ 1 = ap (λ (z : Header). z.kind) (same_header _ _ at.header _ k h) ∙ e in let yes : nat_eq at.header.kind 1 ≡ true = rw one refl in false_true (nat_eq at.header.kind 1) n yes
 is_behind (scalar_here h a) at (direct_behind header to k one b g n f) = no_content _ _ _ header _ h k a (no_content_1 _ header one)
 is_behind (array_here h e a) at (direct_behind header to k one b g n f) = pointed _ _ 11 _ header h e refl k one

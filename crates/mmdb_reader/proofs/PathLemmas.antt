@@ -20,7 +20,7 @@ use Rattle.mmdb_reader.specs.declared.path.PathElement.{PathElement}
 use Rattle.mmdb_reader.specs.declared.path.PathElement.TheVariants.{Key}
 
 given_here : {A : Type 0} (v : A) (σ : State) → Within σ.budget → decoded false (given v) σ ≡ Some (v, σ)
-given_here v σ w = read_free (given v) σ v σ.place w refl
+given_here v σ w = read_free (given v) σ v σ.offset w refl
 
 -- one step and the others
 step_first : (e : PathElement) (path : List PathElement) (σ : State) → IsSome σ.budget → decoded false (selected (e ∷ path)) σ ≡ (decoded true (at_step e) σ >>= λ x. decoded false (if x.0 then selected path else given false) x.1)

@@ -285,14 +285,14 @@ or_none true = refl
 or_none false = refl
 
 -- where nothing is left
-pub swept-whole : (db : Database) (points : List Point) (nodes : ℕ) (places : List Bool) → points ≡ [] → nodes < most_stops db → IsSwept db points (nodes + 1) (holds places)
-    → IsVerdict db places (2 * nodes + 1) Whole × (2 * nodes + 1 ≡ walk_cost db)
+pub swept-whole : (db : Database) (points : List Point) (nodes : ℕ) (set : List Bool) → points ≡ [] → nodes < most_stops db → IsSwept db points (nodes + 1) (holds set)
+    → IsVerdict db set (2 * nodes + 1) Whole × (2 * nodes + 1 ≡ walk_cost db)
 unfolding among
-swept-whole db points nodes places none few w =
+swept-whole db points nodes set none few w =
     let nothing : visits_of_stack db points ≡ [] = ap (visits_of_stack db) none ∙ nothing-left db in
     let long : length (all_visits db) ≡ nodes + 1 = omega (arith, w.count, ap length nothing, ap length none) in
     let clean : has_fault (all_visits db) ≡ false = w.faults ∙ ap has_fault nothing ∙ fault-nothing in
-    let kept : (q : ℕ) → holds places q ≡ among q (all_visits db) = (λ q. or_none (holds places q) ∙ ap (λ b. holds places q || b) (sym (ap (among q) nothing ∙ among-nothing q)) ∙ sym (w.keeps q)) in
+    let kept : (q : ℕ) → holds set q ≡ among q (all_visits db) = (λ q. or_none (holds set q) ∙ ap (λ b. holds set q || b) (sym (ap (among q) nothing ∙ among-nothing q)) ∙ sym (w.keeps q)) in
     let uncut : cut_visits (suc (most_stops db)) (all_visits db) ≡ all_visits db =
     ap (cut_visits (suc (most_stops db))) (sym (append-nil (all_visits db))) ∙ cut-past (suc (most_stops db)) (all_visits db) [] clean (omega (arith, long))
     ∙ ap (λ (vs : List Visit). all_visits db ++ vs) (cut-none (suc (most_stops db) - length (all_visits db))) ∙ append-nil (all_visits db) in

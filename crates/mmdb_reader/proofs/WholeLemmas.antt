@@ -8,10 +8,10 @@ use Rattle.mmdb_format.specs.Error.{MemoryApart}
 use Rattle.mmdb_format.specs.declared.error.MaxMindDbError.{MaxMindDbError}
 use Rattle.mmdb_format.specs.declared.error.MaxMindDbError.TheVariants.{InvalidDatabase, Io, Decoding, ResourceLimit, InvalidNetwork, InvalidInput, Memory}
 use Rattle.mmdb_check.specs.Checking.{holds, none, IsGood, CanAddAll}
-use Rattle.mmdb_check.specs.Places.{places_of}
+use Rattle.mmdb_check.specs.OffsetSet.{places_of}
 use Rattle.mmdb_check.proofs.Members.{can_add_places, can_add_at, good_tree}
 use Rattle.mmdb_reader.specs.declared.walked.End.{End}
-use Rattle.mmdb_reader.specs.declared.walked.End.TheVariants.{Alias, Fault, Absent, Found}
+use Rattle.mmdb_reader.specs.declared.walked.End.TheVariants.{Alias, DecodeErrorKind, Absent, Found}
 use Rattle.mmdb_reader.specs.File.{Database, data_section}
 use Rattle.mmdb_reader.specs.Stops.{Stop, stop, stops, is_fault, offset_of, offsets, most_stops}
 use Rattle.mmdb_reader.specs.Walked.{HoldsOffsets}
@@ -47,14 +47,14 @@ free_fault : (ms : List Stop) → ((m : Stop) → Contains ms m → is_fault m.e
 free_fault [] h = refl
 free_fault (n ∷ ms) h = rw (h n (0, omega arith, refl)) (free_fault ms (λ m c. h m (suc c.0, let b = c.1 in omega (arith, b), c.2)))
 
-the_fault : (end : End) → is_fault end ≡ true → end ≡ Fault
-the_fault Fault h = refl
+the_fault : (end : End) → is_fault end ≡ true → end ≡ DecodeErrorKind
+the_fault DecodeErrorKind h = refl
 the_fault Alias h = absurd (cc)
 the_fault Absent h = absurd (cc)
 the_fault (Found offset) h = absurd (cc)
 
-no_alias_fault : (end : End) → end ≡ Alias → end ≡ Fault → ⊥
-no_alias_fault end a b = let e : Alias ≡ Fault = sym a ∙ b in cc
+no_alias_fault : (end : End) → end ≡ Alias → end ≡ DecodeErrorKind → ⊥
+no_alias_fault end a b = let e : Alias ≡ DecodeErrorKind = sym a ∙ b in cc
 
 -- no stop is a fault, and there are not too many
 pub record IsClean (db : Database) : Type 0 where
@@ -64,8 +64,8 @@ pub record IsClean (db : Database) : Type 0 where
 pub tree_of_clean : (db : Database) → IsClean db → HasWholeTree db
 tree_of_clean db clean = record {
   faultless = λ leaf walked faulty.
-      let there = (stops_exact db (stop leaf Fault)).1 (inr (walked, faulty)) in
-      both_ways _ (fault_free (stops db) clean.faultless (stop leaf Fault) there) refl;
+      let there = (stops_exact db (stop leaf DecodeErrorKind)).1 (inr (walked, faulty)) in
+      both_ways _ (fault_free (stops db) clean.faultless (stop leaf DecodeErrorKind) there) refl;
   few = clean.few;
 }
 
@@ -94,7 +94,7 @@ unfolding offsets
 offsets_cons m ms = refl
 
 the_offset : (end : End) (offset : ℕ) → Contains (offset_of end) offset → end ≡ Found offset
-the_offset Fault offset (k, below, is) = absurd (omega arith)
+the_offset DecodeErrorKind offset (k, below, is) = absurd (omega arith)
 the_offset Alias offset (k, below, is) = absurd (omega arith)
 the_offset Absent offset (k, below, is) = absurd (omega arith)
 the_offset (Found o) offset (zero, below, is) = ap Found is
@@ -132,14 +132,14 @@ offsets_are_exact db offset = (
 
 -- ---- values
 
--- the check of the places that a walk has found, from no good places
-pub values_checked : (db : Database) (section : List ℕ) (good places : List Bool) → section ≡ data_section db → ((q : ℕ) → holds good q ≡ false) → HoldsOffsets db places
-    → CanAddAll section (holds good) (places_of places) ↔ CanAddAll (data_section db) none (offsets (stops db))
-values_checked db section good places same no_good has =
-    let step = can_add_places section (holds good) places (offsets (stops db)) has in
+-- the check of the set that a walk has found, from no good set
+pub values_checked : (db : Database) (section : List ℕ) (good set : List Bool) → section ≡ data_section db → ((q : ℕ) → holds good q ≡ false) → HoldsOffsets db set
+    → CanAddAll section (holds good) (places_of set) ↔ CanAddAll (data_section db) none (offsets (stops db))
+values_checked db section good set same no_good has =
+    let step = can_add_places section (holds good) set (offsets (stops db)) has in
     let from = can_add_at section (data_section db) (holds good) none (offsets (stops db)) same no_good in
     ((λ x. from.0 (step.0 x)), (λ x. step.1 (from.1 x)))
 
--- each place of several has a good tree
+-- each offset of several has a good tree
 pub value_good : (db : Database) (offset : ℕ) → CanAddAll (data_section db) none (offsets (stops db)) → Contains (offsets (stops db)) offset → (t : Tree) × IsGood (data_section db) offset t
 value_good db offset values there = good_tree (data_section db) none (offsets (stops db)) offset values there

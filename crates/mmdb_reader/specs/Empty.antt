@@ -4,13 +4,13 @@ use Rattle.std.specs.Prelude.{◌≡◌, ℕ, ◌⊎◌, List, Some, None}
 use Rattle.mmdb_format.specs.Pointer.{direct_at}
 use Rattle.mmdb_format.specs.declared.header.Direct.{Direct}
 
--- No header that is no pointer can be read at a place, directly or behind one pointer.
+-- No header that is no pointer can be read at an offset, directly or behind one pointer.
 abbrev pub IsUnreadable : List ℕ → ℕ → Type 0
-IsUnreadable section place = direct_at section place 0 ≡ None
+IsUnreadable section offset = direct_at section offset 0 ≡ None
 
--- An empty map or array stands at a place, directly or behind one pointer.
-pub record IsEmptyContainer (section : List ℕ) (place : ℕ) : Type 0 where
+-- An empty map or array stands at an offset, directly or behind one pointer.
+pub record IsEmptyContainer (section : List ℕ) (offset : ℕ) : Type 0 where
   pub direct : Direct
-  pub stands : direct_at section place 0 ≡ Some direct
+  pub stands : direct_at section offset 0 ≡ Some direct
   pub container : (direct.header.kind ≡ 7) ⊎ (direct.header.kind ≡ 11)
   pub empty : direct.header.size ≡ 0

@@ -9,21 +9,21 @@ use Rattle.mmdb_reader.specs.Tree.{SearchTree, search_tree, node_bytes}
 abbrev pub marker_bytes : List ℕ
 marker_bytes = 171 ∷ 205 ∷ 239 ∷ 77 ∷ 97 ∷ 120 ∷ 77 ∷ 105 ∷ 110 ∷ 100 ∷ 46 ∷ 99 ∷ 111 ∷ 109 ∷ []
 
--- the marker's bytes stand in the file at this place
-pub record IsMarkerAt (file : List ℕ) (place : ℕ) : Type 0 where
-  pub fits : place + length marker_bytes ≤ length file
-  pub reads : (j : ℕ) → j < length marker_bytes → slice_index file (place + j) ≡ slice_index marker_bytes j
+-- the marker's bytes stand in the file at this offset
+pub record IsMarkerAt (file : List ℕ) (offset : ℕ) : Type 0 where
+  pub fits : offset + length marker_bytes ≤ length file
+  pub reads : (j : ℕ) → j < length marker_bytes → slice_index file (offset + j) ≡ slice_index marker_bytes j
 
 -- They stand there, and nowhere after it: the last occurrence begins the metadata.
-pub record IsLastMarker (file : List ℕ) (place : ℕ) : Type 0 where
-  pub stands : IsMarkerAt file place
-  pub last : (other : ℕ) → IsMarkerAt file other → other ≤ place
+pub record IsLastMarker (file : List ℕ) (offset : ℕ) : Type 0 where
+  pub stands : IsMarkerAt file offset
+  pub last : (other : ℕ) → IsMarkerAt file other → other ≤ offset
 
 -- the bytes after the marker, to the file's end
 abbrev pub metadata_section : List ℕ → ℕ → List ℕ
 metadata_section file marker = drop (marker + length marker_bytes) file
 
--- A database: the bytes of its file, the place of the marker, and what the metadata say.
+-- A database: the bytes of its file, the offset of the marker, and what the metadata say.
 pub record Database : Type 0 where
   pub bytes : List ℕ
   pub marker : ℕ

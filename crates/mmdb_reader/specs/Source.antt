@@ -26,7 +26,7 @@ pub record IsDatabaseOf (file : List ℕ) (db : Database) : Type 0 where
 
 -- no marker stands in the file
 abbrev pub HasNoMarker : List ℕ → Type 0
-HasNoMarker file = (place : ℕ) → ¬ IsMarkerAt file place
+HasNoMarker file = (offset : ℕ) → ¬ IsMarkerAt file offset
 
 -- the file is no database
 abbrev pub IsNoDatabase : List ℕ → Type 0

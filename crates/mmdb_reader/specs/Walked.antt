@@ -72,10 +72,10 @@ Takes db p old new had has =
 
 -- the set holds exactly the offsets of the stops
 abbrev pub HoldsOffsets : Database → List Bool → Type 0
-HoldsOffsets db places = (q : ℕ) → holds places q ≡ list_any (λ o. o == q) (offsets (stops db))
+HoldsOffsets db set = (q : ℕ) → holds set q ≡ list_any (λ o. o == q) (offsets (stops db))
 
 -- what a walk says that took so many positions
 abbrev pub IsVerdict : Database → List Bool → ℕ → WalkEnd → Type 0
-IsVerdict db places taken Whole = HasWholeTree db × (HoldsOffsets db places × (taken + 1 ≡ 2 * length (stops db)))
-IsVerdict db places taken (AtFault number) = ¬ HasWholeTree db
-IsVerdict db places taken TooMany = ¬ HasWholeTree db
+IsVerdict db set taken Whole = HasWholeTree db × (HoldsOffsets db set × (taken + 1 ≡ 2 * length (stops db)))
+IsVerdict db set taken (AtFault number) = ¬ HasWholeTree db
+IsVerdict db set taken TooMany = ¬ HasWholeTree db

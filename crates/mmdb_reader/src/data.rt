@@ -19,34 +19,34 @@ use mmdb_format::error::{DecodeResult, MaxMindDbError};
 use std::alloc::Global;
 use std::convert::AsSlice;
 
-// The value at a place of a section.
+// The value at an offset of a section.
 fn decode_at<'de, T: Decode<'de>>(
     alloc: Global,
     section: &'de [u8],
-    place: usize,
+    offset: usize,
 ) -> DecodeResult<T>
-    ensures ok { IfOk result (λ v. T.exact ≡ true → answer T.starts T.meaning section.now place ≡ Some (T.datum v)) }
-    ensures err { IfErr result (λ e. T.exact ≡ true → Refuses T.free e (answer T.starts T.meaning section.now place)) }
-    ensures told { IfOk result (λ v. (after : State) × T.told (begin section.now place) v after) }
+    ensures ok { IfOk result (λ v. T.exact ≡ true → answer T.starts T.meaning section.now offset ≡ Some (T.datum v)) }
+    ensures err { IfErr result (λ e. T.exact ≡ true → Refuses T.free e (answer T.starts T.meaning section.now offset)) }
+    ensures told { IfOk result (λ v. (after : State) × T.told (begin section.now offset) v after) }
 {
-    let mut d = Decoder::new(section, place);
+    let mut d = Decoder::new(section, offset);
     T::decode(alloc, &mut d)
 }
 
-// The value at the end of a path that begins at a place of a section.
+// The value at the end of a path that begins at an offset of a section.
 #[inline(always)]
 fn decode_along<'de, T: Decode<'de>>(
     alloc: Global,
     section: &'de [u8],
-    place: usize,
+    offset: usize,
     path: &[PathElement<'_>],
 ) -> DecodeResult<Option<T>>
-    ensures ok { IfOk result (λ value. T.exact ≡ true → answer true (read_along path.now T.meaning) section.now place ≡ Some (option_map T.datum value)) }
-    ensures err { IfErr result (λ e. T.exact ≡ true → Refuses T.free e (answer true (read_along path.now T.meaning) section.now place)) }
-    ensures none { IfOk result (λ value. IfNone value (LeadsNowhere path.now section.now place)) }
-    ensures told { IfOk result (λ value. IfSome value (λ v. (there after : State) × (decoded true (selected path.now) (begin section.now place) ≡ Some (true, there)) × T.told there v after)) }
+    ensures ok { IfOk result (λ value. T.exact ≡ true → answer true (read_along path.now T.meaning) section.now offset ≡ Some (option_map T.datum value)) }
+    ensures err { IfErr result (λ e. T.exact ≡ true → Refuses T.free e (answer true (read_along path.now T.meaning) section.now offset)) }
+    ensures none { IfOk result (λ value. IfNone value (LeadsNowhere path.now section.now offset)) }
+    ensures told { IfOk result (λ value. IfSome value (λ v. (there after : State) × (decoded true (selected path.now) (begin section.now offset) ≡ Some (true, there)) × T.told there v after)) }
 {
-    let mut d = Decoder::new(section, place);
+    let mut d = Decoder::new(section, offset);
     d.begin_budget();
     match go_along(&mut d, path) {
         Ok(true) => {}
@@ -74,7 +74,7 @@ impl<'a, S: AsSlice<u8> + Drop> LookupResult<'a, S> {
         ensures err { IfErr result (λ e. T.exact ≡ true → RefusesToDecode T.free e (answer T.starts T.meaning (data_section (database_asked self.now))) (offset_found self.now)) }
         ensures none { IfOk result (λ value. is_some value ≡ is_some (offset_found self.now)) }
         ensures of_data { OnErr result (IsSome (offset_found self.now)) }
-        ensures told { IfOk result (λ value. IfSome value (λ v. (place : ℕ) × (after : State) × (offset_found self.now ≡ Some place) × T.told (begin (data_section (database_asked self.now)) place) v after)) }
+        ensures told { IfOk result (λ value. IfSome value (λ v. (offset : ℕ) × (after : State) × (offset_found self.now ≡ Some offset) × T.told (begin (data_section (database_asked self.now)) offset) v after)) }
     {
         let Some(offset) = self.offset else {
             return Ok(None);
@@ -102,7 +102,7 @@ impl<'a, S: AsSlice<u8> + Drop> LookupResult<'a, S> {
         ensures err { IfErr result (λ e. T.exact ≡ true → RefusesToDecode T.free e (answer_along path.now T.starts T.meaning (data_section (database_asked self.now))) (offset_found self.now)) }
         ensures none { IfOk result (λ value. IfNone value (HasNone path.now (data_section (database_asked self.now)) (offset_found self.now))) }
         ensures of_data { OnErr result (IsSome (offset_found self.now)) }
-        ensures told { IfOk result (λ value. IfSome value (λ v. (place : ℕ) × (there after : State) × (offset_found self.now ≡ Some place) × Reaches path.now (data_section (database_asked self.now)) place there × T.told there v after)) }
+        ensures told { IfOk result (λ value. IfSome value (λ v. (offset : ℕ) × (there after : State) × (offset_found self.now ≡ Some offset) × Reaches path.now (data_section (database_asked self.now)) offset there × T.told there v after)) }
     {
         let Some(offset) = self.offset else {
             return Ok(None);

@@ -8,8 +8,8 @@ ghost use Rattle.mmdb_reader.specs.Selecting.{at_step, selected};
 use crate::path::{PathElement, render_path};
 use mmdb_decode::decoder::Decoder;
 use mmdb_decode::laws::values_bounded;
+use mmdb_format::decode_error_kind::DecodeErrorKind;
 use mmdb_format::error::MaxMindDbError;
-use mmdb_format::fault::Fault;
 use mmdb_format::kind::Kind;
 use mmdb_format::message::Message;
 use std::alloc::{AllocError, Global};
@@ -17,14 +17,14 @@ use std::alloc::{AllocError, Global};
 /// Why a step of a path was refused, and how many steps came before it.
 #[derive(Clone, Copy)]
 pub(crate) struct RefusedStep {
-    fault: Fault,
+    fault: DecodeErrorKind,
     before: usize,
 }
 
 impl PathElement<'_> {
     // Goes one step.
     #[inline(always)]
-    fn go(&self, d: &mut Decoder<'_>) -> Result<bool, Fault>
+    fn go(&self, d: &mut Decoder<'_>) -> Result<bool, DecodeErrorKind>
         ensures { Takes (λ b. b) (decoded true (at_step self.now) d.old) d.old d.new result }
     {
         match self {
@@ -35,7 +35,7 @@ impl PathElement<'_> {
     }
 }
 
-/// Goes along a path, under a budget that has begun, and tells whether it leads to a place.
+/// Goes along a path, under a budget that has begun, and tells whether it leads to an offset.
 #[inline(always)]
 pub(crate) fn go_along(d: &mut Decoder<'_>, path: &[PathElement<'_>]) -> Result<bool, RefusedStep>
     requires { IsSome d.old.budget }
@@ -83,14 +83,14 @@ fn mismatch_text(alloc: Global, step: &PathElement<'_>, found: u16) -> Result<Me
     )
 }
 
-// The refusal of a step by the type of the value at a place.
-fn mismatch(alloc: Global, step: &PathElement<'_>, found: u16, place: usize) -> MaxMindDbError
+// The refusal of a step by the type of the value at an offset.
+fn mismatch(alloc: Global, step: &PathElement<'_>, found: u16, offset: usize) -> MaxMindDbError
     ensures { IsOfOrMemory OfDecoding result }
 {
     match mismatch_text(alloc, step, found) {
         Ok(message) => MaxMindDbError::Decoding {
             message,
-            offset: Some(place),
+            offset: Some(offset),
             path: None,
         },
         Err(_) => MaxMindDbError::Memory,
@@ -107,17 +107,17 @@ impl RefusedStep {
     ) -> MaxMindDbError
         requires { self.before < length path.now }
     {
-        let place = d.offset();
+        let offset = d.offset();
         let error = match self.fault {
-            Fault::Unexpected(_, found) => match charge_container(
+            DecodeErrorKind::Unexpected(_, found) => match charge_container(
                 alloc,
                 d,
                 Kind::of_number(found),
             ) {
-                Ok(()) => mismatch(alloc, &path[self.before], found, place),
+                Ok(()) => mismatch(alloc, &path[self.before], found, offset),
                 Err(error) => error,
             },
-            fault => fault.refusal(alloc, place),
+            fault => fault.refusal(alloc, offset),
         };
         with_path(alloc, error, &path[..=self.before])
     }

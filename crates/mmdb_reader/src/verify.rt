@@ -15,7 +15,7 @@ use crate::walked::{WalkEnd, Walked};
 use crate::walking::invalid;
 use mmdb_check::checked::Checked;
 use mmdb_check::fuzzing;
-use mmdb_check::places::{Places, check_places};
+use mmdb_check::offset_set::{OffsetSet, check_offsets};
 use mmdb_format::error::MaxMindDbError;
 use mmdb_format::message::{Message, Text};
 use std::alloc::{AllocError, Global};
@@ -65,9 +65,9 @@ impl<S: AsSlice<u8> + Drop> Reader<S> {
     }
 
     // The offsets of walked leaves, if no walked leaf is faulty and there are not too many stops.
-    fn walk_tree(&self, alloc: Global, steps: &mut Steps) -> Result<Places, MaxMindDbError>
+    fn walk_tree(&self, alloc: Global, steps: &mut Steps) -> Result<OffsetSet, MaxMindDbError>
         requires { steps.old + (6 * self.now.metadata.node_count + 130) < 2 ^ 64 }
-        ensures ok { IfOk result (λ places. HasWholeTree self.now × HoldsOffsets self.now places) }
+        ensures ok { IfOk result (λ set. HasWholeTree self.now × HoldsOffsets self.now set) }
         ensures err { IfErr result (λ e. MemoryApart e (¬ HasWholeTree self.now)) }
         ensures bound { steps.new ≤ steps.old + (6 * self.now.metadata.node_count + 130) }
         ensures counted { OnOk result ((steps.new ≡ steps.old + walk_cost self.now) × (steps.new + 1 ≡ steps.old + 2 * length (stops self.now))) }
@@ -75,21 +75,21 @@ impl<S: AsSlice<u8> + Drop> Reader<S> {
         ensures most { steps.new ≤ steps.old + walk_cost self.now }
     {
         let mut stack = Vec::with_capacity(alloc, usize::from(self.width()))?;
-        let mut places = Places::new(alloc, self.data_len())?;
-        let walked = match self.sweep(&mut stack, &mut places) {
+        let mut set = OffsetSet::new(alloc, self.data_len())?;
+        let walked = match self.sweep(&mut stack, &mut set) {
             Some(taken) => Walked {
                 taken,
                 end: WalkEnd::Whole,
             },
             None => {
                 stack.clear();
-                places = Places::new(alloc, self.data_len())?;
-                self.walk(&mut stack, &mut places)
+                set = OffsetSet::new(alloc, self.data_len())?;
+                self.walk(&mut stack, &mut set)
             }
         };
         steps.add(walked.taken);
         match walked.end {
-            WalkEnd::Whole => Ok(places),
+            WalkEnd::Whole => Ok(set),
             WalkEnd::AtFault(number) if number < self.nodes().node_count => {
                 Err(invalid(Text::TreeTooDeep))
             }
@@ -111,14 +111,14 @@ impl<S: AsSlice<u8> + Drop> Reader<S> {
         Ok(())
     }
 
-    // Whether the values at these places unfold together.
-    fn verify_values(&self, alloc: Global, places: &Places) -> Result<(), MaxMindDbError>
-        requires { HoldsOffsets self.now places.now }
+    // Whether the values at these set unfold together.
+    fn verify_values(&self, alloc: Global, set: &OffsetSet) -> Result<(), MaxMindDbError>
+        requires { HoldsOffsets self.now set.now }
         ensures ok { OnOk result (CanAddAll (data_section self.now) none (offsets (stops self.now))) }
         ensures err { IfErr result (λ e. MemoryApart e (¬ CanAddAll (data_section self.now) none (offsets (stops self.now)))) }
     {
         let mut checked = Checked::new(alloc, self.data_section())?;
-        match check_places(alloc, &mut checked, places) {
+        match check_offsets(alloc, &mut checked, set) {
             Ok(()) => Ok(()),
             Err(error) => Err(counted_from_start(error, self.data_start())),
         }
@@ -143,9 +143,9 @@ impl<S: AsSlice<u8> + Drop> Reader<S> {
         ensures most { steps.new ≤ steps.old + walk_cost self.now }
     {
         self.verify_metadata(alloc)?;
-        let places = self.walk_tree(alloc, steps)?;
+        let set = self.walk_tree(alloc, steps)?;
         self.verify_separator()?;
-        self.verify_values(alloc, &places)
+        self.verify_values(alloc, &set)
     }
 
     /// Checks the whole database: its metadata, its tree, the separator after it, and the values of all leaves that

@@ -9,14 +9,14 @@ ghost use Rattle.mmdb_reader.specs.Walked.{AreLimits, Takes, GoesOn, IsStopped, 
 
 use crate::reader::{Reader, SEPARATOR};
 use crate::tree::Nodes;
-use mmdb_check::places::Places;
+use mmdb_check::offset_set::OffsetSet;
 use std::convert::AsSlice;
 
 /// What a walk stops at: an alias, or a leaf that is faulty, has no data, or has a value at an offset.
 #[derive(Clone, Copy)]
 pub(crate) enum End {
     Alias,
-    Fault,
+    DecodeErrorKind,
     Absent,
     Found(usize),
 }
@@ -73,10 +73,10 @@ impl<S: AsSlice<u8> + Drop> Reader<S> {
         ensures { result ≡ spec_end_of_leaf self.now number }
     {
         if number < self.nodes().node_count {
-            return End::Fault;
+            return End::DecodeErrorKind;
         }
         match self.place_of(number) {
-            None => End::Fault,
+            None => End::DecodeErrorKind,
             Some(None) => End::Absent,
             Some(Some(offset)) => End::Found(offset),
         }
@@ -109,31 +109,31 @@ impl<S: AsSlice<u8> + Drop> Reader<S> {
     // Puts the offset of what a walk stops at into the set, if it has one. Whether it is no fault.
     #[tactic(auto, using(crate::proofs::Progress::adds_offset, crate::proofs::Progress::adds_none, crate::proofs::Progress::found_inside))]
     #[inline(always)]
-    fn keep(&self, point: Point, places: &mut Places) -> bool
-        requires { length places.old ≡ data_length self.now }
+    fn keep(&self, point: Point, set: &mut OffsetSet) -> bool
+        requires { length set.old ≡ data_length self.now }
         ensures kept { result ≡ not (is_fault (end_from self.now point.number point.high)) }
-        ensures places { Keeps self.now point places.old places.new }
-        ensures length { length places.new ≡ length places.old }
+        ensures set { Keeps self.now point set.old set.new }
+        ensures length { length set.new ≡ length set.old }
     {
         match self.end_from(point) {
-            End::Fault => return false,
-            End::Found(offset) => places.insert(offset),
+            End::DecodeErrorKind => return false,
+            End::Found(offset) => set.insert(offset),
             End::Alias | End::Absent => {}
         }
         true
     }
 
     // Walks the whole tree, from the root. `stack` keeps the upper halves that are still to come, and
-    // `places` the offsets that were found.
-    pub(crate) fn walk(&self, stack: &mut Vec<Point>, places: &mut Places) -> Walked
+    // `set` the offsets that were found.
+    pub(crate) fn walk(&self, stack: &mut Vec<Point>, set: &mut OffsetSet) -> Walked
         requires empty { stack.old.items ≡ [] }
         requires room { width self.now ≤ vec_capacity stack.old }
-        requires places { length places.old ≡ data_length self.now }
-        requires none { (q : ℕ) → holds places.old q ≡ false }
-        ensures verdict { IsVerdict self.now places.new result.taken result.end }
+        requires set { length set.old ≡ data_length self.now }
+        requires none { (q : ℕ) → holds set.old q ≡ false }
+        ensures verdict { IsVerdict self.now set.new result.taken result.end }
         ensures counted { result.taken ≡ walk_cost self.now }
         ensures bound { result.taken ≤ 6 * self.now.metadata.node_count + 130 }
-        ensures length { length places.new ≡ length places.old }
+        ensures length { length set.new ≡ length set.old }
     {
         let most = 3 * self.nodes().node_count;
         let mut point = Point {
@@ -151,7 +151,7 @@ impl<S: AsSlice<u8> + Drop> Reader<S> {
                 continue;
             }
             stops += 1;
-            if !self.keep(point, places) {
+            if !self.keep(point, set) {
                 return Walked {
                     taken,
                     end: WalkEnd::AtFault(point.number),
@@ -176,12 +176,12 @@ impl<S: AsSlice<u8> + Drop> Reader<S> {
     // Walks the whole tree, a node at a time, and gives the positions that it took. Both halves of a node are looked
     // at together, so the offsets come in another order than the leaves. None where the walk is refused, or may be:
     // where it stops is then told by `walk`.
-    pub(crate) fn sweep(&self, stack: &mut Vec<Point>, places: &mut Places) -> Option<usize>
+    pub(crate) fn sweep(&self, stack: &mut Vec<Point>, set: &mut OffsetSet) -> Option<usize>
         requires empty { stack.old.items ≡ [] }
         requires room { width self.now ≤ vec_capacity stack.old }
-        requires places { length places.old ≡ data_length self.now }
-        requires none { (q : ℕ) → holds places.old q ≡ false }
-        ensures whole { IfSome result (λ taken. IsVerdict self.now places.new taken Whole) }
+        requires set { length set.old ≡ data_length self.now }
+        requires none { (q : ℕ) → holds set.old q ≡ false }
+        ensures whole { IfSome result (λ taken. IsVerdict self.now set.new taken Whole) }
         ensures counted { IfSome result (λ taken. taken ≡ walk_cost self.now) }
         ensures bound { IfSome result (λ taken. taken ≤ 6 * self.now.metadata.node_count) }
         ensures kept { vec_capacity stack.new ≡ vec_capacity stack.old }
@@ -197,14 +197,14 @@ impl<S: AsSlice<u8> + Drop> Reader<S> {
         }
         for nodes in 1..3 * walker.nodes.node_count {
             let lower = walker.half_of(point, false);
-            if !walker.take(walker.half_of(point, true), stack, places) {
+            if !walker.take(walker.half_of(point, true), stack, set) {
                 return None;
             }
             if walker.goes_on(lower) {
                 point = lower;
                 continue;
             }
-            if !walker.keep(lower, places) {
+            if !walker.keep(lower, set) {
                 return None;
             }
             let Some(next) = stack.pop() else {
@@ -291,14 +291,14 @@ impl<S: AsSlice<u8> + Drop> Walker<'_, S> {
             return if self.is_alias(point) {
                 End::Alias
             } else {
-                End::Fault
+                End::DecodeErrorKind
             };
         }
         let past = point.number - self.nodes.node_count;
         if past == 0 {
             End::Absent
         } else if past < SEPARATOR || past - SEPARATOR >= self.data_len {
-            End::Fault
+            End::DecodeErrorKind
         } else {
             End::Found(past - SEPARATOR)
         }
@@ -307,15 +307,15 @@ impl<S: AsSlice<u8> + Drop> Walker<'_, S> {
     // Puts the offset of what the walk stops at into the set, if it has one. Whether it is no fault.
     #[tactic(auto, using(crate::proofs::Progress::adds_offset, crate::proofs::Progress::adds_none, crate::proofs::Progress::found_inside))]
     #[inline(always)]
-    fn keep(&self, point: Point, places: &mut Places) -> bool
-        requires { length places.old ≡ data_length self.now.reader.now }
+    fn keep(&self, point: Point, set: &mut OffsetSet) -> bool
+        requires { length set.old ≡ data_length self.now.reader.now }
         ensures kept { result ≡ not (is_fault (end_from self.now.reader.now point.number point.high)) }
-        ensures places { Keeps self.now.reader.now point places.old places.new }
-        ensures length { length places.new ≡ length places.old }
+        ensures set { Keeps self.now.reader.now point set.old set.new }
+        ensures length { length set.new ≡ length set.old }
     {
         match self.end_from(point) {
-            End::Fault => return false,
-            End::Found(offset) => places.insert(offset),
+            End::DecodeErrorKind => return false,
+            End::Found(offset) => set.insert(offset),
             End::Alias | End::Absent => {}
         }
         true
@@ -324,17 +324,17 @@ impl<S: AsSlice<u8> + Drop> Walker<'_, S> {
     // Puts a point on the stack, where the walk goes on below it, and else keeps what it stops at. Whether that is
     // no fault.
     #[inline(always)]
-    fn take(&self, point: Point, stack: &mut Vec<Point>, places: &mut Places) -> bool
+    fn take(&self, point: Point, stack: &mut Vec<Point>, set: &mut OffsetSet) -> bool
         requires room { vec_len stack.old < vec_capacity stack.old }
-        requires places { length places.old ≡ data_length self.now.reader.now }
-        ensures taken { IsTrue result → Takes self.now.reader.now point stack.old.items stack.new.items places.old places.new }
+        requires set { length set.old ≡ data_length self.now.reader.now }
+        ensures taken { IsTrue result → Takes self.now.reader.now point stack.old.items stack.new.items set.old set.new }
         ensures room { vec_capacity stack.new ≡ vec_capacity stack.old }
-        ensures length { length places.new ≡ length places.old }
+        ensures length { length set.new ≡ length set.old }
     {
         if self.goes_on(point) {
             stack.push_reserved(point);
             return true;
         }
-        self.keep(point, places)
+        self.keep(point, set)
     }
 }

@@ -40,7 +40,7 @@ checked_by f σ budget (Some r) = checked_budget f σ budget r (f r.value) ∙ c
 
 pub decoded-checked : {A B : Type 0} (f : A → Option B) (read : Meaning A) (σ : State) → decoded false (checked f read) σ ≡ taken_by f (decoded false read σ)
 unfolding decoded
-decoded-checked f read σ = checked_by f σ σ.budget (read σ.section σ.place σ.levels)
+decoded-checked f read σ = checked_by f σ σ.budget (read σ.section σ.offset σ.levels)
 
 no_scalar : (tested : Bool) (s : List ℕ) (header : Header) (p d : ℕ) → content_at s header ≡ None → scalar_of tested header s p d ≡ None
 unfolding content_of
@@ -51,27 +51,27 @@ unfolding content_of
 scalar_anywhere tested s header p q d e = refl
 
 -- a value that holds no other
-scalar_by : (tested : Bool) (σ : State) (header : Header) (n : ℕ) → header_at σ.section σ.place ≡ Some header → nat_eq header.kind 1 ≡ false → nat_eq header.kind 7 ≡ false → nat_eq header.kind 11 ≡ false → 512 - σ.levels ≡ n → decoded false (value_at tested) σ ≡ decoded false (scalar_of tested header) σ
+scalar_by : (tested : Bool) (σ : State) (header : Header) (n : ℕ) → header_at σ.section σ.offset ≡ Some header → nat_eq header.kind 1 ≡ false → nat_eq header.kind 7 ≡ false → nat_eq header.kind 11 ≡ false → 512 - σ.levels ≡ n → decoded false (value_at tested) σ ≡ decoded false (scalar_of tested header) σ
 unfolding decoded value_at value_within
-scalar_by tested σ header zero h i j k e = rw (e, h, scalar_anywhere tested σ.section header header.body σ.place 0 σ.levels) refl
-scalar_by tested σ header (suc n) h i j k e = rw (e, h, i, k, j, scalar_anywhere tested σ.section header header.body σ.place 0 σ.levels) refl
+scalar_by tested σ header zero h i j k e = rw (e, h, scalar_anywhere tested σ.section header header.body σ.offset 0 σ.levels) refl
+scalar_by tested σ header (suc n) h i j k e = rw (e, h, i, k, j, scalar_anywhere tested σ.section header header.body σ.offset 0 σ.levels) refl
 
-pub any_scalar : (tested : Bool) (σ : State) (header : Header) → header_at σ.section σ.place ≡ Some header → header.kind ≢ 1 → header.kind ≢ 7 → header.kind ≢ 11 → decoded false (value_at tested) σ ≡ decoded false (scalar_of tested header) σ
+pub any_scalar : (tested : Bool) (σ : State) (header : Header) → header_at σ.section σ.offset ≡ Some header → header.kind ≢ 1 → header.kind ≢ 7 → header.kind ≢ 11 → decoded false (value_at tested) σ ≡ decoded false (scalar_of tested header) σ
 any_scalar tested σ header h i j k =
     let a : nat_eq header.kind 1 ≡ false = grind (arith, nat_tests) in
     let b : nat_eq header.kind 7 ≡ false = grind (arith, nat_tests) in
     let c : nat_eq header.kind 11 ≡ false = grind (arith, nat_tests) in
     scalar_by tested σ header (512 - σ.levels) h a b c refl
 
-no_head_by : (tested : Bool) (σ : State) → header_at σ.section σ.place ≡ None → (n : ℕ) → 512 - σ.levels ≡ n → decoded false (value_at tested) σ ≡ None
+no_head_by : (tested : Bool) (σ : State) → header_at σ.section σ.offset ≡ None → (n : ℕ) → 512 - σ.levels ≡ n → decoded false (value_at tested) σ ≡ None
 unfolding decoded value_at value_within
 no_head_by tested σ h zero e = rw (e, h) refl
 no_head_by tested σ h (suc n) e = rw (e, h) refl
 
-pub no_head : (tested : Bool) (σ : State) → header_at σ.section σ.place ≡ None → decoded false (value_at tested) σ ≡ None
+pub no_head : (tested : Bool) (σ : State) → header_at σ.section σ.offset ≡ None → decoded false (value_at tested) σ ≡ None
 no_head tested σ h = no_head_by tested σ h (512 - σ.levels) refl
 
--- back one level up, at a place
+-- back one level up, at an offset
 abbrev pub risen : ℕ → ℕ → Option (Tree × State) → Option (Tree × State)
 risen next levels None = None
 risen next levels (Some x) = Some (x.0, state x.1.section next levels x.1.budget)
@@ -87,16 +87,16 @@ risen_after σ target next (Some r) = risen_settled σ (state σ.section target 
 abbrev down : State → Pointer → ℕ × State
 down σ to = (to.next, state σ.section to.target (σ.levels + 1) σ.budget)
 
-behind_after : (tested : Bool) (σ : State) (n : ℕ) (o : Option Pointer) → ((o >>= behind_pointer (value_within tested n) σ.section) >>= after σ σ.budget) ≡ ((o >>= λ to. Some (down σ to)) >>= λ x. risen x.0 σ.levels (value_within tested n x.1.section x.1.place 0 >>= after x.1 x.1.budget))
+behind_after : (tested : Bool) (σ : State) (n : ℕ) (o : Option Pointer) → ((o >>= behind_pointer (value_within tested n) σ.section) >>= after σ σ.budget) ≡ ((o >>= λ to. Some (down σ to)) >>= λ x. risen x.0 σ.levels (value_within tested n x.1.section x.1.offset 0 >>= after x.1 x.1.budget))
 behind_after tested σ n None = refl
 behind_after tested σ n (Some to) = risen_after σ to.target to.next (value_within tested n σ.section to.target 0)
 
-same_below : (tested : Bool) (σ : State) (n : ℕ) (o : Option Pointer) → 512 - (σ.levels + 1) ≡ n → ((o >>= λ to. Some (down σ to)) >>= λ x. risen x.0 σ.levels (value_within tested n x.1.section x.1.place 0 >>= after x.1 x.1.budget)) ≡ ((o >>= λ to. Some (down σ to)) >>= λ x. risen x.0 σ.levels (decoded false (value_at tested) x.1))
+same_below : (tested : Bool) (σ : State) (n : ℕ) (o : Option Pointer) → 512 - (σ.levels + 1) ≡ n → ((o >>= λ to. Some (down σ to)) >>= λ x. risen x.0 σ.levels (value_within tested n x.1.section x.1.offset 0 >>= after x.1 x.1.budget)) ≡ ((o >>= λ to. Some (down σ to)) >>= λ x. risen x.0 σ.levels (decoded false (value_at tested) x.1))
 unfolding decoded value_at
 same_below tested σ n None e = refl
 same_below tested σ n (Some to) e = rw e refl
 
-pointer_by : (tested : Bool) (σ : State) (header : Header) (n : ℕ) → header_at σ.section σ.place ≡ Some header → header.kind ≡ 1 → 512 - σ.levels ≡ n → decoded false (value_at tested) σ ≡ (entered_pointer σ header >>= λ x. risen x.0 σ.levels (decoded false (value_at tested) x.1))
+pointer_by : (tested : Bool) (σ : State) (header : Header) (n : ℕ) → header_at σ.section σ.offset ≡ Some header → header.kind ≡ 1 → 512 - σ.levels ≡ n → decoded false (value_at tested) σ ≡ (entered_pointer σ header >>= λ x. risen x.0 σ.levels (decoded false (value_at tested) x.1))
 unfolding decoded value_at entered_pointer value_within
 pointer_by tested σ header zero h k e =
     let no : nat_lt σ.levels most_levels ≡ false = grind (arith, nat_tests) in
@@ -107,7 +107,7 @@ pointer_by tested σ header (suc n) h k e =
     rw (e, h, k, yes) (behind_after tested σ n (pointer_at σ.section header.body header.size) ∙ same_below tested σ n (pointer_at σ.section header.body header.size) below)
 
 -- a pointer is what its target is, one level down
-pub any_pointer : (tested : Bool) (σ : State) (header : Header) → header_at σ.section σ.place ≡ Some header → header.kind ≡ 1 → decoded false (value_at tested) σ ≡ (entered_pointer σ header >>= λ x. risen x.0 σ.levels (decoded false (value_at tested) x.1))
+pub any_pointer : (tested : Bool) (σ : State) (header : Header) → header_at σ.section σ.offset ≡ Some header → header.kind ≡ 1 → decoded false (value_at tested) σ ≡ (entered_pointer σ header >>= λ x. risen x.0 σ.levels (decoded false (value_at tested) x.1))
 any_pointer tested σ header h k = pointer_by tested σ header (512 - σ.levels) h k refl
 
 -- parts that two readings read alike
@@ -137,7 +137,7 @@ level_down tested s d n e p = rw e refl
 -- back one level up from a container's parts
 abbrev pub raised : {A : Type 0} → (List A → Tree) → ℕ → Option (List A × State) → Option (Tree × State)
 raised f levels None = None
-raised f levels (Some x) = Some (f x.0, state x.1.section x.1.place levels x.1.budget)
+raised f levels (Some x) = Some (f x.0, state x.1.section x.1.offset levels x.1.budget)
 
 abbrev inside : State → Header → Option Charges → State
 inside σ header left = state σ.section header.body (σ.levels + 1) left
@@ -168,7 +168,7 @@ module _ {A : Type 0} (f : List A → Tree) (σ : State) (header : Header) (coun
   parts_all : (R : Meaning A) → ((elements R header.size σ.section header.body (σ.levels + 1) >>= λ r. Some (container f count r)) >>= after σ σ.budget) ≡ ((spent_of σ.budget count 0 >>= λ left. Some (inside σ header left)) >>= λ τ. raised f σ.levels (decoded false (elements R header.size) τ))
   parts_all R = parts_budget σ.budget (elements R header.size σ.section header.body (σ.levels + 1)) ∙ parts_same R (spent_of σ.budget count 0)
 
-array_by : (tested : Bool) (σ : State) (header : Header) (n : ℕ) → header_at σ.section σ.place ≡ Some header → header.kind ≡ 11 → 512 - σ.levels ≡ n → decoded false (value_at tested) σ ≡ (entered_parts σ header header.size >>= λ τ. raised array_of σ.levels (decoded false (elements (value_at tested) header.size) τ))
+array_by : (tested : Bool) (σ : State) (header : Header) (n : ℕ) → header_at σ.section σ.offset ≡ Some header → header.kind ≡ 11 → 512 - σ.levels ≡ n → decoded false (value_at tested) σ ≡ (entered_parts σ header header.size >>= λ τ. raised array_of σ.levels (decoded false (elements (value_at tested) header.size) τ))
 unfolding decoded value_at entered_parts value_within
 array_by tested σ header zero h k e =
     let no : nat_lt σ.levels most_levels ≡ false = grind (arith, nat_tests) in
@@ -179,10 +179,10 @@ array_by tested σ header (suc n) h k e =
     rw (e, h, k, yes) (rw (elements_alike (value_within tested n) (value_at tested) σ.section 0 (σ.levels + 1) (level_down tested σ.section (σ.levels + 1) n below) header.size header.body) (parts_all array_of σ header header.size (value_at tested)))
 
 -- an array is its elements, one level down
-pub any_array : (tested : Bool) (σ : State) (header : Header) → header_at σ.section σ.place ≡ Some header → header.kind ≡ 11 → decoded false (value_at tested) σ ≡ (entered_parts σ header header.size >>= λ τ. raised array_of σ.levels (decoded false (elements (value_at tested) header.size) τ))
+pub any_array : (tested : Bool) (σ : State) (header : Header) → header_at σ.section σ.offset ≡ Some header → header.kind ≡ 11 → decoded false (value_at tested) σ ≡ (entered_parts σ header header.size >>= λ τ. raised array_of σ.levels (decoded false (elements (value_at tested) header.size) τ))
 any_array tested σ header h k = array_by tested σ header (512 - σ.levels) h k refl
 
-table_by : (tested : Bool) (σ : State) (header : Header) (n : ℕ) → header_at σ.section σ.place ≡ Some header → header.kind ≡ 7 → 512 - σ.levels ≡ n → decoded false (value_at tested) σ ≡ (entered_parts σ header (2 * header.size) >>= λ τ. raised table_of σ.levels (decoded false (elements (pair_at tested (value_at tested)) header.size) τ))
+table_by : (tested : Bool) (σ : State) (header : Header) (n : ℕ) → header_at σ.section σ.offset ≡ Some header → header.kind ≡ 7 → 512 - σ.levels ≡ n → decoded false (value_at tested) σ ≡ (entered_parts σ header (2 * header.size) >>= λ τ. raised table_of σ.levels (decoded false (elements (pair_at tested (value_at tested)) header.size) τ))
 unfolding decoded value_at entered_parts value_within
 table_by tested σ header zero h k e =
     let no : nat_lt σ.levels most_levels ≡ false = grind (arith, nat_tests) in
@@ -193,7 +193,7 @@ table_by tested σ header (suc n) h k e =
     rw (e, h, k, yes) (rw (elements_alike (pair_at tested (value_within tested n)) (pair_at tested (value_at tested)) σ.section 0 (σ.levels + 1) (pair_alike tested (value_within tested n) (value_at tested) σ.section 0 (σ.levels + 1) (level_down tested σ.section (σ.levels + 1) n below)) header.size header.body) (parts_all table_of σ header (2 * header.size) (pair_at tested (value_at tested))))
 
 -- a map is its pairs, one level down
-pub any_table : (tested : Bool) (σ : State) (header : Header) → header_at σ.section σ.place ≡ Some header → header.kind ≡ 7 → decoded false (value_at tested) σ ≡ (entered_parts σ header (2 * header.size) >>= λ τ. raised table_of σ.levels (decoded false (elements (pair_at tested (value_at tested)) header.size) τ))
+pub any_table : (tested : Bool) (σ : State) (header : Header) → header_at σ.section σ.offset ≡ Some header → header.kind ≡ 7 → decoded false (value_at tested) σ ≡ (entered_parts σ header (2 * header.size) >>= λ τ. raised table_of σ.levels (decoded false (elements (pair_at tested (value_at tested)) header.size) τ))
 any_table tested σ header h k = table_by tested σ header (512 - σ.levels) h k refl
 
 -- parts that are read one by one
@@ -220,7 +220,7 @@ parts_stop read whole xs n m σ h k d =
 
 pub parts_end : {A : Type 0} (read : Meaning A) (whole : Option (List A × State)) (xs : List A) (n : ℕ) (σ : State) → whole ≡ seen (λ vs. xs ++ vs) (decoded false (elements read n) σ) → n ≡ 0 → Within σ.budget → whole ≡ Some (xs, σ)
 parts_end {A = A} read whole xs n σ h z w =
-    let left : decoded false (elements read n) σ ≡ Some ([], σ) = rw z (read_free {A = List A} (given []) σ [] σ.place w refl) in
+    let left : decoded false (elements read n) σ ≡ Some ([], σ) = rw z (read_free {A = List A} (given []) σ [] σ.offset w refl) in
     h ∙ (rw left (rw append-nil refl))
 
 -- a reading leaves the limits kept
@@ -242,4 +242,4 @@ within_after starts σ τ v (Some r) h = within_settled σ τ r v (spent_of (beg
 
 pub within_decoded : {A : Type 0} (starts : Bool) (read : Meaning A) (σ τ : State) (v : A) → decoded starts read σ ≡ Some (v, τ) → Within τ.budget
 unfolding decoded
-within_decoded starts read σ τ v h = within_after starts σ τ v (read σ.section σ.place σ.levels) h
+within_decoded starts read σ τ v h = within_after starts σ τ v (read σ.section σ.offset σ.levels) h

@@ -67,14 +67,14 @@ pub goes_to_parts : (σ τ : State) (header : Header) (n : ℕ) → entered_part
 unfolding entered_parts
 goes_to_parts σ τ header n h = goes_in σ τ header n (nat_lt σ.levels most_levels) (λ e. grind (arith, nat_tests)) h
 
-module _ (tested : Bool) (σ τ : State) (header : Header) (here : header_at σ.section σ.place ≡ Some header) where
+module _ (tested : Bool) (σ τ : State) (header : Header) (here : header_at σ.section σ.offset ≡ Some header) where
   pub pointer_not_entered : header.kind ≡ 1 → entered_pointer σ header ≡ None → decoded false (value_at tested) σ ≡ None
   pointer_not_entered k e = any_pointer tested σ header here k ∙ rw e refl
 
   pub pointer_not_read : (next : ℕ) → header.kind ≡ 1 → entered_pointer σ header ≡ Some (next, τ) → decoded false (value_at tested) τ ≡ None → decoded false (value_at tested) σ ≡ None
   pointer_not_read next k e d = any_pointer tested σ header here k ∙ rw (e, d) refl
 
-  pub pointer_read : (ρ π : State) (next : ℕ) (t : Tree) → header.kind ≡ 1 → entered_pointer σ header ≡ Some (next, τ) → decoded false (value_at tested) τ ≡ Some (t, ρ) → Kept τ ρ → π ≡ record ρ { place = next; levels = ρ.levels - 1 } → decoded false (value_at tested) σ ≡ Some (t, π)
+  pub pointer_read : (ρ π : State) (next : ℕ) (t : Tree) → header.kind ≡ 1 → entered_pointer σ header ≡ Some (next, τ) → decoded false (value_at tested) τ ≡ Some (t, ρ) → Kept τ ρ → π ≡ record ρ { offset = next; levels = ρ.levels - 1 } → decoded false (value_at tested) σ ≡ Some (t, π)
   pointer_read ρ π next t k e d kept p =
       let go = (goes_to_target σ τ header next e).0 in
       let up : ρ.levels - 1 ≡ σ.levels = omega (arith, kept.levels, go.levels) in

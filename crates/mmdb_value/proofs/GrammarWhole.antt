@@ -6,7 +6,7 @@ use Rattle.std.specs.Str.{is_utf8}
 use Rattle.mmdb_decode.specs.Arrays.{elements}
 use Rattle.mmdb_decode.specs.Levels.{content_of}
 use Rattle.mmdb_decode.specs.Reading.{Reading, plus}
-use Rattle.mmdb_format.specs.Contents.{Scalar, text, bytes, boolean, number16, number32, number64, number128, double_bits, float_bits, content_at, content_end, scalar_payload, scalar_is_text, short_number, full_number, truth_of}
+use Rattle.mmdb_format.specs.Contents.{Scalar, text, bytes, boolean, number16, number32, number64, number128, double_bits, float_bits, content_at, content_end, scalar_payload, scalar_is_text, variable_width_integer, fixed_width_integer, truth_of}
 use Rattle.mmdb_format.specs.Header.{◌>>=◌, header_at, bytes_at}
 use Rattle.mmdb_format.specs.Pointer.{pointer_at, direct_at, behind, most_levels}
 use Rattle.mmdb_format.specs.Unfolding.{Tree, scalar, array, table, pointer, Trees, tree, Pairs, pair, Unfolds, scalar_here, array_here, table_here, pointer_here, AllUnfold, none_left, one_more, PairsUnfold, no_pairs_left, one_more_pair, levels_without_key_pointers, trees_levels, pairs_levels, value_count, trees_count, pairs_count, payload, trees_payload, pairs_payload, has_texts, trees_texts, pairs_texts, is_text, is_key, is_keyed, trees_keyed, pairs_keyed, without_pointers, trees_without, pairs_without}
@@ -50,15 +50,15 @@ text_kinds : (s : List ℕ) (header : Header) → IfSome (content_at s header) (
 unfolding content_at
 text_kinds s header =
     if_cond (nat_eq header.kind 2) _ _ (TextIs s header) (λ k. let two : header.kind ≡ 2 = grind (arith, nat_tests) in text_of_bytes s header (bytes_at s header.body header.size) two refl) (λ a.
-    if_cond (nat_eq header.kind 3) _ _ (TextIs s header) (λ k. no_text_of s header (full_number s header 8) (λ n. double_bits n) (λ n. tt)) (λ b.
+    if_cond (nat_eq header.kind 3) _ _ (TextIs s header) (λ k. no_text_of s header (fixed_width_integer s header 8) (λ n. double_bits n) (λ n. tt)) (λ b.
     if_cond (nat_eq header.kind 4) _ _ (TextIs s header) (λ k. no_text_of s header (bytes_at s header.body header.size) (λ n. bytes n) (λ n. tt)) (λ c.
-    if_cond (nat_eq header.kind 5) _ _ (TextIs s header) (λ k. no_text_of s header (short_number s header 2) (λ n. number16 n) (λ n. tt)) (λ d.
-    if_cond (nat_eq header.kind 6) _ _ (TextIs s header) (λ k. no_text_of s header (short_number s header 4) (λ n. number32 n) (λ n. tt)) (λ e.
-    if_cond (nat_eq header.kind 8) _ _ (TextIs s header) (λ k. no_text_of s header (short_number s header 4) _ (λ n. tt)) (λ f.
-    if_cond (nat_eq header.kind 9) _ _ (TextIs s header) (λ k. no_text_of s header (short_number s header 8) (λ n. number64 n) (λ n. tt)) (λ g.
-    if_cond (nat_eq header.kind 10) _ _ (TextIs s header) (λ k. no_text_of s header (short_number s header 16) (λ n. number128 n) (λ n. tt)) (λ h.
+    if_cond (nat_eq header.kind 5) _ _ (TextIs s header) (λ k. no_text_of s header (variable_width_integer s header 2) (λ n. number16 n) (λ n. tt)) (λ d.
+    if_cond (nat_eq header.kind 6) _ _ (TextIs s header) (λ k. no_text_of s header (variable_width_integer s header 4) (λ n. number32 n) (λ n. tt)) (λ e.
+    if_cond (nat_eq header.kind 8) _ _ (TextIs s header) (λ k. no_text_of s header (variable_width_integer s header 4) _ (λ n. tt)) (λ f.
+    if_cond (nat_eq header.kind 9) _ _ (TextIs s header) (λ k. no_text_of s header (variable_width_integer s header 8) (λ n. number64 n) (λ n. tt)) (λ g.
+    if_cond (nat_eq header.kind 10) _ _ (TextIs s header) (λ k. no_text_of s header (variable_width_integer s header 16) (λ n. number128 n) (λ n. tt)) (λ h.
     if_cond (nat_eq header.kind 14) _ _ (TextIs s header) (λ k. no_text_of s header (truth_of header) (λ b. boolean b) (λ n. tt)) (λ i.
-    if_cond (nat_eq header.kind 15) _ _ (TextIs s header) (λ k. no_text_of s header (full_number s header 4) (λ n. float_bits n) (λ n. tt)) (λ j. tt))))))))))
+    if_cond (nat_eq header.kind 15) _ _ (TextIs s header) (λ k. no_text_of s header (fixed_width_integer s header 4) (λ n. float_bits n) (λ n. tt)) (λ j. tt))))))))))
 
 text_head : (s : List ℕ) (header : Header) (x : List ℕ) → content_at s header ≡ Some (text x) → (header.kind ≡ 2) × (bytes_at s header.body header.size ≡ Some x)
 text_head s header x h = if_is (content_at s header) (TextIs s header) (text x) (text_kinds s header) h

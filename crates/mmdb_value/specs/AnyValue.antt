@@ -1,4 +1,4 @@
--- Any value: what is read at a place within so many levels.
+-- Any value: what is read at an offset within so many levels.
 use Rattle.std.specs.Prelude.{ℕ, zero, suc, ◌+◌, ◌-◌, ◌*◌, List, [], ◌∷◌, Option, Some, None, Bool, ◌||◌, not, nat_eq, if◌then◌else◌}
 use Rattle.std.specs.Str.{is_utf8}
 use Rattle.mmdb_format.specs.declared.header.Header.{Header}

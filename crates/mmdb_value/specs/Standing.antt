@@ -1,4 +1,4 @@
--- Which value stands at a place, in the words of the format: a tree that unfolds there, and its measures.
+-- Which value stands at an offset, in the words of the format: a tree that unfolds there, and its measures.
 use Rattle.std.specs.Prelude.{◌≡◌, ◌↔◌, ℕ, suc, ◌+◌, ◌≤◌, List, Some, Bool, true}
 use Rattle.mmdb_format.specs.Pointer.{most_levels}
 use Rattle.mmdb_format.specs.Unfolding.{Tree, Unfolds, levels_without_key_pointers, value_count, payload, has_texts, is_keyed, without_pointers}
@@ -29,7 +29,7 @@ ValueIsWhatStands =
     (tested : Bool) (s : List ℕ) (p d : ℕ) (v : Tree) (q c b : ℕ) → d ≤ most_levels →
     (value_at tested s p d ≡ Some (record { value = v; next = q; values = c; bytes = b })) ↔ ValueStands tested s p d v q c b
 
--- at most one value stands at a place, with one end and one cost
+-- at most one value stands at an offset, with one end and one cost
 abbrev pub OneValueStands : Type 0
 OneValueStands =
     (tested : Bool) (s : List ℕ) (p d : ℕ) (v w : Tree) (q r c e b f : ℕ) → d ≤ most_levels →

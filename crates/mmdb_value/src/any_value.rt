@@ -14,8 +14,8 @@ use mmdb_decode::decoder::Decoder;
 use mmdb_decode::direct::text_of;
 use mmdb_decode::steps::Steps;
 use mmdb_format::content::{Content, Double, Float};
+use mmdb_format::decode_error_kind::DecodeErrorKind;
 use mmdb_format::error::DecodeResult;
-use mmdb_format::fault::Fault;
 use mmdb_format::header::Header;
 use std::alloc::Global;
 
@@ -39,7 +39,7 @@ pub enum Value<'de> {
 /// Texts are tested for UTF-8.
 pub(crate) struct Tested;
 
-fn of_content<'de>(content: Content<'de>) -> Result<Value<'de>, Fault>
+fn of_content<'de>(content: Content<'de>) -> Result<Value<'de>, DecodeErrorKind>
     ensures { option_map value_tree (result_ok result) ≡ option_map scalar_tree (if_scalar_text true (content_view content.entry)) }
 {
     Ok(match content {

@@ -29,7 +29,7 @@ pub fn answer_is_whole_value()
     ensures { AnswerIsWholeValue }
 {}
 
-/// Equal places hold equal values, or none.
+/// Equal offsets hold equal values, or none.
 pub fn one_value_stands()
     ensures { OneValueStands }
 {}

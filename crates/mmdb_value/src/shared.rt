@@ -31,7 +31,7 @@ pub trait Source<K>: Steps {
         requires { header.size < 2 ^ 25 }
         ensures { Reads tree false (decoded false (scalar_of tested header) (Self.state self.old)) (Self.state self.old) (Self.state self.new) result };
 
-    /// The key at the place.
+    /// The key at the offset.
     fn key(&mut self, alloc: Global) -> DecodeResult<Self::Text>
         ensures { Reads told false (decoded false (key_at tested) (Self.state self.old)) (Self.state self.old) (Self.state self.new) result };
 
@@ -65,7 +65,7 @@ fn behind_pointer<K, D: Source<K>>(
     header: Header,
 ) -> DecodeResult<D::Value>
     requires within { Within (D.state d.old).budget }
-    requires header { header_at (D.state d.old).section (D.state d.old).place ≡ Some header }
+    requires header { header_at (D.state d.old).section (D.state d.old).offset ≡ Some header }
     requires kind { header.kind ≡ 1 }
     requires size { header.size < 32 }
     ensures { Reads D.tree false (decoded false (spec_value_at D.tested) (D.state d.old)) (D.state d.old) (D.state d.new) result }
@@ -79,7 +79,7 @@ fn behind_pointer<K, D: Source<K>>(
 #[cycle(shared)]
 fn array_at<K, D: Source<K>>(alloc: Global, d: &mut D, header: Header) -> DecodeResult<D::Value>
     requires within { Within (D.state d.old).budget }
-    requires header { header_at (D.state d.old).section (D.state d.old).place ≡ Some header }
+    requires header { header_at (D.state d.old).section (D.state d.old).offset ≡ Some header }
     requires kind { header.kind ≡ 11 }
     requires size { header.size < 2 ^ 25 }
     ensures { Reads D.tree false (decoded false (spec_value_at D.tested) (D.state d.old)) (D.state d.old) (D.state d.new) result }
@@ -93,7 +93,7 @@ fn array_at<K, D: Source<K>>(alloc: Global, d: &mut D, header: Header) -> Decode
 #[cycle(shared)]
 fn table_at<K, D: Source<K>>(alloc: Global, d: &mut D, header: Header) -> DecodeResult<D::Value>
     requires within { Within (D.state d.old).budget }
-    requires header { header_at (D.state d.old).section (D.state d.old).place ≡ Some header }
+    requires header { header_at (D.state d.old).section (D.state d.old).offset ≡ Some header }
     requires kind { header.kind ≡ 7 }
     requires size { header.size < 2 ^ 25 }
     ensures { Reads D.tree false (decoded false (spec_value_at D.tested) (D.state d.old)) (D.state d.old) (D.state d.new) result }

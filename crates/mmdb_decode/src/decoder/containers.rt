@@ -9,17 +9,17 @@ use super::Decoder;
 use crate::budget::{begun, spent};
 use crate::direct::container_at;
 use crate::items::{Entries, Items};
+use mmdb_format::decode_error_kind::DecodeErrorKind;
 use mmdb_format::error::DecodeResult;
-use mmdb_format::fault::Fault;
 use mmdb_format::kind::{ARRAY, MAP};
 use std::alloc::Global;
 
 impl<'de> Decoder<'de> {
     #[inline(always)]
-    pub(super) fn enter_array(&mut self) -> Result<Items, Fault>
+    pub(super) fn enter_array(&mut self) -> Result<Items, DecodeErrorKind>
         ensures { Takes (λ items. items) (entered_array self.old) self.old self.new result }
     {
-        let at = container_at(self.section, self.place, self.levels, ARRAY)?;
+        let at = container_at(self.section, self.offset, self.levels, ARRAY)?;
         let budget = spent(begun(self.budget), at.count, 0)?;
         let items = Items {
             remaining: at.count,
@@ -27,7 +27,7 @@ impl<'de> Decoder<'de> {
             levels: self.levels,
         };
         self.budget = budget;
-        self.place = at.body;
+        self.offset = at.body;
         self.levels = at.levels;
         Ok(items)
     }
@@ -38,7 +38,7 @@ impl<'de> Decoder<'de> {
     {
         match self.enter_array() {
             Ok(items) => Ok(items),
-            Err(fault) => Err(fault.refusal(alloc, self.place)),
+            Err(fault) => Err(fault.refusal(alloc, self.offset)),
         }
     }
 
@@ -48,9 +48,9 @@ impl<'de> Decoder<'de> {
     {
         let items = self.begin_array(alloc)?;
         if items.remaining != len {
-            let fault = Fault::WrongLength(len, items.remaining);
+            let fault = DecodeErrorKind::WrongLength(len, items.remaining);
             items.give_up(self);
-            return Err(fault.refusal(alloc, self.place));
+            return Err(fault.refusal(alloc, self.offset));
         }
         Ok(items)
     }
@@ -79,25 +79,25 @@ impl<'de> Decoder<'de> {
 
     /// The smaller of the number of elements not yet begun and the bytes left in the section.
     pub fn hint(&self, items: &Items) -> usize
-        ensures { result ≡ min (items_left items.now) (length self.now.section - self.now.place) }
+        ensures { result ≡ min (items_left items.now) (length self.now.section - self.now.offset) }
     {
         items
             .remaining
-            .min(self.section.len().saturating_sub(self.place))
+            .min(self.section.len().saturating_sub(self.offset))
     }
 
-    // Goes back to the levels before a container, and to the place after a pointer that led to it.
+    // Goes back to the levels before a container, and to the offset after a pointer that led to it.
     #[inline(always)]
     fn leave(&mut self, after: Option<usize>, levels: u16)
-        ensures { self.new ≡ record self.old { place = unwrap_or after self.old.place; levels = levels } }
+        ensures { self.new ≡ record self.old { offset = unwrap_or after self.old.offset; levels = levels } }
     {
         self.levels = levels;
-        if let Some(place) = after {
-            self.place = place;
+        if let Some(offset) = after {
+            self.offset = offset;
         }
     }
 
-    /// Leaves an array, of which nothing remains, for the place after it, or after the pointer that
+    /// Leaves an array, of which nothing remains, for the offset after it, or after the pointer that
     /// led to it.
     pub fn end_array(&mut self, items: Items)
         requires { items_left items ≡ 0 }
@@ -112,10 +112,10 @@ impl<'de> Decoder<'de> {
     }
 
     #[inline(always)]
-    pub(super) fn enter_map(&mut self) -> Result<Entries, Fault>
+    pub(super) fn enter_map(&mut self) -> Result<Entries, DecodeErrorKind>
         ensures { Takes (λ entries. entries) (entered_map self.old) self.old self.new result }
     {
-        let at = container_at(self.section, self.place, self.levels, MAP)?;
+        let at = container_at(self.section, self.offset, self.levels, MAP)?;
         let budget = spent(begun(self.budget), 2 * at.count, 0)?;
         let entries = Entries {
             remaining: at.count,
@@ -123,7 +123,7 @@ impl<'de> Decoder<'de> {
             levels: self.levels,
         };
         self.budget = budget;
-        self.place = at.body;
+        self.offset = at.body;
         self.levels = at.levels;
         Ok(entries)
     }
@@ -135,11 +135,11 @@ impl<'de> Decoder<'de> {
     {
         match self.enter_map() {
             Ok(entries) => Ok(entries),
-            Err(fault) => Err(fault.refusal(alloc, self.place)),
+            Err(fault) => Err(fault.refusal(alloc, self.offset)),
         }
     }
 
-    /// Leaves a map, of which nothing remains, for the place after it, or after the pointer that led
+    /// Leaves a map, of which nothing remains, for the offset after it, or after the pointer that led
     /// to it.
     pub fn end_map(&mut self, entries: Entries)
         requires { pairs_left entries ≡ 0 }
@@ -155,7 +155,7 @@ impl<'de> Decoder<'de> {
 }
 
 impl Items {
-    /// Gives an array up: the levels are those before it, place and charges stay.
+    /// Gives an array up: the levels are those before it, offset and charges stay.
     pub fn give_up(self, d: &mut Decoder<'_>)
         ensures { d.new ≡ record d.old { levels = levels_before_array self } }
     {
@@ -178,7 +178,7 @@ impl Items {
 }
 
 impl Entries {
-    /// Gives a map up: the levels are those before it, place and charges stay.
+    /// Gives a map up: the levels are those before it, offset and charges stay.
     pub fn give_up(self, d: &mut Decoder<'_>)
         ensures { d.new ≡ record d.old { levels = levels_before_map self } }
     {

@@ -9,8 +9,8 @@ use crate::budget::spent_past;
 use crate::direct::text_of;
 use crate::items::Entries;
 use mmdb_format::content::key_bytes_at;
+use mmdb_format::decode_error_kind::DecodeErrorKind;
 use mmdb_format::error::DecodeResult;
-use mmdb_format::fault::Fault;
 use std::alloc::Global;
 
 /// So many bytes of a field's name are free.
@@ -19,18 +19,18 @@ pub(super) const FREE_NAME: usize = 32;
 impl<'de> Decoder<'de> {
     // A key, some of whose first bytes are free.
     #[inline(always)]
-    pub(super) fn take_key(&mut self, free: usize) -> Result<&'de [u8], Fault>
+    pub(super) fn take_key(&mut self, free: usize) -> Result<&'de [u8], DecodeErrorKind>
         ensures { Takes (λ x. x.now) (decoded false (key_past free) self.old) self.old self.new result }
     {
-        let (key, next) = key_bytes_at(self.section, self.place)?;
+        let (key, next) = key_bytes_at(self.section, self.offset)?;
         self.budget = spent_past(self.budget, key.len(), free)?;
-        self.place = next;
+        self.offset = next;
         Ok(key)
     }
 
     // A key that is text.
     #[inline(always)]
-    fn take_text_key(&mut self) -> Result<&'de str, Fault>
+    fn take_text_key(&mut self) -> Result<&'de str, DecodeErrorKind>
         ensures { Takes (λ x. x.now) (decoded false key_at self.old) self.old self.new result }
     {
         let bytes = self.take_key(0)?;
@@ -43,7 +43,7 @@ impl<'de> Decoder<'de> {
         &mut self,
         entries: &mut Entries,
         free: usize,
-    ) -> Result<Option<&'de [u8]>, Fault>
+    ) -> Result<Option<&'de [u8]>, DecodeErrorKind>
         ensures key { NextKey (key_past free) self.old self.new entries.old entries.new result }
         ensures rest { entries.new ≡ with_pairs_left (pairs_left entries.new) entries.old }
     {
@@ -58,7 +58,7 @@ impl<'de> Decoder<'de> {
 
     // The next key, where one is left: a text.
     #[inline(always)]
-    fn step_text_key(&mut self, entries: &mut Entries) -> Result<Option<&'de str>, Fault>
+    fn step_text_key(&mut self, entries: &mut Entries) -> Result<Option<&'de str>, DecodeErrorKind>
         ensures key { NextKey key_at self.old self.new entries.old entries.new result }
         ensures rest { entries.new ≡ with_pairs_left (pairs_left entries.new) entries.old }
     {
@@ -84,7 +84,7 @@ impl<'de> Decoder<'de> {
     {
         match self.step_key(entries, FREE_NAME) {
             Ok(key) => Ok(key),
-            Err(fault) => Err(fault.refusal(alloc, self.place)),
+            Err(fault) => Err(fault.refusal(alloc, self.offset)),
         }
     }
 
@@ -100,7 +100,7 @@ impl<'de> Decoder<'de> {
     {
         match self.step_key(entries, 0) {
             Ok(key) => Ok(key),
-            Err(fault) => Err(fault.refusal(alloc, self.place)),
+            Err(fault) => Err(fault.refusal(alloc, self.offset)),
         }
     }
 
@@ -116,7 +116,7 @@ impl<'de> Decoder<'de> {
     {
         match self.step_text_key(entries) {
             Ok(key) => Ok(key),
-            Err(fault) => Err(fault.refusal(alloc, self.place)),
+            Err(fault) => Err(fault.refusal(alloc, self.offset)),
         }
     }
 
@@ -126,7 +126,7 @@ impl<'de> Decoder<'de> {
     {
         match self.take_key(0) {
             Ok(key) => Ok(key),
-            Err(fault) => Err(fault.refusal(alloc, self.place)),
+            Err(fault) => Err(fault.refusal(alloc, self.offset)),
         }
     }
 }

@@ -10,8 +10,8 @@ use crate::budget::{begun, spent};
 use crate::direct::container_at;
 use crate::record::duplicate_field;
 use crate::refused::{Refused, Step};
+use mmdb_format::decode_error_kind::DecodeErrorKind;
 use mmdb_format::error::MaxMindDbError;
-use mmdb_format::fault::Fault;
 use mmdb_format::kind::{ARRAY, DOUBLE, MAP, U16, U32};
 use mmdb_format::message::{Message, Text};
 use std::alloc::Global;
@@ -63,24 +63,24 @@ impl<'de> Decoder<'de> {
         match self.step {
             Step::Repeated => {
                 let name = std::str::from_utf8(self.repeated).unwrap_or_default();
-                duplicate_field(alloc, name, self.place)
+                duplicate_field(alloc, name, self.offset)
             }
             Step::List => {
                 MaxMindDbError::Decoding {
                     message: Message::Fixed(Text::TooManySubdivisions),
-                    offset: Some(self.place),
+                    offset: Some(self.offset),
                     path: None,
                 }
             }
             step => {
-                let fault = self.fault_of(step).unwrap_or(Fault::EndOfBuffer);
-                fault.refusal(alloc, self.place)
+                let fault = self.fault_of(step).unwrap_or(DecodeErrorKind::EndOfBuffer);
+                fault.refusal(alloc, self.offset)
             }
         }
     }
 
     // What is wrong with the value that a step was to read.
-    fn fault_of(&self, step: Step) -> Option<Fault> {
+    fn fault_of(&self, step: Step) -> Option<DecodeErrorKind> {
         let mut here = self.again();
         match step {
             Step::Name => here.take_key(FREE_NAME).err(),
@@ -93,24 +93,24 @@ impl<'de> Decoder<'de> {
             Step::Text => here.take_text().err(),
             Step::Whole => here.take_whole().err(),
             Step::Skip => here.pass(MAX_NESTED).err(),
-            Step::Range => Some(Fault::OutOfRange),
-            Step::Encoding => Some(Fault::InvalidUtf8),
-            Step::Nested => Some(Fault::TooDeep),
+            Step::Range => Some(DecodeErrorKind::OutOfRange),
+            Step::Encoding => Some(DecodeErrorKind::InvalidUtf8),
+            Step::Nested => Some(DecodeErrorKind::TooDeep),
             Step::Repeated | Step::List => None,
         }
     }
 
-    // What is wrong with the map at the place.
-    fn fault_of_map(&self) -> Option<Fault> {
-        match container_at(self.section, self.place, self.levels, MAP) {
+    // What is wrong with the map at the offset.
+    fn fault_of_map(&self) -> Option<DecodeErrorKind> {
+        match container_at(self.section, self.offset, self.levels, MAP) {
             Ok(at) => spent(begun(self.budget), 2 * at.count, 0).err(),
             Err(fault) => Some(fault),
         }
     }
 
-    // What is wrong with the array at the place.
-    fn fault_of_array(&self) -> Option<Fault> {
-        match container_at(self.section, self.place, self.levels, ARRAY) {
+    // What is wrong with the array at the offset.
+    fn fault_of_array(&self) -> Option<DecodeErrorKind> {
+        match container_at(self.section, self.offset, self.levels, ARRAY) {
             Ok(at) => spent(begun(self.budget), at.count, 0).err(),
             Err(fault) => Some(fault),
         }

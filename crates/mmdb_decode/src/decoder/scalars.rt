@@ -10,27 +10,27 @@ use crate::budget::{begun, spent_bytes};
 use crate::direct::{bits_at, bool_at, content_bytes_at, number_at, text_of};
 use crate::whole::whole_at;
 use mmdb_format::content::{Double, Float};
+use mmdb_format::decode_error_kind::DecodeErrorKind;
 use mmdb_format::error::DecodeResult;
-use mmdb_format::fault::Fault;
 use mmdb_format::kind::{BYTES, DOUBLE, FLOAT, I32, TEXT, U16, U32, U64, U128};
 use std::alloc::Global;
 
 impl<'de> Decoder<'de> {
     // A whole number of one type, of at most so many bytes.
     #[inline(always)]
-    pub(super) fn take_number(&mut self, wanted: u16, most: usize) -> Result<u128, Fault>
+    pub(super) fn take_number(&mut self, wanted: u16, most: usize) -> Result<u128, DecodeErrorKind>
         requires { most ≤ 16 }
         ensures read { Takes (λ n. n) (decoded false (number_of wanted most) self.old) self.old self.new result }
         ensures bound { IfOk result (λ n. n < 256 ^ most) }
     {
-        let (n, next) = number_at(self.section, self.place, self.levels, wanted, most)?;
-        self.place = next;
+        let (n, next) = number_at(self.section, self.offset, self.levels, wanted, most)?;
+        self.offset = next;
         Ok(n)
     }
 
     // A signed number of 32 bits.
     #[inline(always)]
-    fn take_signed(&mut self) -> Result<i32, Fault>
+    fn take_signed(&mut self) -> Result<i32, DecodeErrorKind>
         ensures { Takes (λ z. z) (decoded false i32_at self.old) self.old self.new result }
     {
         let n = self.take_number(I32, 4)?;
@@ -39,50 +39,50 @@ impl<'de> Decoder<'de> {
 
     // The bits of a number of exactly so many bytes.
     #[inline(always)]
-    pub(super) fn take_bits(&mut self, wanted: u16, size: usize) -> Result<u128, Fault>
+    pub(super) fn take_bits(&mut self, wanted: u16, size: usize) -> Result<u128, DecodeErrorKind>
         requires { size ≤ 16 }
         ensures read { Takes (λ n. n) (decoded false (bits_of wanted size) self.old) self.old self.new result }
         ensures bound { IfOk result (λ n. n < 256 ^ size) }
     {
-        let (n, next) = bits_at(self.section, self.place, self.levels, wanted, size)?;
-        self.place = next;
+        let (n, next) = bits_at(self.section, self.offset, self.levels, wanted, size)?;
+        self.offset = next;
         Ok(n)
     }
 
     // A truth value.
     #[inline(always)]
-    pub(super) fn take_bool(&mut self) -> Result<bool, Fault>
+    pub(super) fn take_bool(&mut self) -> Result<bool, DecodeErrorKind>
         ensures { Takes (λ b. b) (decoded false spec_bool_at self.old) self.old self.new result }
     {
-        let (b, next) = bool_at(self.section, self.place, self.levels)?;
-        self.place = next;
+        let (b, next) = bool_at(self.section, self.offset, self.levels)?;
+        self.offset = next;
         Ok(b)
     }
 
     // A whole number of whatever type, behind any number of pointers.
-    pub(super) fn take_whole(&mut self) -> Result<i128, Fault>
+    pub(super) fn take_whole(&mut self) -> Result<i128, DecodeErrorKind>
         ensures { Takes (λ z. z) (decoded true spec_whole_at self.old) self.old self.new result }
     {
-        let (number, next) = whole_at(self.section, self.place, self.levels)?;
+        let (number, next) = whole_at(self.section, self.offset, self.levels)?;
         self.budget = begun(self.budget);
-        self.place = next;
+        self.offset = next;
         Ok(number)
     }
 
     // The bytes of a text or a byte string.
     #[inline(always)]
-    fn take_bytes(&mut self, wanted: u16) -> Result<&'de [u8], Fault>
+    fn take_bytes(&mut self, wanted: u16) -> Result<&'de [u8], DecodeErrorKind>
         ensures { Takes (λ x. x.now) (decoded false (bytes_of wanted) self.old) self.old self.new result }
     {
-        let (bytes, next) = content_bytes_at(self.section, self.place, self.levels, wanted)?;
+        let (bytes, next) = content_bytes_at(self.section, self.offset, self.levels, wanted)?;
         self.budget = spent_bytes(self.budget, bytes.len())?;
-        self.place = next;
+        self.offset = next;
         Ok(bytes)
     }
 
     // A text.
     #[inline(always)]
-    pub(super) fn take_text(&mut self) -> Result<&'de str, Fault>
+    pub(super) fn take_text(&mut self) -> Result<&'de str, DecodeErrorKind>
         ensures { Takes (λ x. x.now) (decoded false text_at self.old) self.old self.new result }
     {
         let bytes = self.take_bytes(TEXT)?;
@@ -96,7 +96,7 @@ impl<'de> Decoder<'de> {
     {
         match self.take_number(U16, 2) {
             Ok(n) => Ok(n as u16),
-            Err(fault) => Err(fault.refusal(alloc, self.place)),
+            Err(fault) => Err(fault.refusal(alloc, self.offset)),
         }
     }
 
@@ -107,7 +107,7 @@ impl<'de> Decoder<'de> {
     {
         match self.take_number(U32, 4) {
             Ok(n) => Ok(n as u32),
-            Err(fault) => Err(fault.refusal(alloc, self.place)),
+            Err(fault) => Err(fault.refusal(alloc, self.offset)),
         }
     }
 
@@ -118,7 +118,7 @@ impl<'de> Decoder<'de> {
     {
         match self.take_number(U64, 8) {
             Ok(n) => Ok(n as u64),
-            Err(fault) => Err(fault.refusal(alloc, self.place)),
+            Err(fault) => Err(fault.refusal(alloc, self.offset)),
         }
     }
 
@@ -129,7 +129,7 @@ impl<'de> Decoder<'de> {
     {
         match self.take_number(U128, 16) {
             Ok(n) => Ok(n),
-            Err(fault) => Err(fault.refusal(alloc, self.place)),
+            Err(fault) => Err(fault.refusal(alloc, self.offset)),
         }
     }
 
@@ -139,7 +139,7 @@ impl<'de> Decoder<'de> {
     {
         match self.take_signed() {
             Ok(n) => Ok(n),
-            Err(fault) => Err(fault.refusal(alloc, self.place)),
+            Err(fault) => Err(fault.refusal(alloc, self.offset)),
         }
     }
 
@@ -150,7 +150,7 @@ impl<'de> Decoder<'de> {
     {
         match self.take_whole() {
             Ok(number) => Ok(number),
-            Err(fault) => Err(fault.refusal(alloc, self.place)),
+            Err(fault) => Err(fault.refusal(alloc, self.offset)),
         }
     }
 
@@ -160,7 +160,7 @@ impl<'de> Decoder<'de> {
     {
         match self.take_bool() {
             Ok(b) => Ok(b),
-            Err(fault) => Err(fault.refusal(alloc, self.place)),
+            Err(fault) => Err(fault.refusal(alloc, self.offset)),
         }
     }
 
@@ -170,7 +170,7 @@ impl<'de> Decoder<'de> {
     {
         match self.take_bits(DOUBLE, 8) {
             Ok(bits) => Ok(Double { bits: bits as u64 }),
-            Err(fault) => Err(fault.refusal(alloc, self.place)),
+            Err(fault) => Err(fault.refusal(alloc, self.offset)),
         }
     }
 
@@ -180,7 +180,7 @@ impl<'de> Decoder<'de> {
     {
         match self.take_bits(FLOAT, 4) {
             Ok(bits) => Ok(Float { bits: bits as u32 }),
-            Err(fault) => Err(fault.refusal(alloc, self.place)),
+            Err(fault) => Err(fault.refusal(alloc, self.offset)),
         }
     }
 
@@ -190,7 +190,7 @@ impl<'de> Decoder<'de> {
     {
         match self.take_bytes(BYTES) {
             Ok(bytes) => Ok(bytes),
-            Err(fault) => Err(fault.refusal(alloc, self.place)),
+            Err(fault) => Err(fault.refusal(alloc, self.offset)),
         }
     }
 
@@ -201,7 +201,7 @@ impl<'de> Decoder<'de> {
     {
         match self.take_text() {
             Ok(text) => Ok(text),
-            Err(fault) => Err(fault.refusal(alloc, self.place)),
+            Err(fault) => Err(fault.refusal(alloc, self.offset)),
         }
     }
 }

@@ -10,16 +10,16 @@ use super::Decoder;
 use super::skipping::MAX_NESTED;
 use crate::items::Entries;
 use crate::record::named;
-use mmdb_format::fault::Fault;
+use mmdb_format::decode_error_kind::DecodeErrorKind;
 
 impl<'de> Decoder<'de> {
-    /// Goes to the value of the first pair of the map at the place whose key has these bytes, on the same
+    /// Goes to the value of the first pair of the map at the offset whose key has these bytes, on the same
     /// level, and tells whether there is one. Takes no memory.
     ///
     /// The map's keys and values are charged, and the bytes of each key up to that one; the values before
     /// it are skipped. Refused where no map stands there, directly or behind one pointer.
     #[inline(always)]
-    pub fn go_to_key(&mut self, key: &str) -> Result<bool, Fault>
+    pub fn go_to_key(&mut self, key: &str) -> Result<bool, DecodeErrorKind>
         ensures { Takes (λ b. b) (decoded true (at_key key.now) self.old) self.old self.new result }
     {
         let mut entries = self.enter_map()?;
@@ -28,13 +28,13 @@ impl<'de> Decoder<'de> {
         found
     }
 
-    /// Goes to an element of the array at the place, counted from its front, on the same level, and tells
+    /// Goes to an element of the array at the offset, counted from its front, on the same level, and tells
     /// whether there is one. Takes no memory.
     ///
     /// The array's elements are charged; those before that one are skipped, where it is there. Refused
     /// where no array stands there, directly or behind one pointer.
     #[inline(always)]
-    pub fn go_to_index(&mut self, index: usize) -> Result<bool, Fault>
+    pub fn go_to_index(&mut self, index: usize) -> Result<bool, DecodeErrorKind>
         ensures { Takes (λ b. b) (decoded true (at_element (from_front index)) self.old) self.old self.new result }
     {
         let items = self.enter_array()?;
@@ -45,7 +45,7 @@ impl<'de> Decoder<'de> {
 
     /// The same, counted from the array's end: 0 is the last element.
     #[inline(always)]
-    pub fn go_to_index_from_end(&mut self, index: usize) -> Result<bool, Fault>
+    pub fn go_to_index_from_end(&mut self, index: usize) -> Result<bool, DecodeErrorKind>
         ensures { Takes (λ b. b) (decoded true (at_element (from_end index)) self.old) self.old self.new result }
     {
         let items = self.enter_array()?;
@@ -56,7 +56,7 @@ impl<'de> Decoder<'de> {
 
     // Goes to the value of the first pair left whose key has these bytes.
     #[inline(always)]
-    fn to_key(&mut self, entries: &mut Entries, key: &str) -> Result<bool, Fault>
+    fn to_key(&mut self, entries: &mut Entries, key: &str) -> Result<bool, DecodeErrorKind>
         ensures found { Takes (λ b. b) (decoded false (spec_to_key key.now (pairs_left entries.old)) self.old) self.old self.new result }
         ensures rest { entries.new ≡ with_pairs_left (pairs_left entries.new) entries.old }
     {
@@ -72,7 +72,7 @@ impl<'de> Decoder<'de> {
 
     // Goes to the element before which so many stand.
     #[inline(always)]
-    fn to_element(&mut self, before: Option<usize>) -> Result<bool, Fault>
+    fn to_element(&mut self, before: Option<usize>) -> Result<bool, DecodeErrorKind>
         ensures { Takes (λ b. b) (decoded false (spec_to_element before) self.old) self.old self.new result }
     {
         let Some(before) = before else {
@@ -84,7 +84,7 @@ impl<'de> Decoder<'de> {
     }
 
     // Passes so many values.
-    fn pass_all(&mut self, count: usize) -> Result<(), Fault>
+    fn pass_all(&mut self, count: usize) -> Result<(), DecodeErrorKind>
         ensures { Takes (λ x. tt) (decoded false (passes skip_at count) self.old) self.old self.new result }
     {
         for _ in 0..count {

@@ -7,8 +7,8 @@ ghost use Rattle.mmdb_decode.specs.Refusal.{Reads, Takes};
 use super::Decoder;
 use crate::budget::spent;
 use mmdb_format::content::passed_end;
+use mmdb_format::decode_error_kind::DecodeErrorKind;
 use mmdb_format::error::DecodeResult;
-use mmdb_format::fault::Fault;
 use mmdb_format::header::Header;
 use mmdb_format::kind::{ARRAY, MAP};
 use std::alloc::Global;
@@ -24,32 +24,32 @@ impl<'de> Decoder<'de> {
     {
         self.start();
         if let Err(fault) = self.pass(MAX_NESTED) {
-            return Err(fault.refusal(alloc, self.place));
+            return Err(fault.refusal(alloc, self.offset));
         }
         Ok(())
     }
 
-    // Passes a scalar or a pointer whose header is at the place.
-    fn pass_scalar(&mut self, header: Header) -> Result<(), Fault>
+    // Passes a scalar or a pointer whose header is at the offset.
+    fn pass_scalar(&mut self, header: Header) -> Result<(), DecodeErrorKind>
         requires { header.kind ≡ 1 → header.size < 32 }
         ensures { Takes (λ x. tt) (scalar_passed self.old header) self.old self.new result }
     {
-        self.place = passed_end(self.section, header)?;
+        self.offset = passed_end(self.section, header)?;
         Ok(())
     }
 
     // Goes to the first part of a container that is passed, on the same level.
-    fn enter_inline(&mut self, header: Header, parts: usize) -> Result<(), Fault>
+    fn enter_inline(&mut self, header: Header, parts: usize) -> Result<(), DecodeErrorKind>
         requires { parts < 2 ^ 26 }
         ensures { Takes (λ x. tt) (entered_inline self.old header parts) self.old self.new result }
     {
         self.budget = spent(self.budget, parts, 0)?;
-        self.place = header.body;
+        self.offset = header.body;
         Ok(())
     }
 
     // Passes one inline value, whose containers nest at most so deep.
-    pub(super) fn pass(&mut self, nested: u16) -> Result<(), Fault>
+    pub(super) fn pass(&mut self, nested: u16) -> Result<(), DecodeErrorKind>
         ensures { Takes (λ x. tt) (decoded false (skip_within nested) self.old) self.old self.new result }
     {
         self.stays_within();
@@ -58,7 +58,7 @@ impl<'de> Decoder<'de> {
             return self.pass_scalar(header);
         };
         if nested == 0 {
-            return Err(Fault::TooDeep);
+            return Err(DecodeErrorKind::TooDeep);
         }
         self.enter_inline(header, parts)?;
         for _ in 0..parts {

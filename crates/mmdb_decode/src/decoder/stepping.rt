@@ -9,24 +9,24 @@ use super::Decoder;
 use crate::budget::{spent, spent_bytes};
 use crate::steps::Steps;
 use mmdb_format::content::{Content, content_at, content_end};
+use mmdb_format::decode_error_kind::DecodeErrorKind;
 use mmdb_format::error::DecodeResult;
-use mmdb_format::fault::Fault;
 use mmdb_format::header::{Header, MAX_LEVELS, pointer_at};
 use std::alloc::Global;
 
 impl<'de> Decoder<'de> {
-    // What stands behind the header at the place.
-    fn take_content(&mut self, header: Header) -> Result<Content<'de>, Fault>
+    // What stands behind the header at the offset.
+    fn take_content(&mut self, header: Header) -> Result<Content<'de>, DecodeErrorKind>
         requires { header.size < 2 ^ 25 }
         ensures { Takes content_view (decoded false (content_of header) self.old) self.old self.new result }
     {
         let content = content_at(self.section, header)?;
         self.budget = spent_bytes(self.budget, content.payload())?;
-        self.place = content_end(header);
+        self.offset = content_end(header);
         Ok(content)
     }
 
-    /// Reads what stands behind the header at the place, which is that of a value that holds no others.
+    /// Reads what stands behind the header at the offset, which is that of a value that holds no others.
     /// A text is not tested for UTF-8.
     pub fn read_content(&mut self, alloc: Global, header: Header) -> DecodeResult<Content<'de>>
         requires { header.size < 2 ^ 25 }
@@ -34,36 +34,36 @@ impl<'de> Decoder<'de> {
     {
         match self.take_content(header) {
             Ok(content) => Ok(content),
-            Err(fault) => Err(fault.refusal(alloc, self.place)),
+            Err(fault) => Err(fault.refusal(alloc, self.offset)),
         }
     }
 
     // Goes to a pointer's target.
-    fn follow(&mut self, header: Header) -> Result<usize, Fault>
+    fn follow(&mut self, header: Header) -> Result<usize, DecodeErrorKind>
         requires { header.size < 32 }
         ensures { Takes (λ next. next) (entered_pointer self.old header) self.old self.new result }
     {
         if self.levels >= MAX_LEVELS {
-            return Err(Fault::TooDeep);
+            return Err(DecodeErrorKind::TooDeep);
         }
         let pointer = pointer_at(self.section, header.body, header.size as u8)?;
-        self.place = pointer.target;
+        self.offset = pointer.target;
         self.levels += 1;
         Ok(pointer.next)
     }
 
     // Goes to a container's first part.
-    fn descend(&mut self, header: Header, count: usize) -> Result<(), Fault>
+    fn descend(&mut self, header: Header, count: usize) -> Result<(), DecodeErrorKind>
         requires { count < 2 ^ 26 }
         ensures ok { OnOk result (entered_parts self.old header count ≡ Some self.new) }
         ensures err { OnErr result (entered_parts self.old header count ≡ None) }
         ensures same { OnErr result (self.new ≡ self.old) }
     {
         if self.levels >= MAX_LEVELS {
-            return Err(Fault::TooDeep);
+            return Err(DecodeErrorKind::TooDeep);
         }
         self.budget = spent(self.budget, count, 0)?;
-        self.place = header.body;
+        self.offset = header.body;
         self.levels += 1;
         Ok(())
     }
@@ -79,20 +79,20 @@ impl<'de> Steps for Decoder<'de> {
     fn header(&self, alloc: Global) -> DecodeResult<Header> {
         match self.header_here() {
             Ok(header) => Ok(header),
-            Err(fault) => Err(fault.refusal(alloc, self.place)),
+            Err(fault) => Err(fault.refusal(alloc, self.offset)),
         }
     }
 
     fn enter_pointer(&mut self, alloc: Global, header: Header) -> DecodeResult<usize> {
         match self.follow(header) {
             Ok(next) => Ok(next),
-            Err(fault) => Err(fault.refusal(alloc, self.place)),
+            Err(fault) => Err(fault.refusal(alloc, self.offset)),
         }
     }
 
     fn enter_parts(&mut self, alloc: Global, header: Header, count: usize) -> DecodeResult<()> {
         if let Err(fault) = self.descend(header, count) {
-            return Err(fault.refusal(alloc, self.place));
+            return Err(fault.refusal(alloc, self.offset));
         }
         Ok(())
     }
@@ -102,7 +102,7 @@ impl<'de> Steps for Decoder<'de> {
     }
 
     fn leave_pointer(&mut self, next: usize) {
-        self.place = next;
+        self.offset = next;
         self.levels -= 1;
     }
 }

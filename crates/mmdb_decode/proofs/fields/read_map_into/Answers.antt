@@ -19,7 +19,7 @@ returns-in_err-entries g c =
     })
 
 pub read_rest-requires : goal.read_rest-requires
-read_rest-requires g c κs = ((refl, tt), (enters_map c.args.d.now c.attempt_map.new.self c.in_ok-entries.entries c.in_ok-entries.ensures).started)
+read_rest-requires g c κs = ((refl, tt), (enters_map c.args.d.now c.try_map.new.self c.in_ok-entries.entries c.in_ok-entries.ensures).started)
 
 pub returns-in-Ok : goal.returns-in-Ok
 returns-in-Ok g c =
@@ -27,7 +27,7 @@ returns-in-Ok g c =
     let none = parts_at_first t c.args.fields.now c.requires in
     let read = rw none at c.in-Ok.ensures.ok in
     record {
-      ok = record_read t (flags c.read_rest.new.met) c.read_rest.new.self c.args.d.now c.end_map.new.self (map_read (pairs_from name_at (fields_of t) (no_parts t)) c.args.d.now c.attempt_map.new.self c.read_rest.new.d c.end_map.new.self c.in_ok-entries.entries c.read_rest.new.entries (parts_met t (flags c.read_rest.new.met) c.read_rest.new.self) c.in_ok-entries.ensures read c.in-Ok.ensures.rest c.end_map.ensures);
+      ok = record_read t (flags c.read_rest.new.met) c.read_rest.new.self c.args.d.now c.end_map.new.self (map_read (pairs_from name_at (fields_of t) (no_parts t)) c.args.d.now c.try_map.new.self c.read_rest.new.d c.end_map.new.self c.in_ok-entries.entries c.read_rest.new.entries (parts_met t (flags c.read_rest.new.met) c.read_rest.new.self) c.in_ok-entries.ensures read c.in-Ok.ensures.rest c.end_map.ensures);
       err = tt;
       given_up = tt;
     }
@@ -39,6 +39,6 @@ returns-in-Err g c =
     let unread = rw none at c.in-Err.ensures.err in
     record {
       ok = tt;
-      err = record_declined g.R.Fields.free c.in-Err.refused t c.args.d.now (declines_more g.R.Fields.free c.in-Err.refused (decoded false (pairs_from name_at (fields_of t) (no_parts t) c.in_ok-entries.entries.remaining) c.attempt_map.new.self) _ (map_not_read (pairs_from name_at (fields_of t) (no_parts t)) c.args.d.now c.attempt_map.new.self c.in_ok-entries.entries c.in_ok-entries.ensures) unread);
-      given_up = given_up_in_map c.args.d.now c.attempt_map.new.self c.read_rest.new.d c.in_ok-entries.entries (enters_map c.args.d.now c.attempt_map.new.self c.in_ok-entries.entries c.in_ok-entries.ensures) c.in-Err.ensures.given_up;
+      err = record_declined g.R.Fields.free c.in-Err.refused t c.args.d.now (declines_more g.R.Fields.free c.in-Err.refused (decoded false (pairs_from name_at (fields_of t) (no_parts t) c.in_ok-entries.entries.remaining) c.try_map.new.self) _ (map_not_read (pairs_from name_at (fields_of t) (no_parts t)) c.args.d.now c.try_map.new.self c.in_ok-entries.entries c.in_ok-entries.ensures) unread);
+      given_up = given_up_in_map c.args.d.now c.try_map.new.self c.read_rest.new.d c.in_ok-entries.entries (enters_map c.args.d.now c.try_map.new.self c.in_ok-entries.entries c.in_ok-entries.ensures) c.in-Err.ensures.given_up;
     }

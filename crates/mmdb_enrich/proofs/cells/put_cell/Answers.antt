@@ -9,7 +9,7 @@ use Rattle.mmdb_enrich.proofs.cells.put_cell.Goals as goal
 
 pub returns : goal.returns
 returns g c = IfOk-weaker c.put_read.result _ _
-    (λ told all offset at.
+    (λ addition all offset at.
     let s = data_section (database_asked c.args.found.now) in
     let path = c.args.path.now in
     let here = delimiter_of c.args.rows ∷ [] in

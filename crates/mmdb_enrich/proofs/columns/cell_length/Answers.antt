@@ -1,5 +1,5 @@
 use Rattle.std.proofs.Common.{refl, sym, ap, ◌∙◌, arith}
-use Rattle.mmdb_filter.specs.declared.rows.Place.TheVariants.{Cell}
+use Rattle.mmdb_filter.specs.declared.rows.Position.TheVariants.{Cell}
 use Rattle.mmdb_enrich.specs.Columns.{cell_length}
 use Rattle.mmdb_enrich.proofs.ColumnLaws.{tab_at, no_tab_in}
 use Rattle.mmdb_enrich.proofs.columns.cell_length.Goals as goal

@@ -4,6 +4,6 @@ use Rattle.mmdb_filter.proofs.rows.scan_quotes.Given as goal
 
 abbrev pub invariant-loop-at : goal.invariant-loop-at
 invariant-loop-at l = record {
-  goes : (ys : List ℕ) → Goes l.rows l.fn.place (l.bytes ++ ys) (take l.at l.bytes) l.now (drop l.at l.bytes ++ ys);
-  first : l.at ≡ 0 → l.now ≡ l.fn.place;
+  goes : (ys : List ℕ) → Goes l.rows l.fn.position (l.bytes ++ ys) (take l.at l.bytes) l.now (drop l.at l.bytes ++ ys);
+  first : l.at ≡ 0 → l.now ≡ l.fn.position;
 }

@@ -5,14 +5,14 @@ use Rattle.mmdb_enrich.proofs.cache.Cache.keep.Goals as goal
 
 pub returns : goal.returns
 returns c = λ wanted kept add.
-    let places = c.self.inside.places.items in
+    let buckets = c.self.inside.buckets.items in
     let at = c.args.offset % 65536 in
     let old = c.index_mut.result.now in
     let new = c.put.new.self in
-    let within : at < length places = search rules in
-    let there : slice_index_or places at old ≡ old = search rules in
-    let same : c.args.self.now ≡ places = search rules in
-    place_set (IsKeptAt wanted) places at old new within there
+    let within : at < length buckets = search rules in
+    let there : slice_index_or buckets at old ≡ old = search rules in
+    let same : c.args.self.now ≡ buckets = search rules in
+    place_set (IsKeptAt wanted) buckets at old new within there
     (λ o. (
       subst (IsKept wanted) (sym c.put.ensures.newer) (one_kept wanted c.args.offset (record { offset = Some c.args.offset; outcome = c.args.outcome; cells = c.in-Ok.cells }) c.args.cells.now c.args.outcome refl c.in-Ok.ensures refl add),
       subst (IsKept wanted) (sym c.put.ensures.older) o.0,

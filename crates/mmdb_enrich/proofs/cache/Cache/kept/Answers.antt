@@ -6,11 +6,11 @@ use Rattle.mmdb_enrich.proofs.cache.Cache.kept.Goals as goal
 
 pub returns : goal.returns
 returns c = λ wanted kept.
-    let places = c.args.self.now in
-    let place = c.index.result.now in
+    let buckets = c.args.self.now in
+    let bucket = c.index.result.now in
     let slot = c.slot_of-slot.result.now in
     let at = c.args.offset % 65536 in
-    let within : at < length places = search rules in
-    let there : slice_index_or places at place ≡ place = search rules in
+    let within : at < length buckets = search rules in
+    let there : slice_index_or buckets at bucket ≡ bucket = search rules in
     let here : slot.offset ≡ Some c.args.offset = search rules in
-    subst (λ text. AddsOf wanted c.args.offset text slot.outcome) (sym c.as_slice.ensures) (either_kept wanted place slot c.slot_of-slot.ensures (subst (IsKeptAt wanted) there (kept at place within)) c.args.offset here)
+    subst (λ text. AddsOf wanted c.args.offset text slot.outcome) (sym c.as_slice.ensures) (either_kept wanted bucket slot c.slot_of-slot.ensures (subst (IsKeptAt wanted) there (kept at bucket within)) c.args.offset here)

@@ -7,7 +7,7 @@ use Rattle.mmdb_enrich.proofs.cache.Cache.new.Given as goal
 
 abbrev pub invariant-loop : goal.invariant-loop
 invariant-loop l = record {
-  empty : All IsEmptyPlace l.places.items;
-  count : vec_len l.places ≡ l.counter;
-  heap : sum_by heap_at l.places.items ≡ 0;
+  empty : All IsEmptyPlace l.buckets.items;
+  count : vec_len l.buckets ≡ l.counter;
+  heap : sum_by heap_at l.buckets.items ≡ 0;
 }

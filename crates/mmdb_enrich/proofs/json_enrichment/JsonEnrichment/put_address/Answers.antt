@@ -29,7 +29,7 @@ returns-in-Some-kept-clause-added g c =
     let there : offset_found found ≡ Some c.in-Some.offset = search rules in
     let is = c.in-Some-kept.ensures (member db name fields) c.requires.kept in
     IfOk-weaker c.put_member.result _ _
-    (λ told puts. member_put db name fields c.args.line.now (leaf_of found) (offset_found found) c.in-Some.offset kept.cells.now kept.outcome told c.args.out.now.items c.put_member.new.out.items there c.in-Ok.ensures.answered is puts)
+    (λ addition puts. member_put db name fields c.args.line.now (leaf_of found) (offset_found found) c.in-Some.offset kept.cells.now kept.outcome addition c.args.out.now.items c.put_member.new.out.items there c.in-Ok.ensures.answered is puts)
     c.put_member.ensures
 
 pub returns-in-None-clause-added : goal.returns-in-None-clause-added
@@ -38,7 +38,7 @@ returns-in-None-clause-added g c =
     let found = c.in-Ok.found in
     let there : offset_found found ≡ Some c.in-Some.offset = search rules in
     IfOk-weaker c.put_record.result _ _
-    (λ told puts.
+    (λ addition puts.
     let (text, outcome, is, grew) = puts in
-    member_put db c.args.self.now.name.now c.args.self.now.fields.items c.args.line.now (leaf_of found) (offset_found found) c.in-Some.offset text outcome told c.args.out.now.items c.put_record.new.out.items there c.in-Ok.ensures.answered is grew)
+    member_put db c.args.self.now.name.now c.args.self.now.fields.items c.args.line.now (leaf_of found) (offset_found found) c.in-Some.offset text outcome addition c.args.out.now.items c.put_record.new.out.items there c.in-Ok.ensures.answered is grew)
     c.put_record.ensures.added

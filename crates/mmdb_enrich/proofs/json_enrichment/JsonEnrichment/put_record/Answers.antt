@@ -14,8 +14,8 @@ returns-clause-kept g c =
     let fields = c.args.self.now.fields.items in
     let asked = database_asked c.args.found.now in
     let found = offset_found c.args.found.now in
-    let told = c.in_ok-member.member in
+    let addition = c.in_ok-member.member in
     let kept = c.kept_of-kept.result in
-    let some = subst (λ (fs : List Field). IfSome told (λ text. (here : ℕ) → found ≡ Some here → IsMember asked name fs here text.items)) c.as_slice.ensures.value c.in_ok-member.ensures.some in
-    let none = subst (λ (fs : List Field). IfNone told ((here : ℕ) → found ≡ Some here → HasRefused fs (data_section asked) here)) c.as_slice.ensures.value c.in_ok-member.ensures.none in
-    c.keep.ensures (member db name fields) c.requires.kept (member_kept db asked name fields found c.args.offset told kept.cells.now kept.outcome c.requires.asked c.requires.at some none c.kept_of-kept.ensures)
+    let some = subst (λ (fs : List Field). IfSome addition (λ text. (here : ℕ) → found ≡ Some here → IsMember asked name fs here text.items)) c.as_slice.ensures.value c.in_ok-member.ensures.some in
+    let none = subst (λ (fs : List Field). IfNone addition ((here : ℕ) → found ≡ Some here → HasRefused fs (data_section asked) here)) c.as_slice.ensures.value c.in_ok-member.ensures.none in
+    c.keep.ensures (member db name fields) c.requires.kept (member_kept db asked name fields found c.args.offset addition kept.cells.now kept.outcome c.requires.asked c.requires.at some none c.kept_of-kept.ensures)

@@ -8,7 +8,7 @@ pub returns-in_ok-put_address-in-Object-clause-added : goal.returns-in_ok-put_ad
 returns-in_ok-put_address-in-Object-clause-added g c =
     let text = c.args.text.now in
     let line = c.in-Object.line in
-    let told = c.in_ok-put_address-in-Object.field-0 in
+    let addition = c.in_ok-put_address-in-Object.field-0 in
     let reads = subst (ReadsLine text c.args.is_long c.as_slice-path.result.now) c.in-Object.is c.in_ok-line.ensures in
     let (members, is, leads, empty) = subst (λ p. ReadsLine text c.args.is_long p (Object line)) c.as_slice-path.ensures.value reads in
     let (extra, adds, put) = c.in_ok-put_address-in-Object.ensures.added in (
@@ -19,7 +19,7 @@ returns-in_ok-put_address-in-Object-clause-added g c =
         line.address,
         is,
         leads,
-        subst (λ b. AddsMemberFor c.args.self.now.reader.now c.args.self.now.name.now c.args.self.now.fields.items b line.behind line.address extra told.behind told.outcome) empty adds,
+        subst (λ b. AddsMemberFor c.args.self.now.reader.now c.args.self.now.name.now c.args.self.now.fields.items b line.behind line.address extra addition.behind addition.outcome) empty adds,
       )),
       put,
     )

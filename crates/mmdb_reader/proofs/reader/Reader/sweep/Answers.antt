@@ -24,8 +24,8 @@ loop-nodes-init g c =
       are = subst (AreNodes db) (sym one) first;
       kept = refl;
       room = subst (λ x. width x ≤ vec_capacity c.args.stack.now) (sym same) c.requires.room;
-      places = c.requires.places ∙ ap data_length (sym same);
-      swept = subst (λ (s : List Point). IsSwept db s 1 (holds c.args.places.now)) (sym one) (swept-start db root (holds c.args.places.now) refl refl refl c.requires.none);
+      set = c.requires.set ∙ ap data_length (sym same);
+      swept = subst (λ (s : List Point). IsSwept db s 1 (holds c.args.set.now)) (sym one) (swept-start db root (holds c.args.set.now) refl refl refl c.requires.none);
     }
 
 pub half_of-lower-requires : goal.half_of-lower-requires
@@ -43,16 +43,16 @@ loop-nodes-preserved-then-goes_on g c =
     let xs = c.loop-nodes.stack.items in
     let p = c.loop-nodes.point in
     let on = AreNodes-top db xs p c.loop-nodes.invariant.are in
-    let takes : Takes db (half_of db p true) xs c.take.new.stack.items c.loop-nodes.places c.take.new.places =
-    subst (λ (u : Point). Takes db u xs c.take.new.stack.items c.loop-nodes.places c.take.new.places) c.half_of.ensures (c.if-not-take.ensures.taken refl) in
+    let takes : Takes db (half_of db p true) xs c.take.new.stack.items c.loop-nodes.set c.take.new.set =
+    subst (λ (u : Point). Takes db u xs c.take.new.stack.items c.loop-nodes.set c.take.new.set) c.half_of.ensures (c.if-not-take.ensures.taken refl) in
     let lower : half_of db p false ≡ c.half_of-lower.result = sym c.half_of-lower.ensures in
-    let swept = swept-taken db xs c.take.new.stack.items (half_of db p true) (half_of db p false) (c.loop-nodes.nodes + 1) c.loop-nodes.places c.take.new.places takes (swept-node db xs p c.loop-nodes.nodes (holds c.loop-nodes.places) on.on c.loop-nodes.invariant.swept) in
+    let swept = swept-taken db xs c.take.new.stack.items (half_of db p true) (half_of db p false) (c.loop-nodes.nodes + 1) c.loop-nodes.set c.take.new.set takes (swept-node db xs p c.loop-nodes.nodes (holds c.loop-nodes.set) on.on c.loop-nodes.invariant.swept) in
     record {
-      are = subst (λ (l : Point). AreNodes db (c.take.new.stack.items ++ l ∷ [])) lower (nodes-below db xs c.take.new.stack.items p c.loop-nodes.places c.take.new.places takes c.loop-nodes.invariant.are (subst (GoesOn db) (sym lower) c.if-goes_on.ensures));
+      are = subst (λ (l : Point). AreNodes db (c.take.new.stack.items ++ l ∷ [])) lower (nodes-below db xs c.take.new.stack.items p c.loop-nodes.set c.take.new.set takes c.loop-nodes.invariant.are (subst (GoesOn db) (sym lower) c.if-goes_on.ensures));
       kept = c.if-not-take.ensures.room ∙ c.loop-nodes.invariant.kept;
       room = omega (arith, c.if-not-take.ensures.room, c.loop-nodes.invariant.room);
-      places = c.if-not-take.ensures.length ∙ c.loop-nodes.invariant.places;
-      swept = subst (λ (l : Point). IsSwept db (c.take.new.stack.items ++ l ∷ []) (c.loop-nodes.nodes + 1) (holds c.take.new.places)) lower swept;
+      set = c.if-not-take.ensures.length ∙ c.loop-nodes.invariant.set;
+      swept = subst (λ (l : Point). IsSwept db (c.take.new.stack.items ++ l ∷ []) (c.loop-nodes.nodes + 1) (holds c.take.new.set)) lower swept;
     }
 
 pub returns-in_default-clause-whole : goal.returns-in_default-clause-whole
@@ -61,14 +61,14 @@ returns-in_default-clause-whole g c =
     let xs = c.loop-nodes.stack.items in
     let p = c.loop-nodes.point in
     let on = AreNodes-top db xs p c.loop-nodes.invariant.are in
-    let takes : Takes db (half_of db p true) xs c.take.new.stack.items c.loop-nodes.places c.take.new.places =
-    subst (λ (u : Point). Takes db u xs c.take.new.stack.items c.loop-nodes.places c.take.new.places) c.half_of.ensures (c.if-not-take.ensures.taken refl) in
-    let swept = swept-both db xs c.take.new.stack.items p c.half_of-lower.result c.loop-nodes.nodes c.loop-nodes.places c.take.new.places c.keep.new.places (sym c.half_of-lower.ensures) on.on takes
-    c.if-goes_on.ensures (sym c.if-not-keep.false ∙ c.keep.ensures.kept) c.keep.ensures.places c.loop-nodes.invariant.swept in
+    let takes : Takes db (half_of db p true) xs c.take.new.stack.items c.loop-nodes.set c.take.new.set =
+    subst (λ (u : Point). Takes db u xs c.take.new.stack.items c.loop-nodes.set c.take.new.set) c.half_of.ensures (c.if-not-take.ensures.taken refl) in
+    let swept = swept-both db xs c.take.new.stack.items p c.half_of-lower.result c.loop-nodes.nodes c.loop-nodes.set c.take.new.set c.keep.new.set (sym c.half_of-lower.ensures) on.on takes
+    c.if-goes_on.ensures (sym c.if-not-keep.false ∙ c.keep.ensures.kept) c.keep.ensures.set c.loop-nodes.invariant.swept in
     let none : c.take.new.stack.items ≡ [] = nil_from_length c.take.new.stack.items (omega (arith, c.in_default.ensures.cases.0, c.take.new.stack.ok.0)) in
     let few : c.loop-nodes.nodes < most_stops db = omega (arith, c.loop-nodes-test.true, c.walker-walker.result.are.count) in
-    let whole = swept-whole db c.take.new.stack.items c.loop-nodes.nodes c.keep.new.places none few swept in
-    subst (λ d. IsVerdict d c.keep.new.places (2 * c.loop-nodes.nodes + 1) Whole) c.walker-walker.ensures whole.0
+    let whole = swept-whole db c.take.new.stack.items c.loop-nodes.nodes c.keep.new.set none few swept in
+    subst (λ d. IsVerdict d c.keep.new.set (2 * c.loop-nodes.nodes + 1) Whole) c.walker-walker.ensures whole.0
 
 pub returns-in_default-clause-counted : goal.returns-in_default-clause-counted
 returns-in_default-clause-counted g c =
@@ -76,13 +76,13 @@ returns-in_default-clause-counted g c =
     let xs = c.loop-nodes.stack.items in
     let p = c.loop-nodes.point in
     let on = AreNodes-top db xs p c.loop-nodes.invariant.are in
-    let takes : Takes db (half_of db p true) xs c.take.new.stack.items c.loop-nodes.places c.take.new.places =
-    subst (λ (u : Point). Takes db u xs c.take.new.stack.items c.loop-nodes.places c.take.new.places) c.half_of.ensures (c.if-not-take.ensures.taken refl) in
-    let swept = swept-both db xs c.take.new.stack.items p c.half_of-lower.result c.loop-nodes.nodes c.loop-nodes.places c.take.new.places c.keep.new.places (sym c.half_of-lower.ensures) on.on takes
-    c.if-goes_on.ensures (sym c.if-not-keep.false ∙ c.keep.ensures.kept) c.keep.ensures.places c.loop-nodes.invariant.swept in
+    let takes : Takes db (half_of db p true) xs c.take.new.stack.items c.loop-nodes.set c.take.new.set =
+    subst (λ (u : Point). Takes db u xs c.take.new.stack.items c.loop-nodes.set c.take.new.set) c.half_of.ensures (c.if-not-take.ensures.taken refl) in
+    let swept = swept-both db xs c.take.new.stack.items p c.half_of-lower.result c.loop-nodes.nodes c.loop-nodes.set c.take.new.set c.keep.new.set (sym c.half_of-lower.ensures) on.on takes
+    c.if-goes_on.ensures (sym c.if-not-keep.false ∙ c.keep.ensures.kept) c.keep.ensures.set c.loop-nodes.invariant.swept in
     let none : c.take.new.stack.items ≡ [] = nil_from_length c.take.new.stack.items (omega (arith, c.in_default.ensures.cases.0, c.take.new.stack.ok.0)) in
     let few : c.loop-nodes.nodes < most_stops db = omega (arith, c.loop-nodes-test.true, c.walker-walker.result.are.count) in
-    let whole = swept-whole db c.take.new.stack.items c.loop-nodes.nodes c.keep.new.places none few swept in
+    let whole = swept-whole db c.take.new.stack.items c.loop-nodes.nodes c.keep.new.set none few swept in
     whole.1 ∙ ap walk_cost c.walker-walker.ensures
 
 pub loop-nodes-preserved : goal.loop-nodes-preserved
@@ -91,15 +91,15 @@ loop-nodes-preserved g c =
     let xs = c.loop-nodes.stack.items in
     let p = c.loop-nodes.point in
     let on = AreNodes-top db xs p c.loop-nodes.invariant.are in
-    let takes : Takes db (half_of db p true) xs c.take.new.stack.items c.loop-nodes.places c.take.new.places =
-    subst (λ (u : Point). Takes db u xs c.take.new.stack.items c.loop-nodes.places c.take.new.places) c.half_of.ensures (c.if-not-take.ensures.taken refl) in
-    let swept = swept-both db xs c.take.new.stack.items p c.half_of-lower.result c.loop-nodes.nodes c.loop-nodes.places c.take.new.places c.keep.new.places (sym c.half_of-lower.ensures) on.on takes
-    c.if-goes_on.ensures (sym c.if-not-keep.false ∙ c.keep.ensures.kept) c.keep.ensures.places c.loop-nodes.invariant.swept in
-    let left = nodes-left db xs c.take.new.stack.items p c.loop-nodes.places c.take.new.places takes c.loop-nodes.invariant.are in
+    let takes : Takes db (half_of db p true) xs c.take.new.stack.items c.loop-nodes.set c.take.new.set =
+    subst (λ (u : Point). Takes db u xs c.take.new.stack.items c.loop-nodes.set c.take.new.set) c.half_of.ensures (c.if-not-take.ensures.taken refl) in
+    let swept = swept-both db xs c.take.new.stack.items p c.half_of-lower.result c.loop-nodes.nodes c.loop-nodes.set c.take.new.set c.keep.new.set (sym c.half_of-lower.ensures) on.on takes
+    c.if-goes_on.ensures (sym c.if-not-keep.false ∙ c.keep.ensures.kept) c.keep.ensures.set c.loop-nodes.invariant.swept in
+    let left = nodes-left db xs c.take.new.stack.items p c.loop-nodes.set c.take.new.set takes c.loop-nodes.invariant.are in
     record {
       are = subst (AreNodes db) c.in-Some.ensures.items left;
       kept = c.in-Some.ensures.capacity ∙ c.if-not-take.ensures.room ∙ c.loop-nodes.invariant.kept;
       room = omega (arith, c.if-not-take.ensures.room, c.in-Some.ensures.capacity, c.loop-nodes.invariant.room);
-      places = c.keep.ensures.length ∙ c.if-not-take.ensures.length ∙ c.loop-nodes.invariant.places;
-      swept = subst (λ (s : List Point). IsSwept db s (c.loop-nodes.nodes + 1) (holds c.keep.new.places)) c.in-Some.ensures.items swept;
+      set = c.keep.ensures.length ∙ c.if-not-take.ensures.length ∙ c.loop-nodes.invariant.set;
+      swept = subst (λ (s : List Point). IsSwept db s (c.loop-nodes.nodes + 1) (holds c.keep.new.set)) c.in-Some.ensures.items swept;
     }

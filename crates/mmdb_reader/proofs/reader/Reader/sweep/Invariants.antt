@@ -10,6 +10,6 @@ invariant-loop-nodes g l = record {
   are : AreNodes l.walker.reader.now (l.stack.items ++ l.point ∷ []);
   kept : vec_capacity l.stack ≡ vec_capacity l.initial.stack;
   room : width l.walker.reader.now ≤ vec_capacity l.stack;
-  places : length l.places ≡ data_length l.walker.reader.now;
-  swept : IsSwept l.walker.reader.now (l.stack.items ++ l.point ∷ []) l.nodes (holds l.places);
+  set : length l.set ≡ data_length l.walker.reader.now;
+  swept : IsSwept l.walker.reader.now (l.stack.items ++ l.point ∷ []) l.nodes (holds l.set);
 }

@@ -13,18 +13,18 @@ on_ok : (r : Result (Unit {0}) MaxMindDbError) (P Q : Type 0) → (P → Q) → 
 on_ok (Ok x) P Q f h = f h
 on_ok (Err e) P Q f h = tt
 
-whole : (g : _) (c : goal.After-drop-places-inside-2 g) → CanAddAll (data_section c.args.self.now) none (offsets (stops c.args.self.now)) → IsWhole c.args.self.now
+whole : (g : _) (c : goal.After-drop-set-inside-2 g) → CanAddAll (data_section c.args.self.now) none (offsets (stops c.args.self.now)) → IsWhole c.args.self.now
 whole g c values = record {
   metadata = c.in_ok-verify_metadata.ensures.ok;
-  tree = c.in_ok-places.ensures.ok.0;
+  tree = c.in_ok-set.ensures.ok.0;
   separated = c.in_ok-verify_separator.ensures.ok;
   values = values;
 }
 
-pub returns-in_err-places-clause-refused : goal.returns-in_err-places-clause-refused
-returns-in_err-places-clause-refused g c =
-    let p = err_from_is_err_and c.from_residual-in_err-places.result c.from_residual-in_err-places.ensures.1 in
-    rw (p.1, p.2) (apart c.in_err-places.field-0.0 _ _ (λ no is. no is.tree) c.in_err-places.ensures.err)
+pub returns-in_err-set-clause-refused : goal.returns-in_err-set-clause-refused
+returns-in_err-set-clause-refused g c =
+    let p = err_from_is_err_and c.from_residual-in_err-set.result c.from_residual-in_err-set.ensures.1 in
+    rw (p.1, p.2) (apart c.in_err-set.field-0.0 _ _ (λ no is. no is.tree) c.in_err-set.ensures.err)
 
 pub returns-clause-whole : goal.returns-clause-whole
 returns-clause-whole g c = on_ok c.verify_values.result _ _ (whole g c) c.verify_values.ensures.ok

@@ -29,8 +29,8 @@ loop-stack-init g c =
       placed = subst (IsStack db) (sym one) (start_placed db);
       room = c.requires.room;
       taken = omega (arith, ap length none, c.args.stack.now.ok.0);
-      places = c.requires.places;
-      progress = subst (λ (s : List Point). IsProgress db s 0 0 (holds c.args.places.now)) (sym one) (progress-start db root (holds c.args.places.now) refl refl refl c.requires.none);
+      set = c.requires.set;
+      progress = subst (λ (s : List Point). IsProgress db s 0 0 (holds c.args.set.now)) (sym one) (progress-start db root (holds c.args.set.now) refl refl refl c.requires.none);
     }
 
 pub overflow_add-taken : goal.overflow_add-taken
@@ -56,7 +56,7 @@ loop-stack-preserved-then-goes_on g c =
     let db = c.args.self.now in
     let xs = c.loop-stack.stack.items in
     let p = c.loop-stack.point in
-    let has : ℕ → Bool = holds c.loop-stack.places in
+    let has : ℕ → Bool = holds c.loop-stack.set in
     let two : c.push_reserved.new.self.items ++ c.half_of-point.result ∷ [] ≡ (xs ++ half_of db p true ∷ []) ++ half_of db p false ∷ [] =
     cc (c.push_reserved.ensures.items, c.half_of.ensures, c.half_of-point.ensures) in
     let next = progress-node db xs p c.loop-stack.taken c.loop-stack.stops has c.loop-stack.invariant.progress (c.if-goes_on.ensures) c.loop-stack.invariant.stops in
@@ -65,7 +65,7 @@ loop-stack-preserved-then-goes_on g c =
       placed = subst (IsStack db) (sym two) (IsStack-halves db xs p c.loop-stack.invariant.placed (c.if-goes_on.ensures).inner);
       room = omega (arith, c.push_reserved.ensures.capacity, c.loop-stack.invariant.room);
       taken = omega (arith, c.loop-stack.invariant.taken, ap length c.push_reserved.ensures.items, length-append xs (c.half_of.result ∷ []), c.push_reserved.new.self.ok.0, c.loop-stack.stack.ok.0);
-      places = c.loop-stack.invariant.places;
+      set = c.loop-stack.invariant.set;
       progress = subst (λ (s : List Point). IsProgress db s (c.loop-stack.taken + 1) c.loop-stack.stops has) (sym two) next;
     }
 
@@ -82,7 +82,7 @@ returns-then-not-keep-clause-verdict g c = λ whole.
     let db = c.args.self.now in
     let clean = clean_of_tree db whole in
     let p = c.loop-stack.point in
-    let refused = refused-fault db c.loop-stack.stack.items p c.loop-stack.taken c.loop-stack.stops (holds c.loop-stack.places) c.loop-stack.invariant.progress (end_from db p.number p.high) refl c.if-goes_on.ensures c.loop-stack.invariant.stops (fault_of g c) in
+    let refused = refused-fault db c.loop-stack.stack.items p c.loop-stack.taken c.loop-stack.stops (holds c.loop-stack.set) c.loop-stack.invariant.progress (end_from db p.number p.high) refl c.if-goes_on.ensures c.loop-stack.invariant.stops (fault_of g c) in
     let wrong : true ≡ false = sym refused.1 ∙ fault-is db ∙ clean.faultless in
     cc
 
@@ -90,7 +90,7 @@ pub returns-then-not-keep-clause-counted : goal.returns-then-not-keep-clause-cou
 returns-then-not-keep-clause-counted g c =
     let db = c.args.self.now in
     let p = c.loop-stack.point in
-    let refused = refused-fault db c.loop-stack.stack.items p c.loop-stack.taken c.loop-stack.stops (holds c.loop-stack.places) c.loop-stack.invariant.progress (end_from db p.number p.high) refl c.if-goes_on.ensures c.loop-stack.invariant.stops (fault_of g c) in
+    let refused = refused-fault db c.loop-stack.stack.items p c.loop-stack.taken c.loop-stack.stops (holds c.loop-stack.set) c.loop-stack.invariant.progress (end_from db p.number p.high) refl c.if-goes_on.ensures c.loop-stack.invariant.stops (fault_of g c) in
     refused.0 ∙ cost-is db
 
 pub returns-then-not-keep-clause-bound : goal.returns-then-not-keep-clause-bound
@@ -109,17 +109,17 @@ pub returns-then-stops-most-clause-verdict : goal.returns-then-stops-most-clause
 returns-then-stops-most-clause-verdict g c = λ whole.
     let db = c.args.self.now in
     let clean = clean_of_tree db whole in
-    let w = stopped db c.loop-stack.stack.items c.loop-stack.point c.loop-stack.taken c.loop-stack.stops c.loop-stack.places c.keep.new.places c.loop-stack.invariant.progress c.if-goes_on.ensures (sym c.if-not-keep.false ∙ c.keep.ensures.kept) c.keep.ensures.places in
+    let w = stopped db c.loop-stack.stack.items c.loop-stack.point c.loop-stack.taken c.loop-stack.stops c.loop-stack.set c.keep.new.set c.loop-stack.invariant.progress c.if-goes_on.ensures (sym c.if-not-keep.false ∙ c.keep.ensures.kept) c.keep.ensures.set in
     let many : c.loop-stack.stops + 1 ≡ suc (most_stops db) = omega (arith, c.if-stops-most.true, c.loop-stack.invariant.stops, c.nodes.ensures.count) in
-    let refused = refused-many db c.loop-stack.stack.items (c.loop-stack.taken + 1) (c.loop-stack.stops + 1) (holds c.keep.new.places) w many in
+    let refused = refused-many db c.loop-stack.stack.items (c.loop-stack.taken + 1) (c.loop-stack.stops + 1) (holds c.keep.new.set) w many in
     omega (arith, refused.1, length-is db, clean.few)
 
 pub returns-then-stops-most-clause-counted : goal.returns-then-stops-most-clause-counted
 returns-then-stops-most-clause-counted g c =
     let db = c.args.self.now in
-    let w = stopped db c.loop-stack.stack.items c.loop-stack.point c.loop-stack.taken c.loop-stack.stops c.loop-stack.places c.keep.new.places c.loop-stack.invariant.progress c.if-goes_on.ensures (sym c.if-not-keep.false ∙ c.keep.ensures.kept) c.keep.ensures.places in
+    let w = stopped db c.loop-stack.stack.items c.loop-stack.point c.loop-stack.taken c.loop-stack.stops c.loop-stack.set c.keep.new.set c.loop-stack.invariant.progress c.if-goes_on.ensures (sym c.if-not-keep.false ∙ c.keep.ensures.kept) c.keep.ensures.set in
     let many : c.loop-stack.stops + 1 ≡ suc (most_stops db) = omega (arith, c.if-stops-most.true, c.loop-stack.invariant.stops, c.nodes.ensures.count) in
-    (refused-many db c.loop-stack.stack.items (c.loop-stack.taken + 1) (c.loop-stack.stops + 1) (holds c.keep.new.places) w many).0 ∙ cost-is db
+    (refused-many db c.loop-stack.stack.items (c.loop-stack.taken + 1) (c.loop-stack.stops + 1) (holds c.keep.new.set) w many).0 ∙ cost-is db
 
 pub returns-then-stops-most-clause-bound : goal.returns-then-stops-most-clause-bound
 returns-then-stops-most-clause-bound g c =
@@ -130,9 +130,9 @@ returns-then-stops-most-clause-bound g c =
 pub returns-in_default-clause-verdict : goal.returns-in_default-clause-verdict
 returns-in_default-clause-verdict g c =
     let db = c.args.self.now in
-    let w = stopped db c.loop-stack.stack.items c.loop-stack.point c.loop-stack.taken c.loop-stack.stops c.loop-stack.places c.keep.new.places c.loop-stack.invariant.progress c.if-goes_on.ensures (sym c.if-not-keep.false ∙ c.keep.ensures.kept) c.keep.ensures.places in
+    let w = stopped db c.loop-stack.stack.items c.loop-stack.point c.loop-stack.taken c.loop-stack.stops c.loop-stack.set c.keep.new.set c.loop-stack.invariant.progress c.if-goes_on.ensures (sym c.if-not-keep.false ∙ c.keep.ensures.kept) c.keep.ensures.set in
     let none : c.loop-stack.stack.items ≡ [] = nil_from_length c.loop-stack.stack.items (omega (arith, c.in_default.ensures.cases.0, c.loop-stack.stack.ok.0)) in
-    let all = walked-all db c.loop-stack.stack.items (c.loop-stack.taken + 1) (c.loop-stack.stops + 1) (holds c.keep.new.places) w none (omega (arith, c.if-stops-most.false, c.nodes.ensures.count)) in (
+    let all = walked-all db c.loop-stack.stack.items (c.loop-stack.taken + 1) (c.loop-stack.stops + 1) (holds c.keep.new.set) w none (omega (arith, c.if-stops-most.false, c.nodes.ensures.count)) in (
       tree_of_clean db (record { faultless = sym (fault-is db) ∙ all.2; few = omega (arith, all.1, length-is db, c.if-stops-most.false, c.nodes.ensures.count) }),
       ((λ q. all.3 q ∙ ap (λ (os : List ℕ). list_any (λ o. o == q) os) (offsets-are db)), omega (arith, all.1, length-is db, c.loop-stack.invariant.taken, c.in_default.ensures.cases.0)),
     )
@@ -140,9 +140,9 @@ returns-in_default-clause-verdict g c =
 pub returns-in_default-clause-counted : goal.returns-in_default-clause-counted
 returns-in_default-clause-counted g c =
     let db = c.args.self.now in
-    let w = stopped db c.loop-stack.stack.items c.loop-stack.point c.loop-stack.taken c.loop-stack.stops c.loop-stack.places c.keep.new.places c.loop-stack.invariant.progress c.if-goes_on.ensures (sym c.if-not-keep.false ∙ c.keep.ensures.kept) c.keep.ensures.places in
+    let w = stopped db c.loop-stack.stack.items c.loop-stack.point c.loop-stack.taken c.loop-stack.stops c.loop-stack.set c.keep.new.set c.loop-stack.invariant.progress c.if-goes_on.ensures (sym c.if-not-keep.false ∙ c.keep.ensures.kept) c.keep.ensures.set in
     let none : c.loop-stack.stack.items ≡ [] = nil_from_length c.loop-stack.stack.items (omega (arith, c.in_default.ensures.cases.0, c.loop-stack.stack.ok.0)) in
-    (walked-all db c.loop-stack.stack.items (c.loop-stack.taken + 1) (c.loop-stack.stops + 1) (holds c.keep.new.places) w none (omega (arith, c.if-stops-most.false, c.nodes.ensures.count))).0 ∙ cost-is db
+    (walked-all db c.loop-stack.stack.items (c.loop-stack.taken + 1) (c.loop-stack.stops + 1) (holds c.keep.new.set) w none (omega (arith, c.if-stops-most.false, c.nodes.ensures.count))).0 ∙ cost-is db
 
 pub loop-stack-smaller : goal.loop-stack-smaller
 loop-stack-smaller g c =
@@ -153,12 +153,12 @@ loop-stack-smaller g c =
 pub loop-stack-preserved : goal.loop-stack-preserved
 loop-stack-preserved g c =
     let db = c.args.self.now in
-    let w = stopped db c.loop-stack.stack.items c.loop-stack.point c.loop-stack.taken c.loop-stack.stops c.loop-stack.places c.keep.new.places c.loop-stack.invariant.progress c.if-goes_on.ensures (sym c.if-not-keep.false ∙ c.keep.ensures.kept) c.keep.ensures.places in
+    let w = stopped db c.loop-stack.stack.items c.loop-stack.point c.loop-stack.taken c.loop-stack.stops c.loop-stack.set c.keep.new.set c.loop-stack.invariant.progress c.if-goes_on.ensures (sym c.if-not-keep.false ∙ c.keep.ensures.kept) c.keep.ensures.set in
     record {
       stops = omega (arith, c.if-stops-most.false, c.nodes.ensures.count);
       placed = subst (IsStack db) c.in-Some.ensures.items (IsStack-front db c.loop-stack.stack.items c.loop-stack.point c.loop-stack.invariant.placed);
       room = omega (arith, c.in-Some.ensures.capacity, c.loop-stack.invariant.room);
       taken = omega (arith, c.loop-stack.invariant.taken, c.in-Some.ensures.cases);
-      places = c.keep.ensures.length ∙ c.loop-stack.invariant.places;
-      progress = subst (λ (s : List Point). IsProgress db s (c.loop-stack.taken + 1) (c.loop-stack.stops + 1) (holds c.keep.new.places)) c.in-Some.ensures.items w;
+      set = c.keep.ensures.length ∙ c.loop-stack.invariant.set;
+      progress = subst (λ (s : List Point). IsProgress db s (c.loop-stack.taken + 1) (c.loop-stack.stops + 1) (holds c.keep.new.set)) c.in-Some.ensures.items w;
     }

@@ -15,8 +15,8 @@ invariant-loop-stack g l = record {
   placed : IsStack l.self (l.stack.items ++ l.point ∷ []);
   room : width l.self ≤ vec_capacity l.stack;
   taken : l.taken ≡ vec_len l.stack + 2 * l.stops;
-  places : length l.places ≡ data_length l.self;
-  progress : IsProgress l.self (l.stack.items ++ l.point ∷ []) l.taken l.stops (holds l.places);
+  set : length l.set ≡ data_length l.self;
+  progress : IsProgress l.self (l.stack.items ++ l.point ∷ []) l.taken l.stops (holds l.set);
 }
 
 abbrev pub decreases-loop-stack : goal.decreases-loop-stack

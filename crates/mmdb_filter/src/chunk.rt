@@ -1,0 +1,67 @@
+//! Rows in chunks.
+ghost use Rattle.std.specs.Prelude.{◌≡◌, ◌≢◌, ◌<◌, ◌++◌, List, ℕ, Ok, None, IfOk, IfSome, OnSome, length};
+ghost use Rattle.std.specs.Io.KnownBytes.{Keeps, IsAtEnd};
+ghost use Rattle.mmdb_filter.specs.Rows.{Leads};
+ghost use Rattle.mmdb_filter.specs.declared.rows.Position.TheVariants as spec_position;
+
+use crate::rows::{Position, Rows, scan};
+use std::io::{self, BufRead, ErrorKind};
+
+/// How many bytes of a row are held at most.
+pub(crate) const PIECE: usize = 65_539;
+
+// Appends what the input has at hand of a row, as far as there is room, or nothing where it was interrupted.
+#[inline(always)]
+fn read_some<R: BufRead>(
+    input: &mut R,
+    rows: Rows,
+    position: Position,
+    chunk: &mut Vec<u8>,
+) -> io::Result<Option<Position>>
+    requires { position ≢ spec_position.Ended }
+    ensures interrupted { result ≡ Ok None → Keeps (R.remaining input.old) (R.remaining input.new) × (chunk.new.items ≡ chunk.old.items) }
+    ensures leads { IfOk result (λ read. IfSome read (λ next. (bytes : List ℕ) × (chunk.new.items ≡ chunk.old.items ++ bytes) × Leads rows position (R.remaining input.old) bytes next (R.remaining input.new))) }
+    ensures end { IfOk result (λ read. IfSome read (λ next. length chunk.old.items < 65539 → length chunk.new.items ≡ length chunk.old.items → OnSome (R.remaining input.old) (IsAtEnd (R.remaining input.new)))) }
+{
+    let shown = match input.fill_buf() {
+        Ok(shown) => shown,
+        Err(error) => {
+            return if error.kind() == ErrorKind::Interrupted {
+                Ok(None)
+            } else {
+                Err(error)
+            };
+        }
+    };
+    let room = PIECE.saturating_sub(chunk.len()).min(shown.len());
+    let (len, next) = scan(rows, position, &shown[..room]);
+    chunk.extend_from_slice(&shown[..len])?;
+    input.consume(len);
+    Ok(Some(next))
+}
+
+/// Appends bytes of a row from a position in it, up to its end or until there are 65,539, and tells the position behind them.
+pub fn read_chunk<R: BufRead>(
+    input: &mut R,
+    rows: Rows,
+    position: Position,
+    chunk: &mut Vec<u8>,
+) -> io::Result<Position>
+    ensures leads { IfOk result (λ next. (bytes : List ℕ) × (chunk.new.items ≡ chunk.old.items ++ bytes) × Leads rows position (R.remaining input.old) bytes next (R.remaining input.new)) }
+    ensures end { IfOk result (λ next. next ≢ spec_position.Ended → length chunk.new.items < 65539 → OnSome (R.remaining input.old) (IsAtEnd (R.remaining input.new))) }
+{
+    let mut now = position;
+    for _ in 0..u64::MAX {
+        let before = chunk.len();
+        if now == Position::Ended || before >= PIECE {
+            return Ok(now);
+        }
+        if let Some(next) = read_some(input, rows, now, chunk)? {
+            now = next;
+            if chunk.len() == before {
+                return Ok(now);
+            }
+        }
+    }
+    Err(io::Error::from(ErrorKind::TimedOut))
+}
