@@ -331,6 +331,15 @@ fn masked_addresses(rt: HostRuntime) -> Result<(), Failures> {
     failures.verdict()
 }
 
+// What the documentation of `IpNetwork` shows.
+#[test]
+fn documented_network(rt: HostRuntime) -> anyhow::Result<()> {
+    let network: IpNetwork = "192.168.1.100/24".parse()?;
+    let inside: IpAddr = "192.168.1.255".parse()?;
+    assert!(rt; network.contains(inside), "{inside}");
+    Ok(())
+}
+
 #[test]
 fn laws_are_called() {
     networks_equal_where_same();

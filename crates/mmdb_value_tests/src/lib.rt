@@ -1,7 +1,8 @@
 //! Tests of values: any value, typed reads, single steps, limits, errors and equalities. A record
-//! written by hand stands beside them.
+//! written by hand and a type of one's own stand beside them.
 #![tactic(auto)]
 
 pub mod probe;
+pub mod system_number;
 #[cfg(test)]
 mod tests;

@@ -6,6 +6,7 @@ mod equalities;
 mod errors;
 mod limits;
 mod memory;
+mod own_types;
 mod steps;
 mod typed;
 mod values;
