@@ -1,4 +1,4 @@
-//! The program `mmdb`: its words are handed on, with standard output and standard error.
+//! The program `mmdb`: its arguments are handed on, with standard output and standard error.
 #![tactic(auto)]
 
 use mmdb_program::{Terminals, run_on};
@@ -6,10 +6,10 @@ use std::env;
 use std::io::{self, BufReader, BufWriter, ErrorKind, IsTerminal, Write};
 use std::process::ExitCode;
 
-// The status of a refusal.
+// The status of an error.
 const REFUSED: u8 = 1;
 
-// The status of words that are no command.
+// The status of arguments that are no command.
 const BAD_WORDS: u8 = 2;
 
 // Arguments come as text alone, and a file is opened by text.
@@ -19,7 +19,7 @@ const NOT_UTF8: &str =
 /// How many bytes are read and written at once.
 const BUFFER: usize = 1 << 16;
 
-// Writes out what is still buffered. A fault that comes only here is a refusal as any other by standard output,
+// Writes out what is still buffered. A fault that comes only here is an error as any other by standard output,
 // and nothing is told of an output that was closed.
 fn finished<W: Write + Drop>(rt: &HostRuntime, mut writer: W, status: u8) -> u8 {
     match writer.flush() {
@@ -33,7 +33,7 @@ fn finished<W: Write + Drop>(rt: &HostRuntime, mut writer: W, status: u8) -> u8 
     }
 }
 
-// Runs the program on its words, and answers its status.
+// Runs the program on its arguments, and answers its status.
 fn program(rt: &HostRuntime) -> io::Result<u8> {
     let mut words = Vec::new(rt.alloc());
     for word in env::args(rt)? {

@@ -3,7 +3,7 @@
 use std::alloc::{AllocError, Global};
 use std::net::{IpAddr, Ipv4Addr, Ipv6Addr};
 
-/// The words of the generator xorshift64*.
+/// The arguments of the generator xorshift64*.
 #[derive(Clone, Copy)]
 pub(crate) struct Random {
     state: u64,

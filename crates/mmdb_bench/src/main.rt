@@ -14,7 +14,7 @@ use subject::Subject;
 
 const USAGE: &str = "usage: mmdb_bench FILE N REPEATS | FILE N checksums";
 
-// What the words ask for.
+// What the arguments ask for.
 #[derive(Drop)]
 struct Command<'a> {
     file: &'a str,

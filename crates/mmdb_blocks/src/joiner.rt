@@ -52,7 +52,7 @@ impl Joiner {
     }
 
     /// Takes the next block. Blocks that nothing can join any more are handed out by `settled`, until the next call.
-    /// A refusal changes nothing.
+    /// An error changes nothing.
     pub fn push(&mut self, block: Block) -> Result<(), Refusal>
         // Whatever was pushed and handed out before: what is handed out now and what waits completes the joined form.
         ensures ok { OnOk result ((pushed handed : List SpecBlock) → IsJoining pushed handed (waiting_of self.old)

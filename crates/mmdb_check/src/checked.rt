@@ -62,11 +62,11 @@ impl<'s> Checked<'s> {
 /// Checks the value at an offset, and all that it leads to: keys may be of any type, and pointers may lead to
 /// pointers.
 ///
-/// It succeeds, whatever memory there is, exactly where no check was refused before, the value can be found
-/// good, and the good offsets that would result keep the allowance. Refused are, as `InvalidDatabase`, a value
+/// It succeeds, whatever memory there is, exactly where no check failed before, the value can be found
+/// good, and the good offsets that would result keep the allowance. Rejected are, as `InvalidDatabase`, a value
 /// that can't be read, a text that is not UTF-8, a pointer to an offset under check and more than 128 levels; as
 /// `ResourceLimit` more work than is allowed; as `InvalidInput`, and nothing else is, every check after a
-/// refusal. `Memory` takes the place of a refusal whose text finds none. Offsets count from the section's start.
+/// error. `Memory` takes the place of an error whose text finds none. Offsets count from the section's start.
 pub fn check_value(alloc: Global, c: &mut Checked, offset: usize) -> Result<(), MaxMindDbError>
     ensures section { c.new.section ≡ c.old.section }
     ensures exact { IsOk result ↔ ((c.old.failed ≡ false) × CanAdd c.old.section (holds c.old.good) offset) }

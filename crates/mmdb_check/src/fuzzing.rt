@@ -9,7 +9,7 @@ use std::alloc::Global;
 
 /// Checks the value at offset 0 of a section, and all that it leads to.
 ///
-/// It succeeds, memory apart, exactly where `check_value` of a section with no good offsets does.
+/// It succeeds, unless out of memory, exactly where `check_value` of a section with no good offsets does.
 pub fn verify(alloc: Global, section: &[u8]) -> Result<(), MaxMindDbError>
     ensures ok { OnOk result (CanAdd section.now none 0) }
     ensures err { IfErr result (λ e. MemoryApart e (CanAdd section.now none 0 → ⊥)) }

@@ -1,4 +1,4 @@
-//! The program `mmdb_tool`: its words are handed on, with standard output and standard error.
+//! The program `mmdb_tool`: its arguments are handed on, with standard output and standard error.
 #![tactic(auto)]
 
 use mmdb_tool::{Out, run};
@@ -6,17 +6,17 @@ use std::env;
 use std::io::{self, BufWriter, ErrorKind, Write};
 use std::process::ExitCode;
 
-// The status of a refusal.
+// The status of an error.
 const REFUSED: u8 = 1;
 
-// The status of words that are no command.
+// The status of arguments that are no command.
 const BAD_WORDS: u8 = 2;
 
 // Arguments come as text alone, and a file is opened by text.
 const NOT_UTF8: &str =
     "a word is not UTF-8; reach the file by a link, or as /dev/fd/3 with 3< FILE";
 
-// The words after the program's name.
+// The arguments after the program's name.
 fn words(rt: &HostRuntime) -> io::Result<Vec<String>> {
     let mut words = Vec::new(rt.alloc());
     for word in env::args(rt)?.skip(1) {
@@ -25,7 +25,7 @@ fn words(rt: &HostRuntime) -> io::Result<Vec<String>> {
     Ok(words)
 }
 
-// Writes out what is still buffered. A fault that comes only here is a refusal as any other by
+// Writes out what is still buffered. A fault that comes only here is an error as any other by
 // standard output.
 fn finished<W: Write + Drop>(rt: &HostRuntime, mut writer: W, status: u8) -> u8 {
     match writer.flush() {
@@ -37,7 +37,7 @@ fn finished<W: Write + Drop>(rt: &HostRuntime, mut writer: W, status: u8) -> u8 
     }
 }
 
-// Runs the program on its words, and answers its status.
+// Runs the program on its arguments, and answers its status.
 fn program(rt: &HostRuntime) -> io::Result<u8> {
     let words = words(rt)?;
     let mut out = Out::new(BufWriter::new(rt.alloc(), rt.stdout())?);

@@ -8,7 +8,7 @@ use Rattle.mmdb_decode.specs.State.{State, spent_of, begun}
 use Rattle.mmdb_decode.specs.Reading.{Reading, Meaning, given, followed, mapped}
 use Rattle.mmdb_decode.specs.Scalars.{direct_of}
 
--- A container of one type that is entered, which is one level: how many parts its header tells, where
+-- A container of one type that is entered, which is one level: how many parts its header says, where
 -- they begin, and the offset after a pointer that led to it.
 unfoldable pub container_at : ℕ → List ℕ → ℕ → ℕ → Option Entered
 container_at kind s p d =

@@ -19,7 +19,7 @@ record_at fields none = in_map (λ n. pairs_from name_at fields none n)
 abbrev pub finished : {P R : Type 0} → (P → Option R) → Meaning P → Meaning R
 finished = checked
 
--- whether a name is spelled so
+-- whether a name has these bytes
 unfoldable pub named : List ℕ → List ℕ → Bool
 named name text = bytes_eq name text
 

@@ -13,7 +13,7 @@ pub record Kept (old new : State) : Type 0 where
   pub levels : new.levels ≡ old.levels
   pub charges : NoneBack old.budget new.budget
 
--- nothing readable stands there; memory apart, unless a success takes none (the flag)
+-- nothing readable stands there; or memory ran out, unless a success takes none (the flag)
 abbrev pub Refuses : {A : Type 0} → Bool → MaxMindDbError → Option A → Type 0
 Refuses true e read = read ≡ None
 Refuses false Memory read = Unit {0}
@@ -30,7 +30,7 @@ abbrev pub Takes : {X A E : Type 0} → (X → A) → Option (A × State) → St
 Takes view read old new (Ok x) = read ≡ Some (view x, new)
 Takes view read old new (Err e) = GivenUp old new × (read ≡ None)
 
--- What a typed read did: exactly what the meaning says, or a refusal. view goes from what is returned
+-- What a typed read did: exactly what the meaning says, or an error. view goes from what is returned
 -- to the datum.
 abbrev pub Reads : {X A : Type 0} → (X → A) → Bool → Option (A × State) → State → State → Result X MaxMindDbError → Type 0
 Reads view free read old new (Ok x) = read ≡ Some (view x, new)

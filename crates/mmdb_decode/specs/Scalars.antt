@@ -20,7 +20,7 @@ free_of_charge x = record { value = x.0; next = x.1; values = 0; bytes = 0 }
 abbrev pub costs_its_length : List ℕ × ℕ → Reading (List ℕ)
 costs_its_length x = record { value = x.0; next = x.1; values = 0; bytes = length x.0 }
 
--- a whole number of one type, of at most so many bytes
+-- an integer of one type, of at most so many bytes
 unfoldable pub number_of : ℕ → ℕ → Meaning ℕ
 number_of kind most s p d =
     direct_of kind s p d >>= λ at.

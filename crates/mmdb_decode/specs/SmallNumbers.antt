@@ -1,4 +1,4 @@
--- Small numbers: a whole number that fits, of whatever type, behind any number of pointers.
+-- Small numbers: an integer that fits, of whatever type, behind any number of pointers.
 use Rattle.std.specs.Prelude.{ℕ, zero, suc, ◌-◌, ℤ, pos, int_le, List, Option, Some, None, ◌&&◌, nat_eq, if◌then◌else◌}
 use Rattle.mmdb_format.specs.declared.header.Header.{Header}
 use Rattle.mmdb_format.specs.Header.{◌>>=◌, header_at}

@@ -58,7 +58,7 @@ NoneBack None new = Unit {0}
 NoneBack (Some c) None = ⊥
 NoneBack (Some c) (Some n) = (c.values ≤ n.values) × (c.bytes ≤ n.bytes)
 
--- what is known of a decoder after a refusal
+-- what is known of a decoder after an error
 pub record GivenUp (old new : State) : Type 0 where
   pub section : new.section ≡ old.section
   pub charges : NoneBack old.budget new.budget

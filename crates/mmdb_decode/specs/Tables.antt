@@ -89,7 +89,7 @@ fields_into (part name shape none is_absent get rest) put p n =
 unfoldable pub fields_of : {R : Type 0} → (t : Table R) → Fields (Parts t)
 fields_of t p n = fields_into t (λ q. q) p n
 
--- the record that a table tells of
+-- the record that a table describes
 abbrev pub whole_of : {R : Type 0} → (t : Table R) → Parts t → Option (Data t)
 whole_of t p = Some (all_parts t p)
 

@@ -28,7 +28,7 @@ ReadsScalars {A = A} read says =
     (s : List ℕ) (p d : ℕ) (v : A) (q c b : ℕ) →
     (read s p d ≡ Some (record { value = v; next = q; values = c; bytes = b })) ↔ (ScalarStands s p d (says v) q × (scalar_is_text (says v) ≡ true) × (c ≡ 0) × (b ≡ scalar_payload (says v)))
 
--- a whole number of one of the four types stands at p and ends before q: behind any number of pointers,
+-- an integer of one of the four types stands at p and ends before q: behind any number of pointers,
 -- for each of which a level is left
 abbrev pub WholeNumberStands : List ℕ → ℕ → ℕ → ℤ → ℕ → Type 0
 WholeNumberStands s p d z q =
@@ -40,7 +40,7 @@ ReadsSmallNumbers =
     (low high : ℤ) (s : List ℕ) (p d : ℕ) (z : ℤ) (q c b : ℕ) → d ≤ most_levels →
     (small_at low high s p d ≡ Some (record { value = z; next = q; values = c; bytes = b })) ↔ (WholeNumberStands s p d z q × (low ≤ℤ z) × (z ≤ℤ high) × (c ≡ 0) × (b ≡ 0))
 
--- A container of this type stands at p, and tells how many parts it has, where they begin, the offset after
+-- A container of this type stands at p, and says how many parts it has, where they begin, the offset after
 -- a pointer that led to it, and their levels: it stands there directly, or behind one pointer, and a level
 -- is left for the pointer and for itself.
 abbrev pub ContainerStands : ℕ → List ℕ → ℕ → ℕ → Entered → Type 0
@@ -165,7 +165,7 @@ ReadsTables t =
     (s : List ℕ) (p d : ℕ) (v : Data t) (q c b : ℕ) →
     (record_of t s p d ≡ Some (record { value = v; next = q; values = c; bytes = b })) ↔ ((x : Parts t) × (names : List (List ℕ)) × RecordStands (fields_of t) (no_parts t) s p d names x q c b × (whole_of t x ≡ Some v))
 
--- A name of which a record tells whether it has stood: no field empties it, its own fills it, and where it
+-- A name of which a record says whether it has stood: no field empties it, its own fills it, and where it
 -- has stood nothing is read behind it.
 pub record IsKnown {P : Type 0} (fields : Fields P) (name : List ℕ) (has_stood : P → Bool) : Type 0 where
   pub stays : (x : P) (other s : List ℕ) (p d : ℕ) (y : Reading P) → has_stood x ≡ true → fields x other s p d ≡ Some y → has_stood y.value ≡ true

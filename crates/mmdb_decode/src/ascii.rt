@@ -23,7 +23,7 @@ pub(crate) fn are_eight_ascii(bytes: &[u8], at: usize) -> bool
     are_four_ascii(bytes, at) & are_four_ascii(bytes, at + 4)
 }
 
-/// Whether bytes are at most sixteen and all of them ASCII, told without a loop: two looks that may overlap see
+/// Whether bytes are at most sixteen and all of them ASCII, without a loop: two looks that may overlap see
 /// them all.
 #[inline(always)]
 pub(crate) fn is_short_ascii(bytes: &[u8]) -> bool

@@ -15,7 +15,24 @@ use mmdb_format::decode_error_kind::DecodeErrorKind;
 use mmdb_format::error::{DecodeResult, MaxMindDbError};
 use std::alloc::Global;
 
-/// A type that can be decoded.
+/// A type that can be decoded. A type of one's own says by its ghost items what stands there, and is read by the
+/// types that it is made of:
+///
+///     impl<'de> Decode<'de> for SystemNumber {
+///         ghost Datum = { ℕ };
+///
+///         ghost datum = { λ v. v.0 };
+///
+///         ghost meaning = { u32_at };
+///
+///         ghost starts = { false };
+///
+///         ghost free = { true };
+///
+///         fn decode(alloc: Global, d: &mut Decoder<'de>) -> DecodeResult<SystemNumber> {
+///             Ok(SystemNumber(u32::decode(alloc, d)?))
+///         }
+///     }
 pub trait Decode<'de>: Sized + Drop {
     /// What its values say, apart from where they lie in memory.
     ghost Datum: { Type 0 };

@@ -26,14 +26,14 @@ use std::marker::Model;
 
 /// Reads values of a section from an offset on.
 ///
-/// After a refusal it is given up: its calls stay safe, and no charge was given back.
+/// After an error it is given up: its calls stay safe, and no charge was given back.
 #[derive(Drop)]
 pub struct Decoder<'de> {
     section: &'de [u8],
     offset: usize,
     levels: u16,
     budget: Option<Charges>,
-    // What was to be read where a reading was refused, and the name of a field that stood a second time. No contract
+    // What was to be read where a reading failed, and the name of a field that stood a second time. No contract
     // sees them.
     step: Step,
     repeated: &'de [u8],

@@ -42,7 +42,7 @@ fn direct_of(
     Ok(at)
 }
 
-/// A whole number of one type, of at most so many bytes, and the offset after it.
+/// An integer of one type, of at most so many bytes, and the offset after it.
 #[inline(always)]
 #[tactic(auto, unfolding(crate::specs::Scalars::number_of))]
 pub(crate) fn number_at(
@@ -149,7 +149,7 @@ fn is_utf8(bytes: &[u8]) -> bool
     }
 }
 
-// Whether bytes are UTF-8. Few that are ASCII are told without a loop, and most names before std is asked.
+// Whether bytes are UTF-8. Few that are ASCII are recognised without a loop, and most names before std is asked.
 #[tactic(auto, using(crate::proofs::Texts::ascii_text))]
 #[inline(always)]
 fn is_text(bytes: &[u8]) -> bool

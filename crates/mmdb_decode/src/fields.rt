@@ -1,4 +1,4 @@
-//! Records that are read in place, field by field, as a table of their fields tells.
+//! Records that are read in place, field by field, as a table of their fields says.
 ghost use Rattle.std.specs.Prelude.{◌≡◌, Bool, true, false, Some, IsSome};
 ghost use Rattle.mmdb_decode.specs.Maps.{pairs_from, name_at, pairs_left};
 ghost use Rattle.mmdb_decode.specs.State.{decoded};
@@ -26,7 +26,7 @@ pub struct FieldsSeen(
     pub bool,
 );
 
-/// A record that a table tells of: its fields are optional, or parts that are records or lists of their
+/// A record that a table describes: its fields are optional, or parts that are records or lists of their
 /// own, of which there are at most nine. Such a record can be decoded.
 pub trait Fields<'de>: Sized + Drop {
     /// A row for each field: its name in the file, its shape, and where the record keeps it.
@@ -167,7 +167,7 @@ impl<'de, R: TryFields<'de>> Decode<'de> for R {
     }
 }
 
-/// Reads a part that stands at most once. One that stands again is refused before its value is read.
+/// Reads a part that stands at most once. One that stands again is rejected before its value is read.
 pub fn read_part<'de, R: TryFields<'de>>(
     alloc: Global,
     d: &mut Decoder<'de>,

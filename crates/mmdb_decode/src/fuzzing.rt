@@ -11,7 +11,7 @@ use std::alloc::Global;
 
 /// The value of a type at offset 0 of a section.
 ///
-/// It succeeds, memory apart, exactly where the type's meaning gives a value there, below no level and
+/// It succeeds, unless out of memory, exactly where the type's meaning gives a value there, below no level and
 /// within the limits. Of a type whose meaning is not exact its own relation is known, and of Ok alone.
 pub fn decode<'de, T: Decode<'de>>(alloc: Global, section: &'de [u8]) -> DecodeResult<T>
     ensures ok { IfOk result (λ v. T.exact ≡ true → answer T.starts T.meaning section.now 0 ≡ Some (T.datum v)) }

@@ -35,12 +35,12 @@ pub fn answer_is_within_limits<'de, T: Decode<'de>>()
 {}
 
 /// At one offset of a section at most one value of a type stands, with one end and one cost: equal offsets
-/// are read as equal data, or are both refused.
+/// are read as equal data, or both fail.
 pub fn same_offset_same_result<'de, T: Decode<'de>>()
     ensures { OneReading T.meaning }
 {}
 
-/// What a decoder under a budget has charged never passes the limits, after a refusal too.
+/// What a decoder under a budget has charged never passes the limits, after an error too.
 #[inline(always)]
 pub fn values_bounded(d: &Decoder<'_>)
     ensures { Within d.now.budget }
@@ -63,7 +63,7 @@ pub fn how_scalars_are_read()
     ensures float { let t = ⟦<Float as Decode<'static>>⟧ in IsScalarShape t.datum t.meaning t.exact t.starts t.free (λ v. v.bits) float_at }
 {}
 
-/// Small numbers say themselves and are read as a whole number of any type that fits them, exactly and
+/// Small numbers say themselves and are read as an integer of any type that fits them, exactly and
 /// without memory, and begin a budget.
 pub fn how_small_numbers_are_read()
     ensures u8 { let t = ⟦<u8 as Decode<'static>>⟧ in IsSmallShape t.datum t.meaning t.exact t.starts t.free pos (small_at (pos 0) (pos 255)) }
@@ -113,7 +113,7 @@ pub fn scalars_unfold<'de, T: Decode<'de>>()
     ensures { ScalarsUnfold T.meaning }
 {}
 
-/// What is read as a small number is the whole number that unfolds there, behind any number of pointers
+/// What is read as a small number is the integer that unfolds there, behind any number of pointers
 /// within the levels.
 pub fn small_number_is_what_stands()
     ensures { ReadsSmallNumbers }
@@ -136,7 +136,7 @@ pub fn text_map_is_what_stands<'de, T: Decode<'de>>()
 {}
 
 /// What is read as a record is the map that stands there, directly or behind one pointer: its fields in
-/// turn. A name of which the record tells whether it has stood, and that is refused then, stands at most
+/// turn. A name of which the record says whether it has stood, and that is refused then, stands at most
 /// once.
 pub fn record_is_what_stands<'de, R: Record<'de>>()
     ensures read { ReadsRecords R.fields R.none }
@@ -144,7 +144,7 @@ pub fn record_is_what_stands<'de, R: Record<'de>>()
     ensures known_names { KnownNamesStandOnce R.fields R.none }
 {}
 
-/// What is read as a record that a table tells of is the map that stands there, directly or behind one
+/// What is read as a record that a table describes is the map that stands there, directly or behind one
 /// pointer: its fields in turn, by the rows of the table. The name of each row stands at most once.
 pub fn table_is_what_stands<'de, R: Fields<'de>>()
     ensures read { ReadsTables R.table }

@@ -1,4 +1,4 @@
-//! What a header tells of a value, without reading the value.
+//! What a header says of a value, without reading the value.
 ghost use Rattle.std.specs.Prelude.{◌≡◌, IfErr};
 ghost use Rattle.std.specs.Result.{result_ok};
 ghost use Rattle.mmdb_format.specs.Error.{kind_of, OfDatabase};

@@ -55,13 +55,13 @@ pub trait Record<'de>: Sized + Drop {
         requires { IsSome d.old.budget }
         ensures { FieldRead free (decoded false (fields (datum self.old) name.now) d.old) (datum self.new) d.old d.new result };
 
-    /// The whole record. A field that is required and missing is refused, as `missing_field` tells.
+    /// The whole record. A field that is required and missing is rejected, as `missing_field` says.
     fn finish(self, alloc: Global, offset: usize) -> DecodeResult<Self::Whole>
         ensures ok { IfOk result (λ v. whole (datum self) ≡ Some (whole_datum v)) }
         ensures err { IfErr result (λ e. Refuses free e (whole (datum self))) };
 }
 
-/// Whether a name is spelled so.
+/// Whether a name has these bytes.
 #[inline(always)]
 #[tactic(auto, unfolding(crate::specs::Records::named))]
 pub fn named(name: &[u8], text: &str) -> bool
@@ -97,7 +97,7 @@ fn duplicate_text(alloc: Global, name: &str) -> Result<Message, AllocError> {
     Message::of_text(alloc, format!(in alloc; "duplicate field `{name}`")?)
 }
 
-/// The refusal of a record without a field that is required.
+/// The error of a record without a field that is required.
 #[inline(always)]
 pub fn missing_field(alloc: Global, name: &str, offset: usize) -> MaxMindDbError
     ensures { IsOfOrMemory OfDecoding result }
@@ -105,7 +105,7 @@ pub fn missing_field(alloc: Global, name: &str, offset: usize) -> MaxMindDbError
     of_field(missing_text(alloc, name), offset)
 }
 
-/// The refusal of a record in which a field stands twice.
+/// The error of a record in which a field stands twice.
 #[inline(always)]
 pub fn duplicate_field(alloc: Global, name: &str, offset: usize) -> MaxMindDbError
     ensures { IsOfOrMemory OfDecoding result }
@@ -113,7 +113,7 @@ pub fn duplicate_field(alloc: Global, name: &str, offset: usize) -> MaxMindDbErr
     of_field(duplicate_text(alloc, name), offset)
 }
 
-/// Reads a field that stands at most once. One that stands again is refused before its value is read.
+/// Reads a field that stands at most once. One that stands again is rejected before its value is read.
 #[inline(always)]
 pub fn read_once<'de, T: Decode<'de>>(
     alloc: Global,

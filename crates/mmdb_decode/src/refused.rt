@@ -1,9 +1,9 @@
-//! Readings that were refused: what is handed on is small, and the decoder stays where it was refused.
+//! Readings that failed: what is handed on is small, and the decoder stays where it failed.
 ghost use Rattle.std.specs.Prelude.{◌≡◌};
 
 use std::alloc::AllocFailed;
 
-/// A reading was refused. The decoder stands where it was.
+/// A reading failed. The decoder stands where it was.
 #[derive(Clone, Copy, Debug)]
 pub enum Refused {
     /// There was no memory.
@@ -12,7 +12,7 @@ pub enum Refused {
     Unreadable,
 }
 
-/// What was to be read where a reading was refused, or what is wrong where that can be read.
+/// What was to be read where a reading failed, or what is wrong where that can be read.
 #[derive(Clone, Copy)]
 pub(crate) enum Step {
     /// The name of a field.
@@ -31,11 +31,11 @@ pub(crate) enum Step {
     Double,
     /// A text.
     Text,
-    /// A whole number of whatever type.
+    /// An integer of whatever type.
     Whole,
     /// A value that is passed.
     Skip,
-    /// A whole number in a range, which it is out of.
+    /// An integer in a range, which it is out of.
     Range,
     /// A text that is read, whose bytes are not UTF-8.
     Encoding,

@@ -25,7 +25,7 @@ pub trait Steps: Sized {
         ensures value { result_ok result ≡ header_at (state self.now).section (state self.now).offset }
         ensures bound { IfOk result (λ h. (h.size < 2 ^ 25) × (h.kind ≡ 1 → h.size < 32)) };
 
-    /// Goes to the target of the pointer whose header is at the offset, one level down, and tells the
+    /// Goes to the target of the pointer whose header is at the offset, one level down, and says the
     /// offset after the pointer.
     fn enter_pointer(&mut self, alloc: Global, header: Header) -> DecodeResult<usize>
         requires { header.size < 32 }

@@ -1,4 +1,4 @@
-//! Types whose values are read as parts of records: why a reading is refused is kept aside.
+//! Types whose values are read as parts of records: why a reading fails is kept aside.
 ghost use Rattle.std.specs.Prelude.{◌≡◌, true, false, Some, IfOk, IfErr, OnOk, OnErr, IsSome, map, option_map};
 ghost use Rattle.mmdb_decode.specs.State.{decoded, GivenUp};
 ghost use Rattle.mmdb_decode.specs.Refusal.{Declines, Kept};
@@ -92,7 +92,7 @@ pub fn try_items<'de, T: TryDecode<'de>>(
     Ok(out)
 }
 
-/// Reads a field that stands at most once. One that stands again is refused before its value is read.
+/// Reads a field that stands at most once. One that stands again is rejected before its value is read.
 #[inline(always)]
 pub fn try_once<'de, T: TryDecode<'de>>(
     alloc: Global,

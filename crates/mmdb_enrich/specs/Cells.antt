@@ -56,12 +56,12 @@ abbrev pub read_at : List PathElement → List ℕ → ℕ → Option (Option Tr
 read_at path s offset = answer_along path true (value_at true) s offset
 
 -- What a reading gave is this answer: the tree of the value, nothing where the path leads nowhere, and no answer where
--- the way or the value was refused. Out of memory is any answer.
+-- the way or the value failed. Out of memory is any answer.
 abbrev pub IsReadAs : Option (Option Tree) → Result (Option Value) MaxMindDbError → Type 0
 IsReadAs answer (Ok value) = answer ≡ Some (option_map value_tree value)
 IsReadAs answer (Err e) = Refuses false e answer
 
--- the cell of what was read: empty where nothing is there, or the way or the value was refused
+-- the cell of what was read: empty where nothing is there, or the way or the value failed
 abbrev pub IsCell : Rows → Option (Option Tree) → List ℕ → Type 0
 IsCell rows None cell = cell ≡ []
 IsCell rows (Some None) cell = cell ≡ []
@@ -77,7 +77,7 @@ abbrev pub blanks : Rows → List (List PathElement) → List ℕ
 blanks rows [] = []
 blanks rows (path ∷ paths) = delimiter_of rows ∷ blanks rows paths
 
--- no path and no value was refused
+-- no path and no value failed
 abbrev pub are_read : List (List PathElement) → List ℕ → ℕ → Bool
 are_read [] s offset = true
 are_read (path ∷ paths) s offset = is_some (read_at path s offset) && are_read paths s offset

@@ -72,7 +72,7 @@ fn put_value(
     }
 }
 
-// Adds the cell of what was read along a path, and tells whether nothing was refused.
+// Adds the cell of what was read along a path, and says whether nothing failed.
 fn put_read(
     alloc: Global,
     rows: Rows,
@@ -92,7 +92,7 @@ fn put_read(
     }
 }
 
-// Adds a delimiter and the cell at the end of a path, and tells whether nothing was refused.
+// Adds a delimiter and the cell at the end of a path, and says whether nothing failed.
 fn put_cell<S: AsSlice<u8> + Drop>(
     alloc: Global,
     rows: Rows,
@@ -107,7 +107,7 @@ fn put_cell<S: AsSlice<u8> + Drop>(
     put_read(alloc, rows, &read, out)
 }
 
-/// Adds a delimiter and a cell for each path, and tells whether nothing was refused.
+/// Adds a delimiter and a cell for each path, and says whether nothing failed.
 pub(crate) fn put_cells<S: AsSlice<u8> + Drop>(
     alloc: Global,
     rows: Rows,

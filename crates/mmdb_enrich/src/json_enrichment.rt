@@ -57,7 +57,7 @@ fn nothing(outcome: Outcome) -> Added
     Added { outcome, behind: 0 }
 }
 
-// What is kept of a record: the text of its member, or that a field was refused.
+// What is kept of a record: the text of its member, or that a field failed.
 fn kept_of(member: &Option<Vec<u8>>) -> Kept<'_>
     ensures { MatchOption member.now ((result.cells.now ≡ []) × (result.outcome ≡ Refused)) (λ text. (result.cells.now ≡ text.items) × (result.outcome ≡ Found)) }
 {
@@ -73,7 +73,7 @@ fn kept_of(member: &Option<Vec<u8>>) -> Kept<'_>
     }
 }
 
-// Adds a member to an object: as the first, or behind a comma. Nothing is added where a field was refused.
+// Adds a member to an object: as the first, or behind a comma. Nothing is added where a field failed.
 fn put_member(line: &Line, member: Kept<'_>, out: &mut Vec<u8>) -> Result<Added, AllocError>
     ensures { IfOk result (λ addition. PutsMember line.now member.entry.cells.now member.entry.outcome addition out.old.items out.new.items) }
 {

@@ -58,7 +58,7 @@ fn put_member<S: AsSlice<u8> + Drop>(
     Ok(())
 }
 
-/// The text of a member with the fields of a record, or none where one was refused.
+/// The text of a member with the fields of a record, or none where one failed.
 pub(crate) fn member_of<S: AsSlice<u8> + Drop>(
     alloc: Global,
     found: &LookupResult<'_, S>,

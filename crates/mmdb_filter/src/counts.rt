@@ -12,7 +12,7 @@ pub enum Outcome {
     Unreadable,
     /// It is not of the form that was asked for, or too long to be read.
     Malformed,
-    /// The address, the record or a field was refused.
+    /// The address, the record or a field failed.
     Refused,
 }
 

@@ -33,7 +33,7 @@ pub trait Additions {
     ghost fits: { Self → Self.Memory → Type 0 };
 
     /// Appends to `out` what is added to a row. Its text comes without its end. Of a long text only the first
-    /// [`MOST_SEEN`](crate::MOST_SEEN) bytes come, and `is_long` tells so; what is added stands behind all of it.
+    /// [`MOST_SEEN`](crate::MOST_SEEN) bytes come, and `is_long` says so; what is added stands behind all of it.
     fn add(
         &self,
         memory: &mut Self::Memory,

@@ -12,7 +12,7 @@ pub fn counts_equal_where_same()
     ensures counts { IsEquality ⟦<Counts as PartialEq>⟧.eq }
 {}
 
-/// A clone of one of these is its source, and is never refused.
+/// A clone of one of these is its source, and never fails.
 pub fn count_clones_are_same()
     ensures rows { IsCloneSame ⟦<Rows as Clone>⟧.is_clone }
     ensures position { IsCloneSame ⟦<Position as Clone>⟧.is_clone }

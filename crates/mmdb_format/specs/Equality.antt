@@ -1,4 +1,4 @@
--- What `==` of two values tells.
+-- What `==` of two values says.
 use Rattle.std.specs.Prelude.{◌≡◌, ◌↔◌, Bool, IsTrue}
 
 -- two values are equal exactly where what they say is

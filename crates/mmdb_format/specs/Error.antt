@@ -23,7 +23,7 @@ kind_of (InvalidNetwork e) = OfNetwork
 kind_of (InvalidInput message) = OfInput
 kind_of Memory = OfMemory
 
--- "Memory apart": the error is for memory, which was refused, or this holds of it. A call whose
+-- Memory apart: the error is for memory, which was refused, or this holds of it. A call whose
 -- contract says so owes nothing where a growth was refused, the making of an error's text included.
 abbrev pub MemoryApart : MaxMindDbError → Type 0 → Type 0
 MemoryApart Memory P = Unit {0}
@@ -38,7 +38,7 @@ MemoryApart (InvalidInput message) P = P
 abbrev pub IsOfOrMemory : Kind → MaxMindDbError → Type 0
 IsOfOrMemory kind e = (kind_of e ≡ kind) ⊎ (kind_of e ≡ OfMemory)
 
--- the call was refused, with an error of this kind
+-- the call failed, with an error of this kind
 abbrev pub IsRefusedAs : {T : Type 0} → Kind → Result T MaxMindDbError → Type 0
 IsRefusedAs kind (Ok x) = ⊥
 IsRefusedAs kind (Err e) = kind_of e ≡ kind

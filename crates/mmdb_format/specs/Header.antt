@@ -8,7 +8,7 @@ abbrev pub ◌>>=◌ : {A B : Type 0} → Option A → (A → Option B) → Opti
 (Some x) >>= f = f x
 None >>= f = None
 
--- the number that bytes spell, the most significant first, after the digits n
+-- the number that bytes give, the most significant first, after the digits n
 abbrev pub big_endian_after : ℕ → List ℕ → ℕ
 big_endian_after n [] = n
 big_endian_after n (b ∷ bs) = big_endian_after (n * 256 + b) bs
@@ -20,15 +20,15 @@ big_endian bytes = big_endian_after 0 bytes
 unfoldable pub bytes_at : List ℕ → ℕ → ℕ → Option (List ℕ)
 bytes_at s p n = if nat_le (p + n) (length s) then Some (take n (drop p s)) else None
 
--- the number that n bytes at an offset spell
+-- the number that n bytes at an offset give
 unfoldable pub number_at : List ℕ → ℕ → ℕ → Option ℕ
 number_at s p n = bytes_at s p n >>= λ bytes. Some (big_endian bytes)
 
--- a size that one, two or three length bytes tell, with the offset after them
+-- a size that one, two or three length bytes say, with the offset after them
 abbrev pub with_length_end : ℕ → ℕ → Option ℕ → Option (ℕ × ℕ)
 with_length_end offset low size = option_map (λ n. (n, offset + (low - 28))) size
 
--- the size that the low five bits of a control byte tell, with the offset after the length bytes:
+-- the size that the low five bits of a control byte say, with the offset after the length bytes:
 -- up to 28 themselves, and above that 29, 285 or 65,821 and the number in one, two or three bytes
 unfoldable pub size_at : List ℕ → ℕ → ℕ → Option (ℕ × ℕ)
 size_at s p low =

@@ -35,9 +35,9 @@ pub enum DecodeErrorKind {
     Unexpected(Kind, u16),
     /// An array of the first length was asked for, and it has the second.
     WrongLength(usize, usize),
-    /// A whole number is out of the range that was asked for.
+    /// An integer is out of the range that was asked for.
     OutOfRange,
-    /// The value is no whole number.
+    /// The value is no integer.
     NotWhole,
     /// More values than a reader allows.
     TooManyValues,
@@ -117,7 +117,7 @@ impl DecodeErrorKind {
         Ok(Message::Fixed(text))
     }
 
-    /// The error that tells of this fault at an offset, or `Memory` where its text holds a number
+    /// The error that reports this fault at an offset, or `Memory` where its text holds a number
     /// and there is no memory for it.
     #[inline(always)]
     pub fn refusal(self, alloc: Global, offset: usize) -> MaxMindDbError

@@ -8,7 +8,7 @@ use std::alloc::{AllocError, AllocFailed, Global};
 use std::{fmt, io};
 use thiserror::Error;
 
-/// Why a call was refused.
+/// Why a call failed.
 ///
 /// Offsets of `InvalidDatabase` that a reader gives count from the file's start, all others from the
 /// start of the section that was read. A path is written as `render_path` does.

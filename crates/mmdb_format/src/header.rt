@@ -116,7 +116,7 @@ fn number_at(section: &[u8], offset: usize, len: usize) -> Result<usize, DecodeE
     }
 }
 
-// The size that one, two or three length bytes at an offset tell. Out of line, with an answer that fits in registers.
+// The size that one, two or three length bytes at an offset say. Out of line, with an answer that fits in registers.
 #[inline(never)]
 #[tactic(auto, unfolding(crate::specs::Header::size_at))]
 fn long_size_at(section: &[u8], offset: usize, low: u8) -> Option<usize>

@@ -14,7 +14,7 @@ use crate::message::Text;
 use mmdb_net::IpNetworkError;
 use std::io;
 
-/// `==` is equality of data: of numbers that are not whole it compares the bits, so that it tells apart the
+/// `==` is equality of data: of numbers that are not whole it compares the bits, so that it distinguishes the
 /// zeros, and no number from itself.
 pub fn scalars_equal_where_same()
     ensures double { IsEqualityOf ⟦<Double as PartialEq>⟧.eq (λ x. x.bits) }
@@ -47,7 +47,7 @@ pub fn scalar_clones_are_same()
     ensures content_given { IsNeverRefused ⟦<Content<'static> as Clone>⟧.is_infallible }
 {}
 
-/// An error made of a refusal of the system, or of a network's, holds the error that was handed in.
+/// An error made of an error of the system, or of a network's, holds the error that was handed in.
 pub fn errors_hold_their_causes()
     ensures io { HoldsCause Io ⟦<MaxMindDbError as From<io::Error>>⟧.from_gives }
     ensures network { HoldsCause InvalidNetwork

@@ -4,7 +4,7 @@ use Rattle.mmdb_decode.specs.declared.items.Items.{Items}
 use Rattle.mmdb_decode.specs.Arrays.{entered_array, items_left}
 use Rattle.mmdb_decode.specs.State.{State}
 
--- Where more elements than the most are declared and more bytes than that are left, the list is refused,
+-- Where more elements than the most are declared and more bytes than that are left, the list is rejected,
 -- and the decoder stands where its first element begins: none was read.
 abbrev pub IsRefusedEarly : {T E : Type 0} → ℕ → State → State → Result T E → Type 0
 IsRefusedEarly most old new r =

@@ -27,7 +27,7 @@ pub(crate) use fields_by_name;
 /// The most subdivisions that a record may have.
 pub const MAX_SUBDIVISIONS: usize = 32;
 
-// Reads a list of at most 32. A longer one is refused before an element is read, unless at most 32 bytes
+// Reads a list of at most 32. A longer one is rejected before an element is read, unless at most 32 bytes
 // are left, and never handed out.
 fn read_few<'de, T: TryDecode<'de>>(alloc: Global, d: &mut Decoder<'de>) -> Result<Vec<T>, Refused>
     ensures ok { IfOk result (λ v. decoded true (few_at 32 T.meaning) d.old ≡ Some (map T.datum v.items, d.new)) }

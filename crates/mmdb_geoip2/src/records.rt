@@ -92,6 +92,13 @@ impl<'de> TryFields<'de> for Country<'de> {
 }
 
 /// The city of an address.
+///
+///     if let Some(city) = found.decode::<City<'_>>(rt.alloc())? {
+///         println!(rt; "city: {}", city.city.names.english.unwrap_or("-"))?;
+///         for part in &city.subdivisions {
+///             println!(rt; "part: {}", part.iso_code.unwrap_or("-"))?;
+///         }
+///     }
 #[derive(Clone, Debug, Drop)]
 pub struct City<'a> {
     /// The city.

@@ -19,7 +19,7 @@ use std::convert::AsSlice;
 /// The compact text of the value at the end of a path into the network's record, or none exactly where
 /// there is no data or the path leads nowhere. An empty path is the whole record.
 ///
-/// Refused as `decode_path` of a `Value` is, memory apart.
+/// Fails as `decode_path` of a `Value` does, unless out of memory.
 pub fn found_json<S: AsSlice<u8> + Drop>(
     alloc: Global,
     found: &LookupResult<'_, S>,
@@ -36,9 +36,9 @@ pub fn found_json<S: AsSlice<u8> + Drop>(
     }
 }
 
-/// Gives the tokens of that value, or `null` where there is none, and tells whether there is one.
+/// Gives the tokens of that value, or `null` where there is none, and says whether there is one.
 ///
-/// Refused as `found_json` is; only where there is no memory some tokens were given.
+/// Fails as `found_json` does; only where there is no memory some tokens were given.
 pub fn write_found<S: AsSlice<u8> + Drop, W: TokenSink>(
     alloc: Global,
     found: &LookupResult<'_, S>,

@@ -15,7 +15,7 @@ pub fn networks_equal_where_same()
     ensures errors { EqualWhereIdentical ⟦<IpNetworkError as PartialEq>⟧.eq }
 {}
 
-/// A clone of a network, or of an error, is its source, and is never refused.
+/// A clone of a network, or of an error, is its source, and never fails.
 pub fn network_clones_are_same()
     ensures ipv4 { IsCloneSame ⟦<Ipv4Network as Clone>⟧.is_clone }
     ensures ipv6 { IsCloneSame ⟦<Ipv6Network as Clone>⟧.is_clone }

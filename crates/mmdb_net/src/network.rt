@@ -73,8 +73,8 @@ impl Ipv4Network {
         mask::ipv4_first_bits(self.address, self.prefix) == mask::ipv4_first_bits(addr, self.prefix)
     }
 
-    /// The first address of the network in dotted decimal, `/` and the prefix. Refused only where
-    /// memory is.
+    /// The first address of the network in dotted decimal, `/` and the prefix. Fails only when
+    /// out of memory.
     pub fn full_text(&self, alloc: Global) -> Result<String, AllocError>
         ensures { IfOk result (λ text. string_bytes text ≡ ipv4_full_text_of self.now) }
     {
@@ -83,7 +83,7 @@ impl Ipv4Network {
         format!(in alloc; "{address}/{prefix}")
     }
 
-    /// Appends the full text. Refused only where memory is.
+    /// Appends the full text. Fails only when out of memory.
     pub fn push_full_text(&self, out: &mut Vec<u8>) -> Result<(), AllocError>
         ensures { OnOk result (out.new.items ≡ out.old.items ++ ipv4_full_text_of self.now) }
     {
@@ -179,7 +179,7 @@ impl Ipv6Network {
     }
 
     /// The first address of the network in eight groups of four hexadecimal digits, `/` and the
-    /// prefix. Refused only where memory is.
+    /// prefix. Fails only when out of memory.
     pub fn full_text(&self, alloc: Global) -> Result<String, AllocError>
         ensures { IfOk result (λ text. string_bytes text ≡ ipv6_full_text_of self.now) }
     {
@@ -198,7 +198,7 @@ impl Ipv6Network {
         )
     }
 
-    /// Appends the full text. Refused only where memory is.
+    /// Appends the full text. Fails only when out of memory.
     pub fn push_full_text(&self, out: &mut Vec<u8>) -> Result<(), AllocError>
         ensures { OnOk result (out.new.items ≡ out.old.items ++ ipv6_full_text_of self.now) }
     {
@@ -234,7 +234,11 @@ impl FromStr for Ipv6Network {
     }
 }
 
-/// A network of either kind.
+/// A network of either kind: an address and how many of its first bits all addresses of the network share.
+///
+///     let network: IpNetwork = "192.168.1.100/24".parse()?;
+///     let inside: IpAddr = "192.168.1.255".parse()?;
+///     assert!(rt; network.contains(inside), "{inside}");
 #[derive(Clone, Copy, Debug, PartialEq, Eq)]
 pub enum IpNetwork {
     /// An IPv4 network.
@@ -304,8 +308,8 @@ impl IpNetwork {
         }
     }
     /// The first address of the network in full, `/` and the prefix: an IPv4 address in dotted
-    /// decimal, an IPv6 address as eight groups of four hexadecimal digits. Refused only where
-    /// memory is.
+    /// decimal, an IPv6 address as eight groups of four hexadecimal digits. Fails only when
+    /// out of memory.
     pub fn full_text(&self, alloc: Global) -> Result<String, AllocError>
         ensures { IfOk result (λ text. string_bytes text ≡ full_text_of self.now) }
     {
@@ -315,7 +319,7 @@ impl IpNetwork {
         }
     }
 
-    /// Appends the full text, as `full_text` gives it. Refused only where memory is.
+    /// Appends the full text, as `full_text` gives it. Fails only when out of memory.
     pub fn push_full_text(&self, out: &mut Vec<u8>) -> Result<(), AllocError>
         ensures { OnOk result (out.new.items ≡ out.old.items ++ full_text_of self.now) }
     {

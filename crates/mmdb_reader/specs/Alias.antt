@@ -16,7 +16,7 @@ pub record IsAlias (db : Database) (s : List Bool) : Type 0 where
   pub high : 2 ^ 32 ≤ number_of 128 s
   pub same : walk (tree_of db) s ≡ ipv4_start db
 
--- the same as a test of the number to which the bits lead and of the number that they spell
+-- the same as a test of the number to which the bits lead and of the number that they give
 abbrev pub is_alias_at : Database → ℕ → ℕ → Bool
 is_alias_at db number address =
     has_ipv4_subtree db && (nat_lt 0 (ipv4_start db) && (number == ipv4_start db && nat_le (2 ^ 32) address))

@@ -15,7 +15,7 @@ abbrev pub past_pointer : Tree → Tree
 past_pointer (pointer a t) = t
 past_pointer t = t
 
--- whether a tree is a text that is spelled so
+-- whether a tree is a text of these bytes
 abbrev pub is_spelled : List ℕ → Tree → Bool
 is_spelled key (scalar (text x)) = named x key
 is_spelled key _ = false

@@ -7,7 +7,7 @@ use Rattle.mmdb_decode.specs.Selecting.{at_key, at_element, from_front, from_end
 use Rattle.mmdb_reader.specs.declared.path.PathElement.{PathElement}
 use Rattle.mmdb_reader.specs.declared.path.PathElement.TheVariants.{Key, Index, IndexFromEnd}
 
--- The step that a whole number stands for: -1 is the last element, and the least `isize` stands for the
+-- The step that an integer stands for: -1 is the last element, and the least `isize` stands for the
 -- largest distance from the end.
 abbrev pub element_at : ℤ → PathElement
 element_at (pos n) = Index n

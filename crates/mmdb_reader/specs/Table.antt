@@ -11,7 +11,7 @@ pub record EndsAs (tree : SearchTree) (taken number : ℕ) (bits : List Bool) (e
   pub taken_is : entry.taken ≡ taken + more
   pub ends : Descends tree number bits more entry.number
 
--- One entry for each string of so many bits, in the order of the numbers that they spell.
+-- One entry for each string of so many bits, in the order of the numbers that they give.
 pub record HasEntries (tree : SearchTree) (width taken number : ℕ) (entries : List Entry) : Type 0 where
   pub size : length entries ≡ 2 ^ width
   pub each : (i : ℕ) (d : Entry) → i < 2 ^ width → EndsAs tree taken number (bits_of width i) (slice_index_or entries i d)
@@ -22,7 +22,7 @@ pub record Appends (tree : SearchTree) (width taken number : ℕ) (old new : Lis
   pub items : new ≡ old ++ added
   pub entries : HasEntries tree width taken number added
 
--- One entry for each string of sixteen bits, at the number that it spells: where the walk from `start`
+-- One entry for each string of sixteen bits, at the number that it gives: where the walk from `start`
 -- along it ends, and after how many bits.
 pub record IsFull (tree : SearchTree) (start : ℕ) (table : List Entry) : Type 0 where
   pub size : length table ≡ 65536

@@ -53,7 +53,7 @@ abbrev pub OffsetsAreExact : Type 0
 OffsetsAreExact =
     (db : Database) (offset : ℕ) → Contains (offsets (stops db)) offset ↔ ((leaf : List Bool) × IsWalked db leaf × HasValueAt db leaf offset)
 
--- Where no walked leaf is faulty, no lookup is refused, behind aliases either.
+-- Where no walked leaf is faulty, no lookup fails, behind aliases either.
 abbrev pub LookupsSucceed : Type 0
 LookupsSucceed = (db : Database) → HasNoFault db → (address : IpAddr) → CanAsk db address → ¬ IsRefusedAt db address
 

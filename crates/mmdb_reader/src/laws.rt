@@ -131,7 +131,7 @@ pub fn steps_equal_where_same()
     ensures { (a b : SpecPathElement) → IsTrue (⟦<PathElement<'static> as PartialEq>⟧.eq a b) ↔ IsSameStep a b }
 {}
 
-/// A clone of options, or of a step of a path, is its source, and is never refused.
+/// A clone of options, or of a step of a path, is its source, and never fails.
 pub fn step_clones_are_same()
     ensures options { IsCloneSame ⟦<WithinOptions as Clone>⟧.is_clone }
     ensures step { IsCloneSame ⟦<PathElement<'static> as Clone>⟧.is_clone }

@@ -121,7 +121,7 @@ impl<S: AsSlice<u8> + Drop> Reader<S> {
     /// What `lookup` answers for an address, from where its walk was found to end.
     ///
     /// An IPv6 address asked of an IPv4 database is `InvalidInput`; a leaf whose number leads outside
-    /// the data section is `InvalidDatabase`. Nothing else is refused.
+    /// the data section is `InvalidDatabase`. Nothing else fails.
     #[inline(always)]
     pub fn lookup_at(
         &self,

@@ -43,7 +43,7 @@ fn refusal(alloc: Global, text: String) -> MaxMindDbError
     }
 }
 
-// The refusal of a time that a signed number of seconds can't hold.
+// The error of a time that a signed number of seconds can't hold.
 fn too_late(alloc: Global, epoch: u64) -> MaxMindDbError
     ensures { IsOfOrMemory OfDatabase result }
 {

@@ -3,6 +3,11 @@ ghost use Rattle.std.specs.Prelude.{◌≡◌};
 
 /// Which networks of a range are listed. By default aliased networks and networks without data are
 /// not, and empty values are listed as all others.
+///
+///     for item in reader.networks(rt.alloc(), WithinOptions::default())? {
+///         let found = item?;
+///         println!(rt; "{} {:?}", found.network()?, found.offset())?;
+///     }
 #[derive(Clone, Copy, Debug, PartialEq, Eq)]
 pub struct WithinOptions {
     aliased_networks: bool,

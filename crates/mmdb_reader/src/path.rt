@@ -11,6 +11,8 @@ use std::alloc::{AllocError, Global};
 /// A step of a path: to the value of a key in a map, or to an element of an array.
 ///
 /// An index counts from 0; `IndexFromEnd(0)` is the last element.
+///
+///     let code: Option<&str> = found.decode_path(rt.alloc(), &path!["country", "iso_code"])?;
 #[derive(Clone, Debug, PartialEq, Eq, Drop)]
 pub enum PathElement<'a> {
     Key(&'a str),
@@ -76,7 +78,7 @@ impl PathElement<'_> {
 }
 
 /// The text of a path: for each step `/` and the key, the index, or `-` and one more than the index from
-/// the end. Refused for memory alone.
+/// the end. Fails only when out of memory.
 pub fn render_path(alloc: Global, path: &[PathElement<'_>]) -> Result<String, MaxMindDbError>
     ensures text { IfOk result (λ text. string_bytes text ≡ path_text path.now) }
     ensures no_other { IfErr result (λ e. kind_of e ≡ OfMemory) }

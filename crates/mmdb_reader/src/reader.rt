@@ -44,6 +44,12 @@ pub struct Kept<'a> {
 }
 
 /// A database over the bytes that a source holds or lends.
+///
+///     let reader = Reader::open_readfile(&rt, rt.alloc(), file.as_str())?;
+///
+///     let address: IpAddr = "200.0.0.1".parse()?;
+///     let found = reader.lookup(address)?;
+///     let value: Option<Value<'_>> = found.decode(rt.alloc())?;
 #[derive(Drop)]
 pub struct Reader<S: AsSlice<u8> + Drop> {
     source: S,
@@ -350,7 +356,7 @@ impl<S: AsSlice<u8> + Drop> Reader<S> {
     /// What the database has for an address.
     ///
     /// An IPv6 address asked of an IPv4 database is `InvalidInput`; a leaf whose number leads outside
-    /// the data section is `InvalidDatabase`. Nothing else is refused.
+    /// the data section is `InvalidDatabase`. Nothing else fails.
     #[inline(always)]
     pub fn lookup(&self, address: IpAddr) -> Result<LookupResult<'_, S>, MaxMindDbError>
         ensures answered { IfOk result (λ r. Answers self.now address (leaf_of r) (outcome_at (offset_found r))) }

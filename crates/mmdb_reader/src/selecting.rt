@@ -35,7 +35,7 @@ impl PathElement<'_> {
     }
 }
 
-/// Goes along a path, under a budget that has begun, and tells whether it leads to an offset.
+/// Goes along a path, under a budget that has begun, and says whether it leads to an offset.
 #[inline(always)]
 pub(crate) fn go_along(d: &mut Decoder<'_>, path: &[PathElement<'_>]) -> Result<bool, RefusedStep>
     requires { IsSome d.old.budget }
@@ -83,7 +83,7 @@ fn mismatch_text(alloc: Global, step: &PathElement<'_>, found: u16) -> Result<Me
     )
 }
 
-// The refusal of a step by the type of the value at an offset.
+// The error of a step by the type of the value at an offset.
 fn mismatch(alloc: Global, step: &PathElement<'_>, found: u16, offset: usize) -> MaxMindDbError
     ensures { IsOfOrMemory OfDecoding result }
 {
@@ -98,7 +98,7 @@ fn mismatch(alloc: Global, step: &PathElement<'_>, found: u16, offset: usize) ->
 }
 
 impl RefusedStep {
-    /// The error of the step, with the path up to it. The decoder stands where it was refused.
+    /// The error of the step, with the path up to it. The decoder stands where it failed.
     pub(crate) fn refusal(
         self,
         alloc: Global,

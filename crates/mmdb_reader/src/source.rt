@@ -59,8 +59,8 @@ fn expected_len<F: OpenFile>(file: &F) -> usize {
 impl<S: AsSlice<u8> + Drop> Reader<S> {
     /// A reader of the bytes of a file, which it owns or borrows.
     ///
-    /// The file is accepted exactly where, memory apart, valid metadata stand after its last marker,
-    /// and the search tree and its separator have room before the marker. All refusals for the file are
+    /// The file is accepted exactly where, unless out of memory, valid metadata stand after its last marker,
+    /// and the search tree and its separator have room before the marker. All errors for the file are
     /// `InvalidDatabase`, but those for what stands where the metadata should be, which are of the kind
     /// that reading any value gives.
     pub fn from_source(alloc: Global, buf: S) -> Result<Reader<S>, MaxMindDbError>
@@ -83,7 +83,7 @@ impl<S: AsSlice<u8> + Drop> Reader<S> {
 impl Reader<Vec<u8>> {
     /// A reader of the file at a path, which is read whole.
     ///
-    /// Refused as `Io` where a call on the file failed, as `Memory`, or as `from_source` refuses what was
+    /// Fails as `Io` where a call on the file failed, as `Memory`, or as `from_source` rejects what was
     /// read.
     pub fn open_readfile<R: Files, P: AsPath + Drop>(
         rt: &R,

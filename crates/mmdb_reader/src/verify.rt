@@ -130,7 +130,7 @@ impl<S: AsSlice<u8> + Drop> Reader<S> {
     /// which it does not go. Where the metadata are whole, or `verify` succeeds, they are exactly those up to the
     /// last leaf or alias, or up to the one at which it is refused. The tree is swept first, over at most three nodes
     /// for each node: where the sweep finds a whole tree, its positions are those that are counted, and no walk comes
-    /// after it. Of a tree that is refused only the positions of the walk in order are counted; with those of the
+    /// after it. Of a tree that is rejected only the positions of the walk in order are counted; with those of the
     /// sweep at most twelve for each node and 130 are looked at.
     pub fn verify_counted(&self, alloc: Global, steps: &mut Steps) -> Result<(), MaxMindDbError>
         requires { steps.old + (6 * self.now.metadata.node_count + 130) < 2 ^ 64 }
@@ -151,8 +151,8 @@ impl<S: AsSlice<u8> + Drop> Reader<S> {
     /// Checks the whole database: its metadata, its tree, the separator after it, and the values of all leaves that
     /// stand behind no alias, ascending by their offsets, each once.
     ///
-    /// Accepted are, memory apart, exactly the whole files. Each lookup of an accepted one succeeds, behind aliases
-    /// too, and at each offset that it answers a finite tree of valid texts unfolds. Refused are, as
+    /// Accepted are, unless out of memory, exactly the whole files. Each lookup of an accepted one succeeds, behind aliases
+    /// too, and at each offset that it answers a finite tree of valid texts unfolds. Rejected are, as
     /// `InvalidDatabase`, metadata without a database type or a description, a tree with a leaf that leads nowhere
     /// or with more than three leaves and aliases for each node, a separator that is not zero, and the values that
     /// `check_value` refuses so; as `ResourceLimit` values that cost more than `check_value` allows.

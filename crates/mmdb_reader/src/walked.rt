@@ -174,8 +174,8 @@ impl<S: AsSlice<u8> + Drop> Reader<S> {
     }
 
     // Walks the whole tree, a node at a time, and gives the positions that it took. Both halves of a node are looked
-    // at together, so the offsets come in another order than the leaves. None where the walk is refused, or may be:
-    // where it stops is then told by `walk`.
+    // at together, so the offsets come in another order than the leaves. None where the walk fails, or may fail:
+    // where it stops is then reported by `walk`.
     pub(crate) fn sweep(&self, stack: &mut Vec<Point>, set: &mut OffsetSet) -> Option<usize>
         requires empty { stack.old.items ≡ [] }
         requires room { width self.now ≤ vec_capacity stack.old }

@@ -219,7 +219,7 @@ impl<S: AsSlice<u8> + Drop> Reader<S> {
     /// range, or the one that holds it, with its own wider network.
     ///
     /// Takes all memory at once, for one position more than the bits after the range's prefix. An IPv6
-    /// range asked of an IPv4 database is `InvalidInput`; else only memory is refused.
+    /// range asked of an IPv4 database is `InvalidInput`; else only memory runs out.
     pub fn within(
         &self,
         alloc: Global,
@@ -250,7 +250,7 @@ impl<S: AsSlice<u8> + Drop> Reader<S> {
     }
 
     /// All networks of the database, in ascending order: those within 0.0.0.0/0, or ::/0 where it has
-    /// IPv6. Only memory is refused.
+    /// IPv6. Only memory can run out.
     pub fn networks(
         &self,
         alloc: Global,

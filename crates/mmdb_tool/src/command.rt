@@ -1,4 +1,4 @@
-//! The program's words.
+//! The program's arguments.
 use mmdb_reader::{IpNetwork, WithinOptions};
 use std::net::IpAddr;
 
@@ -12,7 +12,7 @@ const EMPTY: &str = "--empty";
 
 const SKIP_EMPTY: &str = "--skip-empty";
 
-/// What the words ask for.
+/// What the arguments ask for.
 #[derive(Drop)]
 pub(crate) enum Command<'a> {
     /// The line of an address.
@@ -59,7 +59,7 @@ fn is_option(word: &str) -> bool {
     word == ALIASES || word == EMPTY || word == SKIP_EMPTY
 }
 
-// The options that the words switch on, each at most once.
+// The options that the arguments switch on, each at most once.
 fn options_of(words: &[String]) -> Option<WithinOptions> {
     let mut aliases = false;
     let mut empty = false;
@@ -116,7 +116,7 @@ fn report_of<'a>(file: &'a str, range: &str, words: &[String]) -> Option<Command
     })
 }
 
-/// What the words ask for, or none where they are no command, or an address or a range is not read.
+/// What the arguments ask for, or none where they are no command, or an address or a range is not read.
 pub(crate) fn command_of(words: &[String]) -> Option<Command<'_>> {
     match words {
         [command, file, address] if command.as_str() == "lookup" => Some(Command::Lookup {

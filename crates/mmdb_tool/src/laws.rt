@@ -15,7 +15,7 @@ pub fn faults_equal_where_same()
     ensures { IsEqualityOf ⟦<Fault as PartialEq>⟧.eq (λ fault. fault) }
 {}
 
-/// A clone of a sink's fault is its source, and is never refused.
+/// A clone of a sink's fault is its source, and never fails.
 pub fn fault_clones_are_same()
     ensures same { IsCloneSame ⟦<Fault as Clone>⟧.is_clone }
     ensures given { IsNeverRefused ⟦<Fault as Clone>⟧.is_infallible }

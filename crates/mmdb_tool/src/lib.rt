@@ -1,4 +1,4 @@
-//! The program: what it does with its words, over any files and any sinks.
+//! The program: what it does with its arguments, over any files and any sinks.
 #![tactic(auto)]
 
 mod command;

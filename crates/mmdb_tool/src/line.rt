@@ -29,7 +29,7 @@ fn line(alloc: Global, network: IpNetwork, offset: Option<usize>) -> Result<Stri
 /// The line of an address: the full text of the network that shares its answer, a space, the offset of
 /// its value in the data section or `-`, and a newline.
 ///
-/// Refused as `lookup` refuses, or as `Memory`.
+/// Fails as `lookup` does, or as `Memory`.
 pub fn lookup_line<S: AsSlice<u8> + Drop>(
     alloc: Global,
     reader: &Reader<S>,

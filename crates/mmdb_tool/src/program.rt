@@ -13,16 +13,16 @@ use std::convert::AsSlice;
 use std::rt::Files;
 use thiserror::Error;
 
-/// The status of a refusal.
+/// The status of an error.
 const REFUSED: u8 = 1;
 
-/// The status of words that are no command.
+/// The status of arguments that are no command.
 const BAD_WORDS: u8 = 2;
 
 /// What is said of a file that is whole.
 const WHOLE: &str = "ok\n";
 
-/// The text of a refusal that there is no memory to print.
+/// The text of an error that there is no memory to print.
 const NO_MEMORY: &str = "out of memory\n";
 
 /// Why a command was not done.
@@ -44,7 +44,7 @@ fn put_text<O: Sink>(out: &mut O, text: &str) -> Result<(), ListError> {
     Ok(put_all(out, text.as_bytes())?)
 }
 
-// The status of what was done. The text of a refusal goes to `err`, whose own faults change nothing.
+// The status of what was done. The text of an error goes to `err`, whose own faults change nothing.
 fn status_of<E: Sink>(alloc: Global, done: Result<(), Refusal>, err: &mut E) -> u8
     ensures { result ≤ 1 }
 {
@@ -59,8 +59,8 @@ fn status_of<E: Sink>(alloc: Global, done: Result<(), Refusal>, err: &mut E) -> 
     REFUSED
 }
 
-// The command that the words give, or the status where they give none: without words the usage line
-// goes to `out`, and after bad words to `err`.
+// The command that the arguments give, or the status where they give none: without arguments the usage line
+// goes to `out`, and after bad arguments to `err`.
 fn command_or_status<'a, O: Sink, E: Sink>(
     alloc: Global,
     words: &'a [String],
@@ -117,11 +117,11 @@ fn answer<S: AsSlice<u8> + Drop, O: Sink>(
     Ok(())
 }
 
-/// What the program does with its words, after its name, and the status that it ends with.
+/// What the program does with its arguments, after its name, and the status that it ends with.
 ///
-/// 0: done. 1: a refusal, whose text and a newline go to `err`; one by `out` is such a refusal too. 2:
-/// bad words, or an address that is not read; the usage line goes to `err`, and no file is opened.
-/// Without words the usage line goes to `out`, with status 0. A fault of `err` changes no status.
+/// 0: done. 1: an error, whose text and a newline go to `err`; one by `out` is such an error too. 2:
+/// bad arguments, or an address that is not read; the usage line goes to `err`, and no file is opened.
+/// Without arguments the usage line goes to `out`, with status 0. A fault of `err` changes no status.
 pub fn run<R: Files, O: Sink, E: Sink>(
     rt: &R,
     alloc: Global,

@@ -22,7 +22,7 @@ pub enum Fault {
 
 /// A place for bytes.
 pub trait Sink {
-    /// The bytes that it holds, where it tells them.
+    /// The bytes that it holds, where it shows them.
     ghost held: { Self → Option (List ℕ) };
 
     /// The first fault that it met.

@@ -19,7 +19,10 @@ use mmdb_format::error::DecodeResult;
 use mmdb_format::header::Header;
 use std::alloc::Global;
 
-/// Any value. A map keeps its pairs in file order, repeated keys too.
+/// Any value. A map keeps its pairs in file order, repeated keys too. Texts and bytes are borrowed from the file.
+///
+///     let value: Option<Value<'_>> = found.decode(rt.alloc())?;
+///     println!(rt; "{address} is in {}: {value:?}", found.network()?)?;
 #[derive(Debug, PartialEq, Eq, Drop)]
 pub enum Value<'de> {
     String(&'de str),

@@ -13,7 +13,7 @@ use mmdb_format::header::Header;
 use mmdb_format::kind::{ARRAY, MAP, POINTER};
 use std::alloc::Global;
 
-/// A decoder that takes texts in one way, which `K` tells.
+/// A decoder that takes texts in the way that `K` names.
 pub trait Source<K>: Steps {
     type Text: Copy;
 

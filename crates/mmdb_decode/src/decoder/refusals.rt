@@ -1,4 +1,4 @@
-//! Refusals: the step is kept aside, and taken once more where the error is wanted.
+//! Errors: the step is kept aside, and taken once more where the error is wanted.
 ghost use Rattle.std.specs.Prelude.{◌≡◌};
 ghost use Rattle.mmdb_format.specs.declared.error.MaxMindDbError.TheVariants.{Memory};
 ghost use Rattle.mmdb_decode.specs.declared.refused.Refused.TheVariants.{OutOfMemory, Unreadable};

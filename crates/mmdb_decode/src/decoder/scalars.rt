@@ -16,7 +16,7 @@ use mmdb_format::kind::{BYTES, DOUBLE, FLOAT, I32, TEXT, U16, U32, U64, U128};
 use std::alloc::Global;
 
 impl<'de> Decoder<'de> {
-    // A whole number of one type, of at most so many bytes.
+    // An integer of one type, of at most so many bytes.
     #[inline(always)]
     pub(super) fn take_number(&mut self, wanted: u16, most: usize) -> Result<u128, DecodeErrorKind>
         requires { most ≤ 16 }
@@ -59,7 +59,7 @@ impl<'de> Decoder<'de> {
         Ok(b)
     }
 
-    // A whole number of whatever type, behind any number of pointers.
+    // An integer of whatever type, behind any number of pointers.
     pub(super) fn take_whole(&mut self) -> Result<i128, DecodeErrorKind>
         ensures { Takes (λ z. z) (decoded true spec_whole_at self.old) self.old self.new result }
     {
@@ -143,7 +143,7 @@ impl<'de> Decoder<'de> {
         }
     }
 
-    /// Reads a whole number of whatever type: an i32, u16, u32 or u64, behind any number of pointers
+    /// Reads an integer of whatever type: an i32, u16, u32 or u64, behind any number of pointers
     /// within the levels. At the start it begins a budget.
     pub fn read_small(&mut self, alloc: Global) -> DecodeResult<i128>
         ensures { Reads (λ z. z) true (decoded true spec_whole_at self.old) self.old self.new result }

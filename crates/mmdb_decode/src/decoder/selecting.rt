@@ -14,10 +14,10 @@ use mmdb_format::decode_error_kind::DecodeErrorKind;
 
 impl<'de> Decoder<'de> {
     /// Goes to the value of the first pair of the map at the offset whose key has these bytes, on the same
-    /// level, and tells whether there is one. Takes no memory.
+    /// level, and says whether there is one. Takes no memory.
     ///
     /// The map's keys and values are charged, and the bytes of each key up to that one; the values before
-    /// it are skipped. Refused where no map stands there, directly or behind one pointer.
+    /// it are skipped. Fails where no map stands there, directly or behind one pointer.
     #[inline(always)]
     pub fn go_to_key(&mut self, key: &str) -> Result<bool, DecodeErrorKind>
         ensures { Takes (λ b. b) (decoded true (at_key key.now) self.old) self.old self.new result }
@@ -28,7 +28,7 @@ impl<'de> Decoder<'de> {
         found
     }
 
-    /// Goes to an element of the array at the offset, counted from its front, on the same level, and tells
+    /// Goes to an element of the array at the offset, counted from its front, on the same level, and says
     /// whether there is one. Takes no memory.
     ///
     /// The array's elements are charged; those before that one are skipped, where it is there. Refused

@@ -1,4 +1,4 @@
-//! Readings that keep aside why they are refused, so that a loop over many values holds no memory for an error.
+//! Readings that keep aside why they fail, so that a loop over many values holds no memory for an error.
 ghost use Rattle.std.specs.Prelude.{◌≡◌, ℕ, true, false, Some, IfSome, IsSome, IfOk, ◌≤ℤ◌};
 ghost use Rattle.mmdb_decode.specs.Refusal.{Takes};
 ghost use Rattle.mmdb_decode.specs.State.{decoded};
@@ -141,7 +141,7 @@ impl<'de> Decoder<'de> {
         }
     }
 
-    // A whole number of whatever type.
+    // An integer of whatever type.
     fn try_whole(&mut self) -> Result<i128, Refused>
         ensures { Takes (λ z. z) (decoded true whole_at self.old) self.old self.new result }
     {
@@ -151,7 +151,7 @@ impl<'de> Decoder<'de> {
         }
     }
 
-    // A whole number of whatever type from low to high.
+    // An integer of whatever type from low to high.
     pub(crate) fn try_between(&mut self, low: i128, high: i128) -> Result<i128, Refused>
         ensures read { Takes (λ z. z) (decoded true (small_at low high) self.old) self.old self.new result }
         ensures low { IfOk result (λ z. low ≤ℤ z) }
@@ -226,7 +226,7 @@ impl<'de> Decoder<'de> {
     }
 }
 
-// The step that is refused for a fault: one that is found behind the offset where the step began is told by itself.
+// The step that is refused for a fault: one that is found behind the offset where the step began is reported by itself.
 fn step_of(step: Step, fault: DecodeErrorKind) -> Step {
     match fault {
         DecodeErrorKind::InvalidUtf8 => Step::Encoding,

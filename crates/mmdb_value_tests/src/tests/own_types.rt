@@ -18,7 +18,10 @@ const SYSTEM_NUMBERS: &[(&[u8], &str)] = &[
 fn system_numbers(rt: HostRuntime) -> Result<(), Failures> {
     let mut failures = Failures::new(rt.alloc());
     for (section, text) in SYSTEM_NUMBERS {
-        let read = shown(rt.alloc(), fuzzing::decode::<SystemNumber>(rt.alloc(), section));
+        let read = shown(
+            rt.alloc(),
+            fuzzing::decode::<SystemNumber>(rt.alloc(), section),
+        );
         failures.expect_text(section, read, text);
     }
     failures.verdict()

@@ -7,7 +7,7 @@ abbrev pub invariant-loop-offset : goal.invariant-loop-offset
 invariant-loop-offset l = record {
   section : l.c.section ≡ l.initial.c.section;
   going : l.c.failed ≡ false;
-  within : l.next ≤ length l.offset_set;
+  within : l.next ≤ length l.offsets;
   same : CanAddAll l.initial.c.section (holds l.initial.c.good) (offsets_of l.offsets) ↔ CanAddAll l.initial.c.section (holds l.c.good) (offsets_from l.next (drop l.next l.offsets));
 }
 
