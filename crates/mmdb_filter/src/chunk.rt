@@ -40,7 +40,8 @@ fn read_some<R: BufRead>(
     Ok(Some(next))
 }
 
-/// Appends bytes of a row from a position in it, up to its end or until there are 65,539, and says the position behind them.
+/// Appends bytes of a row from a position in it, up to its end or until there are 65,539, and says the position behind
+/// them.
 pub fn read_chunk<R: BufRead>(
     input: &mut R,
     rows: Rows,

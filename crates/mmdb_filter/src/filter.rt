@@ -47,13 +47,13 @@ pub trait Additions {
         ensures fits { fits self.now memory.new };
 }
 
-/// Who is addition how far the filter is.
+/// Who is shown how far the filter is.
 pub trait Progress {
     /// So many rows passed.
     fn passed(&mut self, rows: u64);
 }
 
-/// After so many rows it is addition how many passed.
+/// After so many rows it is given how many passed.
 const STEP: u64 = 65_536;
 
 /// Copies all rows, with what is added to each before its last bytes, and counts how they fared. A last row without
