@@ -8,7 +8,7 @@ use Rattle.mmdb_format.specs.Error.{MemoryApart}
 use Rattle.mmdb_format.specs.declared.error.MaxMindDbError.{MaxMindDbError}
 use Rattle.mmdb_format.specs.declared.error.MaxMindDbError.TheVariants.{InvalidDatabase, Io, Decoding, ResourceLimit, InvalidNetwork, InvalidInput, Memory}
 use Rattle.mmdb_check.specs.Checking.{holds, none, IsGood, CanAddAll}
-use Rattle.mmdb_check.specs.OffsetSet.{places_of}
+use Rattle.mmdb_check.specs.OffsetSet.{offsets_of}
 use Rattle.mmdb_check.proofs.Members.{can_add_places, can_add_at, good_tree}
 use Rattle.mmdb_reader.specs.declared.walked.End.{End}
 use Rattle.mmdb_reader.specs.declared.walked.End.TheVariants.{Alias, DecodeErrorKind, Absent, Found}
@@ -134,7 +134,7 @@ offsets_are_exact db offset = (
 
 -- the check of the set that a walk has found, from no good set
 pub values_checked : (db : Database) (section : List ℕ) (good set : List Bool) → section ≡ data_section db → ((q : ℕ) → holds good q ≡ false) → HoldsOffsets db set
-    → CanAddAll section (holds good) (places_of set) ↔ CanAddAll (data_section db) none (offsets (stops db))
+    → CanAddAll section (holds good) (offsets_of set) ↔ CanAddAll (data_section db) none (offsets (stops db))
 values_checked db section good set same no_good has =
     let step = can_add_places section (holds good) set (offsets (stops db)) has in
     let from = can_add_at section (data_section db) (holds good) none (offsets (stops db)) same no_good in
