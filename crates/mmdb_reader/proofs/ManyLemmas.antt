@@ -1,6 +1,7 @@
 -- Walks side by side.
-use Rattle.std.proofs.Common.{◌≡◌, ℕ, suc, ◌+◌, ◌/◌, ◌^◌, ◌<◌, ◌≤◌, ◌⊎◌, ◌≢◌, Bool, false, List, ◌∷◌, ◌++◌, length, get_or, set, arith, sym, ap, ◌∙◌, subst, inl, inr, length-append}
+use Rattle.std.proofs.Common.{◌≡◌, ℕ, suc, ◌+◌, ◌/◌, ◌^◌, ◌<◌, ◌≤◌, ◌≢◌, Bool, false, List, ◌∷◌, ◌++◌, length, get_or, set, slice_index, arith, sym, ap, ◌∙◌, subst, inl, inr, length-append}
 use Rattle.std.proofs.lemmas.List.{get_or-set_same, get_or-set_other, get_or_default, take-append-le}
+use Rattle.std.proofs.lemmas.Grind.{get_or-set_at}
 use Rattle.std.proofs.lemmas.Bool.{cases_lt}
 use Rattle.std.specs.declared.net.ip_addr.IpAddr.{IpAddr}
 use Rattle.std.specs.declared.net.ip_addr.IpAddr.TheVariants.{V4, V6}
@@ -11,85 +12,90 @@ use Rattle.mmdb_net.proofs.BitLaws.{length-bits_of, bits_of-split}
 use Rattle.mmdb_reader.specs.declared.table.Entry.{Entry}
 use Rattle.mmdb_reader.specs.declared.many.FoundLeaf.{FoundLeaf}
 use Rattle.mmdb_reader.specs.Tree.{SearchTree, child, step}
-use Rattle.mmdb_reader.specs.Descents.{Walks}
+use Rattle.mmdb_reader.specs.Descents.{Walks, Descends}
 use Rattle.mmdb_reader.specs.Table.{IsFull}
-use Rattle.mmdb_reader.specs.Many.{HasCome, HasEnded, HasWalk, first_number, IsFoundFor, IsGroup}
+use Rattle.mmdb_reader.specs.Many.{HasEnded, HasWalk, first_number, IsFoundFor, IsGroup, AllGoOn, GoesOn, IsBitsOf, AreWordsOf, BeginsWith}
 use Rattle.mmdb_reader.specs.File.{Database, tree_of}
 use Rattle.mmdb_reader.proofs.WalkLemmas.{Walks-more, step-child}
 
-module _ (tree : SearchTree) (start : ℕ) (bits : List Bool) (taken : ℕ) (leaf : FoundLeaf) (s : HasCome tree start bits taken leaf) where
-  -- a walk that has left the nodes, or has taken all bits, has ended
-  pub HasCome-ended : (tree.node_count ≤ leaf.number) ⊎ (length bits ≤ taken) → HasEnded tree start bits leaf
-  HasCome-ended ended = record {
-    walks = s.walks;
-    ends = λ short. elim ended [
-      | inl off ↦ off
-      | inr all ↦ (s.before (omega (arith, short, all))).ends short
-    ];
-  }
-
-  -- and stays so
-  pub HasCome-stays : HasEnded tree start bits leaf → HasCome tree start bits (taken + 1) leaf
-  HasCome-stays e = record {
-    walks = s.walks;
-    within = let few = s.within in omega (arith, few);
-    before = λ _. e;
-  }
-
-  -- on a node with bits left it has taken them all
-  at : leaf.number < tree.node_count → taken < length bits → leaf.taken ≡ taken
-  at on more = elim (cases_lt leaf.taken taken) [
-    | inl less ↦ let off = (s.before less).ends (omega (arith, less, more)) in absurd (omega (arith, off, on))
-    | inr not_less ↦ let few = s.within in omega (arith, few, not_less)
-  ]
-
-  -- a step from a node
-  pub HasCome-step : (number : ℕ) (right : Bool) (next : FoundLeaf) → leaf.number < tree.node_count → taken < length bits → right ≡ get_or bits taken false → number ≡ step tree leaf.number right
-      → next ≡ record { number = number; taken = taken + 1 } → HasCome tree start bits (taken + 1) next
-  HasCome-step number right next on more is_right is made =
-      let here : Walks tree start bits taken leaf.number = let P : ℕ → Type 0 = λ t. Walks tree start bits t leaf.number in subst P (at on more) s.walks in
-      let value : number ≡ child tree.bytes tree.record_size leaf.number (get_or bits taken false) =
-      is ∙ step-child tree leaf.number right on ∙ ap (child tree.bytes tree.record_size leaf.number) is_right in
-      let there : Walks tree start bits (taken + 1) number = Walks-more tree start bits taken leaf.number number here more on value in
-      let P : FoundLeaf → Type 0 = λ l. HasCome tree start bits (taken + 1) l in
-      subst P (sym made) (record { walks = there; within = omega arith; before = λ less. absurd (omega (arith, less)) })
+-- a step from a node
+pub Walks-step : (tree : SearchTree) (start : ℕ) (bits : List Bool) (taken before node number : ℕ) (right : Bool) → before ≡ taken → node < tree.node_count → taken < length bits → right ≡ get_or bits taken false
+    → number ≡ step tree node right → Walks tree start bits before node → Walks tree start bits (taken + 1) number
+Walks-step tree start bits taken before node number right at on more is_right is walked =
+    let P : ℕ → Type 0 = λ t. Walks tree start bits t node in
+    let value : number ≡ child tree.bytes tree.record_size node (get_or bits taken false) = is ∙ step-child tree node right on ∙ ap (child tree.bytes tree.record_size node) is_right in
+    Walks-more tree start bits taken node number (subst P at walked) more on value
 
 pub length-address : (address : IpAddr) → length (bits_of_address address) ≤ 128
 length-address (V4 a) = omega (arith, length-bits_of 32 (ipv4_bits a))
 length-address (V6 a) = omega (arith, length-bits_of 128 (ipv6_bits a))
 
--- ---- each of them
+-- a walk that takes no fewer than all bits has ended
+pub Walks-all : (tree : SearchTree) (start : ℕ) (address : IpAddr) (taken number : ℕ) → 128 ≤ taken → Walks tree start (bits_of_address address) taken number → Descends tree start (bits_of_address address) 128 number
+Walks-all tree start address taken number all walked =
+    let few = length-address address in
+    let inside = walked.within in
+    let is : taken ≡ 128 = omega (arith, all, few, inside) in
+    let P : ℕ → Type 0 = λ t. Walks tree start (bits_of_address address) t number in
+    record { walks = subst P is walked; ends = λ short. absurd (omega (arith, short, few)) }
 
--- the walk at an index has come so far, if it had come to its sixteenth bit
-abbrev pub Comes : SearchTree → List IpAddr → List FoundLeaf → ℕ → ℕ → FoundLeaf → Type 0
-Comes tree addresses old taken j leaf =
-    (a : IpAddr) (o : FoundLeaf) (start : ℕ) → HasCome tree start (bits_of_address (get_or addresses j a)) 16 (get_or old j o) → HasCome tree start (bits_of_address (get_or addresses j a)) taken leaf
+-- ---- all of them
 
+pub AllGoOn-then : (Along : ℕ → List Bool → Type 0) (tree : SearchTree) (one two three : List FoundLeaf) → AllGoOn Along tree one two → AllGoOn Along tree two three → AllGoOn Along tree one three
+AllGoOn-then Along tree one two three first second i d bits b start w = second i d bits b start (first i d bits b start w)
+
+pub AllGoOn-words : (tree : SearchTree) (addresses : List IpAddr) (words : List ℕ) (old new : List FoundLeaf) → AreWordsOf addresses words → AllGoOn (λ i bits. BeginsWith (slice_index words i) bits) tree old new → AllGoOn (IsBitsOf addresses) tree old new
+AllGoOn-words tree addresses words old new are go i d bits b = go i d bits (are i bits b)
+
+module _ (Along : ℕ → List Bool → Type 0) (tree : SearchTree) (old leaves : List FoundLeaf) (k : ℕ) (d0 next : FoundLeaf) (within : k < length leaves) (all : AllGoOn Along tree old leaves) (here : (bits : List Bool) → Along k bits → GoesOn tree bits (get_or leaves k d0) next) where
+  set-at : (d : FoundLeaf) (bits : List Bool) → Along k bits → GoesOn tree bits (get_or old k d) (get_or (set leaves k next) k d)
+  set-at d bits b start w =
+      let W : FoundLeaf → Type 0 = λ l. Walks tree start bits l.taken l.number in
+      subst W (sym (get_or-set_same leaves k next d within)) (here bits b start (subst W (get_or_default leaves k d d0 within) (all k d bits b start w)))
+
+  set-away : (i : ℕ) (d : FoundLeaf) (bits : List Bool) → i ≢ k → Along i bits → GoesOn tree bits (get_or old i d) (get_or (set leaves k next) i d)
+  set-away i d bits apart b start w =
+      let W : FoundLeaf → Type 0 = λ l. Walks tree start bits l.taken l.number in
+      subst W (sym (get_or-set_other leaves k i next d apart)) (all i d bits b start w)
+
+  -- a step of the walk at an index
+  pub AllGoOn-set : AllGoOn Along tree old (set leaves k next)
+  AllGoOn-set i d bits b = elim (cases_lt i k) [
+    | inl less ↦ set-away i d bits (λ same. absurd (omega (arith, same, less))) b
+    | inr not_less ↦ elim (cases_lt k i) [
+      | inl more ↦ set-away i d bits (λ same. absurd (omega (arith, same, more))) b
+      | inr not_more ↦
+          let at : k ≡ i = omega (arith, not_less, not_more) in
+          let R : ℕ → Type 0 = λ n. Along n bits → GoesOn tree bits (get_or old n d) (get_or (set leaves k next) n d) in
+          subst R at (set-at d bits) b
+    ]
+  ]
+
+-- one more of the words
+pub words-set : (addresses : List IpAddr) (words : List ℕ) (i : ℕ) (a0 : IpAddr) (next : ℕ) → i < length words → ((j : ℕ) (bits : List Bool) → j < i → IsBitsOf addresses j bits → BeginsWith (slice_index words j) bits)
+    → BeginsWith next (bits_of_address (get_or addresses i a0)) → (j : ℕ) (bits : List Bool) → j < i + 1 → IsBitsOf addresses j bits → BeginsWith (slice_index (set words i next) j) bits
+words-set addresses words i a0 next within before here j bits h b =
+    let W : ℕ → Type 0 = λ w. BeginsWith w bits in
+    elim (cases_lt j i) [
+      | inl less ↦ subst W (sym (get_or-set_other words i j next 0 (λ same. absurd (omega (arith, same, less))))) (before j bits less b)
+      | inr not_less ↦
+          let at : j ≡ i = omega (arith, h, not_less) in
+          let B : List Bool → Type 0 = λ bs. BeginsWith next bs in
+          let same : bits ≡ bits_of_address (get_or addresses i a0) = b.1 a0 ∙ ap (λ (n : ℕ). bits_of_address (get_or addresses n a0)) at in
+          subst W (sym (get_or-set_at words i j next 0 at within)) (subst B (sym same) here)
+    ]
+
+-- the walk at an index ends here, if it had come to the old place
 abbrev pub Ends : SearchTree → List IpAddr → List FoundLeaf → ℕ → FoundLeaf → Type 0
 Ends tree addresses old j leaf =
-    (a : IpAddr) (o : FoundLeaf) (start : ℕ) → HasCome tree start (bits_of_address (get_or addresses j a)) 16 (get_or old j o) → HasEnded tree start (bits_of_address (get_or addresses j a)) leaf
+    (a : IpAddr) (o : FoundLeaf) (start : ℕ) → Walks tree start (bits_of_address (get_or addresses j a)) (get_or old j o).taken (get_or old j o).number → HasEnded tree start (bits_of_address (get_or addresses j a)) leaf
 
-pub Comes-off : (tree : SearchTree) (addresses : List IpAddr) (old : List FoundLeaf) (taken j : ℕ) (leaf : FoundLeaf) → Comes tree addresses old taken j leaf → tree.node_count ≤ leaf.number → Ends tree addresses old j leaf
-Comes-off tree addresses old taken j leaf comes off a o start s = HasCome-ended tree start (bits_of_address (get_or addresses j a)) taken leaf (comes a o start s) (inl off)
-
-pub Comes-stays : (tree : SearchTree) (addresses : List IpAddr) (old : List FoundLeaf) (taken j : ℕ) (leaf : FoundLeaf) → Comes tree addresses old taken j leaf → Ends tree addresses old j leaf → Comes tree addresses old (taken + 1) j leaf
-Comes-stays tree addresses old taken j leaf comes ends a o start s = HasCome-stays tree start (bits_of_address (get_or addresses j a)) taken leaf (comes a o start s) (ends a o start s)
-
-module _ (tree : SearchTree) (addresses : List IpAddr) (old : List FoundLeaf) (taken j : ℕ) (a0 : IpAddr) (inside : j < length addresses) (leaf : FoundLeaf) (comes : Comes tree addresses old taken j leaf) where
-  same_address : (a : IpAddr) → get_or addresses j a0 ≡ get_or addresses j a
-  same_address a = get_or_default addresses j a0 a inside
-
-  pub Comes-all : length (bits_of_address (get_or addresses j a0)) ≤ taken → Ends tree addresses old j leaf
-  Comes-all all a o start s =
-      let P : IpAddr → Type 0 = λ x. length (bits_of_address x) ≤ taken in
-      HasCome-ended tree start (bits_of_address (get_or addresses j a)) taken leaf (comes a o start s) (inr (subst P (same_address a) all))
-
-  pub Comes-step : (number : ℕ) (right : Bool) (next : FoundLeaf) → leaf.number < tree.node_count → taken < length (bits_of_address (get_or addresses j a0)) → right ≡ get_or (bits_of_address (get_or addresses j a0)) taken false → number ≡ step tree leaf.number right
-      → next ≡ record { number = number; taken = taken + 1 } → Comes tree addresses old (taken + 1) j next
-  Comes-step number right next on more is_right is made a o start s =
-      let P : IpAddr → Type 0 = λ x. taken < length (bits_of_address x) in
-      let Q : IpAddr → Type 0 = λ x. right ≡ get_or (bits_of_address x) taken false in
-      HasCome-step tree start (bits_of_address (get_or addresses j a)) taken leaf (comes a o start s) number right next on (subst P (same_address a) more) (subst Q (same_address a) is_right) is made
+pub Ends-at : (tree : SearchTree) (addresses : List IpAddr) (old leaves : List FoundLeaf) (j : ℕ) (a0 : IpAddr) (d0 leaf : FoundLeaf) → j < length addresses → j < length old → get_or leaves j d0 ≡ get_or old j d0
+    → ((start : ℕ) → Walks tree start (bits_of_address (get_or addresses j a0)) (get_or leaves j d0).taken (get_or leaves j d0).number → HasEnded tree start (bits_of_address (get_or addresses j a0)) leaf) → Ends tree addresses old j leaf
+Ends-at tree addresses old leaves j a0 d0 leaf inside within same ends a o start w =
+    let W : FoundLeaf → Type 0 = λ l. Walks tree start (bits_of_address (get_or addresses j a)) l.taken l.number in
+    let E : IpAddr → Type 0 = λ x. Walks tree start (bits_of_address x) (get_or leaves j d0).taken (get_or leaves j d0).number → HasEnded tree start (bits_of_address x) leaf in
+    subst E (get_or_default addresses j a0 a inside) (ends start) (subst W (get_or_default old j o d0 within ∙ sym same) w)
 
 -- ---- one leaf after the other
 
@@ -109,26 +115,6 @@ module _ (P : ℕ → FoundLeaf → Type 0) (leaves new : List FoundLeaf) (i : �
         subst Q at (subst (P i) (sym same) here)
   ]
 
-  pub set-left : (n : ℕ) → ((j : ℕ) (d : FoundLeaf) → i ≤ j → j < n → P j (get_or leaves j d)) → (j : ℕ) (d : FoundLeaf) → i + 1 ≤ j → j < n → P j (get_or new j d)
-  set-left n after j d h below = other j d (λ same. absurd (omega (arith, same, h))) (after j d (omega arith) below)
-
-module _ (P : ℕ → FoundLeaf → Type 0) (leaves new : List FoundLeaf) (i : ℕ) (d0 : FoundLeaf) (is : new ≡ leaves) (within : i < length leaves) where
-  pub kept-done : ((j : ℕ) (d : FoundLeaf) → j < i → P j (get_or leaves j d)) → P i (get_or leaves i d0) → (j : ℕ) (d : FoundLeaf) → j < i + 1 → P j (get_or new j d)
-  kept-done before here j d h =
-      let R : List FoundLeaf → Type 0 = λ xs. P j (get_or xs j d) in
-      subst R (sym is) (elim (cases_lt j i) [
-        | inl less ↦ before j d less
-        | inr more ↦
-            let at : i ≡ j = omega arith in
-            let Q : ℕ → Type 0 = λ k. P k (get_or leaves k d) in
-            subst Q at (subst (P i) (get_or_default leaves i d0 d within) here)
-      ])
-
-  pub kept-left : (n : ℕ) → ((j : ℕ) (d : FoundLeaf) → i ≤ j → j < n → P j (get_or leaves j d)) → (j : ℕ) (d : FoundLeaf) → i + 1 ≤ j → j < n → P j (get_or new j d)
-  kept-left n after j d h below =
-      let R : List FoundLeaf → Type 0 = λ xs. P j (get_or xs j d) in
-      subst R (sym is) (after j d (omega arith) below)
-
 -- ---- where the walks begin
 
 Walks-append : (tree : SearchTree) (start : ℕ) (xs ys : List Bool) (taken number : ℕ) → Walks tree start xs taken number → Walks tree start (xs ++ ys) taken number
@@ -140,31 +126,27 @@ Walks-append tree start xs ys taken number w =
       on_nodes = λ k h. let le : k ≤ length xs = omega arith in rw take-append-le (w.on_nodes k h);
     }
 
--- the walk at an index, if there is one, has come to its sixteenth bit
+-- the walk at an index, if there is one, has come to this place
 abbrev pub Begins : Database → List IpAddr → ℕ → FoundLeaf → Type 0
-Begins db addresses j leaf = (a : IpAddr) → HasWalk db (get_or addresses j a) → HasCome (tree_of db) (first_number db (get_or addresses j a)) (bits_of_address (get_or addresses j a)) 16 leaf
+Begins db addresses j leaf = (a : IpAddr) → HasWalk db (get_or addresses j a) → Walks (tree_of db) (first_number db (get_or addresses j a)) (bits_of_address (get_or addresses j a)) leaf.taken leaf.number
 
 pub Begins-at : (db : Database) (addresses : List IpAddr) (j : ℕ) (a0 : IpAddr) (leaf : FoundLeaf) → j < length addresses
-    → (HasWalk db (get_or addresses j a0) → HasCome (tree_of db) (first_number db (get_or addresses j a0)) (bits_of_address (get_or addresses j a0)) 16 leaf) → Begins db addresses j leaf
+    → (HasWalk db (get_or addresses j a0) → Walks (tree_of db) (first_number db (get_or addresses j a0)) (bits_of_address (get_or addresses j a0)) leaf.taken leaf.number) → Begins db addresses j leaf
 Begins-at db addresses j a0 leaf inside begins a =
-    let P : IpAddr → Type 0 = λ x. HasWalk db x → HasCome (tree_of db) (first_number db x) (bits_of_address x) 16 leaf in
+    let P : IpAddr → Type 0 = λ x. HasWalk db x → Walks (tree_of db) (first_number db x) (bits_of_address x) leaf.taken leaf.number in
     subst P (get_or_default addresses j a0 a inside) begins
 
 -- at the entry of a table of the first sixteen bits
-pub HasCome-entry : (tree : SearchTree) (start n rest width : ℕ) (table : List Entry) (d : Entry) (leaf : FoundLeaf) → width ≡ 16 + rest → IsFull tree start table → n / 2 ^ rest < 65536
-    → leaf ≡ record { number = (get_or table (n / 2 ^ rest) d).number; taken = (get_or table (n / 2 ^ rest) d).taken } → HasCome tree start (bits_of width n) 16 leaf
-HasCome-entry tree start n rest width table d leaf wide full below made =
-    let e : Entry = get_or table (n / 2 ^ rest) d in
+pub Walks-entry : (tree : SearchTree) (start n rest width : ℕ) (table : List Entry) (d e : Entry) (leaf : FoundLeaf) → width ≡ 16 + rest → IsFull tree start table → n / 2 ^ rest < 65536
+    → e ≡ get_or table (n / 2 ^ rest) d → leaf.number ≡ e.number → leaf.taken ≡ e.taken → Walks tree start (bits_of width n) leaf.taken leaf.number
+Walks-entry tree start n rest width table d e leaf wide full below is number taken =
+    let x : Entry = get_or table (n / 2 ^ rest) d in
     let there = full.each (n / 2 ^ rest) d below in
-    let inside = there.walks.within in
-    let len = length-bits_of 16 (n / 2 ^ rest) in
-    let walked : Walks tree start (bits_of width n) e.taken e.number = rw (bits_of-split 16 rest width n wide) (Walks-append tree start (bits_of 16 (n / 2 ^ rest)) (bits_of rest n) e.taken e.number there.walks) in
-    let P : FoundLeaf → Type 0 = λ l. HasCome tree start (bits_of width n) 16 l in
-    subst P (sym made) (record {
-      walks = walked;
-      within = omega (arith, inside, len);
-      before = λ less. record { walks = walked; ends = λ _. there.ends (omega (arith, less, len)) };
-    })
+    let P : Entry → Type 0 = λ y. Walks tree start (bits_of width n) y.taken y.number in
+    let N : ℕ → Type 0 = λ m. Walks tree start (bits_of width n) e.taken m in
+    let T : ℕ → Type 0 = λ t. Walks tree start (bits_of width n) t leaf.number in
+    let walked : Walks tree start (bits_of width n) x.taken x.number = rw (bits_of-split 16 rest width n wide) (Walks-append tree start (bits_of 16 (n / 2 ^ rest)) (bits_of rest n) x.taken x.number there.walks) in
+    subst T (sym taken) (subst N (sym number) (subst P (sym is) walked))
 
 -- ---- groups of found leaves
 
@@ -194,7 +176,7 @@ module _ (db : Database) (left : List IpAddr) (leaves : List FoundLeaf) (next co
       }
 
 -- one of which none is used
-pub IsGroup-new : (db : Database) (left : List IpAddr) (leaves : List FoundLeaf) (count : ℕ) → count ≤ 32 → count ≤ length left → ((i : ℕ) (a : IpAddr) (d : FoundLeaf) → i < count → IsFoundFor db (get_or left i a) (get_or leaves i d)) → IsGroup db left leaves 0 count
+pub IsGroup-new : (db : Database) (left : List IpAddr) (leaves : List FoundLeaf) (count : ℕ) → count ≤ 64 → count ≤ length left → ((i : ℕ) (a : IpAddr) (d : FoundLeaf) → i < count → IsFoundFor db (get_or left i a) (get_or leaves i d)) → IsGroup db left leaves 0 count
 IsGroup-new db left leaves count few within found = record {
   ordered = omega arith;
   few = few;

@@ -25,7 +25,6 @@ mod walking;
 
 pub use lookup_many::LookupMany;
 pub use lookup_result::LookupResult;
-pub use many::FoundLeaf;
 pub use metadata::Metadata;
 pub use mmdb_net as geonet;
 pub use mmdb_net::{IpNetwork, IpNetworkError, Ipv4Network, Ipv6Network, mask_ip};

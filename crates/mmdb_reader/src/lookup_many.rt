@@ -10,18 +10,15 @@ use std::convert::AsSlice;
 use std::marker::Model;
 use std::net::IpAddr;
 
-// How many addresses are walked side by side.
-const GROUP: usize = 32;
-
 /// The answers for addresses, in their order: each address with what `lookup` answers for it.
 ///
-/// The walks of up to 32 addresses go on side by side, and no item takes memory. An address that is
+/// The walks of up to 64 addresses go on side by side, and no item takes memory. An address that is
 /// refused is an error in its place, and the others come after it.
 #[derive(Drop)]
 pub struct LookupMany<'r, 'a, S: AsSlice<u8> + Drop> {
     reader: &'r Reader<S>,
     left: &'a [IpAddr],
-    leaves: [FoundLeaf; 32],
+    leaves: [FoundLeaf; 64],
     next: usize,
     count: usize,
 }
@@ -37,8 +34,6 @@ impl<'r, 'a, S: AsSlice<u8> + Drop> Model for LookupMany<'r, 'a, S> {
 }
 
 impl<S: AsSlice<u8> + Drop> Reader<S> {
-    ghost use Rattle.mmdb_reader.specs.Many.{IsFoundFor};
-
     /// What `lookup` answers for each of these addresses, in their order; both kinds may be mixed.
     ///
     ///     for (address, answer) in reader.lookup_many(&addresses) {
@@ -53,27 +48,10 @@ impl<S: AsSlice<u8> + Drop> Reader<S> {
         LookupMany {
             reader: self,
             left: addresses,
-            leaves: [FoundLeaf::default(); 32],
+            leaves: [FoundLeaf::default(); 64],
             next: 0,
             count: 0,
         }
-    }
-
-    // Finds the leaves of the first addresses, up to 32 of them, and says of how many.
-    fn find_group(&self, addresses: &[IpAddr], leaves: &mut [FoundLeaf; 32]) -> usize
-        ensures some { 0 < length addresses.now → 0 < result }
-        ensures few { result ≤ 32 }
-        ensures within { result ≤ length addresses.now }
-        ensures found { (i : ℕ) (a : SpecIpAddr) (d : _) → i < result
-            → IsFoundFor self.now (slice_index_or addresses.now i a) (slice_index_or leaves.new i d) }
-    {
-        let count = if addresses.len() < GROUP {
-            addresses.len()
-        } else {
-            GROUP
-        };
-        self.find_leaves(&addresses[..count], &mut leaves[..count]);
-        count
     }
 }
 
@@ -88,6 +66,7 @@ impl<'r, 'a, S: AsSlice<u8> + Drop> Iterator for LookupMany<'r, 'a, S> {
 
     ghost remaining = { item_count addresses_left };
 
+    #[inline(always)]
     fn next(&mut self) -> Option<Self::Item> {
         let (first, rest) = self.left.split_first()?;
         if self.next == self.count {

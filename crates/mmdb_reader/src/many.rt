@@ -1,24 +1,40 @@
 //! Lookups of several addresses, whose walks go on side by side.
-ghost use Rattle.std.specs.Prelude.{◌≡◌, ℕ, ◌+◌, ◌<◌, ◌≤◌, ◌⊎◌, ◌↔◌, Bool, false, IfOk, IfErr, IfSome, MatchOption, get_or, length, slice_index_or};
+ghost use Rattle.std.specs.Prelude.{◌≡◌, ℕ, ◌+◌, ◌<◌, ◌≤◌, ◌⊎◌, ◌↔◌, Bool, List, false, IfOk, IfErr, IfSome, MatchOption, get_or, length, slice_index, slice_index_or};
 ghost use Rattle.std.specs.Net.Addr.{is_ipv4};
 ghost use Rattle.std.specs.declared.net.ip_addr.IpAddr.{IpAddr as SpecIpAddr};
 ghost use Rattle.mmdb_format.specs.Error.{OfDatabase, OfInput, kind_of, IsRefusedAs};
 ghost use Rattle.mmdb_net.specs.Address.{bits_of_address};
+ghost use Rattle.mmdb_reader.specs.Many.{AreWordsOf, BeginsWith};
 
 use crate::lookup_result::{LookupResult, NumberedAddress};
 use crate::reader::{Leaf, Reader};
+use crate::table::Entry;
 use crate::tree::Nodes;
 use mmdb_format::error::MaxMindDbError;
 use mmdb_format::message::{Message, Text};
 use std::convert::AsSlice;
 use std::net::{IpAddr, Ipv6Addr};
 
-/// Where the walk of an address ended, which `Reader::find_leaves` finds and `Reader::lookup_at` makes
-/// an answer of.
+// How many addresses are walked side by side.
+const GROUP: usize = 64;
+
+/// Where the walk of an address stands, after how many bits.
 #[derive(Clone, Copy, Default)]
-pub struct FoundLeaf {
-    number: u32,
-    taken: u8,
+pub(crate) struct FoundLeaf {
+    pub(crate) number: u32,
+    pub(crate) taken: u32,
+}
+
+// Where a walk stands by an entry of a table.
+#[inline(always)]
+fn entered(entry: Entry) -> FoundLeaf
+    ensures number { result.number ≡ entry.number }
+    ensures taken { result.taken ≡ entry.taken }
+{
+    FoundLeaf {
+        number: entry.number,
+        taken: u32::from(entry.taken),
+    }
 }
 
 // The bit of an address at an index, the highest at 0; none after its last.
@@ -36,94 +52,274 @@ fn bit_at(address: IpAddr, index: u8) -> Option<bool>
     }
 }
 
+// The first 32 bits of an address.
+#[inline(always)]
+fn first_word(address: IpAddr) -> u32
+    ensures { BeginsWith result (bits_of_address address) }
+{
+    match address {
+        IpAddr::V4(v4) => v4.to_bits(),
+        IpAddr::V6(v6) => (v6.to_bits() >> 96) as u32,
+    }
+}
+
+// The first 32 bits of each of these addresses.
+fn first_words(addresses: &[IpAddr], words: &mut [u32; 64])
+    requires few { length addresses.now ≤ 64 }
+    ensures words { AreWordsOf addresses.now words.new }
+{
+    for i in 0..addresses.len() {
+        words[i] = first_word(addresses[i]);
+    }
+}
+
+// The numbers of all lanes, ascending.
+fn all_lanes() -> [u8; 64] {
+    let mut lanes = [0; 64];
+    for i in 0..64u8 {
+        lanes[usize::from(i)] = i;
+    }
+    lanes
+}
+
 impl Nodes<'_> {
     ghost use Rattle.mmdb_reader.specs.Tree.{search_tree};
-    ghost use Rattle.mmdb_reader.specs.Many.{HasCome, HasEnded};
+    ghost use Rattle.mmdb_reader.specs.Descents.{Walks};
+    ghost use Rattle.mmdb_reader.specs.Many.{AllGoOn, AllEnd, AreWordsOf, BeginsWith, GoesOn, HasEnded, IsBitsOf};
 
-    /// Goes on with walks that have come to their sixteenth bit, all of them a bit at a time, so that none
-    /// waits for what another one reads.
-    pub(crate) fn go_on(&self, addresses: &[IpAddr], leaves: &mut [FoundLeaf])
-        requires same { length leaves.old ≡ length addresses.now }
-        ensures length { length leaves.new ≡ length addresses.now }
-        ensures ended { let tree = search_tree self.now.bytes.now self.now.node_count self.now.record_size in
-            (i : ℕ) (a : SpecIpAddr) (d : _) (start : ℕ) → i < length addresses.now
-            → HasCome tree start (bits_of_address (slice_index_or addresses.now i a)) 16 (slice_index_or leaves.old i d)
-            → HasEnded tree start (bits_of_address (slice_index_or addresses.now i a)) (slice_index_or leaves.new i d) }
+    // One bit more of a walk that has taken so many and is on a node; any other stays.
+    #[inline(always)]
+    fn step_word(&self, leaf: FoundLeaf, word: u32, taken: u32) -> FoundLeaf
+        requires { taken < 32 }
+        ensures { let tree = search_tree self.now.bytes.now self.now.node_count self.now.record_size in
+            (bits : List Bool) → BeginsWith word bits → GoesOn tree bits leaf result }
     {
-        for bit in 16..128u8 {
-            let mut is_on = false;
-            for i in 0..leaves.len() {
-                let number = leaves[i].number as usize;
-                if number < self.node_count {
-                    if let Some(right) = bit_at(addresses[i], bit) {
-                        is_on = true;
-                        leaves[i] = FoundLeaf {
-                            number: self.child(number, right) as u32,
-                            taken: bit + 1,
-                        };
-                    }
-                }
+        let number = leaf.number as usize;
+        if number >= self.node_count || leaf.taken != taken {
+            return leaf;
+        }
+        let right = (word >> (31 - taken)) % 2 == 1;
+        FoundLeaf {
+            number: self.child(number, right) as u32,
+            taken: taken + 1,
+        }
+    }
+
+    // The same along the bits of an address.
+    #[inline(always)]
+    fn step(&self, leaf: FoundLeaf, address: IpAddr, taken: u32) -> FoundLeaf
+        requires { taken < 128 }
+        ensures { let tree = search_tree self.now.bytes.now self.now.node_count self.now.record_size in
+            GoesOn tree (bits_of_address address) leaf result }
+    {
+        let number = leaf.number as usize;
+        if number >= self.node_count || leaf.taken != taken {
+            return leaf;
+        }
+        match bit_at(address, taken as u8) {
+            Some(right) => FoundLeaf {
+                number: self.child(number, right) as u32,
+                taken: taken + 1,
+            },
+            None => leaf,
+        }
+    }
+
+    // Where a walk ends.
+    #[inline(always)]
+    fn finish(&self, leaf: FoundLeaf, address: IpAddr) -> FoundLeaf
+        ensures { let tree = search_tree self.now.bytes.now self.now.node_count self.now.record_size in
+            (start : ℕ) → Walks tree start (bits_of_address address) leaf.taken leaf.number
+            → HasEnded tree start (bits_of_address address) result }
+    {
+        let mut number = leaf.number;
+        for taken in leaf.taken..128 {
+            if number as usize >= self.node_count {
+                return FoundLeaf { number, taken };
             }
-            if !is_on {
-                return;
+            let Some(right) = bit_at(address, taken as u8) else {
+                return FoundLeaf { number, taken };
+            };
+            number = self.child(number as usize, right) as u32;
+        }
+        FoundLeaf { number, taken: 128 }
+    }
+
+    // Of the lanes that are listed, keeps those whose walks are on nodes, and says how many. Nothing rests
+    // on the list: a walk whose lane is left out is finished by itself.
+    #[inline(always)]
+    fn keep_walking(&self, leaves: &[FoundLeaf; 64], lanes: &mut [u8; 64], count: usize) -> usize
+        requires { count ≤ 64 }
+        ensures { result ≤ count }
+    {
+        let mut kept = 0;
+        for j in 0..count {
+            let lane = lanes[j];
+            lanes[kept] = lane;
+            let number = leaves[usize::from(lane % 64)].number as usize;
+            if number < self.node_count {
+                kept += 1;
             }
         }
+        kept
+    }
+
+    // A step of each walk that is listed.
+    #[inline(always)]
+    fn step_words(
+        &self,
+        words: &[u32; 64],
+        leaves: &mut [FoundLeaf; 64],
+        lanes: &[u8; 64],
+        count: usize,
+        taken: u32,
+    )
+        requires count { count ≤ 64 }
+        requires taken { taken < 32 }
+        ensures { let tree = search_tree self.now.bytes.now self.now.node_count self.now.record_size in
+            AllGoOn (λ i bits. BeginsWith (slice_index words.now i) bits) tree leaves.old leaves.new }
+    {
+        for j in 0..count {
+            let lane = usize::from(lanes[j] % 64);
+            leaves[lane] = self.step_word(leaves[lane], words[lane], taken);
+        }
+    }
+
+    // The same along the bits of addresses.
+    #[inline(always)]
+    fn step_all(
+        &self,
+        addresses: &[IpAddr],
+        leaves: &mut [FoundLeaf; 64],
+        lanes: &[u8; 64],
+        count: usize,
+        taken: u32,
+    )
+        requires count { count ≤ 64 }
+        requires taken { taken < 128 }
+        ensures { let tree = search_tree self.now.bytes.now self.now.node_count self.now.record_size in
+            AllGoOn (IsBitsOf addresses.now) tree leaves.old leaves.new }
+    {
+        for j in 0..count {
+            let lane = usize::from(lanes[j] % 64);
+            if lane < addresses.len() {
+                leaves[lane] = self.step(leaves[lane], addresses[lane], taken);
+            }
+        }
+    }
+
+    // Goes on with the walks of a group, whose first sixteen bits are taken, side by side: a step of each
+    // that is on a node, without a branch on what it read, so that none waits for another one's read.
+    #[inline(always)]
+    fn walk_group(&self, addresses: &[IpAddr], words: &[u32; 64], leaves: &mut [FoundLeaf; 64])
+        requires few { length addresses.now ≤ 64 }
+        requires words { AreWordsOf addresses.now words.now }
+        ensures { let tree = search_tree self.now.bytes.now self.now.node_count self.now.record_size in
+            AllGoOn (IsBitsOf addresses.now) tree leaves.old leaves.new }
+    {
+        let mut lanes = all_lanes();
+        let mut count = self.keep_walking(leaves, &mut lanes, addresses.len());
+        for taken in 16..32u32 {
+            if count == 0 {
+                return;
+            }
+            self.step_words(words, leaves, &lanes, count, taken);
+            count = self.keep_walking(leaves, &mut lanes, count);
+        }
+        for later in 32..128u32 {
+            if count == 0 {
+                return;
+            }
+            self.step_all(addresses, leaves, &lanes, count, later);
+            count = self.keep_walking(leaves, &mut lanes, count);
+        }
+    }
+
+    // Brings each walk of a group to its end; nearly all are there.
+    #[inline(always)]
+    fn finish_all(&self, addresses: &[IpAddr], leaves: &mut [FoundLeaf; 64])
+        requires { length addresses.now ≤ 64 }
+        ensures { let tree = search_tree self.now.bytes.now self.now.node_count self.now.record_size in
+            AllEnd tree addresses.now leaves.old leaves.new }
+    {
+        for i in 0..addresses.len() {
+            leaves[i] = self.finish(leaves[i], addresses[i]);
+        }
+    }
+
+    /// Goes on with walks that have taken their first sixteen bits, to the end of each.
+    pub(crate) fn go_on(&self, addresses: &[IpAddr], leaves: &mut [FoundLeaf; 64])
+        requires { length addresses.now ≤ 64 }
+        ensures { let tree = search_tree self.now.bytes.now self.now.node_count self.now.record_size in
+            AllEnd tree addresses.now leaves.old leaves.new }
+    {
+        let mut words = [0; 64];
+        first_words(addresses, &mut words);
+        self.walk_group(addresses, &words, leaves);
+        self.finish_all(addresses, leaves);
     }
 }
 
 impl<S: AsSlice<u8> + Drop> Reader<S> {
     ghost use Rattle.mmdb_reader.specs.Found.{database_asked, leaf_of, offset_found, shown_as_ipv4};
     ghost use Rattle.mmdb_reader.specs.File.{tree_of};
+    ghost use Rattle.mmdb_reader.specs.Descents.{Walks};
     ghost use Rattle.mmdb_reader.specs.Lookup.{CanAsk, Answers, IsRefusedAt, IsLeafAt, outcome_at, block_at};
     ghost use Rattle.mmdb_reader.specs.Shown.{is_shown_as_ipv4};
-    ghost use Rattle.mmdb_reader.specs.Many.{HasCome, HasWalk, IsFoundFor, first_number};
+    ghost use Rattle.mmdb_reader.specs.Many.{HasWalk, IsFoundFor, first_number};
 
-    /// Finds where the walks of addresses end, all of them side by side, and takes no memory.
-    /// `lookup_at` makes an answer of each; `lookup_many` does both, in groups of 32, which are enough
-    /// for most of the gain. Both kinds of addresses may be mixed.
-    pub fn find_leaves(&self, addresses: &[IpAddr], leaves: &mut [FoundLeaf])
-        requires same { length leaves.old ≡ length addresses.now }
-        ensures length { length leaves.new ≡ length addresses.now }
-        ensures found { (i : ℕ) (a : SpecIpAddr) (d : _) → i < length addresses.now
+    // Where the walks of up to 64 addresses end.
+    fn find_leaves(&self, addresses: &[IpAddr], leaves: &mut [FoundLeaf; 64])
+        requires { length addresses.now ≤ 64 }
+        ensures { (i : ℕ) (a : SpecIpAddr) (d : _) → i < length addresses.now
             → IsFoundFor self.now (slice_index_or addresses.now i a) (slice_index_or leaves.new i d) }
     {
-        for i in 0..leaves.len() {
+        for i in 0..addresses.len() {
             leaves[i] = self.begin(addresses[i]);
         }
         self.nodes().go_on(addresses, leaves);
     }
 
+    /// Finds the leaves of the first addresses, up to 64 of them, and says of how many.
+    pub(crate) fn find_group(&self, addresses: &[IpAddr], leaves: &mut [FoundLeaf; 64]) -> usize
+        ensures some { 0 < length addresses.now → 0 < result }
+        ensures few { result ≤ 64 }
+        ensures within { result ≤ length addresses.now }
+        ensures found { (i : ℕ) (a : SpecIpAddr) (d : _) → i < result
+            → IsFoundFor self.now (slice_index_or addresses.now i a) (slice_index_or leaves.new i d) }
+    {
+        let count = if addresses.len() < GROUP {
+            addresses.len()
+        } else {
+            GROUP
+        };
+        self.find_leaves(&addresses[..count], leaves);
+        count
+    }
+
     // Where the first sixteen bits of an address lead, from a table.
     #[inline(always)]
     fn begin(&self, address: IpAddr) -> FoundLeaf
-        ensures { HasWalk self.now address → HasCome (tree_of self.now) (first_number self.now address) (bits_of_address address) 16 result }
+        ensures { HasWalk self.now address
+            → Walks (tree_of self.now) (first_number self.now address) (bits_of_address address) result.taken result.number }
     {
-        let entry = match address {
+        match address {
             IpAddr::V4(v4) if self.ipv4_start < self.metadata.node_count as usize => {
-                self.ipv4_table[(v4.to_bits() >> 16) as usize]
+                entered(self.ipv4_table[(v4.to_bits() >> 16) as usize])
             }
             IpAddr::V6(v6) if self.metadata.ip_version == 6 => {
-                self.ipv6_table[(v6.to_bits() >> 112) as usize]
+                entered(self.ipv6_table[(v6.to_bits() >> 112) as usize])
             }
-            _ => {
-                return FoundLeaf {
-                    number: self.metadata.node_count,
-                    taken: 0,
-                };
-            }
-        };
-        FoundLeaf {
-            number: entry.number,
-            taken: entry.taken,
+            _ => FoundLeaf {
+                number: self.metadata.node_count,
+                taken: 0,
+            },
         }
     }
 
     /// What `lookup` answers for an address, from where its walk was found to end.
-    ///
-    /// An IPv6 address asked of an IPv4 database is `InvalidInput`; a leaf whose number leads outside
-    /// the data section is `InvalidDatabase`. Nothing else fails.
     #[inline(always)]
-    pub fn lookup_at(
+    pub(crate) fn lookup_at(
         &self,
         address: IpAddr,
         leaf: FoundLeaf,
@@ -170,7 +366,7 @@ impl<S: AsSlice<u8> + Drop> Reader<S> {
             _ => Some(Leaf {
                 number: found.number as usize,
                 address,
-                prefix: found.taken,
+                prefix: found.taken as u8,
             }),
         }
     }

@@ -5,9 +5,9 @@ use Rattle.mmdb_net.specs.Bits.{bits_of}
 use Rattle.mmdb_reader.specs.declared.table.Entry.{Entry}
 use Rattle.mmdb_reader.specs.declared.many.FoundLeaf.{FoundLeaf}
 use Rattle.mmdb_reader.specs.File.{tree_of}
-use Rattle.mmdb_reader.specs.Many.{HasCome}
+use Rattle.mmdb_reader.specs.Descents.{Walks}
 use Rattle.mmdb_reader.proofs.LeafLemmas.{reader_of, start-is}
-use Rattle.mmdb_reader.proofs.ManyLemmas.{HasCome-entry}
+use Rattle.mmdb_reader.proofs.ManyLemmas.{Walks-entry}
 use Rattle.mmdb_reader.proofs.reader.Reader.begin.Goals as goal
 use Rattle.mmdb_reader.proofs.reader.Reader.begin.Goals.{in_default-via-in-V4+else-self, in_default-via-in-V6+else-self-eq6}
 
@@ -28,12 +28,12 @@ returns-in-V4 g c =
     let known = reader_of db _ c.self.inside.data_start start c.self.inside.ipv4_depth c.self.inside.ipv4_table.items c.self.inside.ipv6_table.items c.self.view_is c.self.invariant in
     let on : start < db.metadata.node_count = omega (arith, ap (λ d. d.metadata.node_count) c.self.view_is, c.if-self.true) in
     let e : Entry = c.index.result.now in
-    let leaf : FoundLeaf = record { number = e.number; taken = e.taken } in
+    let leaf : FoundLeaf = c.entered.result in
     let below : c.to_bits.result / 2 ^ 16 < 65536 = omega (arith, c.to_bits.type_inv) in
-    let P : ℕ → Type 0 = λ s. HasCome (tree_of db) s (bits_of 32 (ipv4_bits c.in-V4.v4)) 16 leaf in
-    let Q : List Bool → Type 0 = λ b. HasCome (tree_of db) start b 16 leaf in
+    let P : ℕ → Type 0 = λ s. Walks (tree_of db) s (bits_of 32 (ipv4_bits c.in-V4.v4)) leaf.taken leaf.number in
+    let Q : List Bool → Type 0 = λ b. Walks (tree_of db) start b leaf.taken leaf.number in
     rw c.in-V4.is (λ _. subst P (start-is db start c.self.inside.ipv4_depth known.ipv4) (subst Q (ap (bits_of 32) c.to_bits.ensures)
-    (HasCome-entry (tree_of db) start c.to_bits.result 16 32 c.self.inside.ipv4_table.items e leaf refl (known.ipv4_table.on_node on) below (let F : Entry → FoundLeaf = λ x. record { number = x.number; taken = x.taken } in ap F c.index.ensures))))
+    (Walks-entry (tree_of db) start c.to_bits.result 16 32 c.self.inside.ipv4_table.items e e leaf refl (known.ipv4_table.on_node on) below c.index.ensures c.entered.ensures.number c.entered.ensures.taken)))
 
 pub returns-in-V6 : goal.returns-in-V6
 returns-in-V6 g c =
@@ -41,8 +41,8 @@ returns-in-V6 g c =
     let known = reader_of db _ c.self.inside.data_start c.self.inside.ipv4_start c.self.inside.ipv4_depth c.self.inside.ipv4_table.items c.self.inside.ipv6_table.items c.self.view_is c.self.invariant in
     let six : db.metadata.ip_version ≡ 6 = omega (arith, ap (λ d. d.metadata.ip_version) c.self.view_is, c.if-self-eq6.true) in
     let e : Entry = c.index-in-V6.result.now in
-    let leaf : FoundLeaf = record { number = e.number; taken = e.taken } in
+    let leaf : FoundLeaf = c.entered-in-V6.result in
     let below : c.to_bits-in-V6.result / 2 ^ 112 < 65536 = omega (arith, c.to_bits-in-V6.type_inv) in
-    let Q : List Bool → Type 0 = λ b. HasCome (tree_of db) 0 b 16 leaf in
+    let Q : List Bool → Type 0 = λ b. Walks (tree_of db) 0 b leaf.taken leaf.number in
     rw c.in-V6.is (λ _. subst Q (ap (bits_of 128) c.to_bits-in-V6.ensures)
-    (HasCome-entry (tree_of db) 0 c.to_bits-in-V6.result 112 128 c.self.inside.ipv6_table.items e leaf refl (known.ipv6_table (eq-eqb _ _ six)) below (let F : Entry → FoundLeaf = λ x. record { number = x.number; taken = x.taken } in ap F c.index-in-V6.ensures)))
+    (Walks-entry (tree_of db) 0 c.to_bits-in-V6.result 112 128 c.self.inside.ipv6_table.items e e leaf refl (known.ipv6_table (eq-eqb _ _ six)) below c.index-in-V6.ensures c.entered-in-V6.ensures.number c.entered-in-V6.ensures.taken))

@@ -1,7 +1,6 @@
-use Rattle.std.proofs.Common.{◌≡◌, ◌<◌, ◌≤◌, length, get_or, take, arith, sym, subst}
-use Rattle.std.proofs.lemmas.List.{get_or-take, get_or_append_left, length-take-le}
+use Rattle.std.proofs.Common.{◌≡◌, ◌<◌, ◌≤◌, length, get_or, take, arith, subst}
+use Rattle.std.proofs.lemmas.List.{get_or-take, length-take-le}
 use Rattle.std.specs.declared.net.ip_addr.IpAddr.{IpAddr}
-use Rattle.mmdb_reader.specs.declared.many.FoundLeaf.{FoundLeaf}
 use Rattle.mmdb_reader.specs.Many.{IsFoundFor}
 use Rattle.mmdb_reader.proofs.reader.Reader.find_group.Goals as goal
 use Rattle.mmdb_reader.proofs.reader.Reader.find_group.Goals.{then-addresses-lt-GROUP, else-addresses-lt-GROUP}
@@ -15,10 +14,7 @@ returns-clause-found g c i a d h =
       | then-addresses-lt-GROUP w ↦ let is = w.count-is in omega (arith, is)
       | else-addresses-lt-GROUP w ↦ let is = w.count-is in let more = w.if-addresses-lt-GROUP.false in omega (arith, is, more)
     ] in
-    let size = c.find_leaves.ensures.length in
     let taken : length (take count addresses) ≡ count = length-take-le count addresses within in
     let below : i < length (take count addresses) = omega (arith, h, taken) in
-    let inside : i < length new = omega (arith, below, size) in
     let P : IpAddr → Type 0 = λ x. IsFoundFor c.args.self.now x (get_or new i d) in
-    let Q : FoundLeaf → Type 0 = λ x. IsFoundFor c.args.self.now (get_or addresses i a) x in
-    subst Q (sym (get_or_append_left new _ d i inside)) (subst P (get_or-take count addresses i a h) (c.find_leaves.ensures.found i a d below))
+    subst P (get_or-take count addresses i a h) (c.find_leaves.ensures i a d below)

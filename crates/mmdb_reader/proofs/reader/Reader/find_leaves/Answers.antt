@@ -2,7 +2,8 @@ use Rattle.std.proofs.Common.{◌<◌, length, get_or, slice_set, arith, sym, re
 use Rattle.std.proofs.lemmas.List.{length-set}
 use Rattle.mmdb_net.specs.Address.{bits_of_address}
 use Rattle.mmdb_reader.specs.Tree.{SearchTree}
-use Rattle.mmdb_reader.specs.Many.{HasCome, HasEnded, first_number}
+use Rattle.mmdb_reader.specs.Descents.{Walks}
+use Rattle.mmdb_reader.specs.Many.{HasEnded, first_number}
 use Rattle.mmdb_reader.proofs.ManyLemmas.{Begins, Begins-at, set-done}
 use Rattle.mmdb_reader.proofs.reader.Reader.find_leaves.Goals as goal
 
@@ -10,21 +11,22 @@ pub loop-i-preserved : goal.loop-i-preserved
 loop-i-preserved g c =
     let db = c.args.self.now in
     let i = c.loop-i.i in
-    let same = c.loop-i.invariant.same in
-    let test = c.loop-i-test.true in
-    let size = c.loop-i.auto.leaves in
-    let within : i < length c.loop-i.leaves = omega (arith, test, size) in
+    let long = c.loop-i.invariant.long in
+    let few = c.requires in
+    let inside : i < length c.args.addresses.now = c.loop-i-test.true in
+    let within : i < length c.loop-i.leaves = omega (arith, inside, few, long) in
     record {
-      same = omega (arith, length-set c.loop-i.leaves i c.begin.result, same);
+      long = omega (arith, length-set c.loop-i.leaves i c.begin.result, long);
       done = set-done (Begins db c.args.addresses.now) c.loop-i.leaves (slice_set c.loop-i.leaves i c.begin.result) i c.begin.result refl within c.loop-i.invariant.done
-          (Begins-at db c.args.addresses.now i _ c.begin.result (omega (arith, within, same)) c.begin.ensures);
+          (Begins-at db c.args.addresses.now i _ c.begin.result inside c.begin.ensures);
     }
 
-pub returns-clause-found : goal.returns-clause-found
-returns-clause-found g c i a d h walk =
+pub returns : goal.returns
+returns g c i a d h walk =
     let db = c.args.self.now in
     let address = get_or c.args.addresses.now i a in
-    let below : i < c.loop-i.i = let same = c.loop-i.invariant.same in let size = c.loop-i.auto.leaves in let all = c.loop-i-test.false in omega (arith, h, same, size, all) in
-    let P : SearchTree → Type 0 = λ t. HasCome t (first_number db address) (bits_of_address address) 16 (get_or c.loop-i.leaves i d) in
+    let leaf = get_or c.loop-i.leaves i d in
+    let below : i < c.loop-i.i = let all = c.loop-i-test.false in omega (arith, h, all) in
+    let P : SearchTree → Type 0 = λ t. Walks t (first_number db address) (bits_of_address address) leaf.taken leaf.number in
     let Q : SearchTree → Type 0 = λ t. HasEnded t (first_number db address) (bits_of_address address) (get_or c.go_on.new.leaves i d) in
-    subst Q c.nodes.ensures.tree (c.go_on.ensures.ended i a d (first_number db address) h (subst P (sym c.nodes.ensures.tree) (c.loop-i.invariant.done i d below a walk)))
+    subst Q c.nodes.ensures.tree (c.go_on.ensures i a d (first_number db address) h (subst P (sym c.nodes.ensures.tree) (c.loop-i.invariant.done i d below a walk)))

@@ -5,6 +5,6 @@ use Rattle.mmdb_reader.proofs.reader.Reader.find_leaves.Given as goal
 
 abbrev pub invariant-loop-i : goal.invariant-loop-i
 invariant-loop-i g l = record {
-  same : length l.leaves ≡ length l.addresses;
+  long : length l.leaves ≡ 64;
   done : (j : ℕ) (d : FoundLeaf) → j < l.i → Begins l.self l.addresses j (slice_index_or l.leaves j d);
 }

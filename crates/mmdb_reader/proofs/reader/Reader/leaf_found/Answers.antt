@@ -28,6 +28,22 @@ returns-in-V4-clause-shown g c =
     let off : c.args.self.now.metadata.node_count ≤ c.self.inside.ipv4_start = omega (arith, ap (λ t. t.node_count) c.nodes-nodes.ensures.tree, c.if-self-nodes.true) in
     sym (shown-none c.args.self.now c.args.address c.self.inside.ipv4_start c.self.inside.ipv4_depth known.ipv4 known.accepted.supported.some_node off)
 
+pub overflow_cast-result-in_default : goal.overflow_cast-result-in_default
+overflow_cast-result-in_default g c =
+    let db = c.args.self.now in
+    let start = c.self.inside.ipv4_start in
+    let known = reader_of db _ c.self.inside.data_start start c.self.inside.ipv4_depth c.self.inside.ipv4_table.items c.self.inside.ipv6_table.items c.self.view_is c.self.invariant in
+    let F : IpAddr → Type 0 = λ a. IsFoundFor db a c.args.found in
+    elim c.in_default.branch [
+      | in_default-via-in-V4+else-self-nodes w ↦
+          let same = start-is db start c.self.inside.ipv4_depth known.ipv4 in
+          let few = taken-le _ _ 32 _ _ _ (subst F w.in-V4.is c.requires.found (omega (arith, same, ap (λ t. t.node_count) c.nodes-nodes.ensures.tree, w.if-self-nodes.false))) in
+          omega (arith, few)
+      | in_default-via-in-V6+else-self-ne6 w ↦
+          let few = taken-le _ _ 128 _ _ _ (subst F w.in-V6.is c.requires.found (omega (arith, ap (λ d. d.metadata.ip_version) c.self.view_is, w.if-self-ne6.false))) in
+          omega (arith, few)
+    ]
+
 pub invariant_of-result-in_default : goal.invariant_of-result-in_default
 invariant_of-result-in_default g c =
     let db = c.args.self.now in
