@@ -4,5 +4,6 @@ mod equalities;
 mod fields;
 mod laws;
 mod memory;
+mod parts;
 mod rows;
 mod section;

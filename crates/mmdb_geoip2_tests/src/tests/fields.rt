@@ -1,6 +1,7 @@
 //! Each record over a section that has all its fields, in another order than the struct, with unknown
 //! fields of every type between them.
 use super::memory::{expect_empty, expect_no_record, expect_none};
+use super::parts::{Parts, parts_told};
 use super::section::{Row, with_unknown};
 use mmdb_decode::decode::Decode;
 use mmdb_decode::fuzzing::decode;
@@ -10,7 +11,7 @@ use mmdb_geoip2::{
 };
 use mmdb_vectors::answer::shown;
 use mmdb_vectors::failures::Failures;
-use std::alloc::{AllocError, Global};
+use std::alloc::Global;
 use std::fmt::Debug;
 
 // A row's section is read as a record where every growth is refused, and `Debug` shows the record so; so is a map
@@ -96,7 +97,7 @@ fn records_of_networks(rt: HostRuntime) -> Result<(), Failures> {
 pub const TOP_COUNTRY: Row<'static> = Row {
     before: b"\xF2\x46traits\xE1\x4Ais_anycast\x01\x07\x53represented_country\xE1\x44type\x41r\x52registered_country\xE1\x48iso_code\x41g",
     after: b"\x47country\xE1\x48iso_code\x41c\x49continent\xE1\x44code\x41k",
-    shown: "k c g r true",
+    shown: "([Some(\"k\"), Some(\"c\"), Some(\"g\"), Some(\"r\")], Some(true))",
 };
 
 /// A city, whose parts have one field each. It has two subdivisions.
@@ -104,7 +105,7 @@ pub const TOP_COUNTRY: Row<'static> = Row {
 pub const TOP_CITY: Row<'static> = Row {
     before: b"\xF6\x46traits\xE1\x4Ais_anycast\x01\x07\x4Csubdivisions\x02\x04\xE1\x48iso_code\x41s\xE1\x48iso_code\x41u\x53represented_country\xE1\x44type\x41r\x52registered_country\xE1\x48iso_code\x41g",
     after: b"\x46postal\xE1\x44code\x41p\x48location\xE1\x49time_zone\x41z\x47country\xE1\x48iso_code\x41c\x49continent\xE1\x44code\x41k\x44city\xE1\x4Ageoname_id\xC1\x01",
-    shown: "1 k c z p g r s u true",
+    shown: "((Some(1), None, false), [Some(\"k\"), Some(\"c\"), Some(\"z\"), Some(\"p\"), Some(\"g\"), Some(\"r\")], (2, (Some(\"s\"), Some(\"u\"))), Some(true))",
 };
 
 /// The same with confidences, and traits of its own.
@@ -112,108 +113,29 @@ pub const TOP_CITY: Row<'static> = Row {
 pub const TOP_ENTERPRISE: Row<'static> = Row {
     before: b"\xF6\x46traits\xE1\x49user_type\x41t\x4Csubdivisions\x02\x04\xE1\x4Aconfidence\xA1\x05\xE1\x4Aconfidence\xA1\x06\x53represented_country\xE1\x44type\x41r\x52registered_country\xE1\x4Aconfidence\xA1\x04",
     after: b"\x46postal\xE1\x4Aconfidence\xA1\x03\x48location\xE1\x49time_zone\x41z\x47country\xE1\x4Aconfidence\xA1\x02\x49continent\xE1\x44code\x41k\x44city\xE1\x4Aconfidence\xA1\x01",
-    shown: "1 k 2 z 3 4 r 5 6 t",
+    shown: "([Some(1), Some(2), Some(3), Some(4)], [Some(\"k\"), Some(\"z\"), Some(\"r\"), Some(\"t\")], [Some(5), Some(6)])",
 };
 
-/// A record that has parts.
-trait Parts {
-    /// A field of each part.
-    fn text(&self, alloc: Global) -> Result<String, AllocError>;
-}
-
-impl Parts for Country<'_> {
-    fn text(&self, alloc: Global) -> Result<String, AllocError> {
-        format!(in alloc;
-            "{} {} {} {} {}",
-            self.continent.code.unwrap_or("-"),
-            self.country.iso_code.unwrap_or("-"),
-            self.registered_country.iso_code.unwrap_or("-"),
-            self.represented_country.representation_type.unwrap_or("-"),
-            self.traits.is_anycast.unwrap_or(false)
-        )
-    }
-}
-
-impl Parts for City<'_> {
-    fn text(&self, alloc: Global) -> Result<String, AllocError> {
-        let [first, second] = self.subdivisions.as_slice() else {
-            return String::from_str(alloc, "no two subdivisions");
-        };
-        format!(in alloc;
-            "{} {} {} {} {} {} {} {} {} {}",
-            self.city.geoname_id.unwrap_or(0),
-            self.continent.code.unwrap_or("-"),
-            self.country.iso_code.unwrap_or("-"),
-            self.location.time_zone.unwrap_or("-"),
-            self.postal.code.unwrap_or("-"),
-            self.registered_country.iso_code.unwrap_or("-"),
-            self.represented_country.representation_type.unwrap_or("-"),
-            first.iso_code.unwrap_or("-"),
-            second.iso_code.unwrap_or("-"),
-            self.traits.is_anycast.unwrap_or(false)
-        )
-    }
-}
-
-impl Parts for Enterprise<'_> {
-    fn text(&self, alloc: Global) -> Result<String, AllocError> {
-        let [first, second] = self.subdivisions.as_slice() else {
-            return String::from_str(alloc, "no two subdivisions");
-        };
-        format!(in alloc;
-            "{} {} {} {} {} {} {} {} {} {}",
-            self.city.confidence.unwrap_or(0),
-            self.continent.code.unwrap_or("-"),
-            self.country.confidence.unwrap_or(0),
-            self.location.time_zone.unwrap_or("-"),
-            self.postal.confidence.unwrap_or(0),
-            self.registered_country.confidence.unwrap_or(0),
-            self.represented_country.representation_type.unwrap_or("-"),
-            first.confidence.unwrap_or(0),
-            second.confidence.unwrap_or(0),
-            self.traits.user_type.unwrap_or("-")
-        )
-    }
-}
-
-// A field of each part of the record that a section is read as, or the text of the refusal.
-fn parts_told<'de, T: Decode<'de> + Parts>(
+// A field of each part of the record that a row's section is read as; so is a map without a pair.
+fn expect_parts<'de, T: Decode<'de> + Parts>(
+    failures: &mut Failures,
     alloc: Global,
-    section: &'de [u8],
-) -> Result<String, AllocError> {
-    match decode::<T>(alloc, section) {
-        Ok(record) => record.text(alloc),
-        Err(error) => format!(in alloc; "{error}"),
-    }
+    room: &'de mut Vec<u8>,
+    row: &Row<'_>,
+) {
+    *room = with_unknown(alloc, row);
+    expect_empty::<T>(failures, alloc);
+    let text = parts_told::<T>(alloc, room.as_slice());
+    failures.expect_text(&row.before, text, row.shown);
 }
 
 #[test]
-fn country_of_all_parts(rt: HostRuntime) -> Result<(), Failures> {
-    let (alloc, row) = (rt.alloc(), TOP_COUNTRY);
-    let (mut failures, section) = (Failures::new(alloc), with_unknown(alloc, &row));
-    expect_empty::<Country<'_>>(&mut failures, alloc);
-    let text = parts_told::<Country<'_>>(alloc, section.as_slice());
-    failures.expect_text(&"country", text, row.shown);
-    failures.verdict()
-}
-
-#[test]
-fn city_of_all_parts(rt: HostRuntime) -> Result<(), Failures> {
-    let (alloc, row) = (rt.alloc(), TOP_CITY);
-    let (mut failures, section) = (Failures::new(alloc), with_unknown(alloc, &row));
-    expect_empty::<City<'_>>(&mut failures, alloc);
-    let text = parts_told::<City<'_>>(alloc, section.as_slice());
-    failures.expect_text(&"city", text, row.shown);
-    failures.verdict()
-}
-
-#[test]
-fn enterprise_of_all_parts(rt: HostRuntime) -> Result<(), Failures> {
-    let (alloc, row) = (rt.alloc(), TOP_ENTERPRISE);
-    let (mut failures, section) = (Failures::new(alloc), with_unknown(alloc, &row));
-    expect_empty::<Enterprise<'_>>(&mut failures, alloc);
-    let text = parts_told::<Enterprise<'_>>(alloc, section.as_slice());
-    failures.expect_text(&"enterprise", text, row.shown);
+fn records_of_all_parts(rt: HostRuntime) -> Result<(), Failures> {
+    let alloc = rt.alloc();
+    let (mut failures, mut room) = (Failures::new(alloc), Vec::new(alloc));
+    expect_parts::<Country<'_>>(&mut failures, alloc, &mut room, &TOP_COUNTRY);
+    expect_parts::<City<'_>>(&mut failures, alloc, &mut room, &TOP_CITY);
+    expect_parts::<Enterprise<'_>>(&mut failures, alloc, &mut room, &TOP_ENTERPRISE);
     failures.verdict()
 }
 
