@@ -5,5 +5,6 @@ mod fields;
 mod laws;
 mod memory;
 mod parts;
+mod reads;
 mod rows;
 mod section;

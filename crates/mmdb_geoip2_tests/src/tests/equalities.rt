@@ -2,7 +2,6 @@
 use super::parts::{Empty, Parts, refused};
 use mmdb_decode::decode::Decode;
 use mmdb_decode::fuzzing::decode;
-use mmdb_format::error::MaxMindDbError;
 use mmdb_geoip2::{City, Country, Enterprise, city, country};
 use mmdb_vectors::equality::equality;
 use mmdb_vectors::failures::Failures;
@@ -34,7 +33,7 @@ fn told_beside<'de, T: Decode<'de> + PartialEq>(
     }
 }
 
-fn no_answer(_error: MaxMindDbError) -> Option<bool> {
+fn no_answer<E: Drop>(_error: E) -> Option<bool> {
     None
 }
 

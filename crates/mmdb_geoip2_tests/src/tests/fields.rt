@@ -2,6 +2,7 @@
 //! fields of every type between them.
 use super::memory::{expect_empty, expect_no_record, expect_none};
 use super::parts::{Parts, parts_told};
+use super::reads::Reads;
 use super::section::{Row, with_unknown};
 use mmdb_decode::decode::Decode;
 use mmdb_decode::fuzzing::decode;
@@ -11,85 +12,76 @@ use mmdb_geoip2::{
 };
 use mmdb_vectors::answer::shown;
 use mmdb_vectors::failures::Failures;
-use std::alloc::Global;
 use std::fmt::Debug;
 
-// A row's section is read as a record where every growth is refused, and `Debug` shows the record so; so is a map
-// without a pair, and a text is read as none.
-fn expect_read<'de, T: Decode<'de> + Debug>(
-    failures: &mut Failures,
-    alloc: Global,
-    room: &'de mut Vec<u8>,
-    row: &Row<'_>,
-) {
-    *room = with_unknown(alloc, row);
-    let section = room.as_slice();
-    expect_none::<T>(failures, alloc, section);
-    expect_empty::<T>(failures, alloc);
-    expect_no_record::<T>(failures, alloc);
-    failures.expect_text(
-        &section,
-        shown(alloc, decode::<T>(alloc, section)),
-        row.shown,
-    );
+impl Reads {
+    // A row's section is read as a record where every growth is refused, and `Debug` shows the record so; so is a map
+    // without a pair, and a text is read as none.
+    fn expect_read<'de, T: Decode<'de> + Debug>(&'de mut self, row: &Row<'_>) {
+        self.room = with_unknown(self.alloc, row);
+        let (failures, alloc, section) = (&mut self.failures, self.alloc, self.room.as_slice());
+        expect_none::<T>(failures, alloc, section);
+        expect_empty::<T>(failures, alloc);
+        expect_no_record::<T>(failures, alloc);
+        failures.expect_text(
+            &section,
+            shown(alloc, decode::<T>(alloc, section)),
+            row.shown,
+        );
+    }
+
+    // A field of each part of the record that a row's section is read as; so is a map without a pair.
+    fn expect_parts<'de, T: Decode<'de> + Parts>(&'de mut self, row: &Row<'_>) {
+        self.room = with_unknown(self.alloc, row);
+        let (failures, alloc) = (&mut self.failures, self.alloc);
+        expect_empty::<T>(failures, alloc);
+        let text = parts_told::<T>(alloc, self.room.as_slice());
+        failures.expect_text(&row.before, text, row.shown);
+    }
 }
 
 #[test]
 fn parts_of_a_country(rt: HostRuntime) -> Result<(), Failures> {
-    let alloc = rt.alloc();
-    let (mut failures, mut room) = (Failures::new(alloc), Vec::new(alloc));
-    expect_read::<Names<'_>>(&mut failures, alloc, &mut room, &NAMES);
-    expect_read::<country::Continent<'_>>(&mut failures, alloc, &mut room, &CONTINENT);
-    expect_read::<country::Country<'_>>(&mut failures, alloc, &mut room, &COUNTRY);
-    expect_read::<country::RepresentedCountry<'_>>(
-        &mut failures,
-        alloc,
-        &mut room,
-        &REPRESENTED_COUNTRY,
-    );
-    expect_read::<country::Traits>(&mut failures, alloc, &mut room, &COUNTRY_TRAITS);
-    failures.verdict()
+    let mut reads = Reads::new(rt.alloc());
+    reads.expect_read::<Names<'_>>(&NAMES);
+    reads.expect_read::<country::Continent<'_>>(&CONTINENT);
+    reads.expect_read::<country::Country<'_>>(&COUNTRY);
+    reads.expect_read::<country::RepresentedCountry<'_>>(&REPRESENTED_COUNTRY);
+    reads.expect_read::<country::Traits>(&COUNTRY_TRAITS);
+    reads.verdict()
 }
 
 #[test]
 fn parts_of_a_city(rt: HostRuntime) -> Result<(), Failures> {
-    let alloc = rt.alloc();
-    let (mut failures, mut room) = (Failures::new(alloc), Vec::new(alloc));
-    expect_read::<city::City<'_>>(&mut failures, alloc, &mut room, &CITY);
-    expect_read::<city::Location<'_>>(&mut failures, alloc, &mut room, &LOCATION);
-    expect_read::<city::Postal<'_>>(&mut failures, alloc, &mut room, &POSTAL);
-    expect_read::<city::Subdivision<'_>>(&mut failures, alloc, &mut room, &SUBDIVISION);
-    failures.verdict()
+    let mut reads = Reads::new(rt.alloc());
+    reads.expect_read::<city::City<'_>>(&CITY);
+    reads.expect_read::<city::Location<'_>>(&LOCATION);
+    reads.expect_read::<city::Postal<'_>>(&POSTAL);
+    reads.expect_read::<city::Subdivision<'_>>(&SUBDIVISION);
+    reads.verdict()
 }
 
 #[test]
 fn parts_of_an_enterprise(rt: HostRuntime) -> Result<(), Failures> {
-    let alloc = rt.alloc();
-    let (mut failures, mut room) = (Failures::new(alloc), Vec::new(alloc));
-    expect_read::<enterprise::City<'_>>(&mut failures, alloc, &mut room, &ENTERPRISE_CITY);
-    expect_read::<enterprise::Country<'_>>(&mut failures, alloc, &mut room, &ENTERPRISE_COUNTRY);
-    expect_read::<enterprise::Postal<'_>>(&mut failures, alloc, &mut room, &ENTERPRISE_POSTAL);
-    expect_read::<enterprise::Subdivision<'_>>(
-        &mut failures,
-        alloc,
-        &mut room,
-        &ENTERPRISE_SUBDIVISION,
-    );
-    expect_read::<enterprise::Traits<'_>>(&mut failures, alloc, &mut room, &ENTERPRISE_TRAITS);
-    failures.verdict()
+    let mut reads = Reads::new(rt.alloc());
+    reads.expect_read::<enterprise::City<'_>>(&ENTERPRISE_CITY);
+    reads.expect_read::<enterprise::Country<'_>>(&ENTERPRISE_COUNTRY);
+    reads.expect_read::<enterprise::Postal<'_>>(&ENTERPRISE_POSTAL);
+    reads.expect_read::<enterprise::Subdivision<'_>>(&ENTERPRISE_SUBDIVISION);
+    reads.expect_read::<enterprise::Traits<'_>>(&ENTERPRISE_TRAITS);
+    reads.verdict()
 }
 
 #[test]
 fn records_of_networks(rt: HostRuntime) -> Result<(), Failures> {
-    let alloc = rt.alloc();
-    let (mut failures, mut room) = (Failures::new(alloc), Vec::new(alloc));
-    expect_read::<Isp<'_>>(&mut failures, alloc, &mut room, &ISP);
-    expect_read::<ConnectionType<'_>>(&mut failures, alloc, &mut room, &CONNECTION_TYPE);
-    expect_read::<AnonymousIp>(&mut failures, alloc, &mut room, &ANONYMOUS_IP);
-    expect_read::<DensityIncome>(&mut failures, alloc, &mut room, &DENSITY_INCOME);
-    expect_read::<Domain<'_>>(&mut failures, alloc, &mut room, &DOMAIN);
-    expect_read::<Asn<'_>>(&mut failures, alloc, &mut room, &ASN);
-    failures.verdict()
+    let mut reads = Reads::new(rt.alloc());
+    reads.expect_read::<Isp<'_>>(&ISP);
+    reads.expect_read::<ConnectionType<'_>>(&CONNECTION_TYPE);
+    reads.expect_read::<AnonymousIp>(&ANONYMOUS_IP);
+    reads.expect_read::<DensityIncome>(&DENSITY_INCOME);
+    reads.expect_read::<Domain<'_>>(&DOMAIN);
+    reads.expect_read::<Asn<'_>>(&ASN);
+    reads.verdict()
 }
 
 /// A country, whose parts have one field each.
@@ -116,27 +108,13 @@ pub const TOP_ENTERPRISE: Row<'static> = Row {
     shown: "([Some(1), Some(2), Some(3), Some(4)], [Some(\"k\"), Some(\"z\"), Some(\"r\"), Some(\"t\")], [Some(5), Some(6)])",
 };
 
-// A field of each part of the record that a row's section is read as; so is a map without a pair.
-fn expect_parts<'de, T: Decode<'de> + Parts>(
-    failures: &mut Failures,
-    alloc: Global,
-    room: &'de mut Vec<u8>,
-    row: &Row<'_>,
-) {
-    *room = with_unknown(alloc, row);
-    expect_empty::<T>(failures, alloc);
-    let text = parts_told::<T>(alloc, room.as_slice());
-    failures.expect_text(&row.before, text, row.shown);
-}
-
 #[test]
 fn records_of_all_parts(rt: HostRuntime) -> Result<(), Failures> {
-    let alloc = rt.alloc();
-    let (mut failures, mut room) = (Failures::new(alloc), Vec::new(alloc));
-    expect_parts::<Country<'_>>(&mut failures, alloc, &mut room, &TOP_COUNTRY);
-    expect_parts::<City<'_>>(&mut failures, alloc, &mut room, &TOP_CITY);
-    expect_parts::<Enterprise<'_>>(&mut failures, alloc, &mut room, &TOP_ENTERPRISE);
-    failures.verdict()
+    let mut reads = Reads::new(rt.alloc());
+    reads.expect_parts::<Country<'_>>(&TOP_COUNTRY);
+    reads.expect_parts::<City<'_>>(&TOP_CITY);
+    reads.expect_parts::<Enterprise<'_>>(&TOP_ENTERPRISE);
+    reads.verdict()
 }
 
 #[rattlefmt::skip]

@@ -1,6 +1,7 @@
 //! Reads and clones where memory is refused.
 use super::fields::{TOP_CITY, TOP_COUNTRY, TOP_ENTERPRISE};
 use super::parts::Parts;
+use super::reads::Reads;
 use super::section::{Row, with_unknown};
 use mmdb_decode::decode::Decode;
 use mmdb_decode::fuzzing::decode;
@@ -12,11 +13,17 @@ use mmdb_vectors::hoard::{Hoard, Met, refused_in_turn};
 use std::alloc::{AllocError, Global};
 
 // What an error says of a call.
-fn error_met(error: MaxMindDbError) -> Met {
-    match &error {
+fn kind_met(error: &MaxMindDbError) -> Met {
+    match error {
         MaxMindDbError::Memory => Met::Memory,
         _ => Met::Refusal,
     }
+}
+
+fn error_met(error: MaxMindDbError) -> Met {
+    let met = kind_met(&error);
+    drop(error);
+    met
 }
 
 fn outcome<T: Drop>(answer: Result<T, MaxMindDbError>) -> Met {
@@ -76,39 +83,36 @@ fn records_without_a_list(rt: HostRuntime) -> Result<(), Failures> {
     failures.verdict()
 }
 
-// What a row's section and its clone are where memory is refused, and what the clone says.
-fn expect_list<'de, T: Decode<'de> + Clone + Parts>(
-    failures: &mut Failures,
-    alloc: Global,
-    room: &'de mut Vec<u8>,
-    row: &Row<'_>,
-) {
-    *room = with_unknown(alloc, row);
-    let section = room.as_slice();
-    expect_turns::<T>(failures, alloc, section, Met::Value);
-    let (refused, then) = read_and_cloned_in_turn::<T>(alloc, section);
-    failures.expect(
-        &("a clone", section, refused, then),
-        refused > 0 && then == Met::Value,
-    );
-    failures.expect_text(&section, cloned_text::<T>(alloc, section), row.shown);
-}
+impl Reads {
+    // What a row's section and its clone are where memory is refused, and what the clone says.
+    fn expect_list<'de, T: Decode<'de> + Clone + Parts>(&'de mut self, row: &Row<'_>) {
+        self.room = with_unknown(self.alloc, row);
+        let (failures, alloc, section) = (&mut self.failures, self.alloc, self.room.as_slice());
+        expect_turns::<T>(failures, alloc, section, Met::Value);
+        let (refused, then) = read_and_cloned_in_turn::<T>(alloc, section);
+        failures.expect(
+            &("a clone", section, refused, then),
+            refused > 0 && then == Met::Value,
+        );
+        failures.expect_text(&section, cloned_text::<T>(alloc, section), row.shown);
+    }
 
-// What comes of a field that is a text, and of a record without a list: where no list stands, none is made.
-fn expect_without<'de, T: Decode<'de>>(failures: &mut Failures, alloc: Global) {
-    expect_turns::<T>(failures, alloc, b"\xE1\x44city\x41x", Met::Refusal);
-    expect_none::<T>(failures, alloc, b"\xE1\x44city\xE0");
+    // What comes of a field that is a text, and of a record without a list: where no list stands, none is made.
+    fn expect_without<'de, T: Decode<'de>>(&mut self) {
+        let (failures, alloc) = (&mut self.failures, self.alloc);
+        expect_turns::<T>(failures, alloc, b"\xE1\x44city\x41x", Met::Refusal);
+        expect_none::<T>(failures, alloc, b"\xE1\x44city\xE0");
+    }
 }
 
 #[test]
 fn lists_refused_in_turn(rt: HostRuntime) -> Result<(), Failures> {
-    let alloc = rt.alloc();
-    let (mut failures, mut room) = (Failures::new(alloc), Vec::new(alloc));
-    expect_list::<City<'_>>(&mut failures, alloc, &mut room, &TOP_CITY);
-    expect_list::<Enterprise<'_>>(&mut failures, alloc, &mut room, &TOP_ENTERPRISE);
-    expect_without::<City<'_>>(&mut failures, alloc);
-    expect_without::<Enterprise<'_>>(&mut failures, alloc);
-    failures.verdict()
+    let mut reads = Reads::new(rt.alloc());
+    reads.expect_list::<City<'_>>(&TOP_CITY);
+    reads.expect_list::<Enterprise<'_>>(&TOP_ENTERPRISE);
+    reads.expect_without::<City<'_>>();
+    reads.expect_without::<Enterprise<'_>>();
+    reads.verdict()
 }
 
 // How often a clone is refused for memory, with more of it each time, and what it meets then.

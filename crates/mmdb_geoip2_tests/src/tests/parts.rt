@@ -1,7 +1,6 @@
 //! Records that have parts, and what is asked of them.
 use mmdb_decode::decode::Decode;
 use mmdb_decode::fuzzing::decode;
-use mmdb_format::error::MaxMindDbError;
 use mmdb_geoip2::{City, Country, Enterprise, city, country, enterprise};
 use mmdb_vectors::answer::told;
 use std::alloc::{AllocError, Global};
@@ -75,6 +74,7 @@ impl Parts for City<'_> {
             && self.traits.is_empty()
             && self.registered_country.is_empty()
             && self.represented_country.is_empty()
+            && self.subdivisions.is_empty()
             && self.subdivisions.capacity() == 0
             && self.city == city::City::default()
             && self.postal == city::Postal::default()
@@ -168,7 +168,7 @@ pub fn parts_told<'de, T: Decode<'de> + Parts>(
 }
 
 /// What holds of a record that was refused.
-pub fn refused(_error: MaxMindDbError) -> bool {
+pub fn refused<E: Drop>(_error: E) -> bool {
     false
 }
 
