@@ -4,5 +4,7 @@ mod equalities;
 mod fields;
 mod laws;
 mod memory;
+mod parts;
+mod reads;
 mod rows;
 mod section;

@@ -16,6 +16,19 @@ pub fn told<T: Drop, E: Display + Drop>(
     }
 }
 
+/// Whether an answer is a value; what it has is let go here.
+pub fn is_ok<T: Drop, E: Drop>(answer: Result<T, E>) -> bool {
+    answer.is_ok()
+}
+
+/// Whether a text was made, and is this one.
+pub fn is_text(text: Result<String, AllocError>, wanted: &str) -> bool {
+    match text {
+        Ok(text) => text.as_str() == wanted,
+        Err(_) => false,
+    }
+}
+
 /// A value as `Debug` has it, or the text of a refusal.
 pub fn shown<T: Debug + Drop, E: Display + Drop>(
     alloc: Global,

@@ -1,27 +1,22 @@
 //! Each record that owns memory is cloned, once with enough memory.
+use super::parts::refused;
+use mmdb_decode::decode::Decode;
 use mmdb_decode::fuzzing::decode;
 use mmdb_geoip2::{City, Enterprise};
+use mmdb_vectors::answer::is_ok;
 use std::alloc::Global;
-use std::process::Abort;
 
-/// A map without a pair.
-const EMPTY: &[u8] = b"\xE0";
-
-// Whether a city is cloned.
-fn clones_city(rt: &impl Abort, alloc: Global) -> bool {
-    let city = decode::<City<'_>>(alloc, EMPTY).expect(rt, "City");
-    city.clone().is_ok()
-}
-
-// Whether a record of an enterprise is cloned.
-fn clones_enterprise(rt: &impl Abort, alloc: Global) -> bool {
-    let found = decode::<Enterprise<'_>>(alloc, EMPTY).expect(rt, "Enterprise");
-    found.clone().is_ok()
+// Whether the record of a map without a pair is cloned.
+fn is_cloned<'de, T: Decode<'de> + Clone>(alloc: Global) -> bool {
+    match decode::<T>(alloc, b"\xE0") {
+        Ok(record) => is_ok(record.clone()),
+        Err(error) => refused(error),
+    }
 }
 
 #[test]
 fn calls_succeed(rt: HostRuntime) {
     let alloc = rt.alloc();
-    assert!(rt; clones_city(&rt, alloc), "City::clone");
-    assert!(rt; clones_enterprise(&rt, alloc), "Enterprise::clone");
+    assert!(rt; is_cloned::<City<'_>>(alloc), "City::clone");
+    assert!(rt; is_cloned::<Enterprise<'_>>(alloc), "Enterprise::clone");
 }

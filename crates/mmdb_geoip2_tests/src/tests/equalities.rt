@@ -1,9 +1,11 @@
 //! Which records are equal, and which say nothing.
+use super::parts::{Empty, Parts, refused};
+use mmdb_decode::decode::Decode;
 use mmdb_decode::fuzzing::decode;
-use mmdb_geoip2::{City, Country, Enterprise, city, country, enterprise};
+use mmdb_geoip2::{City, Country, Enterprise, city, country};
 use mmdb_vectors::equality::equality;
 use mmdb_vectors::failures::Failures;
-use std::alloc::Global;
+use std::alloc::{AllocError, Global};
 
 /// Countries of which the second is spelled in another way, or differs in one field.
 #[rattlefmt::skip]
@@ -19,21 +21,53 @@ const COUNTRIES: &[(&[u8], &[u8], bool)] = &[
     (b"\xE1\x45names\xE1\x42en\x41x", b"\xE1\x45names\xE1\x42de\x41x", false),
 ];
 
-// What equality says of two countries.
-fn countries_told(alloc: Global, a: &[u8], b: &[u8]) -> Option<bool> {
-    let left = decode::<country::Country<'_>>(alloc, a).ok()?;
-    let right = decode::<country::Country<'_>>(alloc, b).ok()?;
-    equality(&left, &right)
+// What equality says of a value and of what a section is read as.
+fn told_beside<'de, T: Decode<'de> + PartialEq>(
+    alloc: Global,
+    left: &T,
+    section: &'de [u8],
+) -> Option<bool> {
+    match decode::<T>(alloc, section) {
+        Ok(right) => equality(left, &right),
+        Err(error) => no_answer(error),
+    }
 }
 
-// Whether a country is empty exactly where it equals the default, and equals its clone.
-fn is_sound(alloc: Global, section: &[u8]) -> bool {
-    match decode::<country::Country<'_>>(alloc, section) {
-        Ok(country) => {
-            let is_default = country == country::Country::default();
-            country.is_empty() == is_default && country.clone().is_ok_and(|same| same == country)
-        }
+fn no_answer<E: Drop>(_error: E) -> Option<bool> {
+    None
+}
+
+// What equality says of two values.
+fn told_of_two<'de, T: Decode<'de> + PartialEq>(
+    alloc: Global,
+    a: &'de [u8],
+    b: &'de [u8],
+) -> Option<bool> {
+    match decode::<T>(alloc, a) {
+        Ok(left) => told_beside(alloc, &left, b),
+        Err(error) => no_answer(error),
+    }
+}
+
+// Whether a clone was made, and is the same.
+fn is_same<T: PartialEq + Drop>(value: &T, clone: Result<T, AllocError>) -> bool {
+    match clone {
+        Ok(same) => same == *value,
         Err(_) => false,
+    }
+}
+
+// Whether a value is empty exactly where it equals the default, and equals its clone.
+fn is_sound<'de, T: Decode<'de> + Default + PartialEq + Clone + Empty>(
+    alloc: Global,
+    section: &'de [u8],
+) -> bool {
+    match decode::<T>(alloc, section) {
+        Ok(value) => {
+            let is_default = value == T::default();
+            value.says_nothing() == is_default && is_same(&value, value.clone())
+        }
+        Err(error) => refused(error),
     }
 }
 
@@ -41,56 +75,55 @@ fn is_sound(alloc: Global, section: &[u8]) -> bool {
 fn countries_equal(rt: HostRuntime) -> Result<(), Failures> {
     let (alloc, mut failures) = (rt.alloc(), Failures::new(rt.alloc()));
     for (a, b, is_equal) in COUNTRIES {
-        failures.expect(&[*a, *b], countries_told(alloc, a, b) == Some(*is_equal));
-        failures.expect(a, is_sound(alloc, a));
-        failures.expect(b, is_sound(alloc, b));
+        let told = told_of_two::<country::Country<'_>>(alloc, a, b);
+        failures.expect(&[*a, *b], told == Some(*is_equal));
+        failures.expect(a, is_sound::<country::Country<'_>>(alloc, a));
+        failures.expect(b, is_sound::<country::Country<'_>>(alloc, b));
     }
     failures.verdict()
 }
 
-// What equality says of two locations, neither of which is empty.
-fn locations_told(alloc: Global, a: &[u8], b: &[u8]) -> Option<bool> {
-    let left = decode::<city::Location<'_>>(alloc, a).ok()?;
-    let right = decode::<city::Location<'_>>(alloc, b).ok()?;
-    equality(&left, &right).filter(|_| !left.is_empty() && !right.is_empty())
+// Whether something stands in what a section is read as.
+fn stands<'de, T: Decode<'de> + Empty>(alloc: Global, section: &'de [u8]) -> bool {
+    match decode::<T>(alloc, section) {
+        Ok(value) => !value.says_nothing(),
+        Err(error) => refused(error),
+    }
 }
 
-// A coordinate is compared by its bits: the two zeros differ.
+// A coordinate is compared by its bits: the two zeros differ. Neither is nothing.
 #[test]
 fn zeros_differ(rt: HostRuntime) {
     let zero = b"\xE1\x48latitude\x68\0\0\0\0\0\0\0\0";
     let minus = b"\xE1\x48latitude\x68\x80\0\0\0\0\0\0\0";
-    assert!(rt; locations_told(rt.alloc(), zero, minus) == Some(false));
+    let alloc = rt.alloc();
+    let told = told_of_two::<city::Location<'_>>(alloc, zero, minus);
+    let both_stand = stands::<city::Location<'_>>(alloc, zero)
+        && stands::<city::Location<'_>>(alloc, minus);
+    assert!(rt; both_stand && told == Some(false));
 }
 
-fn says_city_nothing(alloc: Global) -> bool {
-    let city = City::empty(alloc);
-    city.city == city::City::default()
-        && city.postal == city::Postal::default()
-        && city.subdivisions.is_empty()
-        && city.subdivisions.capacity() == 0
+// Whether the record that says nothing has only empty parts.
+fn is_nothing<T: Parts + Drop>(alloc: Global) -> bool {
+    T::nothing(alloc).says_nothing()
 }
 
-fn says_enterprise_nothing(alloc: Global) -> bool {
-    let found = Enterprise::empty(alloc);
-    found.city == enterprise::City::default()
-        && found.traits == enterprise::Traits::default()
-        && found.traits.is_empty()
-        && found.subdivisions.is_empty()
-        && found.subdivisions.capacity() == 0
-}
-
-fn says_country_nothing() -> bool {
-    let country = Country::default();
-    country.continent.is_empty()
-        && country.country.is_empty()
-        && country.represented_country.is_empty()
-        && country.traits.is_empty()
+// Whether a map without a pair is read as such a record.
+fn reads_nothing<'de, T: Decode<'de> + Parts>(alloc: Global) -> bool {
+    match decode::<T>(alloc, b"\xE0") {
+        Ok(record) => record.says_nothing(),
+        Err(error) => refused(error),
+    }
 }
 
 #[test]
 fn nothing_stands(rt: HostRuntime) {
-    assert!(rt; says_city_nothing(rt.alloc()));
-    assert!(rt; says_enterprise_nothing(rt.alloc()));
-    assert!(rt; says_country_nothing());
+    let alloc = rt.alloc();
+    let city = is_nothing::<City<'_>>(alloc) && reads_nothing::<City<'_>>(alloc);
+    let country = is_nothing::<Country<'_>>(alloc);
+    let enterprise = is_nothing::<Enterprise<'_>>(alloc);
+    assert!(rt;
+        city && country && enterprise,
+        "{city} {country} {enterprise}"
+    );
 }

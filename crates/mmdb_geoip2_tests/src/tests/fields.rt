@@ -1,6 +1,8 @@
 //! Each record over a section that has all its fields, in another order than the struct, with unknown
 //! fields of every type between them.
 use super::memory::{expect_empty, expect_no_record, expect_none};
+use super::parts::{Parts, parts_told};
+use super::reads::Reads;
 use super::section::{Row, with_unknown};
 use mmdb_decode::decode::Decode;
 use mmdb_decode::fuzzing::decode;
@@ -10,85 +12,76 @@ use mmdb_geoip2::{
 };
 use mmdb_vectors::answer::shown;
 use mmdb_vectors::failures::Failures;
-use std::alloc::{AllocError, Global};
 use std::fmt::Debug;
 
-// A row's section is read as a record where every growth is refused, and `Debug` shows the record so; so is a map
-// without a pair, and a text is read as none.
-fn expect_read<'de, T: Decode<'de> + Debug>(
-    failures: &mut Failures,
-    alloc: Global,
-    room: &'de mut Vec<u8>,
-    row: &Row<'_>,
-) {
-    *room = with_unknown(alloc, row);
-    let section = room.as_slice();
-    expect_none::<T>(failures, alloc, section);
-    expect_empty::<T>(failures, alloc);
-    expect_no_record::<T>(failures, alloc);
-    failures.expect_text(
-        &section,
-        shown(alloc, decode::<T>(alloc, section)),
-        row.shown,
-    );
+impl Reads {
+    // A row's section is read as a record where every growth is refused, and `Debug` shows the record so; so is a map
+    // without a pair, and a text is read as none.
+    fn expect_read<'de, T: Decode<'de> + Debug>(&'de mut self, row: &Row<'_>) {
+        self.room = with_unknown(self.alloc, row);
+        let (failures, alloc, section) = (&mut self.failures, self.alloc, self.room.as_slice());
+        expect_none::<T>(failures, alloc, section);
+        expect_empty::<T>(failures, alloc);
+        expect_no_record::<T>(failures, alloc);
+        failures.expect_text(
+            &section,
+            shown(alloc, decode::<T>(alloc, section)),
+            row.shown,
+        );
+    }
+
+    // A field of each part of the record that a row's section is read as; so is a map without a pair.
+    fn expect_parts<'de, T: Decode<'de> + Parts>(&'de mut self, row: &Row<'_>) {
+        self.room = with_unknown(self.alloc, row);
+        let (failures, alloc) = (&mut self.failures, self.alloc);
+        expect_empty::<T>(failures, alloc);
+        let text = parts_told::<T>(alloc, self.room.as_slice());
+        failures.expect_text(&row.before, text, row.shown);
+    }
 }
 
 #[test]
 fn parts_of_a_country(rt: HostRuntime) -> Result<(), Failures> {
-    let alloc = rt.alloc();
-    let (mut failures, mut room) = (Failures::new(alloc), Vec::new(alloc));
-    expect_read::<Names<'_>>(&mut failures, alloc, &mut room, &NAMES);
-    expect_read::<country::Continent<'_>>(&mut failures, alloc, &mut room, &CONTINENT);
-    expect_read::<country::Country<'_>>(&mut failures, alloc, &mut room, &COUNTRY);
-    expect_read::<country::RepresentedCountry<'_>>(
-        &mut failures,
-        alloc,
-        &mut room,
-        &REPRESENTED_COUNTRY,
-    );
-    expect_read::<country::Traits>(&mut failures, alloc, &mut room, &COUNTRY_TRAITS);
-    failures.verdict()
+    let mut reads = Reads::new(rt.alloc());
+    reads.expect_read::<Names<'_>>(&NAMES);
+    reads.expect_read::<country::Continent<'_>>(&CONTINENT);
+    reads.expect_read::<country::Country<'_>>(&COUNTRY);
+    reads.expect_read::<country::RepresentedCountry<'_>>(&REPRESENTED_COUNTRY);
+    reads.expect_read::<country::Traits>(&COUNTRY_TRAITS);
+    reads.verdict()
 }
 
 #[test]
 fn parts_of_a_city(rt: HostRuntime) -> Result<(), Failures> {
-    let alloc = rt.alloc();
-    let (mut failures, mut room) = (Failures::new(alloc), Vec::new(alloc));
-    expect_read::<city::City<'_>>(&mut failures, alloc, &mut room, &CITY);
-    expect_read::<city::Location<'_>>(&mut failures, alloc, &mut room, &LOCATION);
-    expect_read::<city::Postal<'_>>(&mut failures, alloc, &mut room, &POSTAL);
-    expect_read::<city::Subdivision<'_>>(&mut failures, alloc, &mut room, &SUBDIVISION);
-    failures.verdict()
+    let mut reads = Reads::new(rt.alloc());
+    reads.expect_read::<city::City<'_>>(&CITY);
+    reads.expect_read::<city::Location<'_>>(&LOCATION);
+    reads.expect_read::<city::Postal<'_>>(&POSTAL);
+    reads.expect_read::<city::Subdivision<'_>>(&SUBDIVISION);
+    reads.verdict()
 }
 
 #[test]
 fn parts_of_an_enterprise(rt: HostRuntime) -> Result<(), Failures> {
-    let alloc = rt.alloc();
-    let (mut failures, mut room) = (Failures::new(alloc), Vec::new(alloc));
-    expect_read::<enterprise::City<'_>>(&mut failures, alloc, &mut room, &ENTERPRISE_CITY);
-    expect_read::<enterprise::Country<'_>>(&mut failures, alloc, &mut room, &ENTERPRISE_COUNTRY);
-    expect_read::<enterprise::Postal<'_>>(&mut failures, alloc, &mut room, &ENTERPRISE_POSTAL);
-    expect_read::<enterprise::Subdivision<'_>>(
-        &mut failures,
-        alloc,
-        &mut room,
-        &ENTERPRISE_SUBDIVISION,
-    );
-    expect_read::<enterprise::Traits<'_>>(&mut failures, alloc, &mut room, &ENTERPRISE_TRAITS);
-    failures.verdict()
+    let mut reads = Reads::new(rt.alloc());
+    reads.expect_read::<enterprise::City<'_>>(&ENTERPRISE_CITY);
+    reads.expect_read::<enterprise::Country<'_>>(&ENTERPRISE_COUNTRY);
+    reads.expect_read::<enterprise::Postal<'_>>(&ENTERPRISE_POSTAL);
+    reads.expect_read::<enterprise::Subdivision<'_>>(&ENTERPRISE_SUBDIVISION);
+    reads.expect_read::<enterprise::Traits<'_>>(&ENTERPRISE_TRAITS);
+    reads.verdict()
 }
 
 #[test]
 fn records_of_networks(rt: HostRuntime) -> Result<(), Failures> {
-    let alloc = rt.alloc();
-    let (mut failures, mut room) = (Failures::new(alloc), Vec::new(alloc));
-    expect_read::<Isp<'_>>(&mut failures, alloc, &mut room, &ISP);
-    expect_read::<ConnectionType<'_>>(&mut failures, alloc, &mut room, &CONNECTION_TYPE);
-    expect_read::<AnonymousIp>(&mut failures, alloc, &mut room, &ANONYMOUS_IP);
-    expect_read::<DensityIncome>(&mut failures, alloc, &mut room, &DENSITY_INCOME);
-    expect_read::<Domain<'_>>(&mut failures, alloc, &mut room, &DOMAIN);
-    expect_read::<Asn<'_>>(&mut failures, alloc, &mut room, &ASN);
-    failures.verdict()
+    let mut reads = Reads::new(rt.alloc());
+    reads.expect_read::<Isp<'_>>(&ISP);
+    reads.expect_read::<ConnectionType<'_>>(&CONNECTION_TYPE);
+    reads.expect_read::<AnonymousIp>(&ANONYMOUS_IP);
+    reads.expect_read::<DensityIncome>(&DENSITY_INCOME);
+    reads.expect_read::<Domain<'_>>(&DOMAIN);
+    reads.expect_read::<Asn<'_>>(&ASN);
+    reads.verdict()
 }
 
 /// A country, whose parts have one field each.
@@ -96,7 +89,7 @@ fn records_of_networks(rt: HostRuntime) -> Result<(), Failures> {
 pub const TOP_COUNTRY: Row<'static> = Row {
     before: b"\xF2\x46traits\xE1\x4Ais_anycast\x01\x07\x53represented_country\xE1\x44type\x41r\x52registered_country\xE1\x48iso_code\x41g",
     after: b"\x47country\xE1\x48iso_code\x41c\x49continent\xE1\x44code\x41k",
-    shown: "k c g r true",
+    shown: "([Some(\"k\"), Some(\"c\"), Some(\"g\"), Some(\"r\")], Some(true))",
 };
 
 /// A city, whose parts have one field each. It has two subdivisions.
@@ -104,7 +97,7 @@ pub const TOP_COUNTRY: Row<'static> = Row {
 pub const TOP_CITY: Row<'static> = Row {
     before: b"\xF6\x46traits\xE1\x4Ais_anycast\x01\x07\x4Csubdivisions\x02\x04\xE1\x48iso_code\x41s\xE1\x48iso_code\x41u\x53represented_country\xE1\x44type\x41r\x52registered_country\xE1\x48iso_code\x41g",
     after: b"\x46postal\xE1\x44code\x41p\x48location\xE1\x49time_zone\x41z\x47country\xE1\x48iso_code\x41c\x49continent\xE1\x44code\x41k\x44city\xE1\x4Ageoname_id\xC1\x01",
-    shown: "1 k c z p g r s u true",
+    shown: "((Some(1), None, false), [Some(\"k\"), Some(\"c\"), Some(\"z\"), Some(\"p\"), Some(\"g\"), Some(\"r\")], (2, (Some(\"s\"), Some(\"u\"))), Some(true))",
 };
 
 /// The same with confidences, and traits of its own.
@@ -112,109 +105,16 @@ pub const TOP_CITY: Row<'static> = Row {
 pub const TOP_ENTERPRISE: Row<'static> = Row {
     before: b"\xF6\x46traits\xE1\x49user_type\x41t\x4Csubdivisions\x02\x04\xE1\x4Aconfidence\xA1\x05\xE1\x4Aconfidence\xA1\x06\x53represented_country\xE1\x44type\x41r\x52registered_country\xE1\x4Aconfidence\xA1\x04",
     after: b"\x46postal\xE1\x4Aconfidence\xA1\x03\x48location\xE1\x49time_zone\x41z\x47country\xE1\x4Aconfidence\xA1\x02\x49continent\xE1\x44code\x41k\x44city\xE1\x4Aconfidence\xA1\x01",
-    shown: "1 k 2 z 3 4 r 5 6 t",
+    shown: "([Some(1), Some(2), Some(3), Some(4)], [Some(\"k\"), Some(\"z\"), Some(\"r\"), Some(\"t\")], [Some(5), Some(6)])",
 };
 
-/// A record that has parts.
-trait Parts {
-    /// A field of each part.
-    fn text(&self, alloc: Global) -> Result<String, AllocError>;
-}
-
-impl Parts for Country<'_> {
-    fn text(&self, alloc: Global) -> Result<String, AllocError> {
-        format!(in alloc;
-            "{} {} {} {} {}",
-            self.continent.code.unwrap_or("-"),
-            self.country.iso_code.unwrap_or("-"),
-            self.registered_country.iso_code.unwrap_or("-"),
-            self.represented_country.representation_type.unwrap_or("-"),
-            self.traits.is_anycast.unwrap_or(false)
-        )
-    }
-}
-
-impl Parts for City<'_> {
-    fn text(&self, alloc: Global) -> Result<String, AllocError> {
-        let [first, second] = self.subdivisions.as_slice() else {
-            return String::from_str(alloc, "no two subdivisions");
-        };
-        format!(in alloc;
-            "{} {} {} {} {} {} {} {} {} {}",
-            self.city.geoname_id.unwrap_or(0),
-            self.continent.code.unwrap_or("-"),
-            self.country.iso_code.unwrap_or("-"),
-            self.location.time_zone.unwrap_or("-"),
-            self.postal.code.unwrap_or("-"),
-            self.registered_country.iso_code.unwrap_or("-"),
-            self.represented_country.representation_type.unwrap_or("-"),
-            first.iso_code.unwrap_or("-"),
-            second.iso_code.unwrap_or("-"),
-            self.traits.is_anycast.unwrap_or(false)
-        )
-    }
-}
-
-impl Parts for Enterprise<'_> {
-    fn text(&self, alloc: Global) -> Result<String, AllocError> {
-        let [first, second] = self.subdivisions.as_slice() else {
-            return String::from_str(alloc, "no two subdivisions");
-        };
-        format!(in alloc;
-            "{} {} {} {} {} {} {} {} {} {}",
-            self.city.confidence.unwrap_or(0),
-            self.continent.code.unwrap_or("-"),
-            self.country.confidence.unwrap_or(0),
-            self.location.time_zone.unwrap_or("-"),
-            self.postal.confidence.unwrap_or(0),
-            self.registered_country.confidence.unwrap_or(0),
-            self.represented_country.representation_type.unwrap_or("-"),
-            first.confidence.unwrap_or(0),
-            second.confidence.unwrap_or(0),
-            self.traits.user_type.unwrap_or("-")
-        )
-    }
-}
-
-// A field of each part of the record that a section is read as, or the text of the refusal.
-fn parts_told<'de, T: Decode<'de> + Parts>(
-    alloc: Global,
-    section: &'de [u8],
-) -> Result<String, AllocError> {
-    match decode::<T>(alloc, section) {
-        Ok(record) => record.text(alloc),
-        Err(error) => format!(in alloc; "{error}"),
-    }
-}
-
 #[test]
-fn country_of_all_parts(rt: HostRuntime) -> Result<(), Failures> {
-    let (alloc, row) = (rt.alloc(), TOP_COUNTRY);
-    let (mut failures, section) = (Failures::new(alloc), with_unknown(alloc, &row));
-    expect_empty::<Country<'_>>(&mut failures, alloc);
-    let text = parts_told::<Country<'_>>(alloc, section.as_slice());
-    failures.expect_text(&"country", text, row.shown);
-    failures.verdict()
-}
-
-#[test]
-fn city_of_all_parts(rt: HostRuntime) -> Result<(), Failures> {
-    let (alloc, row) = (rt.alloc(), TOP_CITY);
-    let (mut failures, section) = (Failures::new(alloc), with_unknown(alloc, &row));
-    expect_empty::<City<'_>>(&mut failures, alloc);
-    let text = parts_told::<City<'_>>(alloc, section.as_slice());
-    failures.expect_text(&"city", text, row.shown);
-    failures.verdict()
-}
-
-#[test]
-fn enterprise_of_all_parts(rt: HostRuntime) -> Result<(), Failures> {
-    let (alloc, row) = (rt.alloc(), TOP_ENTERPRISE);
-    let (mut failures, section) = (Failures::new(alloc), with_unknown(alloc, &row));
-    expect_empty::<Enterprise<'_>>(&mut failures, alloc);
-    let text = parts_told::<Enterprise<'_>>(alloc, section.as_slice());
-    failures.expect_text(&"enterprise", text, row.shown);
-    failures.verdict()
+fn records_of_all_parts(rt: HostRuntime) -> Result<(), Failures> {
+    let mut reads = Reads::new(rt.alloc());
+    reads.expect_parts::<Country<'_>>(&TOP_COUNTRY);
+    reads.expect_parts::<City<'_>>(&TOP_CITY);
+    reads.expect_parts::<Enterprise<'_>>(&TOP_ENTERPRISE);
+    reads.verdict()
 }
 
 #[rattlefmt::skip]

@@ -1,19 +1,35 @@
 //! Reads and clones where memory is refused.
 use super::fields::{TOP_CITY, TOP_COUNTRY, TOP_ENTERPRISE};
-use super::section::with_unknown;
+use super::parts::Parts;
+use super::reads::Reads;
+use super::section::{Row, with_unknown};
 use mmdb_decode::decode::Decode;
 use mmdb_decode::fuzzing::decode;
 use mmdb_format::error::MaxMindDbError;
 use mmdb_geoip2::{City, Country, Domain, Enterprise};
+use mmdb_vectors::answer::told;
 use mmdb_vectors::failures::Failures;
 use mmdb_vectors::hoard::{Hoard, Met, refused_in_turn};
-use std::alloc::Global;
+use std::alloc::{AllocError, Global};
+
+// What an error says of a call.
+fn kind_met(error: &MaxMindDbError) -> Met {
+    match error {
+        MaxMindDbError::Memory => Met::Memory,
+        _ => Met::Refusal,
+    }
+}
+
+fn error_met(error: MaxMindDbError) -> Met {
+    let met = kind_met(&error);
+    drop(error);
+    met
+}
 
 fn outcome<T: Drop>(answer: Result<T, MaxMindDbError>) -> Met {
     match answer {
         Ok(_) => Met::Value,
-        Err(MaxMindDbError::Memory) => Met::Memory,
-        Err(_) => Met::Refusal,
+        Err(error) => error_met(error),
     }
 }
 
@@ -67,27 +83,36 @@ fn records_without_a_list(rt: HostRuntime) -> Result<(), Failures> {
     failures.verdict()
 }
 
-#[test]
-fn lists_refused_in_turn(rt: HostRuntime) -> Result<(), Failures> {
-    let (alloc, mut failures) = (rt.alloc(), Failures::new(rt.alloc()));
-    let city = with_unknown(alloc, &TOP_CITY);
-    expect_turns::<City<'_>>(&mut failures, alloc, city.as_slice(), Met::Value);
-    let enterprise = with_unknown(alloc, &TOP_ENTERPRISE);
-    expect_turns::<Enterprise<'_>>(&mut failures, alloc, enterprise.as_slice(), Met::Value);
-    failures.verdict()
+impl Reads {
+    // What a row's section and its clone are where memory is refused, and what the clone says.
+    fn expect_list<'de, T: Decode<'de> + Clone + Parts>(&'de mut self, row: &Row<'_>) {
+        self.room = with_unknown(self.alloc, row);
+        let (failures, alloc, section) = (&mut self.failures, self.alloc, self.room.as_slice());
+        expect_turns::<T>(failures, alloc, section, Met::Value);
+        let (refused, then) = read_and_cloned_in_turn::<T>(alloc, section);
+        failures.expect(
+            &("a clone", section, refused, then),
+            refused > 0 && then == Met::Value,
+        );
+        failures.expect_text(&section, cloned_text::<T>(alloc, section), row.shown);
+    }
+
+    // What comes of a field that is a text, and of a record without a list: where no list stands, none is made.
+    fn expect_without<'de, T: Decode<'de>>(&mut self) {
+        let (failures, alloc) = (&mut self.failures, self.alloc);
+        expect_turns::<T>(failures, alloc, b"\xE1\x44city\x41x", Met::Refusal);
+        expect_none::<T>(failures, alloc, b"\xE1\x44city\xE0");
+    }
 }
 
 #[test]
-fn records_with_a_list(rt: HostRuntime) -> Result<(), Failures> {
-    let (alloc, mut failures) = (rt.alloc(), Failures::new(rt.alloc()));
-    let text = b"\xE1\x44city\x41x";
-    expect_turns::<City<'_>>(&mut failures, alloc, text, Met::Refusal);
-    expect_turns::<Enterprise<'_>>(&mut failures, alloc, text, Met::Refusal);
-    // Where no list stands, none is made.
-    let without = b"\xE1\x44city\xE0";
-    expect_none::<City<'_>>(&mut failures, alloc, without);
-    expect_none::<Enterprise<'_>>(&mut failures, alloc, without);
-    failures.verdict()
+fn lists_refused_in_turn(rt: HostRuntime) -> Result<(), Failures> {
+    let mut reads = Reads::new(rt.alloc());
+    reads.expect_list::<City<'_>>(&TOP_CITY);
+    reads.expect_list::<Enterprise<'_>>(&TOP_ENTERPRISE);
+    reads.expect_without::<City<'_>>();
+    reads.expect_without::<Enterprise<'_>>();
+    reads.verdict()
 }
 
 // How often a clone is refused for memory, with more of it each time, and what it meets then.
@@ -106,38 +131,28 @@ fn read_and_cloned_in_turn<'de, T: Decode<'de> + Clone>(
 ) -> (u32, Met) {
     match decode::<T>(alloc, section) {
         Ok(record) => cloned_in_turn(alloc, &record),
-        Err(_) => (0, Met::Refusal),
+        Err(error) => (0, error_met(error)),
     }
 }
 
-#[test]
-fn clones_refused_in_turn(rt: HostRuntime) -> Result<(), Failures> {
-    let (alloc, mut failures) = (rt.alloc(), Failures::new(rt.alloc()));
-    let city = with_unknown(alloc, &TOP_CITY);
-    let (refused, then) = read_and_cloned_in_turn::<City<'_>>(alloc, city.as_slice());
-    failures.expect(&("city", refused, then), refused > 0 && then == Met::Value);
-    let enterprise = with_unknown(alloc, &TOP_ENTERPRISE);
-    let (refused, then) = read_and_cloned_in_turn::<Enterprise<'_>>(alloc, enterprise.as_slice());
-    failures.expect(
-        &("enterprise", refused, then),
-        refused > 0 && then == Met::Value,
-    );
-    failures.verdict()
-}
-
-// Whether the clone of a city has its two subdivisions and its postal code.
-fn is_cloned(alloc: Global, section: &[u8]) -> bool {
-    match decode::<City<'_>>(alloc, section) {
-        Ok(city) => match city.clone() {
-            Ok(same) => same.subdivisions.len() == 2 && same.postal == city.postal,
-            Err(_) => false,
-        },
-        Err(_) => false,
+// A field of each part of the clone of what a section is read as.
+fn cloned_text<'de, T: Decode<'de> + Clone + Parts>(
+    alloc: Global,
+    section: &'de [u8],
+) -> Result<String, AllocError> {
+    match decode::<T>(alloc, section) {
+        Ok(record) => text_of(alloc, record.clone()),
+        Err(error) => told(alloc, Err::<(), _>(error)),
     }
 }
 
-#[test]
-fn clone_of_a_city(rt: HostRuntime) {
-    let section = with_unknown(rt.alloc(), &TOP_CITY);
-    assert!(rt; is_cloned(rt.alloc(), section.as_slice()));
+/// A field of each part of a record, where there was memory for it.
+pub fn text_of<T: Parts + Drop>(
+    alloc: Global,
+    record: Result<T, AllocError>,
+) -> Result<String, AllocError> {
+    match record {
+        Ok(record) => record.text(alloc),
+        Err(error) => Err(error),
+    }
 }

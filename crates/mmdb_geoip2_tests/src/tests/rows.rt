@@ -1,64 +1,77 @@
 //! Worked rows: bytes, and what is read of them or told.
+use super::parts::{Parts, parts_told, refused};
 use mmdb_decode::decode::Decode;
 use mmdb_decode::fuzzing::decode;
 use mmdb_geoip2::{City, Country, Domain, Enterprise, MAX_SUBDIVISIONS};
 use mmdb_vectors::answer::{OK, told};
 use mmdb_vectors::failures::Failures;
 use mmdb_vectors::section::section_of;
-use std::alloc::Global;
+use std::alloc::{AllocError, Global};
 
-// Notes what is told otherwise of sections that are read as a record.
-fn expect_told<'de, T: Decode<'de>>(
-    failures: &mut Failures,
-    alloc: Global,
-    rows: &[(&'de [u8], &str)],
-) {
-    for (section, text) in rows {
-        failures.expect_text(section, told(alloc, decode::<T>(alloc, section)), text);
+/// A record of which rows tell.
+#[derive(Clone, Copy, Debug)]
+enum Kind {
+    Country,
+    City,
+    Enterprise,
+    Domain,
+}
+
+// What is told of a section that is read as a record.
+fn told_as(alloc: Global, kind: Kind, section: &[u8]) -> Result<String, AllocError> {
+    match kind {
+        Kind::Country => told(alloc, decode::<Country<'_>>(alloc, section)),
+        Kind::City => told(alloc, decode::<City<'_>>(alloc, section)),
+        Kind::Enterprise => told(alloc, decode::<Enterprise<'_>>(alloc, section)),
+        Kind::Domain => told(alloc, decode::<Domain<'_>>(alloc, section)),
     }
 }
 
-// Whether each part of a city is empty.
-fn is_empty(city: &City<'_>) -> bool {
-    city.city.is_empty()
-        && city.continent.is_empty()
-        && city.country.is_empty()
-        && city.location.is_empty()
-        && city.postal.is_empty()
-        && city.traits.is_empty()
-        && city.registered_country.is_empty()
-        && city.represented_country.is_empty()
-        && city.subdivisions.is_empty()
+// A field of each part of the record that a section is read as.
+fn parts_as(alloc: Global, kind: Kind, section: &[u8]) -> Result<String, AllocError> {
+    match kind {
+        Kind::Country => parts_told::<Country<'_>>(alloc, section),
+        Kind::City => parts_told::<City<'_>>(alloc, section),
+        Kind::Enterprise => parts_told::<Enterprise<'_>>(alloc, section),
+        Kind::Domain => String::from_str(alloc, "no parts"),
+    }
 }
 
-#[test]
-fn empty_city(rt: HostRuntime) {
-    let city = decode::<City<'_>>(rt.alloc(), b"\xE0");
-    assert!(rt; city.is_ok_and(|city| is_empty(&city)));
-}
+/// A record, the beginning of its section, bytes behind it so many times, and a field of each part: of a city its
+/// number, its English name and whether it is empty, and how many subdivisions there are.
+#[rattlefmt::skip]
+const PARTS: &[(Kind, &[u8], &[u8], usize, &str)] = &[
+    (
+        Kind::City,
+        b"\xE1\x44city\xE1\x45names\xE1\x42en\x41A", b"", 0,
+        "((None, Some(\"A\"), false), [None, None, None, None, None, None], (0, (None, None)), None)",
+    ),
+    (
+        Kind::Enterprise,
+        b"\xE1\x44city\xE1\x4Aconfidence\xA1\x07", b"", 0,
+        "([Some(7), None, None, None], [None, None, None, None], [None, None])",
+    ),
+    (
+        Kind::Country,
+        b"\xE1\x53represented_country\xE1\x44type\x48military", b"", 0,
+        "([None, None, None, Some(\"military\")], None)",
+    ),
+    (
+        Kind::City,
+        b"\xE1\x4Csubdivisions\x1D\x04\x03", b"\xE0", 32,
+        "((None, None, true), [None, None, None, None, None, None], (32, (None, None)), None)",
+    ),
+];
 
 #[test]
-fn english_name_of_a_city(rt: HostRuntime) {
-    let city = decode::<City<'_>>(rt.alloc(), b"\xE1\x44city\xE1\x45names\xE1\x42en\x41A");
-    assert!(rt;
-        city.is_ok_and(|city| city.city.names.english == Some("A") && !city.city.is_empty())
-    );
-}
-
-#[test]
-fn confidence_of_a_city(rt: HostRuntime) {
-    let found = decode::<Enterprise<'_>>(rt.alloc(), b"\xE1\x44city\xE1\x4Aconfidence\xA1\x07");
-    assert!(rt; found.is_ok_and(|found| found.city.confidence == Some(7)));
-}
-
-#[test]
-fn type_of_a_represented_country(rt: HostRuntime) {
-    let section = b"\xE1\x53represented_country\xE1\x44type\x48military";
-    let found = decode::<Country<'_>>(rt.alloc(), section);
-    let told = found
-        .ok()
-        .and_then(|found| found.represented_country.representation_type);
-    assert!(rt; told == Some("military"));
+fn parts_of_records(rt: HostRuntime) -> Result<(), Failures> {
+    let (alloc, mut failures) = (rt.alloc(), Failures::new(rt.alloc()));
+    for (kind, start, unit, times, text) in PARTS {
+        let section = section_of(alloc, &[(*start, 1), (*unit, *times)]);
+        failures.expect_text(start, parts_as(alloc, *kind, section.as_slice()), text);
+    }
+    failures.expect(&"subdivisions", MAX_SUBDIVISIONS == 32);
+    failures.verdict()
 }
 
 /// Two countries, and bytes behind them so many times; the code of each. They are one map, two maps, or a map and
@@ -74,21 +87,17 @@ const COUNTRIES: &[(&[u8], usize, Option<&str>, Option<&str>)] = &[
     (b"\xE2\x52registered_country\x20\x20\x47country\x20\x21\xFD\xE0\x48iso_code\x41c", 504, None, Some("c")),
 ];
 
-type Codes<'a> = Option<(Option<&'a str>, Option<&'a str>)>;
+type Codes<'a> = (Option<&'a str>, Option<&'a str>);
 
-// The codes of a country's two countries.
-fn codes_of_country(alloc: Global, section: &[u8]) -> Codes<'_> {
-    match decode::<Country<'_>>(alloc, section) {
-        Ok(found) => Some((found.country.iso_code, found.registered_country.iso_code)),
-        Err(_) => None,
-    }
-}
-
-// The codes of a city's two countries.
-fn codes_of_city(alloc: Global, section: &[u8]) -> Codes<'_> {
-    match decode::<City<'_>>(alloc, section) {
-        Ok(found) => Some((found.country.iso_code, found.registered_country.iso_code)),
-        Err(_) => None,
+// Whether the two countries of a record have these codes.
+fn has_codes<'de, T: Decode<'de> + Parts>(
+    alloc: Global,
+    section: &'de [u8],
+    codes: Codes<'_>,
+) -> bool {
+    match decode::<T>(alloc, section) {
+        Ok(record) => record.codes() == codes,
+        Err(error) => refused(error),
     }
 }
 
@@ -97,29 +106,9 @@ fn countries_of_one_map(rt: HostRuntime) -> Result<(), Failures> {
     let (alloc, mut failures) = (rt.alloc(), Failures::new(rt.alloc()));
     for (start, times, country, registered) in COUNTRIES {
         let section = section_of(alloc, &[(*start, 1), (b"\x40", *times)]);
-        let codes = Some((*country, *registered));
-        failures.expect(start, codes_of_country(alloc, section.as_slice()) == codes);
-        failures.expect(start, codes_of_city(alloc, section.as_slice()) == codes);
-    }
-    failures.verdict()
-}
-
-/// Two countries that are one map, and bytes of it so many times: each is charged.
-#[rattlefmt::skip]
-const CHARGED: &[(&[u8], usize, &str)] = &[
-    (b"\xE2\x47country\x20\x20\x52registered_country\x20\x20\xFE\x3E\xE1", 32_764, OK),
-    (b"\xE2\x47country\x20\x20\x52registered_country\x20\x20\xFE\x3E\xE2", 32_766, "resource limit exceeded at offset 30: exceeded maximum number of data structure values"),
-];
-
-#[test]
-fn one_map_is_charged_twice(rt: HostRuntime) -> Result<(), Failures> {
-    let (alloc, mut failures) = (rt.alloc(), Failures::new(rt.alloc()));
-    for (start, times, text) in CHARGED {
-        let section = section_of(alloc, &[(*start, 1), (b"\x40", *times)]);
-        let rows = [(section.as_slice(), *text)];
-        expect_told::<Country<'_>>(&mut failures, alloc, &rows);
-        expect_told::<City<'_>>(&mut failures, alloc, &rows);
-        expect_told::<Enterprise<'_>>(&mut failures, alloc, &rows);
+        let (section, codes) = (section.as_slice(), (*country, *registered));
+        failures.expect(start, has_codes::<Country<'_>>(alloc, section, codes));
+        failures.expect(start, has_codes::<City<'_>>(alloc, section, codes));
     }
     failures.verdict()
 }
@@ -164,63 +153,77 @@ const DOMAINS: &[(&[u8], &str)] = &[
     (b"\xE1\x46domain\x81x", "decoding error at offset 8: expected string, got type 4"),
 ];
 
-#[test]
-fn records_told(rt: HostRuntime) -> Result<(), Failures> {
-    let (alloc, mut failures) = (rt.alloc(), Failures::new(rt.alloc()));
-    expect_told::<City<'_>>(&mut failures, alloc, CITIES);
-    expect_told::<Enterprise<'_>>(&mut failures, alloc, ENTERPRISES);
-    expect_told::<Domain<'_>>(&mut failures, alloc, DOMAINS);
-    failures.verdict()
-}
+/// The rows of one record.
+type Rows = (Kind, &'static [(&'static [u8], &'static str)]);
 
-/// Arrays of so many empty maps as subdivisions, and what is told.
-#[rattlefmt::skip]
-const SUBDIVISIONS: &[(&[u8], usize, &str)] = &[
-    (b"\xE1\x4Csubdivisions\x00\x04", 0, OK),
-    (b"\xE1\x4Csubdivisions\x1D\x04\x03", 32, OK),
-    (b"\xE1\x4Csubdivisions\x1D\x04\x04", 33, "decoding error at offset 17: subdivisions exceeds maximum length of 32"),
-    (b"\xE1\x4Csubdivisions\x1E\x04\x00\x00", 285, "decoding error at offset 18: subdivisions exceeds maximum length of 32"),
-    (b"\xE1\x4Csubdivisions\x1D\x04\x04", 32, "invalid database at offset 49: unexpected end of buffer"),
-    (b"\xE1\x4Csubdivisions\x1D\x04\x04", 1, "invalid database at offset 18: unexpected end of buffer"),
+const TOLD: &[Rows] = &[
+    (Kind::City, CITIES),
+    (Kind::Enterprise, ENTERPRISES),
+    (Kind::Domain, DOMAINS),
 ];
 
 #[test]
-fn subdivisions_at_the_limit(rt: HostRuntime) -> Result<(), Failures> {
+fn records_told(rt: HostRuntime) -> Result<(), Failures> {
     let (alloc, mut failures) = (rt.alloc(), Failures::new(rt.alloc()));
-    for (start, times, text) in SUBDIVISIONS {
-        let section = section_of(alloc, &[(*start, 1), (b"\xE0", *times)]);
-        let rows = [(section.as_slice(), *text)];
-        expect_told::<City<'_>>(&mut failures, alloc, &rows);
-        expect_told::<Enterprise<'_>>(&mut failures, alloc, &rows);
+    for (kind, rows) in TOLD {
+        for (section, text) in *rows {
+            failures.expect_text(section, told_as(alloc, *kind, section), text);
+        }
     }
     failures.verdict()
 }
 
-#[test]
-fn so_many_subdivisions(rt: HostRuntime) {
-    let start = b"\xE1\x4Csubdivisions\x1D\x04\x03";
-    let section = section_of(rt.alloc(), &[(start, 1), (b"\xE0", 32)]);
-    let city = decode::<City<'_>>(rt.alloc(), section.as_slice());
-    assert!(rt; city.is_ok_and(|city| city.subdivisions.len() == MAX_SUBDIVISIONS));
-}
+/// The beginning of a section, bytes behind it so many times, and what is told.
+type Long = (&'static [u8], &'static [u8], usize, &'static str);
 
-/// The beginnings of domains of so many letters, and what is told.
+/// Two countries that are one map, and bytes of it so many times: each is charged.
 #[rattlefmt::skip]
-const LONG_DOMAINS: &[(&[u8], usize, &str)] = &[
-    (b"\xE1\x46domain\x5F\x1E\xFE\xE3", 2_097_152, OK),
-    (b"\xE1\x46domain\x5F\x1E\xFE\xE4", 2_097_153, "resource limit exceeded at offset 8: exceeded maximum size of data structure string and bytes values"),
+const CHARGED: &[Long] = &[
+    (b"\xE2\x47country\x20\x20\x52registered_country\x20\x20\xFE\x3E\xE1", b"\x40", 32_764, OK),
+    (b"\xE2\x47country\x20\x20\x52registered_country\x20\x20\xFE\x3E\xE2", b"\x40", 32_766, "resource limit exceeded at offset 30: exceeded maximum number of data structure values"),
 ];
 
+/// Arrays of so many empty maps as subdivisions.
+#[rattlefmt::skip]
+const SUBDIVISIONS: &[Long] = &[
+    (b"\xE1\x4Csubdivisions\x00\x04", b"\xE0", 0, OK),
+    (b"\xE1\x4Csubdivisions\x1D\x04\x03", b"\xE0", 32, OK),
+    (b"\xE1\x4Csubdivisions\x1D\x04\x04", b"\xE0", 33, "decoding error at offset 17: subdivisions exceeds maximum length of 32"),
+    (b"\xE1\x4Csubdivisions\x1E\x04\x00\x00", b"\xE0", 285, "decoding error at offset 18: subdivisions exceeds maximum length of 32"),
+    (b"\xE1\x4Csubdivisions\x1D\x04\x04", b"\xE0", 32, "invalid database at offset 49: unexpected end of buffer"),
+    (b"\xE1\x4Csubdivisions\x1D\x04\x04", b"\xE0", 1, "invalid database at offset 18: unexpected end of buffer"),
+];
+
+/// The beginnings of domains of so many letters.
+#[rattlefmt::skip]
+const LONG_DOMAINS: &[Long] = &[
+    (b"\xE1\x46domain\x5F\x1E\xFE\xE3", b"a", 2_097_152, OK),
+    (b"\xE1\x46domain\x5F\x1E\xFE\xE4", b"a", 2_097_153, "resource limit exceeded at offset 8: exceeded maximum size of data structure string and bytes values"),
+];
+
+/// Records, and the rows that are told of each.
+const AT_LIMITS: &[(Kind, &[Long])] = &[
+    (Kind::Country, CHARGED),
+    (Kind::City, CHARGED),
+    (Kind::Enterprise, CHARGED),
+    (Kind::City, SUBDIVISIONS),
+    (Kind::Enterprise, SUBDIVISIONS),
+    (Kind::Domain, LONG_DOMAINS),
+];
+
+// What is told of a row's section.
+fn long_told(alloc: Global, kind: Kind, row: &Long) -> Result<String, AllocError> {
+    let section = section_of(alloc, &[(row.0, 1), (row.1, row.2)]);
+    told_as(alloc, kind, section.as_slice())
+}
+
 #[test]
-fn domain_at_the_limit(rt: HostRuntime) -> Result<(), Failures> {
+fn records_at_limits(rt: HostRuntime) -> Result<(), Failures> {
     let (alloc, mut failures) = (rt.alloc(), Failures::new(rt.alloc()));
-    for (start, times, text) in LONG_DOMAINS {
-        let section = section_of(alloc, &[(*start, 1), (b"a", *times)]);
-        failures.expect_text(
-            start,
-            told(alloc, decode::<Domain<'_>>(alloc, section.as_slice())),
-            text,
-        );
+    for (kind, rows) in AT_LIMITS {
+        for row in *rows {
+            failures.expect_text(&(*kind, row.0, row.2), long_told(alloc, *kind, row), row.3);
+        }
     }
     failures.verdict()
 }

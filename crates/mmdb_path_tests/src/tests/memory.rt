@@ -18,12 +18,25 @@ enum Call {
     RenderPath,
 }
 
+// What an error says of a call.
+fn kind_met(error: &MaxMindDbError) -> Met {
+    match error {
+        MaxMindDbError::Memory => Met::Memory,
+        MaxMindDbError::Decoding { path: Some(_), .. } => Met::Refusal,
+        _ => Met::Other,
+    }
+}
+
+fn error_met(error: MaxMindDbError) -> Met {
+    let met = kind_met(&error);
+    drop(error);
+    met
+}
+
 fn outcome<T: Drop>(told: Result<T, MaxMindDbError>) -> Met {
     match told {
         Ok(_) => Met::Value,
-        Err(MaxMindDbError::Memory) => Met::Memory,
-        Err(MaxMindDbError::Decoding { path: Some(_), .. }) => Met::Refusal,
-        Err(_) => Met::Other,
+        Err(error) => error_met(error),
     }
 }
 
@@ -52,17 +65,39 @@ fn expect_calls(failures: &mut Failures, alloc: Global, found: LookupResult<'_, 
     }
 }
 
-#[test]
-fn growths_refused_in_turn(rt: HostRuntime) -> Result<(), Failures> {
-    let mut failures = Failures::new(rt.alloc());
-    let file = file_of(rt.alloc(), RECORD);
-    match Reader::from_source(rt.alloc(), file.as_slice()) {
-        Ok(reader) => match reader.lookup(high()) {
-            Ok(found) => expect_calls(&mut failures, rt.alloc(), found),
-            Err(error) => failures.note(&"lookup", &error),
-        },
+// The same of an answer that may be a refusal.
+fn expect_found(
+    failures: &mut Failures,
+    alloc: Global,
+    found: Result<LookupResult<'_, &[u8]>, MaxMindDbError>,
+) {
+    match found {
+        Ok(found) => expect_calls(failures, alloc, found),
+        Err(error) => failures.note(&"lookup", &error),
+    }
+}
+
+// The calls on the record of a file, or the refusal of the file.
+fn expect_turns(
+    failures: &mut Failures,
+    alloc: Global,
+    opened: Result<Reader<&[u8]>, MaxMindDbError>,
+) {
+    match opened {
+        Ok(reader) => expect_found(failures, alloc, reader.lookup(high())),
         Err(error) => failures.note(&"reader", &error),
     }
+}
+
+#[test]
+fn growths_refused_in_turn(rt: HostRuntime) -> Result<(), Failures> {
+    let (alloc, mut failures) = (rt.alloc(), Failures::new(rt.alloc()));
+    let file = file_of(alloc, RECORD);
+    expect_turns(
+        &mut failures,
+        alloc,
+        Reader::from_source(alloc, file.as_slice()),
+    );
     failures.verdict()
 }
 
@@ -86,15 +121,24 @@ fn is_wanted(
     wanted: Wanted,
 ) -> bool {
     match wanted {
-        Wanted::Number(number) => found
-            .decode_path::<u16>(alloc, path)
-            .is_ok_and(|read| read == number),
-        Wanted::Text(text) => found
-            .decode_path::<&str>(alloc, path)
-            .is_ok_and(|read| read == Some(text)),
+        Wanted::Number(number) => { found.decode_path::<u16>(alloc, path).ok() == Some(number) }
+        Wanted::Text(text) => { found.decode_path::<&str>(alloc, path).ok() == Some(Some(text)) }
         Wanted::RefusedNumber => outcome(found.decode_path::<u16>(alloc, path)) == Met::Memory,
         Wanted::RefusedValue => outcome(found.decode_path::<Value<'_>>(alloc, path)) == Met::Memory,
         Wanted::RefusedPath => outcome(render_path(alloc, path)) == Met::Memory,
+    }
+}
+
+// The same of an answer that may be a refusal.
+fn is_found(
+    alloc: Global,
+    found: Option<LookupResult<'_, &[u8]>>,
+    path: &[PathElement<'_>],
+    wanted: Wanted,
+) -> bool {
+    match found {
+        Some(found) => is_wanted(alloc, found, path, wanted),
+        None => false,
     }
 }
 
@@ -104,10 +148,7 @@ fn holds_without_memory(alloc: Global, reader: &Reader<&[u8]>, row: &Row) -> boo
     let address = if *has_data { high() } else { low() };
     let large = Hoard::of_large_blocks(alloc);
     let small = Hoard::of_all_left(alloc);
-    let holds = match reader.lookup(address) {
-        Ok(found) => is_wanted(alloc, found, path, *wanted),
-        Err(_) => false,
-    };
+    let holds = is_found(alloc, reader.lookup(address).ok(), path, *wanted);
     drop(small);
     drop(large);
     holds
@@ -127,20 +168,30 @@ const ROWS: &[Row] = &[
     (true, &[Key("a")], Wanted::RefusedPath),
 ];
 
-// Notes the rows that have another answer where every growth is refused.
-fn expect_rows(failures: &mut Failures, alloc: Global, reader: &Reader<&[u8]>) {
-    for row in ROWS {
-        failures.expect(&row.1, holds_without_memory(alloc, reader, row));
+// Notes the rows that have another answer where every growth is refused, or the refusal of the file.
+fn expect_rows(
+    failures: &mut Failures,
+    alloc: Global,
+    opened: Result<Reader<&[u8]>, MaxMindDbError>,
+) {
+    match opened {
+        Ok(reader) => {
+            for row in ROWS {
+                failures.expect(&row.1, holds_without_memory(alloc, &reader, row));
+            }
+        }
+        Err(error) => failures.note(&"reader", &error),
     }
 }
 
 #[test]
 fn every_growth_refused(rt: HostRuntime) -> Result<(), Failures> {
-    let mut failures = Failures::new(rt.alloc());
-    let file = file_of(rt.alloc(), RECORD);
-    match Reader::from_source(rt.alloc(), file.as_slice()) {
-        Ok(reader) => expect_rows(&mut failures, rt.alloc(), &reader),
-        Err(error) => failures.note(&"reader", &error),
-    }
+    let (alloc, mut failures) = (rt.alloc(), Failures::new(rt.alloc()));
+    let file = file_of(alloc, RECORD);
+    expect_rows(
+        &mut failures,
+        alloc,
+        Reader::from_source(alloc, file.as_slice()),
+    );
     failures.verdict()
 }

@@ -2,8 +2,10 @@
 use maxminddb::PathElement::{Index, IndexFromEnd, Key};
 use maxminddb::laws::{path_selects, steps_equal_where_same};
 use maxminddb::{PathElement, path, render_path};
+use mmdb_vectors::answer::told;
 use mmdb_vectors::equality::equality;
 use mmdb_vectors::failures::Failures;
+use std::alloc::{AllocError, Global};
 
 /// Numbers of 64 bits, and the steps that they are.
 const LARGE_NUMBERS: &[(isize, PathElement<'static>)] = &[
@@ -43,14 +45,19 @@ const TEXTS: &[(&[PathElement<'static>], &str)] = &[
     (&[IndexFromEnd(usize::MAX)], "/-18446744073709551616"),
 ];
 
+// The text of a path, or the refusal.
+fn text_of(alloc: Global, path: &[PathElement<'_>]) -> Result<String, AllocError> {
+    match render_path(alloc, path) {
+        Ok(text) => Ok(text),
+        Err(error) => told(alloc, Err::<(), _>(error)),
+    }
+}
+
 #[test]
 fn texts_of_paths(rt: HostRuntime) -> Result<(), Failures> {
     let mut failures = Failures::new(rt.alloc());
     for (path, text) in TEXTS {
-        match render_path(rt.alloc(), path) {
-            Ok(rendered) => failures.expect(&rendered, rendered.as_str() == *text),
-            Err(error) => failures.note(path, &error),
-        }
+        failures.expect_text(path, text_of(rt.alloc(), path), text);
     }
     failures.verdict()
 }
@@ -77,8 +84,10 @@ const STEPS: [PathElement<'static>; 6] = [
 ];
 
 fn equals_clone(step: &PathElement<'_>) -> bool {
-    step.clone()
-        .is_ok_and(|copy| equality(step, &copy) == Some(true))
+    match step.clone() {
+        Ok(copy) => equality(step, &copy) == Some(true),
+        Err(_) => false,
+    }
 }
 
 #[test]

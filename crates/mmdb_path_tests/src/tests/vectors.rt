@@ -1,6 +1,6 @@
 //! What the tests of paths share.
-use maxminddb::{LookupResult, PathElement, Reader};
-use mmdb_vectors::answer::shown;
+use maxminddb::{LookupResult, MaxMindDbError, PathElement, Reader};
+use mmdb_vectors::answer::{shown, told};
 use mmdb_vectors::builder::{BASE, BASE_NODE, file};
 use std::alloc::{AllocError, Global};
 use std::net::{IpAddr, Ipv4Addr};
@@ -52,13 +52,25 @@ fn answer(
 
 fn told_by(
     alloc: Global,
-    reader: &Reader<&[u8]>,
+    found: Result<LookupResult<'_, &[u8]>, MaxMindDbError>,
     path: &[PathElement<'_>],
     wanted: Wanted,
 ) -> Result<String, AllocError> {
-    match reader.lookup(high()) {
+    match found {
         Ok(found) => answer(alloc, found, path, wanted),
-        Err(error) => format!(in alloc; "{error}"),
+        Err(error) => told(alloc, Err::<(), _>(error)),
+    }
+}
+
+fn told_of(
+    alloc: Global,
+    opened: Result<Reader<&[u8]>, MaxMindDbError>,
+    path: &[PathElement<'_>],
+    wanted: Wanted,
+) -> Result<String, AllocError> {
+    match opened {
+        Ok(reader) => told_by(alloc, reader.lookup(high()), path, wanted),
+        Err(error) => told(alloc, Err::<(), _>(error)),
     }
 }
 
@@ -70,8 +82,10 @@ pub fn told_at(
     wanted: Wanted,
 ) -> Result<String, AllocError> {
     let file = file_of(alloc, data);
-    match Reader::from_source(alloc, file.as_slice()) {
-        Ok(reader) => told_by(alloc, &reader, path, wanted),
-        Err(error) => format!(in alloc; "{error}"),
-    }
+    told_of(
+        alloc,
+        Reader::from_source(alloc, file.as_slice()),
+        path,
+        wanted,
+    )
 }

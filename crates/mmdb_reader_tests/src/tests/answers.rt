@@ -1,7 +1,7 @@
 //! The files of these tests, and what they answer, as text.
 use mmdb_reader::{LookupResult, MaxMindDbError, Reader};
-use mmdb_vectors::answer::told;
-use mmdb_vectors::base::low;
+use mmdb_vectors::answer::{shown, told};
+use mmdb_vectors::base::{high, low};
 use mmdb_vectors::builder::{
     BASE_DATA, BASE_NODE, Changes, changed_file, file_of_shared_nodes, file_of_twenty_nodes,
     file_with_alias, file_without_subtree,
@@ -85,6 +85,28 @@ pub fn found_text<S: AsSlice<u8> + Drop>(
 ) -> Result<String, AllocError> {
     match found {
         Ok(found) => text_of(alloc, found),
+        Err(error) => told(alloc, Err::<(), _>(error)),
+    }
+}
+
+// The text that is found, or the refusal.
+fn value_text<S: AsSlice<u8> + Drop>(
+    alloc: Global,
+    found: Result<LookupResult<'_, S>, MaxMindDbError>,
+) -> Result<String, AllocError> {
+    match found {
+        Ok(found) => shown(alloc, found.decode::<&str>(alloc)),
+        Err(error) => told(alloc, Err::<(), _>(error)),
+    }
+}
+
+/// The text that a reader has for the upper half of all addresses, or the refusal of its file.
+pub fn value_by(
+    alloc: Global,
+    opened: Result<Reader<Vec<u8>>, MaxMindDbError>,
+) -> Result<String, AllocError> {
+    match opened {
+        Ok(reader) => value_text(alloc, reader.lookup(high())),
         Err(error) => told(alloc, Err::<(), _>(error)),
     }
 }

@@ -1,9 +1,10 @@
 //! Files that can't be read, and files on disk.
 use super::answers::answer_by;
 use mmdb_reader::{MaxMindDbError, Reader};
+use mmdb_vectors::answer::is_ok;
 use mmdb_vectors::base::BASE_FILE;
 use mmdb_vectors::failures::Failures;
-use mmdb_vectors::file::OneFile;
+use mmdb_vectors::file::TestFiles;
 use std::alloc::{AllocError, Global};
 use std::fs;
 use std::rt::Files;
@@ -18,16 +19,21 @@ fn is_unread(opened: &Result<Reader<Vec<u8>>, MaxMindDbError>) -> bool {
     matches!(opened, Err(MaxMindDbError::Io(_)))
 }
 
+// The kind of refusal of a file that can't be read, which is let go.
+fn unread<T: Drop>(alloc: Global, _opened: T) -> Result<String, AllocError> {
+    String::from_str(alloc, UNREAD)
+}
+
 // What a file answers: what an address is told, the kind of refusal of a file that can't be read, or another
 // refusal.
 fn text_of(
     alloc: Global,
     opened: Result<Reader<Vec<u8>>, MaxMindDbError>,
 ) -> Result<String, AllocError> {
-    if is_unread(&opened) {
-        return String::from_str(alloc, UNREAD);
+    match is_unread(&opened) {
+        true => unread(alloc, opened),
+        false => answer_by(alloc, opened, "200.0.0.1"),
     }
-    answer_by(alloc, opened, "200.0.0.1")
 }
 
 // What a file at a path answers.
@@ -53,10 +59,12 @@ const READS: &[(&str, &str, &[u8], u32, &str)] = &[
 fn reads_that_fail(rt: HostRuntime) -> Result<(), Failures> {
     let (alloc, mut failures) = (rt.alloc(), Failures::new(rt.alloc()));
     for (case, path, bytes, fails_at, wanted) in READS {
-        let files = OneFile {
+        let files = TestFiles {
             bytes,
+            newer: b"",
             step: 20,
             fails_at: *fails_at,
+            interrupts: 0,
         };
         failures.expect_text(case, answer_at(&files, alloc, path), wanted);
     }
@@ -72,19 +80,30 @@ const ON_DISK: &[(&str, &str)] = &[
     ("gone.mmdb", UNREAD),
 ];
 
+/// Files, and what they are written with.
+const WRITTEN: &[(&str, &[u8])] = &[("written.mmdb", BASE_FILE), ("empty.mmdb", b"")];
+
+// Writes the files, notes those that are not written, and what files answer otherwise.
+fn expect_on_disk<R: Files>(failures: &mut Failures, rt: &R, alloc: Global) {
+    for (path, bytes) in WRITTEN {
+        failures.expect(path, is_ok(fs::write(rt, path, *bytes)));
+    }
+    for (path, text) in ON_DISK {
+        failures.expect_text(path, answer_at(rt, alloc, path), text);
+    }
+}
+
+// Removes the files, and notes those that are not removed.
+fn expect_removed<R: Files>(failures: &mut Failures, rt: &R) {
+    for (path, _) in WRITTEN {
+        failures.expect(path, is_ok(fs::remove_file(rt, path)));
+    }
+}
+
 #[test]
 fn files_on_disk(rt: HostRuntime) -> Result<(), Failures> {
     let (alloc, mut failures) = (rt.alloc(), Failures::new(rt.alloc()));
-    let written = fs::write(&rt, "written.mmdb", BASE_FILE).is_ok();
-    failures.expect(&"a file is written", written);
-    let written = fs::write(&rt, "empty.mmdb", b"".as_slice()).is_ok();
-    failures.expect(&"an empty file is written", written);
-    for (path, text) in ON_DISK {
-        failures.expect_text(path, answer_at(&rt, alloc, path), text);
-    }
-    let removed = fs::remove_file(&rt, "written.mmdb").is_ok();
-    failures.expect(&"the file is removed", removed);
-    let removed = fs::remove_file(&rt, "empty.mmdb").is_ok();
-    failures.expect(&"the empty file is removed", removed);
+    expect_on_disk(&mut failures, &rt, alloc);
+    expect_removed(&mut failures, &rt);
     failures.verdict()
 }

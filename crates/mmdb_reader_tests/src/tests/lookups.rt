@@ -7,11 +7,11 @@ use mmdb_reader::laws::{
     source_decides, step_clones_are_same, whole_walk,
 };
 use mmdb_reader::{LookupResult, MaxMindDbError, Reader, read_node};
-use mmdb_vectors::answer::{shown, told};
+use mmdb_vectors::answer::{OK, shown, told};
 use mmdb_vectors::base::BASE_FILE;
 use mmdb_vectors::builder::{BASE_DATA, Field, base_file as make_base_file};
 use mmdb_vectors::failures::Failures;
-use std::alloc::Global;
+use std::alloc::{AllocError, Global};
 
 const FAULT: &str =
     "invalid database: the MaxMind DB file's data pointer resolves to an invalid location";
@@ -110,20 +110,45 @@ fn expect_answer(
     }
 }
 
+// Whether the builder's base file is the one byte for byte.
+fn is_base(built: Result<Vec<u8>, AllocError>) -> bool {
+    match built {
+        Ok(built) => built.len() == 199 && built.as_slice() == BASE_FILE,
+        Err(_) => false,
+    }
+}
+
+// Whether the two records of a node of 28 bits each are read.
+fn reads_nodes() -> bool {
+    let node = b"\x23\x45\x67\x18\x9A\xBC\xDE";
+    read_node(node, 28, 0, 0) == 0x0123_4567 && read_node(node, 28, 0, 1) == 0x089A_BCDE
+}
+
+// Notes what a reader of the base file answers otherwise.
+fn expect_rows(failures: &mut Failures, alloc: Global, reader: &Reader<&'static [u8]>) {
+    for row in FOUND {
+        expect_answer(failures, alloc, reader.lookup(address(row.0)), row);
+    }
+}
+
+// The same of a file that may be refused.
+fn expect_base(
+    failures: &mut Failures,
+    alloc: Global,
+    opened: Result<Reader<&'static [u8]>, MaxMindDbError>,
+) {
+    match opened {
+        Ok(reader) => expect_rows(failures, alloc, &reader),
+        Err(error) => failures.expect_text(&"a reader", told(alloc, Err::<(), _>(error)), OK),
+    }
+}
+
 #[test]
 fn base_file(rt: HostRuntime) -> Result<(), Failures> {
     let (alloc, mut failures) = (rt.alloc(), Failures::new(rt.alloc()));
-    let built = make_base_file(alloc).unwrap_or(Vec::new(alloc));
-    failures.expect(&"its length", built.len() == 199);
-    failures.expect(&"its bytes", built.as_slice() == BASE_FILE);
-    let reader = Reader::from_source(alloc, BASE_FILE).expect(&rt, "a reader");
-    for row in FOUND {
-        expect_answer(&mut failures, alloc, reader.lookup(address(row.0)), row);
-    }
-    let node = b"\x23\x45\x67\x18\x9A\xBC\xDE";
-    let (left, right) = (read_node(node, 28, 0, 0), read_node(node, 28, 0, 1));
-    failures.expect(&"a node of 28 bits", left == 0x0123_4567);
-    failures.expect(&"a node of 28 bits", right == 0x089A_BCDE);
+    failures.expect(&"its length and bytes", is_base(make_base_file(alloc)));
+    failures.expect(&"a node of 28 bits", reads_nodes());
+    expect_base(&mut failures, alloc, Reader::from_source(alloc, BASE_FILE));
     failures.verdict()
 }
 

@@ -1,12 +1,12 @@
 //! Lookups of several addresses at once.
-ghost use Rattle.std.specs.Prelude.{◌≤◌};
-
 use super::answers::{BASE, File, address, found_text, reader_of};
-use mmdb_reader::Reader;
+use mmdb_reader::{LookupResult, MaxMindDbError, Reader};
+use mmdb_vectors::answer::{OK, told};
 use mmdb_vectors::base::low;
 use mmdb_vectors::builder::BASE_DATA;
 use mmdb_vectors::failures::Failures;
 use std::alloc::Global;
+use std::net::IpAddr;
 
 const OF_INPUT: &str = "invalid input: cannot look up IPv6 address in IPv4-only database";
 
@@ -56,6 +56,27 @@ const GROUPS: &[(File, &[Row])] = &[
 
 const MOST: usize = 40;
 
+// The addresses of the rows, over and over.
+fn addresses_of(rows: &[Row]) -> [IpAddr; MOST] {
+    let mut addresses = [low(); MOST];
+    for (place, row) in addresses.iter_mut().zip(rows.iter().cycle()) {
+        *place = address(row.0);
+    }
+    addresses
+}
+
+// Notes an address or its answer that is another than that of a row.
+fn expect_answer(
+    failures: &mut Failures,
+    alloc: Global,
+    asked: IpAddr,
+    answer: Result<LookupResult<'_, Vec<u8>>, MaxMindDbError>,
+    row: &Row,
+) {
+    failures.expect(row, asked == address(row.0));
+    failures.expect_text(row, found_text(alloc, answer), row.1);
+}
+
 // Asks for the addresses of the rows, over and over until there are so many.
 fn expect_many(
     failures: &mut Failures,
@@ -63,39 +84,42 @@ fn expect_many(
     reader: &Reader<Vec<u8>>,
     rows: &[Row],
     count: usize,
-)
-    requires count { count ≤ 40 }
-{
-    if rows.is_empty() {
-        failures.expect(&"rows", false);
-        return;
+) {
+    let addresses = addresses_of(rows);
+    let mut answered = 0usize;
+    let asked = reader.lookup_many(&addresses[..count.min(MOST)]);
+    for ((asked, answer), row) in asked.zip(rows.iter().cycle()) {
+        expect_answer(failures, alloc, asked, answer, row);
+        answered = answered.saturating_add(1);
     }
-    let mut addresses = [low(); MOST];
-    for i in 0..MOST {
-        addresses[i] = address(rows[i % rows.len()].0);
+    failures.expect(&("answers", answered), answered == count);
+}
+
+// The same with counts around those of the lookups that go side by side.
+fn expect_counts(failures: &mut Failures, alloc: Global, reader: &Reader<Vec<u8>>, rows: &[Row]) {
+    for count in [0, 1, 2, 31, 32, 33, MOST] {
+        expect_many(failures, alloc, reader, rows, count);
     }
-    let mut many = reader.lookup_many(&addresses[..count]);
-    for i in 0..count {
-        let row = &rows[i % rows.len()];
-        match many.next() {
-            Some((asked, answer)) => {
-                failures.expect(row, asked == address(row.0));
-                failures.expect_text(row, found_text(alloc, answer), row.1);
-            }
-            None => failures.expect(row, false),
-        }
+}
+
+// The same of a file that may be refused.
+fn expect_group(
+    failures: &mut Failures,
+    alloc: Global,
+    opened: Result<Reader<Vec<u8>>, MaxMindDbError>,
+    rows: &[Row],
+) {
+    match opened {
+        Ok(reader) => expect_counts(failures, alloc, &reader, rows),
+        Err(error) => failures.expect_text(&rows, told(alloc, Err::<(), _>(error)), OK),
     }
-    failures.expect(&"no further answer", many.next().is_none());
 }
 
 #[test]
 fn many_lookups(rt: HostRuntime) -> Result<(), Failures> {
     let (alloc, mut failures) = (rt.alloc(), Failures::new(rt.alloc()));
     for (file, rows) in GROUPS {
-        let reader = reader_of(alloc, file).expect(&rt, "a reader");
-        for count in [0, 1, 2, 31, 32, 33, MOST] {
-            expect_many(&mut failures, alloc, &reader, rows, count);
-        }
+        expect_group(&mut failures, alloc, reader_of(alloc, file), rows);
     }
     failures.verdict()
 }

@@ -87,9 +87,15 @@ const BEGINNINGS: &[(usize, &str)] = &[
     (198, "invalid database at offset 197: u16 of size 1"),
 ];
 
-// Whether a file is refused with a text that names the format.
-fn is_of_database(alloc: Global, file: &[u8]) -> bool {
-    match told(alloc, Reader::from_source(alloc, file)) {
+// What is told of the first bytes of the base file.
+fn told_of_first(alloc: Global, len: usize) -> Result<String, AllocError> {
+    let beginning = BASE_FILE.get(..len).unwrap_or(BASE_FILE);
+    told(alloc, Reader::from_source(alloc, beginning))
+}
+
+// Whether a refusal names the format.
+fn is_of_database(refusal: Result<String, AllocError>) -> bool {
+    match refusal {
         Ok(refusal) => refusal.starts_with("invalid database"),
         Err(_) => false,
     }
@@ -99,12 +105,10 @@ fn is_of_database(alloc: Global, file: &[u8]) -> bool {
 fn beginnings_refused(rt: HostRuntime) -> Result<(), Failures> {
     let (alloc, mut failures) = (rt.alloc(), Failures::new(rt.alloc()));
     for len in 0..BASE_FILE.len() {
-        failures.expect(&len, is_of_database(alloc, &BASE_FILE[..len]));
+        failures.expect(&len, is_of_database(told_of_first(alloc, len)));
     }
     for (len, text) in BEGINNINGS {
-        let beginning = BASE_FILE.get(..*len).unwrap_or(BASE_FILE);
-        let refusal = told(alloc, Reader::from_source(alloc, beginning));
-        failures.expect_text(len, refusal, text);
+        failures.expect_text(len, told_of_first(alloc, *len), text);
     }
     failures.verdict()
 }
@@ -202,15 +206,19 @@ fn refusal(alloc: Global, data: &[u8], changes: Changes<'_>) -> Result<String, A
     told(alloc, Reader::from_source(alloc, file))
 }
 
+// Notes what is told otherwise of files of these data.
+fn expect_refusals(failures: &mut Failures, alloc: Global, data: &[u8], rows: Refusals) {
+    for (changes, text) in rows {
+        failures.expect_text(text, refusal(alloc, data, changes), text);
+    }
+}
+
 #[test]
 fn metadata_refused(rt: HostRuntime) -> Result<(), Failures> {
     let (alloc, mut failures) = (rt.alloc(), Failures::new(rt.alloc()));
-    for (changes, text) in FAULTS.iter().chain(UNREAD) {
-        failures.expect_text(text, refusal(alloc, BASE_DATA, changes), text);
-    }
-    for (changes, text) in UNREAD_LATER {
-        failures.expect_text(text, refusal(alloc, b"\x48abcdefgh", changes), text);
-    }
+    expect_refusals(&mut failures, alloc, BASE_DATA, FAULTS);
+    expect_refusals(&mut failures, alloc, BASE_DATA, UNREAD);
+    expect_refusals(&mut failures, alloc, b"\x48abcdefgh", UNREAD_LATER);
     failures.verdict()
 }
 
@@ -253,30 +261,41 @@ const READ: &[(File, &str, &str)] = &[
 fn expect_metadata(
     failures: &mut Failures,
     alloc: Global,
-    metadata: Result<Metadata, AllocError>,
+    metadata: &mut Metadata,
     wanted: &str,
     time: &str,
 ) {
-    let Ok(mut metadata) = metadata else {
-        failures.expect(&"a clone", false);
-        return;
-    };
     failures.expect_text(&time, format!(in alloc; "{metadata:?}"), wanted);
     failures.expect_text(&time, shown(alloc, metadata.build_time(alloc)), time);
     metadata.build_epoch = 9_223_372_036_854_775_808;
     failures.expect_text(&time, shown(alloc, metadata.build_time(alloc)), TOO_LATE);
 }
 
-// What there is of a file that is refused.
-fn no_metadata(_error: MaxMindDbError) -> Result<Metadata, AllocError> {
-    Err(AllocError)
+// The same of a clone of a file's metadata.
+fn expect_clone(
+    failures: &mut Failures,
+    alloc: Global,
+    metadata: Result<Metadata, AllocError>,
+    wanted: &str,
+    time: &str,
+) {
+    match metadata {
+        Ok(mut metadata) => expect_metadata(failures, alloc, &mut metadata, wanted, time),
+        Err(_) => failures.expect(&"a clone", false),
+    }
 }
 
-// The metadata of a file.
-fn metadata_of(opened: Result<Reader<Vec<u8>>, MaxMindDbError>) -> Result<Metadata, AllocError> {
+// The same of a file that may be refused.
+fn expect_read(
+    failures: &mut Failures,
+    alloc: Global,
+    opened: Result<Reader<Vec<u8>>, MaxMindDbError>,
+    wanted: &str,
+    time: &str,
+) {
     match opened {
-        Ok(reader) => reader.metadata().clone(),
-        Err(error) => no_metadata(error),
+        Ok(reader) => expect_clone(failures, alloc, reader.metadata().clone(), wanted, time),
+        Err(error) => failures.expect_text(&time, told(alloc, Err::<(), _>(error)), wanted),
     }
 }
 
@@ -284,8 +303,7 @@ fn metadata_of(opened: Result<Reader<Vec<u8>>, MaxMindDbError>) -> Result<Metada
 fn metadata_read(rt: HostRuntime) -> Result<(), Failures> {
     let (alloc, mut failures) = (rt.alloc(), Failures::new(rt.alloc()));
     for (file, wanted, time) in READ {
-        let metadata = metadata_of(reader_of(alloc, file));
-        expect_metadata(&mut failures, alloc, metadata, wanted, time);
+        expect_read(&mut failures, alloc, reader_of(alloc, file), wanted, time);
     }
     failures.verdict()
 }

@@ -1,9 +1,11 @@
 //! Files of many bytes, as they come from a file that hands out so many a read.
-use mmdb_reader::{MaxMindDbError, Reader};
-use mmdb_vectors::base::high;
-use mmdb_vectors::builder::{BASE, file, push_node_24};
-use mmdb_vectors::file::OneFile;
-use std::alloc::Global;
+use super::answers::value_by;
+use mmdb_reader::Reader;
+use mmdb_vectors::builder::{BASE, file};
+use mmdb_vectors::failures::Failures;
+use mmdb_vectors::file::TestFiles;
+use mmdb_vectors::section::section_of;
+use std::alloc::{AllocError, Global};
 
 /// How many bytes of a file are no data: those of the node, the separator, the marker and the metadata.
 const AROUND: u32 = 197;
@@ -21,38 +23,44 @@ const ROWS: &[(u32, usize)] = &[
     (3_000_001, 1 << 24),
 ];
 
-/// The text that ends the data.
-const LAST: &[u8] = b"\x41x";
-
-// A file of so many bytes. The upper half of the addresses leads to the text at the end of the data.
-fn file_of(alloc: Global, length: u32) -> Result<Vec<u8>, MaxMindDbError> {
+// The bytes of a file of so many. The upper half of the addresses leads to the text at the end of the data.
+fn file_of(alloc: Global, length: u32) -> Result<Vec<u8>, AllocError> {
     let filler = length.saturating_sub(AROUND + 2);
-    let mut data = Vec::new(alloc);
-    data.resize(filler as usize, 0xE0)?;
-    data.extend_from_slice(LAST)?;
-    let mut nodes = Vec::new(alloc);
-    push_node_24(&mut nodes, 1, filler.saturating_add(17))?;
-    Ok(file(alloc, nodes.as_slice(), data.as_slice(), BASE)?)
+    let [_, a, b, c] = filler.saturating_add(17).to_be_bytes();
+    let data = section_of(alloc, &[(b"\xE0", filler as usize), (b"\x41x", 1)]);
+    file(alloc, &[0, 0, 1, a, b, c], data.as_slice(), BASE)
 }
 
-// Whether the text at the end of the data is read of a file of so many bytes.
-fn is_read(alloc: Global, length: u32, step: usize) -> Result<bool, MaxMindDbError> {
-    let bytes = file_of(alloc, length)?;
-    let is_long = bytes.len() == length as usize;
-    let files = OneFile {
-        bytes: bytes.as_slice(),
+// The text at the end of the data of a file of these bytes.
+fn value_of(alloc: Global, bytes: &[u8], step: usize) -> Result<String, AllocError> {
+    let files = TestFiles {
+        bytes,
+        newer: b"",
         step,
         fails_at: u32::MAX,
+        interrupts: 0,
     };
-    let reader = Reader::open_readfile(&files, alloc, "here.mmdb")?;
-    let text = reader.lookup(high())?.decode::<&str>(alloc)?;
-    Ok(is_long && text == Some("x"))
+    value_by(alloc, Reader::open_readfile(&files, alloc, "here.mmdb"))
+}
+
+// Notes a file that is not of so many bytes, or whose text is not read.
+fn expect_read(
+    failures: &mut Failures,
+    alloc: Global,
+    made: Result<Vec<u8>, AllocError>,
+    row: &(u32, usize),
+) {
+    let bytes = made.unwrap_or(Vec::new(alloc));
+    failures.expect(row, bytes.len() == row.0 as usize);
+    let value = value_of(alloc, bytes.as_slice(), row.1);
+    failures.expect_text(row, value, "Some(\"x\")");
 }
 
 #[test]
-fn files_of_many_bytes(rt: HostRuntime) {
-    for (length, step) in ROWS {
-        let holds = is_read(rt.alloc(), *length, *step).unwrap_or(false);
-        assert!(rt; holds, "{length} bytes, {step} a read");
+fn files_of_many_bytes(rt: HostRuntime) -> Result<(), Failures> {
+    let (alloc, mut failures) = (rt.alloc(), Failures::new(rt.alloc()));
+    for row in ROWS {
+        expect_read(&mut failures, alloc, file_of(alloc, row.0), row);
     }
+    failures.verdict()
 }

@@ -1,7 +1,7 @@
 //! Lookups that begin from a table, and the nodes that they read.
 use super::answers::{File, address, found_text, reader_of};
 use mmdb_reader::{MaxMindDbError, Reader, Steps};
-use mmdb_vectors::answer::{OK, told};
+use mmdb_vectors::answer::{OK, is_ok, told};
 use mmdb_vectors::builder::{BASE_DATA, Field};
 use mmdb_vectors::failures::Failures;
 use std::alloc::Global;
@@ -103,7 +103,7 @@ const AT_MOST: &[AtMost] = &[
 fn is_at_most(reader: &Reader<Vec<u8>>, row: &AtMost) -> bool {
     let (_, text, most, is_answered) = row;
     let mut steps = Steps::new();
-    let found = reader.lookup_counted(address(text), &mut steps).is_ok();
+    let found = is_ok(reader.lookup_counted(address(text), &mut steps));
     found == *is_answered && steps.count() <= *most
 }
 
