@@ -12,8 +12,15 @@ use std::net::IpAddr;
 
 /// The answers for addresses, in their order: each address with what `lookup` answers for it.
 ///
-/// The walks of up to 64 addresses go on side by side, and no item takes memory. An address that is
-/// refused is an error in its place, and the others come after it.
+/// The walks of up to 64 addresses go on side by side, and no item takes memory. An address that can't be
+/// asked for is an error in its place, and the others come after it.
+///
+///     let mut with_data = 0usize;
+///     for (_, answer) in reader.lookup_many(addresses) {
+///         if answer?.has_data() {
+///             with_data = with_data.saturating_add(1);
+///         }
+///     }
 #[derive(Drop)]
 pub struct LookupMany<'r, 'a, S: AsSlice<u8> + Drop> {
     reader: &'r Reader<S>,
@@ -35,10 +42,6 @@ impl<'r, 'a, S: AsSlice<u8> + Drop> Model for LookupMany<'r, 'a, S> {
 
 impl<S: AsSlice<u8> + Drop> Reader<S> {
     /// What `lookup` answers for each of these addresses, in their order; both kinds may be mixed.
-    ///
-    ///     for (address, answer) in reader.lookup_many(&addresses) {
-    ///         ..
-    ///     }
     ///
     /// Where the tree does not fit the processor's caches, this is faster than lookups one by one.
     pub fn lookup_many<'r, 'a>(&'r self, addresses: &'a [IpAddr]) -> LookupMany<'r, 'a, S>

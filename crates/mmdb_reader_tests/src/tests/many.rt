@@ -54,7 +54,7 @@ const GROUPS: &[(File, &[Row])] = &[
     ]),
 ];
 
-const MOST: usize = 40;
+const MOST: usize = 130;
 
 // The addresses of the rows, over and over.
 fn addresses_of(rows: &[Row]) -> [IpAddr; MOST] {
@@ -97,7 +97,7 @@ fn expect_many(
 
 // The same with counts around those of the lookups that go side by side.
 fn expect_counts(failures: &mut Failures, alloc: Global, reader: &Reader<Vec<u8>>, rows: &[Row]) {
-    for count in [0, 1, 2, 31, 32, 33, MOST] {
+    for count in [0, 1, 2, 63, 64, 65, 128, 129, MOST] {
         expect_many(failures, alloc, reader, rows, count);
     }
 }
@@ -121,5 +121,32 @@ fn many_lookups(rt: HostRuntime) -> Result<(), Failures> {
     for (file, rows) in GROUPS {
         expect_group(&mut failures, alloc, reader_of(alloc, file), rows);
     }
+    failures.verdict()
+}
+
+// How many addresses have data; an address that can't be asked for is an error.
+fn count_with_data(
+    reader: &Reader<Vec<u8>>,
+    addresses: &[IpAddr],
+) -> Result<usize, MaxMindDbError> {
+    let mut with_data = 0usize;
+    for (_, answer) in reader.lookup_many(addresses) {
+        if answer?.has_data() {
+            with_data = with_data.saturating_add(1);
+        }
+    }
+    Ok(with_data)
+}
+
+// What the documentation of `LookupMany` shows, of three addresses with data among four.
+#[test]
+fn documented_lookups(rt: HostRuntime) -> Result<(), Failures> {
+    let mut failures = Failures::new(rt.alloc());
+    let texts = ["0.0.0.0", "200.0.0.1", "0.0.0.1", "0.0.0.3"];
+    let addresses = texts.map(address);
+    let counted = reader_of(rt.alloc(), &LEFT_SPINE).and_then(|reader| count_with_data(
+        &reader, &addresses,
+    ));
+    failures.expect(&"documented", counted.ok() == Some(3));
     failures.verdict()
 }
