@@ -295,7 +295,11 @@ fn diff_databases<O: Write, E: Write>(
         None => all_of(old, new)?,
     };
     match Comparison::new(console.alloc, old, new, range) {
-        Ok(mut comparison) => compare(task, &mut comparison, console),
+        Ok(mut comparison) => {
+            let done = compare(task, &mut comparison, console);
+            drop(comparison);
+            done
+        }
         Err((side, error)) => {
             console.report(file_of(task, side), &error);
             drop(error);
@@ -317,8 +321,12 @@ pub(crate) fn diff<R: Files, O: Write, E: Write>(
         Some(new) => {
             let done = diff_databases(&old, &new, task, console);
             drop(new);
+            drop(old);
             done
         }
-        None => Ok(FAILED),
+        None => {
+            drop(old);
+            Ok(FAILED)
+        }
     }
 }

@@ -93,6 +93,9 @@ pub(crate) fn export<'a, O: Write, E: Write>(
 ) -> Result<u8, ProgramError> {
     let networks = networks_in(console.alloc, database, task.range)?;
     let mut export = begin(console.alloc, task, console.out)?;
-    export_all(networks, &mut export, console)?;
-    report_faults(export.faults, console)
+    let exported = export_all(networks, &mut export, console);
+    let faults = export.faults;
+    drop(export);
+    exported?;
+    report_faults(faults, console)
 }

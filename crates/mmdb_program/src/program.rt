@@ -22,10 +22,18 @@ fn run_query<I: BufRead, O: Write, E: Write>(
     console: &mut Console<'_, O, E>,
 ) -> Result<u8, ProgramError> {
     match query {
-        Query::Show(task) => show(database, &task, console),
+        Query::Show(task) => {
+            let done = show(database, &task, console);
+            drop(task);
+            done
+        }
         Query::Enrich(task) => enrich(database, task, input, console),
         Query::EnrichJson(task) => enrich_json(database, task, input, console),
-        Query::Export(task) => export(database, &task, console),
+        Query::Export(task) => {
+            let done = export(database, &task, console);
+            drop(task);
+            done
+        }
     }
 }
 
@@ -38,8 +46,15 @@ fn query_file<R: Files, I: BufRead, O: Write, E: Write>(
     console: &mut Console<'_, O, E>,
 ) -> Result<u8, ProgramError> {
     match open(rt, file, console) {
-        Some(database) => run_query(&database, query, input, console),
-        None => Ok(FAILED),
+        Some(database) => {
+            let done = run_query(&database, query, input, console);
+            drop(database);
+            done
+        }
+        None => {
+            drop(query);
+            Ok(FAILED)
+        }
     }
 }
 
@@ -53,7 +68,11 @@ fn run_task<R: Files, I: BufRead, O: Write, E: Write>(
     match task {
         Task::Info(arguments) => describe(rt, arguments, console),
         Task::Verify(arguments) => verify(rt, arguments.files.as_slice(), console),
-        Task::Diff(task) => diff(rt, &task, console),
+        Task::Diff(task) => {
+            let done = diff(rt, &task, console);
+            drop(task);
+            done
+        }
         Task::Query { file, query } => query_file(rt, file, query, input, console),
     }
 }
@@ -65,7 +84,7 @@ fn put_message<O: Write, E: Write>(message: &Message, console: &mut Console<'_, 
         let _ = console.errors.write_all(text);
         return BAD_ARGUMENTS;
     }
-    match console.put(text) {
+    match console.out.write_all(text) {
         Ok(()) => DONE,
         Err(_) => FAILED,
     }
