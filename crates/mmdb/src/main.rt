@@ -1,4 +1,4 @@
-//! The program `mmdb`: its arguments are handed on, with standard output and standard error.
+//! The program `mmdb`: its arguments are handed on, with the standard streams.
 #![tactic(auto)]
 
 use mmdb_program::{Terminals, run_on};
@@ -7,10 +7,10 @@ use std::io::{self, BufReader, BufWriter, ErrorKind, IsTerminal, Write};
 use std::process::ExitCode;
 
 // The status of an error.
-const REFUSED: u8 = 1;
+const FAILED: u8 = 1;
 
 // The status of arguments that are no command.
-const BAD_WORDS: u8 = 2;
+const BAD_ARGUMENTS: u8 = 2;
 
 // Arguments come as text alone, and a file is opened by text.
 const NOT_UTF8: &str =
@@ -19,15 +19,15 @@ const NOT_UTF8: &str =
 /// How many bytes are read and written at once.
 const BUFFER: usize = 1 << 16;
 
-// Writes out what is still buffered. A fault that comes only here is an error as any other by standard output,
-// and nothing is told of an output that was closed.
+// Writes out what is still buffered. What fails only here is an error as any other of standard output, and of an output
+// that was closed nothing is reported.
 fn finished<W: Write + Drop>(rt: &HostRuntime, mut writer: W, status: u8) -> u8 {
     match writer.flush() {
         Err(error) if status == 0 => {
             if error.kind() != ErrorKind::BrokenPipe {
                 let _ = eprintln!(rt; "mmdb: write error: {error}");
             }
-            REFUSED
+            FAILED
         }
         _ => status,
     }
@@ -35,9 +35,9 @@ fn finished<W: Write + Drop>(rt: &HostRuntime, mut writer: W, status: u8) -> u8 
 
 // Runs the program on its arguments, and answers its status.
 fn program(rt: &HostRuntime) -> io::Result<u8> {
-    let mut words = Vec::new(rt.alloc());
-    for word in env::args(rt)? {
-        words.push(word)?;
+    let mut arguments = Vec::new(rt.alloc());
+    for argument in env::args(rt)? {
+        arguments.push(argument)?;
     }
     let terminals = Terminals {
         output: rt.stdout().is_terminal(),
@@ -49,7 +49,7 @@ fn program(rt: &HostRuntime) -> io::Result<u8> {
     let status = run_on(
         rt,
         rt.alloc(),
-        words.as_slice(),
+        arguments.as_slice(),
         terminals,
         &mut input,
         &mut out,
@@ -63,11 +63,11 @@ fn main(rt: HostRuntime) -> ExitCode {
         Ok(status) => ExitCode::from(status),
         Err(error) if error.kind() == ErrorKind::InvalidData => {
             let _ = eprintln!(rt; "{NOT_UTF8}");
-            ExitCode::from(BAD_WORDS)
+            ExitCode::from(BAD_ARGUMENTS)
         }
         Err(error) => {
             let _ = eprintln!(rt; "mmdb: {error}");
-            ExitCode::from(REFUSED)
+            ExitCode::from(FAILED)
         }
     }
 }

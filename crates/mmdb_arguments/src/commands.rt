@@ -61,322 +61,221 @@ are compared on IPv4. How many networks and IPv4 addresses were added, removed
 and changed is said on standard error at the end. A network that can't be read is
 told there too, and the status is 1 then.";
 
-/// The formats of differences.
-const DIFF_FORMATS: &[&str] = &["jsonl", "csv"];
-
-/// The formats of an export.
-const FORMATS: &[&str] = &["jsonl", "csv", "cidr", "nft", "ipset"];
-
-fn file<'a>(alloc: Global) -> Arg<'a> {
-    Arg::new(alloc, "FILE")
-        .required(true)
-        .help("A MaxMind DB file")
+/// An argument of a command: its name, what its value is called, its help, and what else there is to say.
+#[derive(Clone, Copy)]
+enum Argument {
+    /// One text in its place, which has to be there.
+    Required(&'static str, &'static str),
+    /// One text in its place.
+    Optional(&'static str, &'static str),
+    /// Texts in their places, one or more.
+    Several(&'static str, &'static str),
+    /// An option without a value.
+    Flag(&'static str, &'static str),
+    /// An option with a value.
+    Value(&'static str, &'static str, &'static str),
+    /// An option with a value each time that it is given.
+    Values(&'static str, &'static str, &'static str),
+    /// An option with a value, which is the last text here if it is not given.
+    Default(&'static str, &'static str, &'static str, &'static str),
+    /// An option with a format, which is `jsonl` if it is not given.
+    Format(&'static [&'static str]),
+    /// An option with a value, which goes with none of these.
+    Without(&'static str, &'static str, &'static str, &'static [&'static str]),
 }
 
-// A file that is wanted.
-fn database<'a>(alloc: Global, name: &'a str, help: &'a str) -> Arg<'a> {
-    Arg::new(alloc, name).required(true).help(help)
+/// A command with what its help says.
+#[derive(Clone, Copy)]
+struct Usage {
+    name: &'static str,
+    about: &'static str,
+    example: &'static str,
+    arguments: &'static [Argument],
 }
 
-// An option that takes a value.
+const FILE: Argument = Argument::Required("FILE", "A MaxMind DB file");
+
+const FIELDS: Argument = Argument::Values(
+    "field",
+    "PATH",
+    "Only the value at a path, as country.iso_code; may be repeated",
+);
+
+/// What says of columns, which lines of JSON have not.
+const COLUMNS: &[&str] = &["column", "delimiter", "header"];
+
+const COMMANDS: &[Usage] = &[
+    Usage {
+        name: "show",
+        about: "Show the records of addresses as JSON",
+        example: SHOW_EXAMPLE,
+        arguments: &[
+            FILE,
+            Argument::Several("ADDR", "IPv4 or IPv6 addresses"),
+            Argument::Values(
+                "path",
+                "PATH",
+                "Only the value at a path, as subdivisions.0.names.en; may be repeated",
+            ),
+            Argument::Flag(
+                "lines",
+                "One line each, as where standard output is no terminal",
+            ),
+        ],
+    },
+    Usage {
+        name: "info",
+        about: "Show what a database says of itself",
+        example: INFO_EXAMPLE,
+        arguments: &[FILE, Argument::Flag("json", "As JSON")],
+    },
+    Usage {
+        name: "enrich",
+        about: "Copy lines from standard input, with fields of the address's record behind each",
+        example: ENRICH_EXAMPLE,
+        arguments: &[
+            FILE,
+            Argument::Default(
+                "column",
+                "COLUMN",
+                "The column of the address: its number, from 1, or with --header its name",
+                "1",
+            ),
+            Argument::Value(
+                "delimiter",
+                "CHARACTER",
+                "What stands between columns, a tab if not given; any other means CSV",
+            ),
+            Argument::Values(
+                "field",
+                "PATH",
+                "A field to add, as country.iso_code; may be repeated",
+            ),
+            Argument::Flag(
+                "header",
+                "The first line names the columns; the paths are added to it",
+            ),
+            Argument::Without(
+                "json",
+                "PATH",
+                "Lines are JSON: the path of the address in an object, as client.ip",
+                COLUMNS,
+            ),
+            Argument::Without(
+                "into",
+                "NAME",
+                "With --json: the name of the member that is added, geo if not given",
+                COLUMNS,
+            ),
+        ],
+    },
+    Usage {
+        name: "export",
+        about: "Write every network that has data, with its record or fields of it",
+        example: EXPORT_EXAMPLE,
+        arguments: &[
+            FILE,
+            Argument::Optional(
+                "RANGE",
+                "Only networks inside this one, or the one around it",
+            ),
+            FIELDS,
+            Argument::Format(&["jsonl", "csv", "cidr", "nft", "ipset"]),
+            Argument::Values(
+                "where",
+                "PATH=VALUE",
+                "Only networks with this value at the path; may be repeated",
+            ),
+            Argument::Values(
+                "where-not",
+                "PATH=VALUE",
+                "No networks with this value at the path; may be repeated",
+            ),
+            Argument::Flag("ipv4", "Only IPv4 networks"),
+            Argument::Flag("ipv6", "Only IPv6 networks"),
+            Argument::Value(
+                "name",
+                "NAME",
+                "How the sets of nft and ipset begin, mmdb if not given",
+            ),
+        ],
+    },
+    Usage {
+        name: "diff",
+        about: "Write what changed between two files",
+        example: DIFF_EXAMPLE,
+        arguments: &[
+            Argument::Required("OLD", "The MaxMind DB file before"),
+            Argument::Required("NEW", "The MaxMind DB file after"),
+            Argument::Optional("RANGE", "Only inside this network"),
+            FIELDS,
+            Argument::Format(&["jsonl", "csv"]),
+            Argument::Flag("exit-code", "Status 7 where something differs"),
+        ],
+    },
+    Usage {
+        name: "verify",
+        about: "Tell whether files are whole, so that every lookup succeeds",
+        example: VERIFY_EXAMPLE,
+        arguments: &[Argument::Several("FILE", "MaxMind DB files")],
+    },
+];
+
+// An argument in its place.
+fn positional<'a>(alloc: Global, name: &'a str, help: &'a str) -> Arg<'a> {
+    Arg::new(alloc, name).help(help)
+}
+
+// An option with a value.
 fn option<'a>(alloc: Global, name: &'a str, value: &'a str, help: &'a str) -> Arg<'a> {
-    Arg::new(alloc, name)
-        .long(name)
-        .value_name(value)
-        .help(help)
+    positional(alloc, name, help).long(name).value_name(value)
 }
 
-// An option that takes a value each time that it is given.
-fn options<'a>(alloc: Global, name: &'a str, value: &'a str, help: &'a str) -> Arg<'a> {
-    option(alloc, name, value, help).action(ArgAction::Append)
-}
-
-// An option that takes no value.
-fn flag<'a>(alloc: Global, name: &'a str, help: &'a str) -> Arg<'a> {
-    Arg::new(alloc, name)
-        .long(name)
-        .action(ArgAction::SetTrue)
-        .help(help)
-}
-
-// Positional arguments, one or more.
-fn several<'a>(alloc: Global, name: &'a str, help: &'a str) -> Arg<'a> {
-    Arg::new(alloc, name)
-        .required(true)
-        .num_args(1..)
-        .help(help)
-}
-
-// A command with what its help says.
-fn named<'a>(alloc: Global, name: &'a str, about: &'a str, example: &'a str) -> Command<'a> {
-    Command::new(alloc, name).about(about).after_help(example)
-}
-
-// A command with one more argument, if there was memory for the command so far.
-fn with_argument<'a>(
-    command: Result<Command<'a>, AllocError>,
-    argument: Arg<'a>,
-) -> Result<Command<'a>, AllocError> {
-    command?.arg(argument)
-}
-
-// A command with one more below it, if there was memory for both.
-fn with_command<'a>(
-    command: Result<Command<'a>, AllocError>,
-    below: Result<Command<'a>, AllocError>,
-) -> Result<Command<'a>, AllocError> {
-    let below = below?;
-    command?.subcommand(below)
-}
-
-fn show<'a>(alloc: Global) -> Result<Command<'a>, AllocError> {
-    let command = named(
-        alloc,
-        "show",
-        "Show the records of addresses as JSON",
-        SHOW_EXAMPLE,
-    );
-    let command = command.arg(file(alloc));
-    let command = with_argument(command, several(alloc, "ADDR", "IPv4 or IPv6 addresses"));
-    let command = with_argument(
-        command,
-        options(
-            alloc,
-            "path",
-            "PATH",
-            "Only the value at a path, as subdivisions.0.names.en; may be repeated",
-        ),
-    );
-    with_argument(
-        command,
-        flag(
-            alloc,
-            "lines",
-            "One line each, as where standard output is no terminal",
-        ),
-    )
-}
-
-fn info<'a>(alloc: Global) -> Result<Command<'a>, AllocError> {
-    let command = named(
-        alloc,
-        "info",
-        "Show what a database says of itself",
-        INFO_EXAMPLE,
-    );
-    with_argument(command.arg(file(alloc)), flag(alloc, "json", "As JSON"))
-}
-
-fn verify<'a>(alloc: Global) -> Result<Command<'a>, AllocError> {
-    named(
-        alloc,
-        "verify",
-        "Tell whether files are whole, so that every lookup succeeds",
-        VERIFY_EXAMPLE,
-    )
-    .arg(several(alloc, "FILE", "MaxMind DB files"))
-}
-
-fn column<'a>(alloc: Global) -> Arg<'a> {
-    option(
-        alloc,
-        "column",
-        "COLUMN",
-        "The column of the address: its number, from 1, or with --header its name",
-    )
-    .default_value("1")
-}
-
-fn delimiter<'a>(alloc: Global) -> Arg<'a> {
-    option(
-        alloc,
-        "delimiter",
-        "CHARACTER",
-        "What stands between columns, a tab if not given; any other means CSV",
-    )
-}
-
-// An option that goes with none of those that tell of columns.
-fn without_columns<'a>(argument: Arg<'a>) -> Result<Arg<'a>, AllocError> {
-    let argument = argument.conflicts_with("column")?;
-    argument
-        .conflicts_with("delimiter")?
-        .conflicts_with("header")
-}
-
-// What tells that lines are objects of JSON, and so have no columns.
-fn json_path<'a>(alloc: Global) -> Result<Arg<'a>, AllocError> {
-    without_columns(option(
-        alloc,
-        "json",
-        "PATH",
-        "Lines are JSON: the path of the address in an object, as client.ip",
-    ))
-}
-
-// The name of the member that an object gets.
-fn into<'a>(alloc: Global) -> Result<Arg<'a>, AllocError> {
-    without_columns(option(
-        alloc,
-        "into",
-        "NAME",
-        "With --json: the name of the member that is added, geo if not given",
-    ))
-}
-
-// The command with what it takes for lines of JSON.
-fn with_json<'a>(
-    alloc: Global,
-    command: Result<Command<'a>, AllocError>,
-) -> Result<Command<'a>, AllocError> {
-    let command = with_argument(command, json_path(alloc)?);
-    with_argument(command, into(alloc)?)
-}
-
-fn enrich<'a>(alloc: Global) -> Result<Command<'a>, AllocError> {
-    let command = named(
-        alloc,
-        "enrich",
-        "Copy lines from standard input, with fields of the address's record behind each",
-        ENRICH_EXAMPLE,
-    );
-    let command = with_argument(command.arg(file(alloc)), column(alloc));
-    let command = with_argument(command, delimiter(alloc));
-    let command = with_argument(
-        command,
-        options(
-            alloc,
-            "field",
-            "PATH",
-            "A field to add, as country.iso_code; may be repeated",
-        ),
-    );
-    let command = with_argument(
-        command,
-        flag(
-            alloc,
-            "header",
-            "The first line names the columns; the paths are added to it",
-        ),
-    );
-    with_json(alloc, command)
-}
-
-fn range<'a>(alloc: Global) -> Arg<'a> {
-    Arg::new(alloc, "RANGE").help("Only networks inside this one, or the one around it")
-}
-
-fn format<'a>(alloc: Global) -> Arg<'a> {
-    option(alloc, "format", "FORMAT", "csv needs a --field")
-        .value_parser(FORMATS)
-        .default_value("jsonl")
-}
-
-fn export<'a>(alloc: Global) -> Result<Command<'a>, AllocError> {
-    let command = named(
-        alloc,
-        "export",
-        "Write every network that has data, with its record or fields of it",
-        EXPORT_EXAMPLE,
-    );
-    let command = with_argument(command.arg(file(alloc)), range(alloc));
-    let command = with_argument(
-        command,
-        options(
-            alloc,
-            "field",
-            "PATH",
-            "Only the value at a path, as country.iso_code; may be repeated",
-        ),
-    );
-    let command = with_argument(command, format(alloc));
-    with_choice(alloc, command)
-}
-
-// A command with what chooses networks, and the name of sets of them.
-fn with_choice<'a>(
-    alloc: Global,
-    command: Result<Command<'a>, AllocError>,
-) -> Result<Command<'a>, AllocError> {
-    let command = with_argument(
-        command,
-        options(
-            alloc,
-            "where",
-            "PATH=VALUE",
-            "Only networks with this value at the path; may be repeated",
-        ),
-    );
-    let command = with_argument(
-        command,
-        options(
-            alloc,
-            "where-not",
-            "PATH=VALUE",
-            "No networks with this value at the path; may be repeated",
-        ),
-    );
-    let command = with_argument(command, flag(alloc, "ipv4", "Only IPv4 networks"));
-    let command = with_argument(command, flag(alloc, "ipv6", "Only IPv6 networks"));
-    with_argument(
-        command,
-        option(
-            alloc,
-            "name",
-            "NAME",
-            "How the sets of nft and ipset begin, mmdb if not given",
-        ),
-    )
-}
-
-fn diff<'a>(alloc: Global) -> Result<Command<'a>, AllocError> {
-    let command = named(
-        alloc,
-        "diff",
-        "Write what changed between two files",
-        DIFF_EXAMPLE,
-    );
-    let command = command.arg(database(alloc, "OLD", "The MaxMind DB file before"));
-    let command = with_argument(command, database(alloc, "NEW", "The MaxMind DB file after"));
-    let command = with_argument(
-        command,
-        Arg::new(alloc, "RANGE").help("Only inside this network"),
-    );
-    let command = with_argument(
-        command,
-        options(
-            alloc,
-            "field",
-            "PATH",
-            "Only the value at a path, as country.iso_code; may be repeated",
-        ),
-    );
-    let command = with_argument(
-        command,
-        option(alloc, "format", "FORMAT", "csv needs a --field")
-            .value_parser(DIFF_FORMATS)
+fn argument_of<'a>(alloc: Global, argument: Argument) -> Result<Arg<'a>, AllocError> {
+    Ok(match argument {
+        Argument::Required(name, help) => positional(alloc, name, help).required(true),
+        Argument::Optional(name, help) => positional(alloc, name, help),
+        Argument::Several(name, help) => {
+            positional(alloc, name, help).required(true).num_args(1..)
+        }
+        Argument::Flag(name, help) => positional(alloc, name, help)
+            .long(name)
+            .action(ArgAction::SetTrue),
+        Argument::Value(name, value, help) => option(alloc, name, value, help),
+        Argument::Values(name, value, help) => {
+            option(alloc, name, value, help).action(ArgAction::Append)
+        }
+        Argument::Default(name, value, help, default) => {
+            option(alloc, name, value, help).default_value(default)
+        }
+        Argument::Format(formats) => option(alloc, "format", "FORMAT", "csv needs a --field")
+            .value_parser(formats)
             .default_value("jsonl"),
-    );
-    with_argument(
-        command,
-        flag(alloc, "exit-code", "Status 7 where something differs"),
-    )
+        Argument::Without(name, value, help, others) => {
+            return option(alloc, name, value, help).conflicts_with_all(others);
+        }
+    })
 }
 
-fn program<'a>(alloc: Global) -> Command<'a> {
-    Command::new(alloc, "mmdb")
-        .version("0.1.0")
-        .about("Read MaxMind DB files (GeoIP2, GeoLite2 and others)")
-        .subcommand_required(true)
-        .arg_required_else_help(true)
+fn command_of<'a>(alloc: Global, usage: &Usage) -> Result<Command<'a>, AllocError> {
+    let mut command = Command::new(alloc, usage.name)
+        .about(usage.about)
+        .after_help(usage.example);
+    for argument in usage.arguments {
+        command = command.arg(argument_of(alloc, *argument)?)?;
+    }
+    Ok(command)
 }
 
 /// The program's commands.
 pub(crate) fn command<'a>(alloc: Global) -> Result<Command<'a>, AllocError> {
-    let command = with_command(Ok(program(alloc)), show(alloc));
-    let command = with_command(command, info(alloc));
-    let command = with_command(command, enrich(alloc));
-    let command = with_command(command, export(alloc));
-    let command = with_command(command, diff(alloc));
-    with_command(command, verify(alloc))
+    let mut program = Command::new(alloc, "mmdb")
+        .version("0.1.0")
+        .about("Read MaxMind DB files (GeoIP2, GeoLite2 and others)")
+        .subcommand_required(true)
+        .arg_required_else_help(true);
+    for usage in COMMANDS {
+        program = program.subcommand(command_of(alloc, usage)?)?;
+    }
+    Ok(program)
 }

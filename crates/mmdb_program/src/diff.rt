@@ -1,15 +1,15 @@
 //! What changed between two files.
-use crate::differences::{Pairs, Unreadable, put_difference, put_names};
+use crate::database::{Database, open};
+use crate::differences::{Answers, Pairs, Unreadable, put_difference, put_names};
 use crate::error::ProgramError;
 use crate::export::Where;
-use crate::networks::name_of;
-use crate::output::{DIFFERENT, DONE, FAILED, flush, report};
+use crate::layout::Layout;
+use crate::output::{Console, DIFFERENT, DONE, FAILED};
 use crate::task::DiffTask;
 use mmdb_diff::{Comparison, Fault, Part, Side, Stretch};
 use mmdb_lists::Kind;
-use mmdb_reader::{IpNetwork, LookupResult, MaxMindDbError, Reader};
+use mmdb_reader::{IpNetwork, MaxMindDbError};
 use std::alloc::{AllocError, Global};
-use std::convert::AsSlice;
 use std::io::Write;
 use std::net::{IpAddr, Ipv4Addr, Ipv6Addr};
 use std::rt::Files;
@@ -91,96 +91,61 @@ struct SoFar {
 }
 
 // The file of a side.
-fn file_of<'a>(wanted: &DiffTask<'a>, side: Side) -> &'a str {
+fn file_of<'a>(task: &DiffTask<'a>, side: Side) -> &'a str {
     match side {
-        Side::Old => wanted.old,
-        Side::New => wanted.new,
+        Side::Old => task.old,
+        Side::New => task.new,
     }
 }
 
-// Reports an error of one of the files, behind what was written.
+// Reports an error at a place of one of the files, behind what was written.
 fn report_at<O: Write, E: Write>(
-    alloc: Global,
     file: &str,
     place: Where,
-    error: &ProgramError,
-    out: &mut O,
-    err: &mut E,
+    error: &MaxMindDbError,
+    console: &mut Console<'_, O, E>,
 ) -> Result<(), ProgramError> {
-    flush(out)?;
-    let name = name_of(alloc, place)?;
-    let of: String = format!(in alloc; "{file}: {name}")?;
-    report(alloc, of.as_str(), error, err);
-    Ok(())
+    let name = place.name(console.alloc)?;
+    console.report_behind(format!(in console.alloc; "{file}: {name}"), error)
 }
 
 // Reports a leaf that can't be read.
 fn report_leaf<O: Write, E: Write>(
-    alloc: Global,
     file: &str,
-    fault: Fault,
-    out: &mut O,
-    err: &mut E,
+    fault: &Fault,
+    console: &mut Console<'_, O, E>,
 ) -> Result<(), ProgramError> {
     let place = match fault.behind {
         Some(network) => Where::Behind(network),
         None => Where::First,
     };
-    let error = ProgramError::Database(fault.error);
-    let reported = report_at(alloc, file, place, &error, out, err);
-    drop(error);
-    reported
+    report_at(file, place, &fault.error, console)
 }
 
 // Reports a value that can't be read, unless memory is out.
 fn report_value<O: Write, E: Write>(
-    alloc: Global,
-    wanted: &DiffTask<'_>,
+    task: &DiffTask<'_>,
     network: IpNetwork,
-    unreadable: Unreadable,
-    out: &mut O,
-    err: &mut E,
+    unreadable: &Unreadable,
+    console: &mut Console<'_, O, E>,
 ) -> Result<(), ProgramError> {
-    let Unreadable { side, error } = unreadable;
-    let error = ProgramError::from(error);
-    if let ProgramError::Database(MaxMindDbError::Memory) = error {
+    if let MaxMindDbError::Memory = unreadable.error {
         return Err(ProgramError::Memory);
     }
-    let reported = report_at(
-        alloc,
-        file_of(wanted, side),
-        Where::At(network),
-        &error,
-        out,
-        err,
-    );
-    drop(error);
-    reported
+    let file = file_of(task, unreadable.side);
+    report_at(file, Where::At(network), &unreadable.error, console)
 }
 
-// Compares a network, and writes it where it differs.
-fn compare_network<S: AsSlice<u8> + Drop, O: Write>(
+// Writes a network that differs.
+fn put_network<O: Write>(
     alloc: Global,
-    wanted: &DiffTask<'_>,
+    layout: &Layout<'_>,
     network: IpNetwork,
-    old: Option<&LookupResult<'_, S>>,
-    new: Option<&LookupResult<'_, S>>,
-    so_far: &mut SoFar,
+    answers: Answers<'_, '_>,
     out: &mut O,
-) -> Result<Option<Unreadable>, ProgramError> {
-    match so_far.pairs.is_same(alloc, &wanted.layout, old, new) {
-        Ok(true) => Ok(None),
-        Ok(false) => {
-            so_far.counts.count(network, old.is_some(), new.is_some());
-            let text = network.to_string(alloc)?;
-            put_difference(alloc, &wanted.layout, text.as_str(), old, new, out)?;
-            Ok(None)
-        }
-        Err(unreadable) => {
-            so_far.counts.count_fault();
-            Ok(Some(unreadable))
-        }
-    }
+) -> Result<(), ProgramError> {
+    let text = network.to_string(alloc)?;
+    put_difference(alloc, layout, text.as_str(), answers, out)
 }
 
 // The network of a stretch.
@@ -197,73 +162,93 @@ fn network_of(stretch: Stretch) -> Result<IpNetwork, ProgramError> {
 }
 
 // Compares a stretch, and writes or reports it where there is something to say.
-fn compare_stretch<S: AsSlice<u8> + Drop, O: Write, E: Write>(
-    alloc: Global,
-    wanted: &DiffTask<'_>,
-    comparison: &Comparison<'_, S>,
+fn compare_stretch<O: Write, E: Write>(
+    task: &DiffTask<'_>,
     stretch: Stretch,
+    answers: Answers<'_, '_>,
     so_far: &mut SoFar,
-    out: &mut O,
-    err: &mut E,
+    console: &mut Console<'_, O, E>,
 ) -> Result<(), ProgramError> {
+    let (alloc, layout) = (console.alloc, &task.layout);
     let network = network_of(stretch)?;
-    let old = comparison.found_in_old(stretch);
-    let new = comparison.found_in_new(stretch);
-    match compare_network(alloc, wanted, network, old, new, so_far, out)? {
-        Some(unreadable) => report_value(alloc, wanted, network, unreadable, out, err),
-        None => Ok(()),
+    match so_far.pairs.is_same(alloc, layout, answers) {
+        Ok(true) => Ok(()),
+        Ok(false) => {
+            so_far
+                .counts
+                .count(network, answers.old.is_some(), answers.new.is_some());
+            put_network(alloc, layout, network, answers, console.out)
+        }
+        Err(unreadable) => {
+            so_far.counts.count_fault();
+            let reported = report_value(task, network, &unreadable, console);
+            drop(unreadable);
+            reported
+        }
+    }
+}
+
+// Compares a part of two databases, or reports why it can't be.
+fn compare_part<O: Write, E: Write>(
+    task: &DiffTask<'_>,
+    comparison: &Comparison<'_, Vec<u8>>,
+    part: &Part,
+    so_far: &mut SoFar,
+    console: &mut Console<'_, O, E>,
+) -> Result<(), ProgramError> {
+    match part {
+        Part::Fault { side, fault } => {
+            so_far.counts.count_fault();
+            report_leaf(file_of(task, *side), fault, console)
+        }
+        Part::Stretch(stretch) => {
+            let answers = Answers {
+                old: comparison.found_in_old(*stretch),
+                new: comparison.found_in_new(*stretch),
+            };
+            compare_stretch(task, *stretch, answers, so_far, console)
+        }
     }
 }
 
 // Compares two databases, and counts what differs.
-fn compare_all<S: AsSlice<u8> + Drop, O: Write, E: Write>(
-    alloc: Global,
-    wanted: &DiffTask<'_>,
-    comparison: &mut Comparison<'_, S>,
+fn compare_all<O: Write, E: Write>(
+    task: &DiffTask<'_>,
+    comparison: &mut Comparison<'_, Vec<u8>>,
     so_far: &mut SoFar,
-    out: &mut O,
-    err: &mut E,
+    console: &mut Console<'_, O, E>,
 ) -> Result<(), ProgramError> {
     for _ in 0..u64::MAX {
-        match comparison.next_part() {
-            None => return Ok(()),
-            Some(Part::Fault { side, fault }) => {
-                so_far.counts.count_fault();
-                report_leaf(alloc, file_of(wanted, side), fault, out, err)?;
-            }
-            Some(Part::Stretch(stretch)) => {
-                compare_stretch(alloc, wanted, comparison, stretch, so_far, out, err)?;
-            }
-        }
+        let Some(part) = comparison.next_part() else {
+            return Ok(());
+        };
+        let compared = compare_part(task, comparison, &part, so_far, console);
+        drop(part);
+        compared?;
     }
     Ok(())
 }
 
 // Reports what was counted behind what was written, and answers the status.
 fn report_counts<O: Write, E: Write>(
-    alloc: Global,
     counts: Counts,
     exit_code: bool,
-    out: &mut O,
-    err: &mut E,
+    console: &mut Console<'_, O, E>,
 ) -> Result<u8, ProgramError> {
-    flush(out)?;
-    let text = counts.text(alloc)?;
-    let _ = err.write_all(text.as_bytes());
+    console.flush()?;
+    let text = counts.text(console.alloc)?;
+    console.note(Ok(text));
     if counts.faults > 0 {
-        return Ok(FAILED);
+        Ok(FAILED)
+    } else if exit_code && !counts.are_same() {
+        Ok(DIFFERENT)
+    } else {
+        Ok(DONE)
     }
-    if exit_code && !counts.are_same() {
-        return Ok(DIFFERENT);
-    }
-    Ok(DONE)
 }
 
 // All addresses that both databases have.
-fn all_of<S: AsSlice<u8> + Drop>(
-    old: &Reader<S>,
-    new: &Reader<S>,
-) -> Result<IpNetwork, MaxMindDbError> {
+fn all_of(old: &Database, new: &Database) -> Result<IpNetwork, MaxMindDbError> {
     let has_ipv6 = old.metadata().ip_version == 6 && new.metadata().ip_version == 6;
     let first = if has_ipv6 {
         IpAddr::V6(Ipv6Addr::UNSPECIFIED)
@@ -273,80 +258,75 @@ fn all_of<S: AsSlice<u8> + Drop>(
     Ok(IpNetwork::new(first, 0)?)
 }
 
-// Reports an error of a file, and answers the status.
-fn failed<E: Write>(
-    alloc: Global,
-    file: &str,
-    error: MaxMindDbError,
-    err: &mut E,
+// Compares two databases side by side with what is kept so far, and answers the status.
+fn compare_with<O: Write, E: Write>(
+    task: &DiffTask<'_>,
+    comparison: &mut Comparison<'_, Vec<u8>>,
+    so_far: &mut SoFar,
+    console: &mut Console<'_, O, E>,
 ) -> Result<u8, ProgramError> {
-    let error = ProgramError::Database(error);
-    report(alloc, file, &error, err);
-    drop(error);
-    Ok(FAILED)
+    put_names(console.alloc, &task.layout, console.out)?;
+    compare_all(task, comparison, so_far, console)?;
+    report_counts(so_far.counts, task.exit_code, console)
 }
 
 // Compares two databases side by side, and answers the status.
-fn compare<S: AsSlice<u8> + Drop, O: Write, E: Write>(
-    alloc: Global,
-    wanted: &DiffTask<'_>,
-    comparison: &mut Comparison<'_, S>,
-    out: &mut O,
-    err: &mut E,
+fn compare<O: Write, E: Write>(
+    task: &DiffTask<'_>,
+    comparison: &mut Comparison<'_, Vec<u8>>,
+    console: &mut Console<'_, O, E>,
 ) -> Result<u8, ProgramError> {
     let mut so_far = SoFar {
-        pairs: Pairs::new(alloc)?,
+        pairs: Pairs::new(console.alloc)?,
         counts: Counts::new(),
     };
-    put_names(alloc, &wanted.layout, out)?;
-    compare_all(alloc, wanted, comparison, &mut so_far, out, err)?;
-    report_counts(alloc, so_far.counts, wanted.exit_code, out, err)
+    compare_with(task, comparison, &mut so_far, console)
 }
 
 // Compares two databases, and answers the status.
-fn diff_readers<S: AsSlice<u8> + Drop, O: Write, E: Write>(
-    alloc: Global,
-    old: &Reader<S>,
-    new: &Reader<S>,
-    wanted: &DiffTask<'_>,
-    out: &mut O,
-    err: &mut E,
+fn diff_databases<O: Write, E: Write>(
+    old: &Database,
+    new: &Database,
+    task: &DiffTask<'_>,
+    console: &mut Console<'_, O, E>,
 ) -> Result<u8, ProgramError> {
-    let range = match wanted.range {
+    let range = match task.range {
         Some(range) => range,
         None => all_of(old, new)?,
     };
-    match Comparison::new(alloc, old, new, range) {
-        Ok(mut comparison) => compare(alloc, wanted, &mut comparison, out, err),
-        Err((side, error)) => failed(alloc, file_of(wanted, side), error, err),
-    }
-}
-
-// Compares an opened file with one that is to be opened.
-fn diff_with<R: Files, O: Write, E: Write>(
-    rt: &R,
-    alloc: Global,
-    old: &Reader<Vec<u8>>,
-    wanted: &DiffTask<'_>,
-    out: &mut O,
-    err: &mut E,
-) -> Result<u8, ProgramError> {
-    match Reader::open_readfile(rt, alloc, wanted.new) {
-        Ok(new) => diff_readers(alloc, old, &new, wanted, out, err),
-        Err(error) => failed(alloc, wanted.new, error, err),
+    match Comparison::new(console.alloc, old, new, range) {
+        Ok(mut comparison) => {
+            let done = compare(task, &mut comparison, console);
+            drop(comparison);
+            done
+        }
+        Err((side, error)) => {
+            console.report(file_of(task, side), &error);
+            drop(error);
+            Ok(FAILED)
+        }
     }
 }
 
 /// Writes what changed between two files, and reports what of them can't be read.
 pub(crate) fn diff<R: Files, O: Write, E: Write>(
     rt: &R,
-    alloc: Global,
-    wanted: &DiffTask<'_>,
-    out: &mut O,
-    err: &mut E,
+    task: &DiffTask<'_>,
+    console: &mut Console<'_, O, E>,
 ) -> Result<u8, ProgramError> {
-    match Reader::open_readfile(rt, alloc, wanted.old) {
-        Ok(old) => diff_with(rt, alloc, &old, wanted, out, err),
-        Err(error) => failed(alloc, wanted.old, error, err),
+    let Some(old) = open(rt, task.old, console) else {
+        return Ok(FAILED);
+    };
+    match open(rt, task.new, console) {
+        Some(new) => {
+            let done = diff_databases(&old, &new, task, console);
+            drop(new);
+            drop(old);
+            done
+        }
+        None => {
+            drop(old);
+            Ok(FAILED)
+        }
     }
 }

@@ -1,13 +1,13 @@
 //! The values of networks in two databases, compared by how they are shown.
+use crate::database::Found;
 use crate::error::ProgramError;
-use crate::layout::{Fields, Layout, cells_of, line_of_cells, row_of_values};
+use crate::layout::{Fields, Layout, line_of_cells, line_of_names, write_values};
 use crate::output::put;
 use json::{Token, Writer};
 use mmdb_diff::Side;
 use mmdb_json::found_json;
-use mmdb_reader::{LookupResult, MaxMindDbError};
+use mmdb_reader::MaxMindDbError;
 use std::alloc::{AllocError, Global};
-use std::convert::AsSlice;
 use std::io::Write;
 
 /// How many pairs are kept.
@@ -37,44 +37,36 @@ pub(crate) struct Unreadable {
     pub(crate) error: MaxMindDbError,
 }
 
+/// What two databases have for a network.
+#[derive(Clone, Copy)]
+pub(crate) struct Answers<'f, 'r> {
+    pub(crate) old: Option<&'f Found<'r>>,
+    pub(crate) new: Option<&'f Found<'r>>,
+}
+
 // An object of the values at some paths, each null where there is no record.
-fn write_values<S: AsSlice<u8> + Drop>(
+fn write_object(
     alloc: Global,
     fields: &Fields<'_>,
-    found: Option<&LookupResult<'_, S>>,
+    found: Option<&Found<'_>>,
     out: &mut Writer,
 ) -> Result<(), MaxMindDbError> {
     out.token(Token::BeginObject)?;
-    match found {
-        Some(found) => row_of_values(alloc, fields, found, out)?,
-        None => write_nulls(fields, out)?,
-    }
-    out.token(Token::EndObject)?;
-    Ok(())
+    write_values(alloc, fields, found, out)?;
+    Ok(out.token(Token::EndObject)?)
 }
 
-fn write_nulls(fields: &Fields<'_>, out: &mut Writer) -> Result<(), AllocError> {
-    for name in &fields.names {
-        out.token(Token::Key(*name))?;
-        out.token(Token::Null)?;
-    }
-    Ok(())
-}
-
-fn values_text<S: AsSlice<u8> + Drop>(
+fn values_text(
     alloc: Global,
     fields: &Fields<'_>,
-    found: Option<&LookupResult<'_, S>>,
+    found: Option<&Found<'_>>,
 ) -> Result<Vec<u8>, MaxMindDbError> {
     let mut out = Writer::new(Vec::with_capacity(alloc, 128)?);
-    write_values(alloc, fields, found, &mut out)?;
+    write_object(alloc, fields, found, &mut out)?;
     Ok(out.into_inner())
 }
 
-fn record_text<S: AsSlice<u8> + Drop>(
-    alloc: Global,
-    found: Option<&LookupResult<'_, S>>,
-) -> Result<Vec<u8>, MaxMindDbError> {
+fn record_text(alloc: Global, found: Option<&Found<'_>>) -> Result<Vec<u8>, MaxMindDbError> {
     let text = match found {
         Some(found) => found_json(alloc, found, &[])?,
         None => None,
@@ -86,10 +78,10 @@ fn record_text<S: AsSlice<u8> + Drop>(
 }
 
 /// The value of a network as JSON: its record, or an object of the values that are asked for.
-pub(crate) fn value_text<S: AsSlice<u8> + Drop>(
+fn value_text(
     alloc: Global,
     layout: &Layout<'_>,
-    found: Option<&LookupResult<'_, S>>,
+    found: Option<&Found<'_>>,
 ) -> Result<Vec<u8>, MaxMindDbError> {
     match layout {
         Layout::Records => record_text(alloc, found),
@@ -98,11 +90,11 @@ pub(crate) fn value_text<S: AsSlice<u8> + Drop>(
 }
 
 // The value of a network in one of the databases.
-fn text_in<S: AsSlice<u8> + Drop>(
+fn text_in(
     alloc: Global,
     layout: &Layout<'_>,
     side: Side,
-    found: Option<&LookupResult<'_, S>>,
+    found: Option<&Found<'_>>,
 ) -> Result<Vec<u8>, Unreadable> {
     match value_text(alloc, layout, found) {
         Ok(text) => Ok(text),
@@ -110,7 +102,18 @@ fn text_in<S: AsSlice<u8> + Drop>(
     }
 }
 
-fn offset_of<S: AsSlice<u8> + Drop>(found: Option<&LookupResult<'_, S>>) -> usize {
+// Whether the values of a network in both databases are shown the same.
+fn are_same(
+    alloc: Global,
+    layout: &Layout<'_>,
+    answers: Answers<'_, '_>,
+) -> Result<bool, Unreadable> {
+    let old_text = text_in(alloc, layout, Side::Old, answers.old)?;
+    let new_text = text_in(alloc, layout, Side::New, answers.new)?;
+    Ok(old_text == new_text)
+}
+
+fn offset_of(found: Option<&Found<'_>>) -> usize {
     match found {
         Some(found) => found.offset().unwrap_or(NO_RECORD),
         None => NO_RECORD,
@@ -156,24 +159,21 @@ impl Pairs {
     }
 
     /// Whether a network is shown the same in both databases.
-    pub(crate) fn is_same<S: AsSlice<u8> + Drop>(
+    pub(crate) fn is_same(
         &mut self,
         alloc: Global,
         layout: &Layout<'_>,
-        old: Option<&LookupResult<'_, S>>,
-        new: Option<&LookupResult<'_, S>>,
+        answers: Answers<'_, '_>,
     ) -> Result<bool, Unreadable> {
-        let (old_offset, new_offset) = (offset_of(old), offset_of(new));
-        let place = place_of(old_offset, new_offset);
-        if let Some(is_same) = self.kept_at(place, old_offset, new_offset) {
+        let (old, new) = (offset_of(answers.old), offset_of(answers.new));
+        let place = place_of(old, new);
+        if let Some(is_same) = self.kept_at(place, old, new) {
             return Ok(is_same);
         }
-        let old_text = text_in(alloc, layout, Side::Old, old)?;
-        let new_text = text_in(alloc, layout, Side::New, new)?;
         let pair = Pair {
-            old: old_offset,
-            new: new_offset,
-            is_same: old_text == new_text,
+            old,
+            new,
+            is_same: are_same(alloc, layout, answers)?,
         };
         Ok(self.keep(place, pair))
     }
@@ -186,88 +186,56 @@ fn put_object<O: Write>(
     new: &[u8],
     out: &mut O,
 ) -> Result<(), ProgramError> {
-    put(b"{\"network\":\"", out)?;
-    put(network.as_bytes(), out)?;
-    put(b"\",\"old\":", out)?;
-    put(old, out)?;
-    put(b",\"new\":", out)?;
-    put(new, out)?;
-    put(b"}\n", out)
+    let parts: [&[u8]; 7] = [
+        b"{\"network\":\"",
+        network.as_bytes(),
+        b"\",\"old\":",
+        old,
+        b",\"new\":",
+        new,
+        b"}\n",
+    ];
+    for part in parts {
+        put(part, out)?;
+    }
+    Ok(())
 }
 
-// The cells of a network in one of the databases, empty ones where it has no record.
-fn cells_in<S: AsSlice<u8> + Drop>(
-    alloc: Global,
-    fields: &Fields<'_>,
-    found: Option<&LookupResult<'_, S>>,
-) -> Result<Vec<Vec<u8>>, MaxMindDbError> {
-    if let Some(found) = found {
-        return cells_of(alloc, fields, found);
-    }
-    let mut cells = Vec::new(alloc);
-    for _ in &fields.names {
-        cells.push(Vec::new(alloc))?;
-    }
-    Ok(cells)
-}
-
-// A line of a first cell, and the cells of both databases.
-fn line_with(
-    alloc: Global,
-    first: &str,
-    old: &[Vec<u8>],
-    new: &[Vec<u8>],
-) -> Result<Vec<u8>, MaxMindDbError> {
-    let mut row: Vec<&[u8]> = Vec::new(alloc);
-    row.push(first.as_bytes())?;
-    for cell in old {
-        row.push(cell.as_slice())?;
-    }
-    for cell in new {
-        row.push(cell.as_slice())?;
-    }
-    line_of_cells(alloc, row.as_slice())
-}
-
-fn put_cells<S: AsSlice<u8> + Drop, O: Write>(
+fn put_cells<O: Write>(
     alloc: Global,
     fields: &Fields<'_>,
     network: &str,
-    old: Option<&LookupResult<'_, S>>,
-    new: Option<&LookupResult<'_, S>>,
+    answers: Answers<'_, '_>,
     out: &mut O,
 ) -> Result<(), ProgramError> {
-    let old = cells_in(alloc, fields, old)?;
-    let new = cells_in(alloc, fields, new)?;
-    let line = line_with(alloc, network, old.as_slice(), new.as_slice())?;
+    let line = line_of_cells(alloc, fields, network, &[answers.old, answers.new])?;
     put(line.as_slice(), out)
 }
 
-/// Writes the line of a network with its values in both databases.
-pub(crate) fn put_difference<S: AsSlice<u8> + Drop, O: Write>(
+fn put_values<O: Write>(
     alloc: Global,
     layout: &Layout<'_>,
     network: &str,
-    old: Option<&LookupResult<'_, S>>,
-    new: Option<&LookupResult<'_, S>>,
+    answers: Answers<'_, '_>,
     out: &mut O,
 ) -> Result<(), ProgramError> {
-    if let Layout::Cells(fields) = layout {
-        return put_cells(alloc, fields, network, old, new, out);
-    }
-    let old = value_text(alloc, layout, old)?;
-    let new = value_text(alloc, layout, new)?;
+    let old = value_text(alloc, layout, answers.old)?;
+    let new = value_text(alloc, layout, answers.new)?;
     put_object(network, old.as_slice(), new.as_slice(), out)
 }
 
-// The names of the columns of one of the databases.
-fn names_in(alloc: Global, side: &str, names: &[&str]) -> Result<Vec<Vec<u8>>, AllocError> {
-    let mut cells = Vec::new(alloc);
-    for name in names {
-        let text: String = format!(in alloc; "{side}.{name}")?;
-        cells.push(text.into_bytes())?;
+/// Writes the line of a network with its values in both databases.
+pub(crate) fn put_difference<O: Write>(
+    alloc: Global,
+    layout: &Layout<'_>,
+    network: &str,
+    answers: Answers<'_, '_>,
+    out: &mut O,
+) -> Result<(), ProgramError> {
+    match layout {
+        Layout::Cells(fields) => put_cells(alloc, fields, network, answers, out),
+        _ => put_values(alloc, layout, network, answers, out),
     }
-    Ok(cells)
 }
 
 /// Writes the line of the columns' names, where there are columns.
@@ -276,11 +244,11 @@ pub(crate) fn put_names<O: Write>(
     layout: &Layout<'_>,
     out: &mut O,
 ) -> Result<(), ProgramError> {
-    let Layout::Cells(fields) = layout else {
-        return Ok(());
-    };
-    let old = names_in(alloc, "old", fields.names.as_slice())?;
-    let new = names_in(alloc, "new", fields.names.as_slice())?;
-    let line = line_with(alloc, "network", old.as_slice(), new.as_slice())?;
-    put(line.as_slice(), out)
+    match layout {
+        Layout::Cells(fields) => {
+            let line = line_of_names(alloc, &["old.", "new."], fields.names)?;
+            put(line.as_slice(), out)
+        }
+        Layout::Records | Layout::Values(_) => Ok(()),
+    }
 }

@@ -1,15 +1,14 @@
 //! Rows with fields behind them.
+use crate::database::Database;
 use crate::error::ProgramError;
-use crate::meter::Meter;
-use crate::output::{DONE, flush};
+use crate::output::{Console, DONE};
+use crate::progress::ProgressLine;
 use crate::task::{Column, EnrichTask, JsonTask};
 use csv::{ByteRecord, ReaderBuilder};
 use mmdb_enrich::{Cache, Enrichment, JsonEnrichment, JsonMemory, delimiter_of, put_csv_cell};
-use mmdb_filter::{Counts, MOST_SEEN, Position, Rows, filter_rows, read_piece};
-use mmdb_reader::Reader;
+use mmdb_filter::{Additions, Counts, MOST_SEEN, Position, Rows, filter_rows, read_chunk};
 use std::alloc::{AllocError, Global};
-use std::convert::AsSlice;
-use std::io::{self, BufRead, Write};
+use std::io::{BufRead, Write};
 
 // The first row, which may not be longer than a row's text that is seen.
 fn read_header<I: BufRead>(
@@ -18,24 +17,20 @@ fn read_header<I: BufRead>(
     input: &mut I,
 ) -> Result<Vec<u8>, ProgramError> {
     let mut row = Vec::new(alloc);
-    let place = read_piece(input, rows, Place::Cell, &mut row)?;
-    if place != Place::Ended && row.len() > MOST_SEEN {
+    let place = read_chunk(input, rows, Position::Cell, &mut row)?;
+    if place != Position::Ended && row.len() > MOST_SEEN {
         return Err(ProgramError::LongHeader);
     }
     Ok(row)
 }
 
-// Takes the end off a row, and gives it. A carriage return alone ends no row.
-fn take_end(row: &mut Vec<u8>) -> &'static [u8] {
-    if row.last() != Some(&b'\n') {
-        return b"";
+// A row without its end, and that end. A carriage return alone ends no row.
+fn split_end(row: &[u8]) -> (&[u8], &'static [u8]) {
+    match row {
+        [cells @ .., b'\r', b'\n'] => (cells, b"\r\n"),
+        [cells @ .., b'\n'] => (cells, b"\n"),
+        _ => (row, b""),
     }
-    row.pop();
-    if row.last() != Some(&b'\r') {
-        return b"\n";
-    }
-    row.pop();
-    b"\r\n"
 }
 
 // Adds a name behind a delimiter.
@@ -49,7 +44,9 @@ fn put_name(rows: Rows, name: &str, row: &mut Vec<u8>) -> Result<(), AllocError>
 
 // Adds the names of the fields to the first row.
 fn put_names(rows: Rows, names: &[&str], row: &mut Vec<u8>) -> Result<(), AllocError> {
-    let end = take_end(row);
+    let (cells, end) = split_end(row.as_slice());
+    let length = cells.len();
+    row.truncate(length);
     for name in names {
         put_name(rows, *name, row)?;
     }
@@ -80,16 +77,14 @@ fn place_in(
     name: &str,
     header: &[u8],
 ) -> Result<Option<usize>, ProgramError> {
-    let mut text = Vec::new(alloc);
-    text.extend_from_slice(header)?;
-    take_end(&mut text);
+    let (cells, _) = split_end(header);
     match rows {
         Rows::Lines => Ok(
-            text.as_slice()
+            cells
                 .split(|b| *b == b'\t')
                 .position(|cell| cell == name.as_bytes()),
         ),
-        Rows::Csv { delimiter } => place_in_csv(alloc, delimiter, text.as_slice(), name),
+        Rows::Csv { delimiter } => place_in_csv(alloc, delimiter, cells, name),
     }
 }
 
@@ -110,34 +105,43 @@ fn place_of(
     }
 }
 
-// Copies the first row, where there is one, with the names of the fields, and answers the place of the column.
-fn copy_header<I: BufRead, O: Write>(
+// Writes the first row, where there is one, with the names of the fields, and answers the place of the column.
+fn write_header<O: Write>(
     alloc: Global,
-    wanted: &EnrichTask<'_>,
-    input: &mut I,
+    task: &EnrichTask<'_>,
+    header: &mut Vec<u8>,
     out: &mut O,
 ) -> Result<usize, ProgramError> {
-    let rows = wanted.rows;
-    let mut header = read_header(alloc, rows, input)?;
-    let column = place_of(alloc, rows, wanted.column, header.as_slice())?;
+    let column = place_of(alloc, task.rows, task.column, header.as_slice())?;
     if !header.is_empty() {
-        put_names(rows, wanted.names.as_slice(), &mut header)?;
+        put_names(task.rows, task.names, header)?;
         out.write_all(header.as_slice())?;
     }
     Ok(column)
 }
 
-// The place of the column. The first row is copied where it names the columns.
-fn column_of<I: BufRead, O: Write>(
+// Copies the first row, where there is one, with the names of the fields, and answers the place of the column.
+fn copy_header<I: BufRead, O: Write>(
     alloc: Global,
-    wanted: &EnrichTask<'_>,
+    task: &EnrichTask<'_>,
     input: &mut I,
     out: &mut O,
 ) -> Result<usize, ProgramError> {
-    if wanted.header {
-        copy_header(alloc, wanted, input, out)
+    let mut header = read_header(alloc, task.rows, input)?;
+    write_header(alloc, task, &mut header, out)
+}
+
+// The place of the column. The first row is copied where it names the columns.
+fn column_of<I: BufRead, O: Write>(
+    alloc: Global,
+    task: &EnrichTask<'_>,
+    input: &mut I,
+    out: &mut O,
+) -> Result<usize, ProgramError> {
+    if task.header {
+        copy_header(alloc, task, input, out)
     } else {
-        place_of(alloc, wanted.rows, wanted.column, &[])
+        place_of(alloc, task.rows, task.column, &[])
     }
 }
 
@@ -169,113 +173,91 @@ fn text_of_objects(alloc: Global, counts: Counts) -> Result<String, AllocError> 
     )
 }
 
-// Writes how rows fared, behind what was written. It is left out where there is no memory for it.
-fn report_counts<O: Write, E: Write>(
-    text: Result<String, AllocError>,
-    out: &mut O,
-    err: &mut E,
-) -> Result<(), ProgramError> {
-    flush(out)?;
-    if let Ok(text) = text {
-        let _ = err.write_all(text.as_bytes());
-    }
-    Ok(())
-}
-
-// Copies rows with fields behind each, and counts how they fared. How many passed is shown on a terminal meanwhile.
-fn copy_rows<S: AsSlice<u8> + Drop, I: BufRead, O: Write, E: Write>(
-    enrichment: &Enrichment<'_, '_, S>,
-    is_terminal: bool,
+// Copies rows with what is added to each, and counts how they fared. How many passed is shown on a terminal meanwhile.
+// Standard output is flushed.
+fn copy_rows<A: Additions, I: BufRead, O: Write, E: Write>(
+    rows: Rows,
+    additions: &A,
+    memory: &mut A::Memory,
     input: &mut I,
-    out: &mut O,
-    err: &mut E,
-) -> io::Result<Counts> {
-    let (alloc, rows) = (enrichment.alloc, enrichment.rows);
-    let mut cache = Cache::new(alloc)?;
-    let mut meter = Meter::new(alloc, is_terminal, err);
-    let counts = filter_rows(alloc, rows, enrichment, &mut cache, input, out, &mut meter);
-    meter.clear();
-    counts
+    console: &mut Console<'_, O, E>,
+) -> Result<Counts, ProgramError>
+    requires { A.fits additions.now memory.old }
+{
+    let alloc = console.alloc;
+    let mut progress = ProgressLine::new(alloc, console.terminals.errors, console.errors);
+    let counts = filter_rows(
+        alloc,
+        rows,
+        additions,
+        memory,
+        input,
+        console.out,
+        &mut progress,
+    );
+    progress.clear();
+    let counts = counts?;
+    console.flush()?;
+    Ok(counts)
 }
 
 // Copies rows with fields behind each, and reports how they fared.
-fn enrich_rows<S: AsSlice<u8> + Drop, I: BufRead, O: Write, E: Write>(
-    enrichment: &Enrichment<'_, '_, S>,
-    is_terminal: bool,
+fn enrich_rows<I: BufRead, O: Write, E: Write>(
+    enrichment: &Enrichment<'_, '_, Vec<u8>>,
     input: &mut I,
-    out: &mut O,
-    err: &mut E,
+    console: &mut Console<'_, O, E>,
 ) -> Result<u8, ProgramError> {
-    let counts = copy_rows(enrichment, is_terminal, input, out, err)?;
-    report_counts(text_of_rows(enrichment.alloc, counts), out, err)?;
+    let mut cache = Cache::new(console.alloc)?;
+    let counts = copy_rows(enrichment.rows, enrichment, &mut cache, input, console);
+    drop(cache);
+    console.note(text_of_rows(console.alloc, counts?));
     Ok(DONE)
 }
 
 /// Copies rows with fields behind each, and reports how they fared.
-pub(crate) fn enrich<S: AsSlice<u8> + Drop, I: BufRead, O: Write, E: Write>(
-    alloc: Global,
-    reader: &Reader<S>,
-    wanted: EnrichTask<'_>,
-    is_terminal: bool,
+pub(crate) fn enrich<I: BufRead, O: Write, E: Write>(
+    database: &Database,
+    task: EnrichTask<'_>,
     input: &mut I,
-    out: &mut O,
-    err: &mut E,
+    console: &mut Console<'_, O, E>,
 ) -> Result<u8, ProgramError> {
-    let column = column_of(alloc, &wanted, input, out)?;
+    let column = column_of(console.alloc, &task, input, console.out)?;
     let enrichment = Enrichment {
-        alloc,
-        reader,
-        rows: wanted.rows,
+        alloc: console.alloc,
+        reader: database,
+        rows: task.rows,
         column,
-        paths: wanted.paths,
+        paths: task.paths,
     };
-    enrich_rows(&enrichment, is_terminal, input, out, err)
+    enrich_rows(&enrichment, input, console)
 }
 
-// Copies lines with a member more in each object, and counts how they fared. How many passed is shown on a terminal
-// meanwhile.
-fn copy_objects<S: AsSlice<u8> + Drop, I: BufRead, O: Write, E: Write>(
-    enrichment: &JsonEnrichment<'_, '_, S>,
-    is_terminal: bool,
+// Copies lines with a member more in each object, and reports how they fared.
+fn enrich_objects<I: BufRead, O: Write, E: Write>(
+    enrichment: &JsonEnrichment<'_, '_, Vec<u8>>,
     input: &mut I,
-    out: &mut O,
-    err: &mut E,
-) -> io::Result<Counts> {
-    let alloc = enrichment.alloc;
-    let mut memory = JsonMemory::new(alloc)?;
-    let mut meter = Meter::new(alloc, is_terminal, err);
-    let counts = filter_rows(
-        alloc,
-        Rows::Lines,
-        enrichment,
-        &mut memory,
-        input,
-        out,
-        &mut meter,
-    );
-    meter.clear();
-    counts
+    console: &mut Console<'_, O, E>,
+) -> Result<u8, ProgramError> {
+    let mut memory = JsonMemory::new(console.alloc)?;
+    let counts = copy_rows(Rows::Lines, enrichment, &mut memory, input, console);
+    drop(memory);
+    console.note(text_of_objects(console.alloc, counts?));
+    Ok(DONE)
 }
 
 /// Copies lines with a member more in each object, and reports how they fared.
-pub(crate) fn enrich_json<S: AsSlice<u8> + Drop, I: BufRead, O: Write, E: Write>(
-    alloc: Global,
-    reader: &Reader<S>,
-    wanted: JsonTask<'_>,
-    is_terminal: bool,
+pub(crate) fn enrich_json<I: BufRead, O: Write, E: Write>(
+    database: &Database,
+    task: JsonTask<'_>,
     input: &mut I,
-    out: &mut O,
-    err: &mut E,
+    console: &mut Console<'_, O, E>,
 ) -> Result<u8, ProgramError> {
-    let JsonTask { path, into, fields } = wanted;
     let enrichment = JsonEnrichment {
-        alloc,
-        reader,
-        path,
-        name: into,
-        fields,
+        alloc: console.alloc,
+        reader: database,
+        path: task.path,
+        name: task.into,
+        fields: task.fields,
     };
-    let counts = copy_objects(&enrichment, is_terminal, input, out, err)?;
-    report_counts(text_of_objects(alloc, counts), out, err)?;
-    Ok(DONE)
+    enrich_objects(&enrichment, input, console)
 }

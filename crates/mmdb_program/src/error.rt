@@ -2,33 +2,39 @@
 use mmdb_lists::ListError;
 use mmdb_reader::MaxMindDbError;
 use std::alloc::{AllocError, AllocFailed};
-use std::io;
-use thiserror::Error;
+use std::{fmt, io};
 
 /// Why a command was not done.
-#[derive(Debug, Drop, Error)]
+#[derive(Drop)]
 pub enum ProgramError {
-    /// The database refused.
-    #[error("{0}")]
+    /// An error of the database.
     Database(MaxMindDbError),
-    /// Standard output refused.
-    #[error("write error: {0}")]
+    /// Standard output can't be written.
     Write(io::Error),
-    /// Standard input or output refused.
-    #[error("{0}")]
+    /// Standard input can't be read, or standard output not written.
     Lines(io::Error),
     /// The first line has no column of this name.
-    #[error("the first line has no column {0}")]
     NoColumn(String),
     /// The first line, of which the names are wanted, is too long.
-    #[error("the first line has more than 65536 bytes")]
     LongHeader,
     /// The networks of a database do not ascend.
-    #[error("the networks do not ascend")]
     OutOfOrder,
-    /// There was no memory.
-    #[error("out of memory")]
+    /// Out of memory.
     Memory,
+}
+
+impl fmt::Display for ProgramError {
+    fn fmt<W: fmt::Write>(&self, f: &mut fmt::Formatter<W>) -> fmt::Result {
+        match self {
+            ProgramError::Database(error) => write!(f, "{error}"),
+            ProgramError::Write(error) => write!(f, "write error: {error}"),
+            ProgramError::Lines(error) => write!(f, "{error}"),
+            ProgramError::NoColumn(name) => write!(f, "the first line has no column {name}"),
+            ProgramError::LongHeader => f.write_str("the first line has more than 65536 bytes"),
+            ProgramError::OutOfOrder => f.write_str("the networks do not ascend"),
+            ProgramError::Memory => f.write_str("out of memory"),
+        }
+    }
 }
 
 impl From<ListError> for ProgramError {

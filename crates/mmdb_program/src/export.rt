@@ -1,11 +1,11 @@
 //! The chosen networks of a range, with what their records have or as the fewest blocks.
+use crate::database::{Database, Found, Networks};
 use crate::error::ProgramError;
 use crate::layout::Layout;
-use crate::output::put;
+use crate::output::{Console, put};
 use mmdb_lists::{Choice, Kind, Kinds, List};
-use mmdb_reader::{IpNetwork, LookupResult, MaxMindDbError, Reader, Within, WithinOptions};
+use mmdb_reader::{IpNetwork, MaxMindDbError, WithinOptions};
 use std::alloc::{AllocError, Global};
-use std::convert::AsSlice;
 use std::io::Write;
 
 /// How many rows are kept.
@@ -25,11 +25,15 @@ pub(crate) enum Where {
     First,
 }
 
-/// What could not be written of a database, and where.
-#[derive(Drop)]
-pub(crate) struct Faulty {
-    pub(crate) place: Where,
-    pub(crate) error: ProgramError,
+impl Where {
+    /// What a report names.
+    pub(crate) fn name(self, alloc: Global) -> Result<String, AllocError> {
+        match self {
+            Where::At(network) => network.to_string(alloc),
+            Where::Behind(network) => format!(in alloc; "a network behind {network}"),
+            Where::First => String::from_str(alloc, "a network before any other"),
+        }
+    }
 }
 
 /// The row of a record, with an empty network.
@@ -82,9 +86,10 @@ fn write_parts<O: Write>(
     out: &mut O,
 ) -> Result<(), ProgramError> {
     let (before, after) = row.split_at(place.min(row.len()));
-    put(before, out)?;
-    put(network, out)?;
-    put(after, out)
+    for part in [before, network, after] {
+        put(part, out)?;
+    }
+    Ok(())
 }
 
 // Writes a row with its network.
@@ -120,11 +125,7 @@ impl<'a> Rows<'a> {
 
     // Makes the row of an answer.
     #[inline(never)]
-    fn make<S: AsSlice<u8> + Drop>(
-        &mut self,
-        place: usize,
-        found: &LookupResult<'_, S>,
-    ) -> Result<(), MaxMindDbError> {
+    fn make(&mut self, place: usize, found: &Found<'_>) -> Result<(), MaxMindDbError> {
         let row = Row {
             offset: found.offset(),
             text: self.layout.row(self.alloc, found)?,
@@ -138,10 +139,7 @@ impl<'a> Rows<'a> {
     }
 
     // The row of an answer.
-    fn row<S: AsSlice<u8> + Drop>(
-        &mut self,
-        found: &LookupResult<'_, S>,
-    ) -> Result<&[u8], MaxMindDbError> {
+    fn row(&mut self, found: &Found<'_>) -> Result<&[u8], MaxMindDbError> {
         let offset = found.offset();
         let place = offset.unwrap_or(0) % PLACES;
         if !self.keeps(place, offset) && !self.long.is_of(offset) {
@@ -154,9 +152,9 @@ impl<'a> Rows<'a> {
     }
 
     // Writes the row of an answer.
-    fn write<S: AsSlice<u8> + Drop, O: Write>(
+    fn write<O: Write>(
         &mut self,
-        found: &LookupResult<'_, S>,
+        found: &Found<'_>,
         network: IpNetwork,
         out: &mut O,
     ) -> Result<(), ProgramError> {
@@ -175,9 +173,9 @@ pub(crate) enum Writing<'a> {
 
 impl Writing<'_> {
     // Writes the network of an answer.
-    fn write<S: AsSlice<u8> + Drop, O: Write>(
+    fn write<O: Write>(
         &mut self,
-        found: &LookupResult<'_, S>,
+        found: &Found<'_>,
         network: IpNetwork,
         out: &mut O,
     ) -> Result<(), ProgramError> {
@@ -196,6 +194,8 @@ pub(crate) struct Export<'a> {
     writing: Writing<'a>,
     /// Where a network comes that is not named.
     next: Where,
+    /// How many networks could not be written.
+    pub(crate) faults: u64,
 }
 
 impl<'a> Export<'a> {
@@ -206,13 +206,25 @@ impl<'a> Export<'a> {
             kinds,
             writing,
             next: Where::First,
+            faults: 0,
         }
     }
 
-    // Writes the network of an answer, if it is chosen.
-    fn write_chosen<S: AsSlice<u8> + Drop, O: Write>(
+    // Reports why a network can't be written, behind what was written.
+    fn report<O: Write, E: Write>(
         &mut self,
-        found: &LookupResult<'_, S>,
+        place: Where,
+        error: &MaxMindDbError,
+        console: &mut Console<'_, O, E>,
+    ) -> Result<(), ProgramError> {
+        self.faults = self.faults.saturating_add(1);
+        console.report_behind(place.name(console.alloc), error)
+    }
+
+    // Writes the network of an answer, if it is chosen.
+    fn write_chosen<O: Write>(
+        &mut self,
+        found: &Found<'_>,
         network: IpNetwork,
         out: &mut O,
     ) -> Result<(), ProgramError> {
@@ -222,37 +234,35 @@ impl<'a> Export<'a> {
         self.writing.write(found, network, out)
     }
 
-    // Writes the network of an answer, if it is chosen, or gives why it can't be.
-    fn write_found<S: AsSlice<u8> + Drop, O: Write>(
+    // Writes the network of an answer, if it is chosen, or reports why it can't be.
+    fn write_found<O: Write, E: Write>(
         &mut self,
-        found: &LookupResult<'_, S>,
-        out: &mut O,
-    ) -> Result<Option<Faulty>, ProgramError> {
+        found: &Found<'_>,
+        console: &mut Console<'_, O, E>,
+    ) -> Result<(), ProgramError> {
         let network = found.network()?;
         self.next = Where::Behind(network);
-        match self.write_chosen(found, network, out) {
-            Ok(()) => Ok(None),
+        match self.write_chosen(found, network, console.out) {
             Err(ProgramError::Database(MaxMindDbError::Memory)) => Err(ProgramError::Memory),
-            Err(ProgramError::Database(error)) => Ok(Some(Faulty {
-                place: Where::At(network),
-                error: ProgramError::Database(error),
-            })),
+            Err(ProgramError::Database(error)) => {
+                let reported = self.report(Where::At(network), &error, console);
+                drop(error);
+                reported
+            }
             Err(error) => Err(error),
+            Ok(()) => Ok(()),
         }
     }
 
-    /// Writes an item of a list of networks, or gives why it can't be. Where a field is refused there is none.
-    pub(crate) fn write<S: AsSlice<u8> + Drop, O: Write>(
+    /// Writes an item of a list of networks, if it is chosen, or reports why it can't be.
+    pub(crate) fn write<O: Write, E: Write>(
         &mut self,
-        item: Result<LookupResult<'_, S>, MaxMindDbError>,
-        out: &mut O,
-    ) -> Result<Option<Faulty>, ProgramError> {
+        item: &Result<Found<'_>, MaxMindDbError>,
+        console: &mut Console<'_, O, E>,
+    ) -> Result<(), ProgramError> {
         match item {
-            Ok(found) => self.write_found(&found, out),
-            Err(error) => Ok(Some(Faulty {
-                place: self.next,
-                error: ProgramError::Database(error),
-            })),
+            Ok(found) => self.write_found(found, console),
+            Err(error) => self.report(self.next, error, console),
         }
     }
 
@@ -266,13 +276,13 @@ impl<'a> Export<'a> {
 }
 
 /// The networks of a range, or all.
-pub(crate) fn networks_in<S: AsSlice<u8> + Drop>(
+pub(crate) fn networks_in(
     alloc: Global,
-    reader: &Reader<S>,
+    database: &Database,
     range: Option<IpNetwork>,
-) -> Result<Within<'_, S>, MaxMindDbError> {
+) -> Result<Networks<'_>, MaxMindDbError> {
     match range {
-        Some(range) => reader.within(alloc, range, WithinOptions::default()),
-        None => reader.networks(alloc, WithinOptions::default()),
+        Some(range) => database.within(alloc, range, WithinOptions::default()),
+        None => database.networks(alloc, WithinOptions::default()),
     }
 }

@@ -1,10 +1,10 @@
 //! What the rows of an export look like.
-use csv::Writer as CsvWriter;
+use crate::database::Found;
 use json::{Token, Writer};
+use mmdb_enrich::put_csv_cell;
 use mmdb_json::{compact, write_found};
-use mmdb_reader::{LookupResult, MaxMindDbError, PathElement, Value};
+use mmdb_reader::{MaxMindDbError, PathElement, Value};
 use std::alloc::{AllocError, Global};
-use std::convert::AsSlice;
 
 /// The name of a row's network.
 const NETWORK: &str = "network";
@@ -15,7 +15,7 @@ const BEFORE_NETWORK: &str = "{\"network\":\"";
 /// Some values of a record, each by a path and under the path's text.
 #[derive(Drop)]
 pub(crate) struct Fields<'a> {
-    pub(crate) names: Vec<&'a str>,
+    pub(crate) names: &'a [&'a str],
     pub(crate) paths: Vec<Vec<PathElement<'a>>>,
 }
 
@@ -30,100 +30,130 @@ pub(crate) enum Layout<'a> {
     Cells(Fields<'a>),
 }
 
-// The cell of a value: a text as it stands, any other value as JSON, and empty where there is none.
-fn cell_with(alloc: Global, value: Option<&Value<'_>>) -> Result<Vec<u8>, AllocError> {
+// Adds a cell behind a comma.
+fn put_cell(cell: &[u8], row: &mut Vec<u8>) -> Result<(), AllocError> {
+    row.push(b',')?;
+    put_csv_cell(b',', cell, row)
+}
+
+// Adds the cell of a value: a text as it stands, any other value as JSON, and empty where there is none.
+fn put_value(
+    alloc: Global,
+    value: Option<&Value<'_>>,
+    row: &mut Vec<u8>,
+) -> Result<(), AllocError> {
     match value {
-        Some(Value::String(text)) => text.as_bytes().to_vec(alloc),
-        Some(value) => compact(alloc, value),
-        None => Ok(Vec::new(alloc)),
+        Some(Value::String(text)) => put_cell(text.as_bytes(), row),
+        Some(value) => put_cell(compact(alloc, value)?.as_slice(), row),
+        None => put_cell(&[], row),
     }
 }
 
-// The cell of the value at a path.
-fn cell_of<S: AsSlice<u8> + Drop>(
+// Adds the cell of the value at a path, an empty one where there is no record.
+fn put_value_at(
     alloc: Global,
-    found: &LookupResult<'_, S>,
+    found: Option<&Found<'_>>,
     path: &[PathElement<'_>],
+    row: &mut Vec<u8>,
+) -> Result<(), MaxMindDbError> {
+    let value: Option<Value<'_>> = match found {
+        Some(found) => found.decode_path(alloc, path)?,
+        None => None,
+    };
+    let put = put_value(alloc, value.as_ref(), row);
+    drop(value);
+    Ok(put?)
+}
+
+// Adds a network, the cells of each answer, and the end of the line.
+fn put_cells(
+    alloc: Global,
+    fields: &Fields<'_>,
+    network: &str,
+    answers: &[Option<&Found<'_>>],
+    row: &mut Vec<u8>,
+) -> Result<(), MaxMindDbError> {
+    row.extend_from_slice(network.as_bytes())?;
+    for found in answers {
+        for path in &fields.paths {
+            put_value_at(alloc, *found, path.as_slice(), row)?;
+        }
+    }
+    Ok(row.push(b'\n')?)
+}
+
+/// A line of a network and the cells of each answer.
+pub(crate) fn line_of_cells(
+    alloc: Global,
+    fields: &Fields<'_>,
+    network: &str,
+    answers: &[Option<&Found<'_>>],
 ) -> Result<Vec<u8>, MaxMindDbError> {
-    let value: Option<Value<'_>> = found.decode_path(alloc, path)?;
-    Ok(cell_with(alloc, value.as_ref())?)
+    let mut row = Vec::new(alloc);
+    put_cells(alloc, fields, network, answers, &mut row)?;
+    Ok(row)
 }
 
-// A line of cells. What refuses is a vector, which does so for want of memory alone.
-pub(crate) fn line_of_cells(alloc: Global, cells: &[&[u8]]) -> Result<Vec<u8>, MaxMindDbError> {
-    let mut out = CsvWriter::from_writer(Vec::new(alloc));
-    match out.write_fields(cells) {
-        Ok(()) => {}
-        Err(_) => return Err(MaxMindDbError::Memory),
+// Adds the name of a column.
+fn put_name(alloc: Global, prefix: &str, name: &str, row: &mut Vec<u8>) -> Result<(), AllocError> {
+    let text: String = format!(in alloc; "{prefix}{name}")?;
+    put_cell(text.as_bytes(), row)
+}
+
+// Adds the names of the columns, and the end of the line.
+fn put_names(
+    alloc: Global,
+    prefixes: &[&str],
+    names: &[&str],
+    row: &mut Vec<u8>,
+) -> Result<(), AllocError> {
+    row.extend_from_slice(NETWORK.as_bytes())?;
+    for prefix in prefixes {
+        for name in names {
+            put_name(alloc, *prefix, *name, row)?;
+        }
     }
-    match out.into_inner() {
-        Ok(line) => Ok(line),
-        Err(_) => Err(MaxMindDbError::Memory),
+    row.extend_from_slice(b"\n")
+}
+
+/// The line of the columns' names: of the network, and for each prefix of the values.
+pub(crate) fn line_of_names(
+    alloc: Global,
+    prefixes: &[&str],
+    names: &[&str],
+) -> Result<Vec<u8>, AllocError> {
+    let mut row = Vec::new(alloc);
+    put_names(alloc, prefixes, names, &mut row)?;
+    Ok(row)
+}
+
+// Adds the value at a path, null where there is no record.
+fn write_value(
+    alloc: Global,
+    found: Option<&Found<'_>>,
+    path: &[PathElement<'_>],
+    out: &mut Writer,
+) -> Result<bool, MaxMindDbError> {
+    match found {
+        Some(found) => write_found(alloc, found, path, out),
+        None => {
+            out.token(Token::Null)?;
+            Ok(false)
+        }
     }
 }
 
-// The line of the columns' names.
-fn line_of_names(alloc: Global, fields: &[&str]) -> Result<Vec<u8>, MaxMindDbError> {
-    let mut names: Vec<&[u8]> = Vec::new(alloc);
-    names.push(NETWORK.as_bytes())?;
-    for name in fields {
-        names.push(name.as_bytes())?;
-    }
-    line_of_cells(alloc, names.as_slice())
-}
-
-// The texts of the cells behind the network's.
-pub(crate) fn cells_of<S: AsSlice<u8> + Drop>(
+/// Adds the values at some paths to an object, each null where there is no record.
+pub(crate) fn write_values(
     alloc: Global,
     fields: &Fields<'_>,
-    found: &LookupResult<'_, S>,
-) -> Result<Vec<Vec<u8>>, MaxMindDbError> {
-    let mut cells = Vec::new(alloc);
-    for path in &fields.paths {
-        cells.push(cell_of(alloc, found, path.as_slice())?)?;
-    }
-    Ok(cells)
-}
-
-// A line of an empty cell and some more.
-fn line_behind_network(alloc: Global, cells: &[Vec<u8>]) -> Result<Vec<u8>, MaxMindDbError> {
-    let mut row: Vec<&[u8]> = Vec::new(alloc);
-    row.push(b"".as_slice())?;
-    for cell in cells {
-        row.push(cell.as_slice())?;
-    }
-    line_of_cells(alloc, row.as_slice())
-}
-
-fn row_of_cells<S: AsSlice<u8> + Drop>(
-    alloc: Global,
-    fields: &Fields<'_>,
-    found: &LookupResult<'_, S>,
-) -> Result<Vec<u8>, MaxMindDbError> {
-    let cells = cells_of(alloc, fields, found)?;
-    line_behind_network(alloc, cells.as_slice())
-}
-
-pub(crate) fn row_of_values<S: AsSlice<u8> + Drop>(
-    alloc: Global,
-    fields: &Fields<'_>,
-    found: &LookupResult<'_, S>,
+    found: Option<&Found<'_>>,
     out: &mut Writer,
 ) -> Result<(), MaxMindDbError> {
     for (name, path) in fields.names.iter().zip(&fields.paths) {
         out.token(Token::Key(*name))?;
-        write_found(alloc, found, path.as_slice(), out)?;
+        write_value(alloc, found, path.as_slice(), out)?;
     }
-    Ok(())
-}
-
-fn row_of_record<S: AsSlice<u8> + Drop>(
-    alloc: Global,
-    found: &LookupResult<'_, S>,
-    out: &mut Writer,
-) -> Result<(), MaxMindDbError> {
-    out.token(Token::Key("record"))?;
-    write_found(alloc, found, &[], out)?;
     Ok(())
 }
 
@@ -135,28 +165,35 @@ fn begin_object(out: &mut Writer) -> Result<(), AllocError> {
 }
 
 impl Layout<'_> {
-    // Writes the row of a record as an object, with an empty network.
-    fn write_object<S: AsSlice<u8> + Drop>(
+    // Adds the record, or the values that are wanted of it.
+    fn write_record(
         &self,
         alloc: Global,
-        found: &LookupResult<'_, S>,
+        found: &Found<'_>,
         out: &mut Writer,
     ) -> Result<(), MaxMindDbError> {
-        begin_object(out)?;
-        match self {
-            Layout::Values(fields) => row_of_values(alloc, fields, found, out)?,
-            _ => row_of_record(alloc, found, out)?,
+        if let Layout::Values(fields) = self {
+            return write_values(alloc, fields, Some(found), out);
         }
-        out.token(Token::EndObject)?;
+        out.token(Token::Key("record"))?;
+        write_found(alloc, found, &[], out)?;
         Ok(())
     }
 
-    // The same as a line.
-    fn object<S: AsSlice<u8> + Drop>(
+    // Writes the row of a record as an object, with an empty network.
+    fn write_object(
         &self,
         alloc: Global,
-        found: &LookupResult<'_, S>,
-    ) -> Result<Vec<u8>, MaxMindDbError> {
+        found: &Found<'_>,
+        out: &mut Writer,
+    ) -> Result<(), MaxMindDbError> {
+        begin_object(out)?;
+        self.write_record(alloc, found, out)?;
+        Ok(out.token(Token::EndObject)?)
+    }
+
+    // The same as a line.
+    fn object(&self, alloc: Global, found: &Found<'_>) -> Result<Vec<u8>, MaxMindDbError> {
         let mut out = Writer::new(Vec::with_capacity(alloc, 256)?);
         self.write_object(alloc, found, &mut out)?;
         let mut row = out.into_inner();
@@ -165,13 +202,9 @@ impl Layout<'_> {
     }
 
     /// The row of a record, with an empty network.
-    pub(crate) fn row<S: AsSlice<u8> + Drop>(
-        &self,
-        alloc: Global,
-        found: &LookupResult<'_, S>,
-    ) -> Result<Vec<u8>, MaxMindDbError> {
+    pub(crate) fn row(&self, alloc: Global, found: &Found<'_>) -> Result<Vec<u8>, MaxMindDbError> {
         match self {
-            Layout::Cells(fields) => row_of_cells(alloc, fields, found),
+            Layout::Cells(fields) => line_of_cells(alloc, fields, "", &[Some(found)]),
             Layout::Records | Layout::Values(_) => self.object(alloc, found),
         }
     }
@@ -185,9 +218,9 @@ impl Layout<'_> {
     }
 
     /// The line of the columns' names, where there are columns.
-    pub(crate) fn header(&self, alloc: Global) -> Result<Option<Vec<u8>>, MaxMindDbError> {
+    pub(crate) fn header(&self, alloc: Global) -> Result<Option<Vec<u8>>, AllocError> {
         match self {
-            Layout::Cells(fields) => Ok(Some(line_of_names(alloc, fields.names.as_slice())?)),
+            Layout::Cells(fields) => Ok(Some(line_of_names(alloc, &[""], fields.names)?)),
             Layout::Records | Layout::Values(_) => Ok(None),
         }
     }

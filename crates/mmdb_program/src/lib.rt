@@ -1,25 +1,27 @@
 //! The program `mmdb`: what people ask of databases.
 #![tactic(auto)]
 
-mod about;
 mod conditions;
+mod database;
 mod diff;
 mod differences;
 mod enrich;
 mod error;
 mod export;
 mod layout;
-mod meter;
+mod metadata;
 mod networks;
 mod output;
 mod paths;
 mod program;
+mod progress;
 mod show;
 mod task;
 mod verify;
 
-pub use about::info;
 pub use error::ProgramError;
+pub use metadata::info;
+pub use output::Terminals;
 pub use paths::path_of;
-pub use program::{Terminals, run, run_on};
+pub use program::{run, run_on};
 pub use show::show_to;

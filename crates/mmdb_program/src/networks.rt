@@ -1,52 +1,13 @@
 //! The chosen networks of a range, written out.
+use crate::database::{Database, Networks};
 use crate::error::ProgramError;
-use crate::export::{Export, Faulty, Rows, Where, Writing, networks_in};
+use crate::export::{Export, Rows, Writing, networks_in};
 use crate::layout::Layout;
-use crate::output::{DONE, FAILED, flush, put, report};
+use crate::output::{Console, DONE, FAILED, put};
 use crate::task::{ExportTask, Shape};
 use mmdb_lists::{Choice, Kinds, List, Syntax};
-use mmdb_reader::{LookupResult, MaxMindDbError, Reader, Within};
-use std::alloc::{AllocError, Global};
-use std::convert::AsSlice;
+use std::alloc::Global;
 use std::io::Write;
-
-// What a report names for a network.
-pub(crate) fn name_of(alloc: Global, place: Where) -> Result<String, AllocError> {
-    match place {
-        Where::At(network) => network.to_string(alloc),
-        Where::Behind(network) => format!(in alloc; "a network behind {network}"),
-        Where::First => String::from_str(alloc, "a network before any other"),
-    }
-}
-
-// Reports what could not be written of a database, behind what was, and answers that it was not.
-fn report_faulty<O: Write, E: Write>(
-    alloc: Global,
-    faulty: &Faulty,
-    out: &mut O,
-    err: &mut E,
-) -> Result<bool, ProgramError> {
-    flush(out)?;
-    let name = name_of(alloc, faulty.place)?;
-    report(alloc, name.as_str(), &faulty.error, err);
-    Ok(false)
-}
-
-// Writes a network, if it is chosen, or reports that it can't be read, and answers whether it could.
-fn export_one<S: AsSlice<u8> + Drop, O: Write, E: Write>(
-    alloc: Global,
-    item: Result<LookupResult<'_, S>, MaxMindDbError>,
-    export: &mut Export<'_>,
-    out: &mut O,
-    err: &mut E,
-) -> Result<bool, ProgramError> {
-    let Some(faulty) = export.write(item, out)? else {
-        return Ok(true);
-    };
-    let reported = report_faulty(alloc, &faulty, out, err);
-    drop(faulty);
-    reported
-}
 
 // Writes the header, where the layout has one.
 fn put_header<O: Write>(
@@ -61,35 +22,34 @@ fn put_header<O: Write>(
 }
 
 // Reports how many networks could not be read, and answers the status.
-fn report_faults<E: Write>(alloc: Global, faults: u64, err: &mut E) -> Result<u8, ProgramError> {
+fn report_faults<O: Write, E: Write>(
+    faults: u64,
+    console: &mut Console<'_, O, E>,
+) -> Result<u8, ProgramError> {
     if faults == 0 {
         return Ok(DONE);
     }
-    let text: String = format!(in alloc; "mmdb: {faults} networks could not be read\n")?;
-    let _ = err.write_all(text.as_bytes());
+    let text: String = format!(in console.alloc; "mmdb: {faults} networks could not be read\n")?;
+    console.note(Ok(text));
     Ok(FAILED)
 }
 
-// Writes the chosen networks, and answers how many could not be read.
-fn export_all<S: AsSlice<u8> + Drop, O: Write, E: Write>(
-    alloc: Global,
-    networks: Within<'_, S>,
+// Writes the chosen networks, and what stands behind them.
+fn export_all<O: Write, E: Write>(
+    networks: Networks<'_>,
     export: &mut Export<'_>,
-    out: &mut O,
-    err: &mut E,
-) -> Result<u64, ProgramError> {
-    let mut faults = 0u64;
+    console: &mut Console<'_, O, E>,
+) -> Result<(), ProgramError> {
     for item in networks {
-        if !export_one(alloc, item, export, out, err)? {
-            faults = faults.saturating_add(1);
-        }
+        let written = export.write(&item, console);
+        drop(item);
+        written?;
     }
-    export.finish(out)?;
-    Ok(faults)
+    export.finish(console.out)
 }
 
 // Begins rows.
-fn begun_rows<'a, O: Write>(
+fn begin_rows<'a, O: Write>(
     alloc: Global,
     layout: &'a Layout<'a>,
     out: &mut O,
@@ -100,7 +60,7 @@ fn begun_rows<'a, O: Write>(
 }
 
 // Begins a list.
-fn begun_list<'a, O: Write>(
+fn begin_list<'a, O: Write>(
     alloc: Global,
     syntax: Syntax<'a>,
     kinds: Kinds,
@@ -112,29 +72,30 @@ fn begun_list<'a, O: Write>(
 }
 
 // Begins what is written.
-fn begun<'a, O: Write>(
+fn begin<'a, O: Write>(
     alloc: Global,
-    wanted: &'a ExportTask<'a>,
+    task: &'a ExportTask<'a>,
     out: &mut O,
 ) -> Result<Export<'a>, ProgramError> {
-    let choice = Choice::new(alloc, wanted.conditions.as_slice())?;
-    let writing = match &wanted.shape {
-        Shape::Rows(layout) => begun_rows(alloc, layout, out)?,
-        Shape::List(syntax) => begun_list(alloc, *syntax, wanted.kinds, out)?,
+    let choice = Choice::new(alloc, task.conditions.as_slice())?;
+    let writing = match &task.shape {
+        Shape::Rows(layout) => begin_rows(alloc, layout, out),
+        Shape::List(syntax) => begin_list(alloc, *syntax, task.kinds, out),
     };
-    Ok(Export::new(choice, wanted.kinds, writing))
+    Ok(Export::new(choice, task.kinds, writing?))
 }
 
 /// Writes the chosen networks of a range, and reports each that can't be read.
-pub(crate) fn export<'a, S: AsSlice<u8> + Drop, O: Write, E: Write>(
-    alloc: Global,
-    reader: &Reader<S>,
-    wanted: &'a ExportTask<'a>,
-    out: &mut O,
-    err: &mut E,
+pub(crate) fn export<'a, O: Write, E: Write>(
+    database: &Database,
+    task: &'a ExportTask<'a>,
+    console: &mut Console<'_, O, E>,
 ) -> Result<u8, ProgramError> {
-    let networks = networks_in(alloc, reader, wanted.range)?;
-    let mut export = begun(alloc, wanted, out)?;
-    let faults = export_all(alloc, networks, &mut export, out, err)?;
-    report_faults(alloc, faults, err)
+    let networks = networks_in(console.alloc, database, task.range)?;
+    let mut export = begin(console.alloc, task, console.out)?;
+    let exported = export_all(networks, &mut export, console);
+    let faults = export.faults;
+    drop(export);
+    exported?;
+    report_faults(faults, console)
 }

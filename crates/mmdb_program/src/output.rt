@@ -2,6 +2,7 @@
 use crate::error::ProgramError;
 use mmdb_arguments::shown_text;
 use std::alloc::{AllocError, Global};
+use std::fmt::Display;
 use std::io::{self, Write};
 
 /// All was done.
@@ -22,25 +23,25 @@ pub(crate) const DIFFERENT: u8 = 7;
 /// What is reported where there is no memory to print an error.
 pub(crate) const NO_MEMORY: &str = "mmdb: out of memory\n";
 
+/// Which of the standard streams are terminals.
+#[derive(Clone, Copy)]
+pub struct Terminals {
+    pub output: bool,
+    pub errors: bool,
+}
+
+/// Memory, standard output and standard error.
+#[derive(Drop)]
+pub(crate) struct Console<'c, O: Write, E: Write> {
+    pub(crate) alloc: Global,
+    pub(crate) terminals: Terminals,
+    pub(crate) out: &'c mut O,
+    pub(crate) errors: &'c mut E,
+}
+
 /// Writes a text to standard output.
 pub(crate) fn put<O: Write>(text: &[u8], out: &mut O) -> Result<(), ProgramError> {
     match out.write_all(text) {
-        Ok(()) => Ok(()),
-        Err(error) => Err(ProgramError::Write(error)),
-    }
-}
-
-/// Writes a text that was made, if there was memory for it.
-pub(crate) fn put_made<O: Write>(
-    text: Result<String, AllocError>,
-    out: &mut O,
-) -> Result<(), ProgramError> {
-    put(text?.as_bytes(), out)
-}
-
-/// Writes out what is buffered, so that what is reported next comes behind it.
-pub(crate) fn flush<O: Write>(out: &mut O) -> Result<(), ProgramError> {
-    match out.flush() {
         Ok(()) => Ok(()),
         Err(error) => Err(ProgramError::Write(error)),
     }
@@ -66,15 +67,52 @@ pub(crate) fn line_of(
     Ok(line)
 }
 
-/// Reports an error, with the file or the address that it is of. A fault of standard error changes nothing. Of an
-/// output that was closed nothing is reported.
-pub(crate) fn report<E: Write>(alloc: Global, of: &str, error: &ProgramError, err: &mut E) {
-    if is_closed(error) {
-        return;
+impl<'c, O: Write, E: Write> Console<'c, O, E> {
+    /// Writes a text to standard output.
+    pub(crate) fn put(&mut self, text: &[u8]) -> Result<(), ProgramError> {
+        put(text, self.out)
     }
-    let text: Result<String, AllocError> = format!(in alloc; "mmdb: {of}: {error}");
-    let _ = match line_of(alloc, text) {
-        Ok(line) => err.write_all(line.as_bytes()),
-        Err(_) => err.write_all(NO_MEMORY.as_bytes()),
-    };
+
+    /// Writes out what is buffered, so that what is reported next comes behind it.
+    pub(crate) fn flush(&mut self) -> Result<(), ProgramError> {
+        match self.out.flush() {
+            Ok(()) => Ok(()),
+            Err(error) => Err(ProgramError::Write(error)),
+        }
+    }
+
+    /// Writes a text to standard error, whose faults change nothing. It is left out where there is no memory for it.
+    pub(crate) fn note(&mut self, text: Result<String, AllocError>) {
+        if let Ok(text) = text {
+            let _ = self.errors.write_all(text.as_bytes());
+        }
+    }
+
+    /// Reports what went wrong, with the file or the address that it is of.
+    pub(crate) fn report<D: Display>(&mut self, of: &str, error: &D) {
+        let line = line_of(self.alloc, format!(in self.alloc; "mmdb: {of}: {error}"));
+        let text = match &line {
+            Ok(line) => line.as_str(),
+            Err(_) => NO_MEMORY,
+        };
+        let _ = self.errors.write_all(text.as_bytes());
+    }
+
+    /// The same behind what was written, if there was memory for the name of what it is of.
+    pub(crate) fn report_behind<D: Display>(
+        &mut self,
+        of: Result<String, AllocError>,
+        error: &D,
+    ) -> Result<(), ProgramError> {
+        self.flush()?;
+        self.report(of?.as_str(), error);
+        Ok(())
+    }
+
+    /// Reports an error that ends the program. Of an output that was closed nothing is reported.
+    pub(crate) fn report_last(&mut self, of: &str, error: &ProgramError) {
+        if !is_closed(error) {
+            self.report(of, error);
+        }
+    }
 }

@@ -46,6 +46,33 @@ fn plain(text: &str) -> (&str, Option<&str>) {
     }
 }
 
+// The step at the front of a text, and what follows its dot, or none where there is no such.
+fn split_step(text: &str) -> Option<(PathElement<'_>, Option<&str>)> {
+    if text.starts_with('"') {
+        let (key, rest) = quoted(text)?;
+        Some((PathElement::Key(key), rest))
+    } else {
+        let (part, rest) = plain(text);
+        Some((step_of(part)?, rest))
+    }
+}
+
+// Adds the steps of a text that is not empty, and answers whether it is a path.
+fn add_steps<'a>(text: &'a str, steps: &mut Vec<PathElement<'a>>) -> Result<bool, AllocError> {
+    let mut left = Some(text);
+    for _ in 0..=text.len() {
+        let Some(here) = left else {
+            return Ok(true);
+        };
+        let Some((step, rest)) = split_step(here) else {
+            return Ok(false);
+        };
+        steps.push(step)?;
+        left = rest;
+    }
+    Ok(true)
+}
+
 /// The steps of a path: parts between dots, as `subdivisions.0.names.en`. An integer is an index,
 /// counted from the end if it is negative, and any other part a key; in quotes `"` a part is a key whatever
 /// it holds, a dot or digits alone too. An empty text is the path to the whole record.
@@ -57,28 +84,9 @@ pub fn path_of<'a>(
     text: &'a str,
 ) -> Result<Option<Vec<PathElement<'a>>>, AllocError> {
     let mut steps = Vec::new(alloc);
-    if text.is_empty() {
-        return Ok(Some(steps));
+    if text.is_empty() || add_steps(text, &mut steps)? {
+        Ok(Some(steps))
+    } else {
+        Ok(None)
     }
-    let mut left = Some(text);
-    for _ in 0..=text.len() {
-        let Some(here) = left else {
-            return Ok(Some(steps));
-        };
-        if here.starts_with('"') {
-            let Some((key, rest)) = quoted(here) else {
-                return Ok(None);
-            };
-            steps.push(PathElement::Key(key))?;
-            left = rest;
-        } else {
-            let (part, rest) = plain(here);
-            let Some(step) = step_of(part) else {
-                return Ok(None);
-            };
-            steps.push(step)?;
-            left = rest;
-        }
-    }
-    Ok(Some(steps))
 }

@@ -1,151 +1,196 @@
 //! What the program does with its arguments.
-use crate::about::about;
+use crate::database::{Database, open};
 use crate::diff::diff;
 use crate::enrich::{enrich, enrich_json};
 use crate::error::ProgramError;
+use crate::metadata::describe;
 use crate::networks::export;
-use crate::output::{BAD_ARGUMENTS, DONE, FAILED, NO_MEMORY, report};
+use crate::output::{BAD_ARGUMENTS, Console, DONE, FAILED, NO_MEMORY, Terminals};
 use crate::show::show;
-use crate::task::{Query, Task, task_of};
+use crate::task::{Query, Task, subject_of, task_of};
 use crate::verify::verify;
-use mmdb_arguments::{Message, NoRequest};
-use mmdb_reader::Reader;
+use mmdb_arguments::{Message, NoRequest, Request, request_of};
 use std::alloc::Global;
-use std::convert::AsSlice;
 use std::io::{BufRead, Write};
 use std::rt::Files;
 
-/// Which of the standard streams are terminals.
-#[derive(Clone, Copy)]
-pub struct Terminals {
-    pub output: bool,
-    pub errors: bool,
-}
-
 // Does what is asked of an opened database.
-fn answered<S: AsSlice<u8> + Drop, I: BufRead, O: Write, E: Write>(
-    alloc: Global,
-    reader: &Reader<S>,
+fn run_query<I: BufRead, O: Write, E: Write>(
+    database: &Database,
     query: Query<'_>,
-    terminals: Terminals,
     input: &mut I,
-    out: &mut O,
-    err: &mut E,
+    console: &mut Console<'_, O, E>,
 ) -> Result<u8, ProgramError> {
     match query {
-        Query::Show(wanted) => show(alloc, reader, &wanted, terminals.output, out, err),
-        Query::Enrich(wanted) => enrich(alloc, reader, wanted, terminals.errors, input, out, err),
-        Query::EnrichJson(wanted) => {
-            enrich_json(alloc, reader, wanted, terminals.errors, input, out, err)
+        Query::Show(task) => {
+            let done = show(database, &task, console);
+            drop(task);
+            done
         }
-        Query::Export(wanted) => export(alloc, reader, &wanted, out, err),
+        Query::Enrich(task) => enrich(database, task, input, console),
+        Query::EnrichJson(task) => enrich_json(database, task, input, console),
+        Query::Export(task) => {
+            let done = export(database, &task, console);
+            drop(task);
+            done
+        }
+    }
+}
+
+// Opens a file, and does what is asked of it.
+fn query_file<R: Files, I: BufRead, O: Write, E: Write>(
+    rt: &R,
+    file: &str,
+    query: Query<'_>,
+    input: &mut I,
+    console: &mut Console<'_, O, E>,
+) -> Result<u8, ProgramError> {
+    match open(rt, file, console) {
+        Some(database) => {
+            let done = run_query(&database, query, input, console);
+            drop(database);
+            done
+        }
+        None => {
+            drop(query);
+            Ok(FAILED)
+        }
     }
 }
 
 // Does a task.
-fn done<R: Files, I: BufRead, O: Write, E: Write>(
+fn run_task<R: Files, I: BufRead, O: Write, E: Write>(
     rt: &R,
-    alloc: Global,
     task: Task<'_>,
-    terminals: Terminals,
     input: &mut I,
-    out: &mut O,
-    err: &mut E,
+    console: &mut Console<'_, O, E>,
 ) -> Result<u8, ProgramError> {
     match task {
-        Task::Info(wanted) => about(rt, alloc, wanted.file, wanted.json, out),
-        Task::Verify(wanted) => verify(rt, alloc, wanted.files.as_slice(), out),
-        Task::Diff(wanted) => diff(rt, alloc, &wanted, out, err),
-        Task::Query { file, query } => {
-            let reader = Reader::open_readfile(rt, alloc, file)?;
-            answered(alloc, &reader, query, terminals, input, out, err)
+        Task::Info(arguments) => describe(rt, arguments, console),
+        Task::Verify(arguments) => verify(rt, arguments.files.as_slice(), console),
+        Task::Diff(task) => {
+            let done = diff(rt, &task, console);
+            drop(task);
+            done
         }
+        Task::Query { file, query } => query_file(rt, file, query, input, console),
     }
 }
 
-// Says what there is to say in the place of a request.
-fn say<O: Write, E: Write>(message: &Message, out: &mut O, err: &mut E) -> u8 {
+// Writes a message in the place of a request, and answers the status.
+fn put_message<O: Write, E: Write>(message: &Message, console: &mut Console<'_, O, E>) -> u8 {
+    let text = message.text.as_bytes();
     if message.is_error {
-        let _ = err.write_all(message.text.as_bytes());
+        let _ = console.errors.write_all(text);
         return BAD_ARGUMENTS;
     }
-    match out.write_all(message.text.as_bytes()) {
+    match console.out.write_all(text) {
         Ok(()) => DONE,
         Err(_) => FAILED,
     }
 }
 
-// Says why there is nothing to do.
-fn say_why<O: Write, E: Write>(why: &NoRequest, out: &mut O, err: &mut E) -> u8 {
-    match why {
-        NoRequest::Message(message) => say(message, out, err),
+// Writes why there is nothing to do, and answers the status.
+fn put_reason<O: Write, E: Write>(reason: &NoRequest, console: &mut Console<'_, O, E>) -> u8 {
+    match reason {
+        NoRequest::Message(message) => put_message(message, console),
         NoRequest::Memory => {
-            let _ = err.write_all(NO_MEMORY.as_bytes());
+            let _ = console.errors.write_all(NO_MEMORY.as_bytes());
             FAILED
         }
     }
 }
 
-// The status of an error.
-fn status_of(error: &ProgramError) -> u8 {
-    match error {
-        ProgramError::NoColumn(_) => BAD_ARGUMENTS,
-        _ => FAILED,
+// The status of what was done, of which an error is reported with what it is of.
+fn status_of<O: Write, E: Write>(
+    done: &Result<u8, ProgramError>,
+    subject: &str,
+    console: &mut Console<'_, O, E>,
+) -> u8 {
+    match done {
+        Ok(status) => *status,
+        Err(error) => {
+            console.report_last(subject, error);
+            match error {
+                ProgramError::NoColumn(_) => BAD_ARGUMENTS,
+                _ => FAILED,
+            }
+        }
     }
 }
 
-// The status of a command over a file, of which an error is reported.
-fn ended<E: Write>(alloc: Global, file: &str, done: Result<u8, ProgramError>, err: &mut E) -> u8 {
-    match done {
-        Ok(status) => status,
-        Err(error) => {
-            report(alloc, file, &error, err);
-            let status = status_of(&error);
-            drop(error);
+// Does what is requested, and answers the status.
+fn run_request<R: Files, I: BufRead, O: Write, E: Write>(
+    rt: &R,
+    request: &Request<'_>,
+    input: &mut I,
+    console: &mut Console<'_, O, E>,
+) -> u8 {
+    match task_of(console.alloc, request) {
+        Ok(task) => {
+            let done = run_task(rt, task, input, console);
+            let status = status_of(&done, subject_of(request), console);
+            drop(done);
+            status
+        }
+        Err(reason) => {
+            let status = put_reason(&reason, console);
+            drop(reason);
             status
         }
     }
 }
 
-/// What the program does with its words, its own name first, and the status that it ends with, where standard
+/// What the program does with its arguments, its own name first, and the status that it ends with, where standard
 /// error is no terminal.
 ///
 /// As [`run_on`] otherwise.
 pub fn run<R: Files, I: BufRead, O: Write, E: Write>(
     rt: &R,
     alloc: Global,
-    words: &[String],
+    arguments: &[String],
     is_terminal: bool,
     input: &mut I,
     out: &mut O,
-    err: &mut E,
+    errors: &mut E,
 ) -> u8 {
     let terminals = Terminals {
         output: is_terminal,
         errors: false,
     };
-    run_on(rt, alloc, words, terminals, input, out, err)
+    run_on(rt, alloc, arguments, terminals, input, out, errors)
 }
 
-/// What the program does with its words, its own name first, and the status that it ends with.
+/// What the program does with its arguments, its own name first, and the status that it ends with.
 ///
-/// 0: done. 1: a refusal, which is told on `err` with the file or the word. 2: bad words; only for a column that the first line has not was a file opened.
-/// 6: an address has no record, or a path leads nowhere in it. Faults of `err` change no status.
+/// 0: done. 1: an error, which is reported on `errors` with the file or the argument. 2: a usage error; no file was opened,
+/// unless for a column that the first line has not. 6: an address has no record, or a path leads nowhere in it. 7: two
+/// files differ, where that was asked. Faults of `errors` change no status.
 pub fn run_on<R: Files, I: BufRead, O: Write, E: Write>(
     rt: &R,
     alloc: Global,
-    words: &[String],
+    arguments: &[String],
     terminals: Terminals,
     input: &mut I,
     out: &mut O,
-    err: &mut E,
+    errors: &mut E,
 ) -> u8 {
-    match task_of(alloc, words) {
-        Ok(task) => {
-            let file = task.file();
-            let done = done(rt, alloc, task, terminals, input, out, err);
-            ended(alloc, file, done, err)
+    let mut console = Console {
+        alloc,
+        terminals,
+        out,
+        errors,
+    };
+    match request_of(alloc, arguments) {
+        Ok(request) => {
+            let status = run_request(rt, &request, input, &mut console);
+            drop(request);
+            status
         }
-        Err(why) => say_why(&why, out, err),
+        Err(reason) => {
+            let status = put_reason(&reason, &mut console);
+            drop(reason);
+            status
+        }
     }
 }

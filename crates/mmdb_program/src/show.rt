@@ -1,12 +1,12 @@
 //! What a database has for an address, as JSON.
+use crate::database::{Database, Found};
 use crate::error::ProgramError;
-use crate::output::{DONE, FAILED, NOT_FOUND, flush, put, report};
+use crate::output::{Console, DONE, FAILED, NOT_FOUND};
 use crate::task::ShowTask;
 use json::{Pretty, Token, Writer};
 use mmdb_json::{TokenSink, write_found};
-use mmdb_reader::{IpNetwork, LookupResult, MaxMindDbError, PathElement, Reader};
+use mmdb_reader::{IpNetwork, MaxMindDbError, PathElement};
 use std::alloc::{AllocError, Global};
-use std::convert::AsSlice;
 use std::io::Write;
 use std::net::IpAddr;
 
@@ -34,187 +34,176 @@ fn begin_answer<W: TokenSink>(
     out.token(Token::Key("record"))
 }
 
-// The tokens of an answer, and whether there is a record.
-fn write_answer<S: AsSlice<u8> + Drop, W: TokenSink>(
+/// What is shown of an address: its network and record, or the value at a path.
+#[derive(Clone, Copy)]
+struct Answer<'f, 'r, 'p> {
     alloc: Global,
     address: IpAddr,
-    found: &LookupResult<'_, S>,
-    out: &mut W,
-) -> Result<bool, MaxMindDbError> {
-    begin_answer(alloc, address, found.network()?, out)?;
-    let is_found = write_found(alloc, found, &[], out)?;
-    out.token(Token::EndObject)?;
-    Ok(is_found)
+    found: &'f Found<'r>,
+    path: Option<&'f [PathElement<'p>]>,
 }
 
-// The tokens of an answer, or of the value at a path alone.
-fn write_one<S: AsSlice<u8> + Drop, W: TokenSink>(
-    alloc: Global,
-    address: IpAddr,
-    found: &LookupResult<'_, S>,
-    path: Option<&Vec<PathElement<'_>>>,
-    out: &mut W,
-) -> Result<bool, MaxMindDbError> {
-    match path {
-        Some(path) => write_found(alloc, found, path.as_slice(), out),
-        None => write_answer(alloc, address, found, out),
+impl Answer<'_, '_, '_> {
+    // The tokens of the address, its network and its record, and whether there is a record.
+    fn write_object<W: TokenSink>(&self, out: &mut W) -> Result<bool, MaxMindDbError> {
+        begin_answer(self.alloc, self.address, self.found.network()?, out)?;
+        let is_found = write_found(self.alloc, self.found, &[], out)?;
+        out.token(Token::EndObject)?;
+        Ok(is_found)
+    }
+
+    // The tokens of what is shown, and whether nothing is missing.
+    fn write<W: TokenSink>(&self, out: &mut W) -> Result<bool, MaxMindDbError> {
+        match self.path {
+            Some(path) => write_found(self.alloc, self.found, path, out),
+            None => self.write_object(out),
+        }
+    }
+
+    // Adds it in one line.
+    fn put_line(&self, out: &mut Vec<u8>) -> Result<bool, MaxMindDbError> {
+        let mut writer = Writer::new(Vec::new(self.alloc));
+        let is_found = self.write(&mut writer)?;
+        put_lines(writer.into_inner(), out)?;
+        Ok(is_found)
+    }
+
+    // Adds it laid out over several lines.
+    fn put_pretty(&self, out: &mut Vec<u8>) -> Result<bool, MaxMindDbError> {
+        let mut writer = Pretty::new(self.alloc);
+        let is_found = self.write(&mut writer)?;
+        put_lines(writer.into_inner(), out)?;
+        Ok(is_found)
+    }
+
+    fn put(&self, lines: bool, out: &mut Vec<u8>) -> Result<bool, MaxMindDbError> {
+        if lines {
+            self.put_line(out)
+        } else {
+            self.put_pretty(out)
+        }
     }
 }
 
 // Adds a text and a newline.
-fn put_lines(text: &[u8], out: &mut Vec<u8>) -> Result<(), AllocError> {
-    out.extend_from_slice(text)?;
-    out.push(b'\n')?;
-    Ok(())
+fn put_lines(text: Vec<u8>, out: &mut Vec<u8>) -> Result<(), AllocError> {
+    out.extend_from_slice(text.as_slice())?;
+    out.extend_from_slice(b"\n")
 }
 
-// Adds an answer in one line.
-fn put_line<S: AsSlice<u8> + Drop>(
+// Adds an address with its network and record, and answers whether there is a record.
+fn put_whole(
     alloc: Global,
     address: IpAddr,
-    found: &LookupResult<'_, S>,
-    path: Option<&Vec<PathElement<'_>>>,
-    out: &mut Vec<u8>,
-) -> Result<bool, MaxMindDbError> {
-    let mut writer = Writer::new(Vec::new(alloc));
-    let is_found = write_one(alloc, address, found, path, &mut writer)?;
-    put_lines(writer.into_inner().as_slice(), out)?;
-    Ok(is_found)
-}
-
-// Adds an answer laid out over several lines.
-fn put_pretty<S: AsSlice<u8> + Drop>(
-    alloc: Global,
-    address: IpAddr,
-    found: &LookupResult<'_, S>,
-    path: Option<&Vec<PathElement<'_>>>,
-    out: &mut Vec<u8>,
-) -> Result<bool, MaxMindDbError> {
-    let mut writer = Pretty::new(alloc);
-    let is_found = write_one(alloc, address, found, path, &mut writer)?;
-    put_lines(writer.into_inner().as_slice(), out)?;
-    Ok(is_found)
-}
-
-// Adds a text of JSON and a newline.
-fn put_one<S: AsSlice<u8> + Drop>(
-    alloc: Global,
-    address: IpAddr,
-    found: &LookupResult<'_, S>,
-    path: Option<&Vec<PathElement<'_>>>,
+    found: &Found<'_>,
     lines: bool,
     out: &mut Vec<u8>,
 ) -> Result<bool, MaxMindDbError> {
-    if lines {
-        put_line(alloc, address, found, path, out)
-    } else {
-        put_pretty(alloc, address, found, path, out)
-    }
+    let whole = Answer {
+        alloc,
+        address,
+        found,
+        path: None,
+    };
+    whole.put(lines, out)
 }
 
 // Adds the values at some paths, and answers whether none was missing.
-fn put_values<S: AsSlice<u8> + Drop>(
+fn put_values(
     alloc: Global,
     address: IpAddr,
-    found: &LookupResult<'_, S>,
+    found: &Found<'_>,
     paths: &[Vec<PathElement<'_>>],
     lines: bool,
     out: &mut Vec<u8>,
 ) -> Result<bool, MaxMindDbError> {
     let mut are_found = true;
     for path in paths {
-        are_found &= put_one(alloc, address, found, Some(path), lines, out)?;
+        let value = Answer {
+            alloc,
+            address,
+            found,
+            path: Some(path.as_slice()),
+        };
+        are_found &= value.put(lines, out)?;
     }
     Ok(are_found)
 }
 
-/// Adds to `out` what a database has for an address, and tells whether nothing was missing: an object with
+/// Adds to `out` what a database has for an address, and answers whether nothing was missing: an object with
 /// the address, its network and its record, or the value at each path alone; `null` where there is none. Each is
 /// a line, or else laid out over several.
-pub fn show_to<S: AsSlice<u8> + Drop>(
+pub fn show_to(
     alloc: Global,
-    reader: &Reader<S>,
+    database: &Database,
     address: IpAddr,
     paths: &[Vec<PathElement<'_>>],
     lines: bool,
     out: &mut Vec<u8>,
-) -> Result<bool, ProgramError> {
-    let found = reader.lookup(address)?;
-    let shown = if paths.is_empty() {
-        put_one(alloc, address, &found, None, lines, out)
+) -> Result<bool, MaxMindDbError> {
+    let found = database.lookup(address)?;
+    if paths.is_empty() {
+        put_whole(alloc, address, &found, lines, out)
     } else {
         put_values(alloc, address, &found, paths, lines, out)
-    };
-    Ok(shown?)
-}
-
-// Writes what was made before the error of an address, reports the error, and answers the status.
-fn put_failed<O: Write, E: Write>(
-    alloc: Global,
-    address: IpAddr,
-    text: &[u8],
-    error: &ProgramError,
-    out: &mut O,
-    err: &mut E,
-) -> Result<u8, ProgramError> {
-    put(text, out)?;
-    flush(out)?;
-    let address = address.to_string(alloc)?;
-    report(alloc, address.as_str(), error, err);
-    Ok(FAILED)
-}
-
-// Writes what was made for an address, and answers the status after it.
-fn put_shown<O: Write>(
-    text: &[u8],
-    is_found: bool,
-    status: u8,
-    out: &mut O,
-) -> Result<u8, ProgramError> {
-    put(text, out)?;
-    if status == DONE && !is_found {
-        Ok(NOT_FOUND)
-    } else {
-        Ok(status)
     }
 }
 
-// Writes what a database has for an address, and answers the status from there on.
-fn show_one<S: AsSlice<u8> + Drop, O: Write, E: Write>(
-    alloc: Global,
-    reader: &Reader<S>,
-    wanted: &ShowTask<'_>,
-    lines: bool,
+// Writes what was made for an address, reports its error if it has one, and answers the status of it.
+fn put_shown<O: Write, E: Write>(
     address: IpAddr,
-    status: u8,
-    out: &mut O,
-    err: &mut E,
+    text: &[u8],
+    shown: &Result<bool, MaxMindDbError>,
+    console: &mut Console<'_, O, E>,
 ) -> Result<u8, ProgramError> {
-    let mut text = Vec::new(alloc);
-    let paths = wanted.paths.as_slice();
-    match show_to(alloc, reader, address, paths, lines, &mut text) {
-        Ok(is_found) => put_shown(text.as_slice(), is_found, status, out),
+    console.put(text)?;
+    match shown {
+        Ok(true) => Ok(DONE),
+        Ok(false) => Ok(NOT_FOUND),
         Err(error) => {
-            let failed = put_failed(alloc, address, text.as_slice(), &error, out, err);
-            drop(error);
-            failed
+            console.report_behind(address.to_string(console.alloc), error)?;
+            Ok(FAILED)
         }
     }
 }
 
-/// Writes what a database has for addresses, and reports the error of each that has one.
-pub(crate) fn show<S: AsSlice<u8> + Drop, O: Write, E: Write>(
-    alloc: Global,
-    reader: &Reader<S>,
-    wanted: &ShowTask<'_>,
-    is_terminal: bool,
-    out: &mut O,
-    err: &mut E,
+// Writes what a database has for an address, reports its error if it has one, and answers the status of it.
+fn show_one<O: Write, E: Write>(
+    database: &Database,
+    task: &ShowTask<'_>,
+    address: IpAddr,
+    console: &mut Console<'_, O, E>,
 ) -> Result<u8, ProgramError> {
-    let lines = wanted.lines || !is_terminal;
+    let alloc = console.alloc;
+    let (paths, lines) = (
+        task.paths.as_slice(),
+        task.lines || !console.terminals.output,
+    );
+    let mut text = Vec::new(alloc);
+    let shown = show_to(alloc, database, address, paths, lines, &mut text);
+    let status = put_shown(address, text.as_slice(), &shown, console);
+    drop(shown);
+    status
+}
+
+// The status after one more address: of an error above all, and of what is not found only if nothing came before.
+fn status_after(status: u8, next: u8) -> u8 {
+    if next == FAILED || status == DONE {
+        next
+    } else {
+        status
+    }
+}
+
+/// Writes what a database has for addresses, and reports the error of each that has one.
+pub(crate) fn show<O: Write, E: Write>(
+    database: &Database,
+    task: &ShowTask<'_>,
+    console: &mut Console<'_, O, E>,
+) -> Result<u8, ProgramError> {
     let mut status = DONE;
-    for address in &wanted.addresses {
-        status = show_one(alloc, reader, wanted, lines, *address, status, out, err)?;
+    for address in task.addresses {
+        status = status_after(status, show_one(database, task, *address, console)?);
     }
     Ok(status)
 }

@@ -4,7 +4,7 @@ use crate::layout::{Fields, Layout};
 use crate::paths::path_of;
 use mmdb_arguments::{
     DiffArguments, EnrichArguments, ExportArguments, Format, InfoArguments, NoRequest, Request,
-    ShowArguments, VerifyArguments, request_of,
+    ShowArguments, VerifyArguments,
 };
 use mmdb_enrich::Field;
 use mmdb_filter::Rows;
@@ -25,7 +25,7 @@ pub(crate) enum Column<'a> {
 /// What `show` is asked for.
 #[derive(Drop)]
 pub(crate) struct ShowTask<'a> {
-    pub(crate) addresses: Vec<IpAddr>,
+    pub(crate) addresses: &'a [IpAddr],
     pub(crate) paths: Vec<Vec<PathElement<'a>>>,
     pub(crate) lines: bool,
 }
@@ -37,16 +37,6 @@ pub(crate) enum Shape<'a> {
     Rows(Layout<'a>),
     /// The fewest blocks that have the addresses of the networks.
     List(Syntax<'a>),
-}
-
-/// What `enrich` is asked for of lines of JSON.
-#[derive(Drop)]
-pub(crate) struct JsonTask<'a> {
-    /// The path of the address in an object.
-    pub(crate) path: Vec<PathElement<'a>>,
-    /// The name of the member that is added.
-    pub(crate) into: &'a str,
-    pub(crate) fields: Vec<Field<'a>>,
 }
 
 /// What `export` is asked for.
@@ -63,9 +53,19 @@ pub(crate) struct ExportTask<'a> {
 pub(crate) struct EnrichTask<'a> {
     pub(crate) rows: Rows,
     pub(crate) column: Column<'a>,
-    pub(crate) names: Vec<&'a str>,
+    pub(crate) names: &'a [&'a str],
     pub(crate) paths: Vec<Vec<PathElement<'a>>>,
     pub(crate) header: bool,
+}
+
+/// What `enrich` is asked for of lines of JSON.
+#[derive(Drop)]
+pub(crate) struct JsonTask<'a> {
+    /// The path of the address in an object.
+    pub(crate) path: Vec<PathElement<'a>>,
+    /// The name of the member that is added.
+    pub(crate) into: &'a str,
+    pub(crate) fields: Vec<Field<'a>>,
 }
 
 /// What `diff` is asked for.
@@ -95,34 +95,27 @@ pub(crate) enum Query<'a> {
 #[derive(Drop)]
 pub(crate) enum Task<'a> {
     /// What a database says of itself.
-    Info(InfoArguments<'a>),
+    Info(&'a InfoArguments<'a>),
     /// Whether files are whole.
-    Verify(VerifyArguments<'a>),
+    Verify(&'a VerifyArguments<'a>),
     /// What changed between two files.
     Diff(DiffTask<'a>),
     /// What is looked up in a file.
     Query { file: &'a str, query: Query<'a> },
 }
 
-impl<'a> Task<'a> {
-    /// What an error names: the file, or the command where there are several.
-    pub(crate) fn file(&self) -> &'a str {
-        match self {
-            Task::Info(info) => info.file,
-            Task::Verify(_) => "verify",
-            Task::Diff(_) => "diff",
-            Task::Query { file, .. } => *file,
-        }
+// The path that a text spells.
+fn wanted_path<'a>(alloc: Global, text: &'a str) -> Result<Vec<PathElement<'a>>, NoRequest> {
+    match path_of(alloc, text)? {
+        Some(path) => Ok(path),
+        None => Err(NoRequest::bad_argument(alloc, text, "not a path")),
     }
 }
 
 fn paths_of<'a>(alloc: Global, texts: &[&'a str]) -> Result<Vec<Vec<PathElement<'a>>>, NoRequest> {
     let mut paths = Vec::new(alloc);
     for text in texts {
-        match path_of(alloc, text)? {
-            Some(path) => paths.push(path)?,
-            None => return Err(NoRequest::bad_argument(alloc, text, "not a path")),
-        }
+        paths.push(wanted_path(alloc, *text)?)?;
     }
     Ok(paths)
 }
@@ -166,11 +159,10 @@ fn rows_of(alloc: Global, delimiter: Option<&str>) -> Result<Rows, NoRequest> {
     }
 }
 
-fn show<'a>(alloc: Global, arguments: ShowArguments<'a>) -> Result<Query<'a>, NoRequest> {
-    let paths = paths_of(alloc, arguments.paths.as_slice())?;
+fn show<'a>(alloc: Global, arguments: &'a ShowArguments<'a>) -> Result<Query<'a>, NoRequest> {
     Ok(Query::Show(ShowTask {
-        addresses: arguments.addresses,
-        paths,
+        addresses: arguments.addresses.as_slice(),
+        paths: paths_of(alloc, arguments.paths.as_slice())?,
         lines: arguments.lines,
     }))
 }
@@ -197,36 +189,34 @@ fn named_path(text: &str) -> (&str, &str) {
     }
 }
 
-// A field of lines of JSON.
-fn field_of<'a>(alloc: Global, text: &'a str) -> Result<Field<'a>, NoRequest> {
-    let (name, path) = named_path(text);
-    match path_of(alloc, path)? {
-        Some(path) => Ok(Field { name, path }),
-        None => Err(NoRequest::bad_argument(alloc, path, "not a path")),
-    }
-}
-
 fn fields_of<'a>(alloc: Global, texts: &[&'a str]) -> Result<Vec<Field<'a>>, NoRequest> {
     let mut fields = Vec::new(alloc);
     for text in texts {
-        fields.push(field_of(alloc, *text)?)?;
+        let (name, path) = named_path(*text);
+        let path = wanted_path(alloc, path)?;
+        fields.push(Field { name, path })?;
     }
     Ok(fields)
 }
 
+fn has_index_from_end(path: &[PathElement<'_>]) -> bool {
+    for step in path {
+        if let PathElement::IndexFromEnd(_) = step {
+            return true;
+        }
+    }
+    false
+}
+
 // The path of an address in an object: keys, and indices from the front.
 fn address_path<'a>(alloc: Global, text: &'a str) -> Result<Vec<PathElement<'a>>, NoRequest> {
-    let Some(path) = path_of(alloc, text)? else {
-        return Err(NoRequest::bad_argument(alloc, text, "not a path"));
-    };
-    for step in &path {
-        if let PathElement::IndexFromEnd(_) = step {
-            return Err(NoRequest::bad_argument(
-                alloc,
-                text,
-                "an index from the end, of which --json knows none",
-            ));
-        }
+    let path = wanted_path(alloc, text)?;
+    if has_index_from_end(path.as_slice()) {
+        return Err(NoRequest::bad_argument(
+            alloc,
+            text,
+            "an index from the end, of which --json knows none",
+        ));
     }
     Ok(path)
 }
@@ -240,96 +230,87 @@ fn enrich_json<'a>(
     if into.is_empty() {
         return Err(NoRequest::bad_argument(alloc, "--into", "an empty name"));
     }
-    let path = address_path(alloc, path)?;
-    let fields = fields_of(alloc, fields)?;
-    Ok(Query::EnrichJson(JsonTask { path, into, fields }))
+    Ok(Query::EnrichJson(JsonTask {
+        path: address_path(alloc, path)?,
+        into,
+        fields: fields_of(alloc, fields)?,
+    }))
 }
 
-fn enrich<'a>(alloc: Global, arguments: EnrichArguments<'a>) -> Result<Query<'a>, NoRequest> {
-    if let Some(path) = arguments.json {
-        let into = arguments.into.unwrap_or("geo");
-        return enrich_json(alloc, path, into, arguments.fields.as_slice());
-    }
-    if arguments.into.is_some() {
-        return Err(NoRequest::bad_argument(alloc, "--into", "needs a --json"));
-    }
-    let rows = rows_of(alloc, arguments.delimiter)?;
-    let column = column_of(alloc, arguments.column, arguments.header)?;
-    let paths = paths_of(alloc, arguments.fields.as_slice())?;
+fn enrich_rows<'a>(
+    alloc: Global,
+    arguments: &'a EnrichArguments<'a>,
+) -> Result<Query<'a>, NoRequest> {
+    let names = arguments.fields.as_slice();
     Ok(Query::Enrich(EnrichTask {
-        rows,
-        column,
-        names: arguments.fields,
-        paths,
+        rows: rows_of(alloc, arguments.delimiter)?,
+        column: column_of(alloc, arguments.column, arguments.header)?,
+        names,
+        paths: paths_of(alloc, names)?,
         header: arguments.header,
     }))
 }
 
-// An error for options that do not go together.
-fn mismatch<T: Drop>(alloc: Global, argument: &str, wanted: &str) -> Result<T, NoRequest> {
-    Err(NoRequest::bad_argument(alloc, argument, wanted))
+fn enrich<'a>(alloc: Global, arguments: &'a EnrichArguments<'a>) -> Result<Query<'a>, NoRequest> {
+    match (arguments.json, arguments.into) {
+        (None, None) => enrich_rows(alloc, arguments),
+        (None, Some(_)) => Err(NoRequest::bad_argument(alloc, "--into", "needs a --json")),
+        (Some(path), into) => {
+            let into = into.unwrap_or("geo");
+            enrich_json(alloc, path, into, arguments.fields.as_slice())
+        }
+    }
 }
 
 // How rows are laid out with the values at the paths of these names.
 fn layout_of<'a>(
     alloc: Global,
     is_csv: bool,
-    names: Vec<&'a str>,
+    names: &'a [&'a str],
 ) -> Result<Layout<'a>, NoRequest> {
-    let paths = paths_of(alloc, names.as_slice())?;
+    let fields = Fields {
+        names,
+        paths: paths_of(alloc, names)?,
+    };
     match (is_csv, names.is_empty()) {
-        (true, true) => mismatch(alloc, "--format csv", "needs a --field"),
-        (true, false) => Ok(Layout::Cells(Fields { names, paths })),
+        (true, true) => Err(NoRequest::bad_argument(alloc, "--format csv", "needs a --field")),
+        (true, false) => Ok(Layout::Cells(fields)),
         (false, true) => Ok(Layout::Records),
-        (false, false) => Ok(Layout::Values(Fields { names, paths })),
+        (false, false) => Ok(Layout::Values(fields)),
     }
 }
 
-// How sets are named.
-fn name_of<'a>(alloc: Global, name: Option<&'a str>) -> Result<&'a str, NoRequest> {
-    let Some(name) = name else {
-        return Ok("mmdb");
+// How sets are named, in a format that has some.
+fn name_of<'a>(alloc: Global, format: Format, name: Option<&'a str>) -> Result<&'a str, NoRequest> {
+    let has_sets = matches!(format, Format::Nft | Format::Ipset);
+    let (argument, wanted) = match name {
+        None => return Ok("mmdb"),
+        Some(name) if has_sets && is_set_name(name) => return Ok(name),
+        Some(name) if has_sets => (name, "not the beginning of a set's name"),
+        Some(_) => ("--name", "needs --format nft or ipset"),
     };
-    if !is_set_name(name) {
-        return mismatch(alloc, name, "not the beginning of a set's name");
-    }
-    Ok(name)
+    Err(NoRequest::bad_argument(alloc, argument, wanted))
 }
 
-// How a list is written in a format, where it is one of lists.
-fn syntax_of<'a>(
-    alloc: Global,
-    format: Format,
-    name: Option<&'a str>,
-) -> Result<Option<Syntax<'a>>, NoRequest> {
-    match format {
-        Format::Nft => Ok(Some(Syntax::Nft {
-            name: name_of(alloc, name)?,
-        })),
-        Format::Ipset => Ok(Some(Syntax::Ipset {
-            name: name_of(alloc, name)?,
-        })),
-        _ if name.is_some() => mismatch(alloc, "--name", "needs --format nft or ipset"),
-        Format::Cidr => Ok(Some(Syntax::Cidr)),
-        Format::JsonLines | Format::Csv => Ok(None),
-    }
-}
-
-// What an export in a format writes, with the values at the paths of these names.
-fn shape_of<'a>(
-    alloc: Global,
-    format: Format,
-    name: Option<&'a str>,
-    fields: Vec<&'a str>,
-) -> Result<Shape<'a>, NoRequest> {
-    let Some(syntax) = syntax_of(alloc, format, name)? else {
-        let is_csv = matches!(format, Format::Csv);
-        return Ok(Shape::Rows(layout_of(alloc, is_csv, fields)?));
-    };
+// A list in a syntax, of which networks have no fields.
+fn list_of<'a>(alloc: Global, syntax: Syntax<'a>, fields: &[&str]) -> Result<Shape<'a>, NoRequest> {
     if !fields.is_empty() {
-        return mismatch(alloc, "--field", "not with a list of networks");
+        return Err(NoRequest::bad_argument(alloc, "--field", "not with a list of networks"));
     }
     Ok(Shape::List(syntax))
+}
+
+fn shape_of<'a>(alloc: Global, arguments: &'a ExportArguments<'a>) -> Result<Shape<'a>, NoRequest> {
+    let (format, fields) = (arguments.format, arguments.fields.as_slice());
+    let name = name_of(alloc, format, arguments.name)?;
+    let syntax = match format {
+        Format::JsonLines => return Ok(Shape::Rows(layout_of(alloc, false, fields)?)),
+        Format::Csv => return Ok(Shape::Rows(layout_of(alloc, true, fields)?)),
+        Format::Cidr => Syntax::Cidr,
+        Format::Nft => Syntax::Nft { name },
+        Format::Ipset => Syntax::Ipset { name },
+    };
+    list_of(alloc, syntax, fields)
 }
 
 // Which kinds of addresses are wanted: both where both are asked for, or none.
@@ -341,33 +322,23 @@ fn kinds_of(ipv4: bool, ipv6: bool) -> Kinds {
     }
 }
 
-fn export<'a>(alloc: Global, arguments: ExportArguments<'a>) -> Result<Query<'a>, NoRequest> {
-    let range = range_of(alloc, arguments.range)?;
-    let kinds = kinds_of(arguments.ipv4, arguments.ipv6);
-    let conditions = conditions_of(
-        alloc,
-        arguments.wheres.as_slice(),
-        arguments.where_nots.as_slice(),
-    )?;
-    let shape = shape_of(alloc, arguments.format, arguments.name, arguments.fields)?;
+fn export<'a>(alloc: Global, arguments: &'a ExportArguments<'a>) -> Result<Query<'a>, NoRequest> {
+    let (wheres, where_nots) = (&arguments.wheres, &arguments.where_nots);
     Ok(Query::Export(ExportTask {
-        range,
-        conditions,
-        kinds,
-        shape,
+        range: range_of(alloc, arguments.range)?,
+        conditions: conditions_of(alloc, wheres.as_slice(), where_nots.as_slice())?,
+        kinds: kinds_of(arguments.ipv4, arguments.ipv6),
+        shape: shape_of(alloc, arguments)?,
     }))
 }
 
-fn diff<'a>(alloc: Global, arguments: DiffArguments<'a>) -> Result<Task<'a>, NoRequest> {
-    let range = range_of(alloc, arguments.range)?;
-    let (old, new, exit_code) = (arguments.old, arguments.new, arguments.exit_code);
-    let layout = layout_of(alloc, arguments.is_csv, arguments.fields)?;
+fn diff<'a>(alloc: Global, arguments: &'a DiffArguments<'a>) -> Result<Task<'a>, NoRequest> {
     Ok(Task::Diff(DiffTask {
-        old,
-        new,
-        range,
-        layout,
-        exit_code,
+        old: arguments.old,
+        new: arguments.new,
+        range: range_of(alloc, arguments.range)?,
+        layout: layout_of(alloc, arguments.is_csv, arguments.fields.as_slice())?,
+        exit_code: arguments.exit_code,
     }))
 }
 
@@ -379,14 +350,26 @@ fn of_file<'a>(file: &'a str, query: Result<Query<'a>, NoRequest>) -> Result<Tas
     })
 }
 
-/// What a command line asks for, the program's name first.
-pub(crate) fn task_of<'a>(alloc: Global, arguments: &'a [String]) -> Result<Task<'a>, NoRequest> {
-    match request_of(alloc, arguments)? {
+/// The task of a request.
+pub(crate) fn task_of<'a>(alloc: Global, request: &'a Request<'a>) -> Result<Task<'a>, NoRequest> {
+    match request {
         Request::Show(arguments) => of_file(arguments.file, show(alloc, arguments)),
         Request::Info(arguments) => Ok(Task::Info(arguments)),
         Request::Enrich(arguments) => of_file(arguments.file, enrich(alloc, arguments)),
         Request::Export(arguments) => of_file(arguments.file, export(alloc, arguments)),
         Request::Diff(arguments) => diff(alloc, arguments),
         Request::Verify(arguments) => Ok(Task::Verify(arguments)),
+    }
+}
+
+/// What an error of a request names: the file, or the command where there are several.
+pub(crate) fn subject_of<'a>(request: &Request<'a>) -> &'a str {
+    match request {
+        Request::Show(arguments) => arguments.file,
+        Request::Info(arguments) => arguments.file,
+        Request::Enrich(arguments) => arguments.file,
+        Request::Export(arguments) => arguments.file,
+        Request::Diff(_) => "diff",
+        Request::Verify(_) => "verify",
     }
 }

@@ -1,6 +1,6 @@
 //! Whether files are whole.
 use crate::error::ProgramError;
-use crate::output::{DONE, FAILED, line_of, put_made};
+use crate::output::{Console, DONE, FAILED, line_of};
 use mmdb_reader::{MaxMindDbError, Reader};
 use std::alloc::{AllocError, Global};
 use std::io::Write;
@@ -12,58 +12,56 @@ fn verified<R: Files>(rt: &R, alloc: Global, file: &str) -> Result<(), MaxMindDb
     reader.verify(alloc)
 }
 
-// Writes that a file is whole, and answers the status, which stays as it is.
-fn put_whole<O: Write>(
+// What is written of a file.
+fn line_on(
     alloc: Global,
     file: &str,
-    status: u8,
-    out: &mut O,
-) -> Result<u8, ProgramError> {
-    let text: Result<String, AllocError> = format!(in alloc; "{file}: ok");
-    put_made(line_of(alloc, text), out)?;
-    Ok(status)
+    verified: &Result<(), MaxMindDbError>,
+) -> Result<String, AllocError> {
+    line_of(
+        alloc,
+        match verified {
+            Ok(()) => format!(in alloc; "{file}: ok"),
+            Err(error) => format!(in alloc; "{file}: {error}"),
+        },
+    )
 }
 
-// Writes why a file is not whole, and answers the status.
-fn put_error<O: Write>(
-    alloc: Global,
+// Writes the line on a file.
+fn put_line<O: Write, E: Write>(
     file: &str,
-    error: &MaxMindDbError,
-    out: &mut O,
-) -> Result<u8, ProgramError> {
-    let text: Result<String, AllocError> = format!(in alloc; "{file}: {error}");
-    put_made(line_of(alloc, text), out)?;
-    Ok(FAILED)
+    verified: &Result<(), MaxMindDbError>,
+    console: &mut Console<'_, O, E>,
+) -> Result<(), ProgramError> {
+    let line = line_on(console.alloc, file, verified)?;
+    console.put(line.as_bytes())
 }
 
-// Writes of a file whether it is whole, and answers the status after it.
-fn verify_one<R: Files, O: Write>(
+// Writes of a file whether it is whole, and answers that.
+fn verify_one<R: Files, O: Write, E: Write>(
     rt: &R,
-    alloc: Global,
     file: &str,
-    status: u8,
-    out: &mut O,
-) -> Result<u8, ProgramError> {
-    match verified(rt, alloc, file) {
-        Ok(()) => put_whole(alloc, file, status, out),
-        Err(error) => {
-            let put = put_error(alloc, file, &error, out);
-            drop(error);
-            put
-        }
-    }
+    console: &mut Console<'_, O, E>,
+) -> Result<bool, ProgramError> {
+    let verified = verified(rt, console.alloc, file);
+    let is_whole = verified.is_ok();
+    let put = put_line(file, &verified, console);
+    drop(verified);
+    put?;
+    Ok(is_whole)
 }
 
 /// Writes of each file whether it is whole.
-pub(crate) fn verify<R: Files, O: Write>(
+pub(crate) fn verify<R: Files, O: Write, E: Write>(
     rt: &R,
-    alloc: Global,
     files: &[&str],
-    out: &mut O,
+    console: &mut Console<'_, O, E>,
 ) -> Result<u8, ProgramError> {
     let mut status = DONE;
     for file in files {
-        status = verify_one(rt, alloc, *file, status, out)?;
+        if !verify_one(rt, file, console)? {
+            status = FAILED;
+        }
     }
     Ok(status)
 }

@@ -1,10 +1,10 @@
 //! What a database says of itself.
 use crate::error::ProgramError;
-use crate::output::{DONE, line_of, put};
+use crate::output::{Console, DONE, line_of};
 use jiff::Timestamp;
 use json::{Pretty, Token};
 use memchr::memmem;
-use mmdb_arguments::shown_text;
+use mmdb_arguments::{InfoArguments, shown_text};
 use mmdb_json::write_value;
 use mmdb_reader::{MaxMindDbError, Metadata, Reader, Value};
 use std::alloc::{AllocError, Global};
@@ -96,9 +96,8 @@ fn built_text(alloc: Global, seconds: u64) -> Result<String, AllocError> {
     }
 }
 
-// The lines that a person reads.
-fn text_of(alloc: Global, metadata: &Metadata, sizes: Sizes) -> Result<String, AllocError> {
-    let mut lines = Lines::new(alloc);
+// Adds what texts the metadata has.
+fn add_texts(alloc: Global, metadata: &Metadata, lines: &mut Lines) {
     let kind = &metadata.database_type;
     lines.add_line(alloc, format!(in alloc; "type:        {kind}"));
     for (language, description) in &metadata.description {
@@ -112,6 +111,10 @@ fn text_of(alloc: Global, metadata: &Metadata, sizes: Sizes) -> Result<String, A
         lines.add(format!(in alloc; " "));
         lines.add(shown_text(alloc, language.as_str()));
     }
+}
+
+// Adds what numbers the metadata has, and the sizes.
+fn add_numbers(alloc: Global, metadata: &Metadata, sizes: Sizes, lines: &mut Lines) {
     let ip = metadata.ip_version;
     lines.add(format!(in alloc; "\nIP version:  {ip}\nbuilt:       "));
     lines.add(built_text(alloc, metadata.build_epoch));
@@ -129,6 +132,13 @@ fn text_of(alloc: Global, metadata: &Metadata, sizes: Sizes) -> Result<String, A
     lines.add(format!(in alloc;
         "tree:        {tree} bytes\ndata:        {data} bytes\nmetadata:    {metadata} bytes\n"
     ));
+}
+
+// The lines that a person reads.
+fn text_of(alloc: Global, metadata: &Metadata, sizes: Sizes) -> Result<String, AllocError> {
+    let mut lines = Lines::new(alloc);
+    add_texts(alloc, metadata, &mut lines);
+    add_numbers(alloc, metadata, sizes, &mut lines);
     lines.finish()
 }
 
@@ -268,26 +278,24 @@ fn bytes_of<R: Files>(rt: &R, alloc: Global, file: &str) -> Result<Vec<u8>, Prog
     }
 }
 
-// Writes what the file of these bytes says of itself.
-fn put_info<O: Write>(
-    alloc: Global,
-    bytes: &[u8],
-    json: bool,
-    out: &mut O,
-) -> Result<u8, ProgramError> {
-    let text = info(alloc, bytes, json)?;
-    put(text.as_slice(), out)?;
-    Ok(DONE)
-}
-
-/// Writes what a database says of itself.
-pub(crate) fn about<R: Files, O: Write>(
+// What a file says of itself.
+fn info_of_file<R: Files>(
     rt: &R,
     alloc: Global,
     file: &str,
     json: bool,
-    out: &mut O,
-) -> Result<u8, ProgramError> {
+) -> Result<Vec<u8>, ProgramError> {
     let bytes = bytes_of(rt, alloc, file)?;
-    put_info(alloc, bytes.as_slice(), json, out)
+    info(alloc, bytes.as_slice(), json)
+}
+
+/// Writes what a database says of itself.
+pub(crate) fn describe<R: Files, O: Write, E: Write>(
+    rt: &R,
+    arguments: &InfoArguments<'_>,
+    console: &mut Console<'_, O, E>,
+) -> Result<u8, ProgramError> {
+    let text = info_of_file(rt, console.alloc, arguments.file, arguments.json)?;
+    console.put(text.as_slice())?;
+    Ok(DONE)
 }

@@ -6,18 +6,18 @@ use std::io::Write;
 /// Back to the head of the line, and nothing behind it.
 const CLEARED: &[u8] = b"\r\x1b[K";
 
-/// A line on a terminal that tells how many rows passed.
+/// A line on a terminal that shows how many rows passed.
 #[derive(Drop)]
-pub(crate) struct Meter<'e, E: Write> {
+pub(crate) struct ProgressLine<'e, E: Write> {
     alloc: Global,
     is_terminal: bool,
     is_shown: bool,
     err: &'e mut E,
 }
 
-impl<'e, E: Write> Meter<'e, E> {
-    pub(crate) fn new(alloc: Global, is_terminal: bool, err: &'e mut E) -> Meter<'e, E> {
-        Meter {
+impl<'e, E: Write> ProgressLine<'e, E> {
+    pub(crate) fn new(alloc: Global, is_terminal: bool, err: &'e mut E) -> ProgressLine<'e, E> {
+        ProgressLine {
             alloc,
             is_terminal,
             is_shown: false,
@@ -34,7 +34,7 @@ impl<'e, E: Write> Meter<'e, E> {
     }
 }
 
-impl<'e, E: Write> Progress for Meter<'e, E> {
+impl<'e, E: Write> Progress for ProgressLine<'e, E> {
     fn passed(&mut self, rows: u64) {
         if !self.is_terminal {
             return;

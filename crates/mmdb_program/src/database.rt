@@ -1,0 +1,30 @@
+//! Databases that are read from files.
+use crate::output::Console;
+use mmdb_reader::{LookupResult, Reader, Within};
+use std::io::Write;
+use std::rt::Files;
+
+/// A database with the bytes of its file.
+pub(crate) type Database = Reader<Vec<u8>>;
+
+/// What a database has for an address.
+pub(crate) type Found<'r> = LookupResult<'r, Vec<u8>>;
+
+/// The networks of a range of a database.
+pub(crate) type Networks<'r> = Within<'r, Vec<u8>>;
+
+/// The database of a file, or none if it has an error, which is reported.
+pub(crate) fn open<R: Files, O: Write, E: Write>(
+    rt: &R,
+    file: &str,
+    console: &mut Console<'_, O, E>,
+) -> Option<Database> {
+    match Reader::open_readfile(rt, console.alloc, file) {
+        Ok(database) => Some(database),
+        Err(error) => {
+            console.report(file, &error);
+            drop(error);
+            None
+        }
+    }
+}
