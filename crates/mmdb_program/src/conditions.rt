@@ -5,62 +5,36 @@ use mmdb_lists::{Condition, Wanted, split_condition};
 use mmdb_reader::PathElement;
 use std::alloc::{AllocError, Global};
 
-// Where the condition on a path stands that wants the same of it, if there is one.
-fn place_of(
-    conditions: &[Condition<'_>],
-    path: &[PathElement<'_>],
-    wanted: Wanted,
-) -> Option<usize> {
-    conditions
-        .iter()
-        .position(|it| it.wanted == wanted && it.path.as_slice() == path)
-}
-
-// Adds a value to a condition.
+// Adds a value to the condition on a path, if there is one that wants the same of it.
 fn add_value<'a>(
     conditions: &mut [Condition<'a>],
-    place: usize,
+    path: &[PathElement<'a>],
+    wanted: Wanted,
     value: &'a str,
-) -> Result<(), AllocError> {
-    if let Some(condition) = conditions.get_mut(place) {
-        condition.texts.push(value)?;
+) -> Result<bool, AllocError> {
+    for condition in conditions {
+        if condition.wanted == wanted && condition.path.as_slice() == path {
+            condition.texts.push(value)?;
+            return Ok(true);
+        }
     }
-    Ok(())
+    Ok(false)
 }
 
-// Adds a condition with one value.
-fn add_new<'a>(
+// A condition with one value.
+fn condition_of<'a>(
     alloc: Global,
     path: Vec<PathElement<'a>>,
     wanted: Wanted,
     value: &'a str,
-    conditions: &mut Vec<Condition<'a>>,
-) -> Result<(), AllocError> {
+) -> Result<Condition<'a>, AllocError> {
     let mut texts = Vec::new(alloc);
     texts.push(value)?;
-    conditions.push(Condition {
+    Ok(Condition {
         path,
         texts,
         wanted,
-    })?;
-    Ok(())
-}
-
-// Adds a value to the condition on a path, which is a new one if none wants the same of it.
-fn add_wanted<'a>(
-    alloc: Global,
-    path: Vec<PathElement<'a>>,
-    wanted: Wanted,
-    value: &'a str,
-    conditions: &mut Vec<Condition<'a>>,
-) -> Result<(), AllocError> {
-    match place_of(conditions.as_slice(), path.as_slice(), wanted) {
-        Some(place) => {
-            drop(path);
-            add_value(conditions.as_mut_slice(), place, value)
-        }
-        None => add_new(alloc, path, wanted, value, conditions),
-    }
+    })
 }
 
 // Adds the condition that a text spells.
@@ -73,21 +47,11 @@ fn add_condition<'a>(
     let Some((path, value)) = split_condition(text) else {
         return Err(NoRequest::bad_argument(alloc, text, "not PATH=VALUE"));
     };
-    match path_of(alloc, path)? {
-        Some(path) => Ok(add_wanted(alloc, path, wanted, value, conditions)?),
-        None => Err(NoRequest::bad_argument(alloc, text, "not a path before the =")),
-    }
-}
-
-// Adds the conditions that texts spell.
-fn add_conditions<'a>(
-    alloc: Global,
-    texts: &[&'a str],
-    wanted: Wanted,
-    conditions: &mut Vec<Condition<'a>>,
-) -> Result<(), NoRequest> {
-    for text in texts {
-        add_condition(alloc, *text, wanted, conditions)?;
+    let Some(path) = path_of(alloc, path)? else {
+        return Err(NoRequest::bad_argument(alloc, text, "not a path before the ="));
+    };
+    if !add_value(conditions.as_mut_slice(), path.as_slice(), wanted, value)? {
+        conditions.push(condition_of(alloc, path, wanted, value)?)?;
     }
     Ok(())
 }
@@ -99,7 +63,11 @@ pub(crate) fn conditions_of<'a>(
     where_nots: &[&'a str],
 ) -> Result<Vec<Condition<'a>>, NoRequest> {
     let mut conditions = Vec::new(alloc);
-    add_conditions(alloc, wheres, Wanted::OneOf, &mut conditions)?;
-    add_conditions(alloc, where_nots, Wanted::NoneOf, &mut conditions)?;
+    for text in wheres {
+        add_condition(alloc, text, Wanted::OneOf, &mut conditions)?;
+    }
+    for text in where_nots {
+        add_condition(alloc, text, Wanted::NoneOf, &mut conditions)?;
+    }
     Ok(conditions)
 }
