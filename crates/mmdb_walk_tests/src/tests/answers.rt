@@ -1,11 +1,17 @@
 //! What answers are, as text.
-use maxminddb::{MaxMindDbError, Reader};
+use maxminddb::{IpNetwork, MaxMindDbError, Reader};
 use std::alloc::{AllocError, Global};
+use std::fmt::Debug;
 use std::process::Abort;
 
 /// Asserts what holds of a case.
 pub(crate) fn assert_holds(rt: &impl Abort, holds: bool, case: &str) {
     assert!(rt; holds, "{case}");
+}
+
+/// Asserts what holds of a row.
+pub(crate) fn assert_row(rt: &impl Abort, holds: bool, row: &impl Debug) {
+    assert!(rt; holds, "{row:?}");
 }
 
 /// Asserts a text.
@@ -26,12 +32,32 @@ pub(crate) fn told<T: Drop>(
     }
 }
 
+/// What is told of a refusal.
+pub(crate) fn refusal(alloc: Global, error: MaxMindDbError) -> Result<String, AllocError> {
+    format!(in alloc; "{error}")
+}
+
+/// A reader of a file, or its refusal.
+pub(crate) fn reader_of(
+    alloc: Global,
+    file: Result<Vec<u8>, AllocError>,
+) -> Result<Reader<Vec<u8>>, MaxMindDbError> {
+    match file {
+        Ok(file) => Reader::from_source(alloc, file),
+        Err(_) => Err(MaxMindDbError::Memory),
+    }
+}
+
+/// A range that a text spells.
+pub(crate) fn range_of(rt: &impl Abort, text: &str) -> IpNetwork {
+    text.parse().expect(rt, text)
+}
+
 /// A reader of a file that is accepted.
 pub(crate) fn opened(
     rt: &impl Abort,
     alloc: Global,
     file: Result<Vec<u8>, AllocError>,
 ) -> Reader<Vec<u8>> {
-    let file = file.expect(rt, "a file");
-    Reader::from_source(alloc, file).expect(rt, "a file that is accepted")
+    reader_of(alloc, file).expect(rt, "a file that is accepted")
 }

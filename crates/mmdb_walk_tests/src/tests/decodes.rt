@@ -1,12 +1,13 @@
 //! What stands behind a lookup that is not read as it is asked for.
-use super::answers::{assert_holds, assert_text, opened, told};
+use super::answers::{assert_holds, assert_text, opened, reader_of, refusal, told};
 use maxminddb::geoip2::City;
 use maxminddb::{
-    Decode, Double, Float, LookupResult, MaxMindDbError, Metadata, OwnedBytes, RawValue, Value,
+    Decode, Double, Float, LookupResult, MaxMindDbError, Metadata, OwnedBytes, RawValue, Reader,
+    Value,
 };
 use mmdb_vectors::base::{high, low};
 use mmdb_vectors::builder::{BASE, BASE_NODE, file};
-use std::alloc::Global;
+use std::alloc::{AllocError, Global};
 use std::collections::BTreeMap;
 use std::process::Abort;
 
@@ -129,16 +130,35 @@ const SECOND_ROWS: &[Row] = &[
     ),
 ];
 
+// The refusal of what a lookup leads to, or `read`.
+fn lookup_told(
+    alloc: Global,
+    found: Result<LookupResult<'_, Vec<u8>>, MaxMindDbError>,
+    wanted: &Wanted,
+) -> Result<String, AllocError> {
+    match found {
+        Ok(found) => told(alloc, decoded_as(alloc, found, wanted), "read"),
+        Err(error) => refusal(alloc, error),
+    }
+}
+
+// The same of the upper half of a file.
+fn file_told(
+    alloc: Global,
+    opened: Result<Reader<Vec<u8>>, MaxMindDbError>,
+    wanted: &Wanted,
+) -> Result<String, AllocError> {
+    match opened {
+        Ok(reader) => lookup_told(alloc, reader.lookup(high()), wanted),
+        Err(error) => refusal(alloc, error),
+    }
+}
+
 // Asserts the text of the refusal of what stands behind the upper half of a file of a node and data, or `read`.
 fn assert_decoded(rt: &impl Abort, alloc: Global, node: &[u8], row: &Row) {
     let (data, wanted, text) = row;
-    let reader = opened(rt, alloc, file(alloc, node, data, BASE));
-    let found = reader.lookup(high()).expect(rt, text);
-    assert_text(
-        rt,
-        told(alloc, decoded_as(alloc, found, wanted), "read"),
-        text,
-    );
+    let opened = reader_of(alloc, file(alloc, node, data, BASE));
+    assert_text(rt, file_told(alloc, opened, wanted), text);
 }
 
 #[test]
@@ -151,20 +171,45 @@ fn values_refused(rt: HostRuntime) {
     }
 }
 
-// Asserts the name of a city in English, or that there is no city.
-fn assert_city(
-    rt: &impl Abort,
+/// A record with a name.
+trait Named {
+    /// The name in English.
+    fn english(&self) -> Option<&str>;
+}
+
+impl Named for City<'_> {
+    fn english(&self) -> Option<&str> {
+        self.city.names.english
+    }
+}
+
+fn refused<E: Drop>(_error: E) -> bool {
+    false
+}
+
+// Whether a record has this name, or there is none where none is wanted.
+fn is_named<'a, T: Decode<'a> + Named>(
     alloc: Global,
-    found: LookupResult<'_, Vec<u8>>,
+    found: LookupResult<'a, Vec<u8>>,
     name: Option<&str>,
-) {
-    let city: Option<City<'_>> = found.decode(alloc).expect(rt, "a city or none");
-    let told = match &city {
-        Some(city) => city.city.names.english,
-        None => None,
-    };
-    let is_right = told == name && city.is_some() == name.is_some();
-    assert_holds(rt, is_right, "the name of a city");
+) -> bool {
+    match found.decode::<T>(alloc) {
+        Ok(Some(record)) => name.is_some() && record.english() == name,
+        Ok(None) => name.is_none(),
+        Err(error) => refused(error),
+    }
+}
+
+// Whether the city of a lookup has this name.
+fn is_city(
+    alloc: Global,
+    found: Result<LookupResult<'_, Vec<u8>>, MaxMindDbError>,
+    name: Option<&str>,
+) -> bool {
+    match found {
+        Ok(found) => is_named::<City<'_>>(alloc, found, name),
+        Err(error) => refused(error),
+    }
 }
 
 #[test]
@@ -172,11 +217,8 @@ fn city_of_a_lookup(rt: HostRuntime) {
     let alloc = rt.alloc();
     let data = b"\xE1\x44city\xE1\x45names\xE1\x42en\x41A";
     let reader = opened(&rt, alloc, file(alloc, BASE_NODE, data, BASE));
-    assert_city(
-        &rt,
-        alloc,
-        reader.lookup(high()).expect(&rt, "lookup"),
-        Some("A"),
-    );
-    assert_city(&rt, alloc, reader.lookup(low()).expect(&rt, "lookup"), None);
+    let is_right = is_city(alloc, reader.lookup(high()), Some("A"));
+    assert_holds(&rt, is_right, "the name of a city");
+    let is_right = is_city(alloc, reader.lookup(low()), None);
+    assert_holds(&rt, is_right, "no city");
 }

@@ -1,6 +1,7 @@
 //! Which options and metadata are equal, and which are not.
-use super::answers::{assert_holds, opened};
+use super::answers::{assert_holds, assert_row, opened};
 use maxminddb::{Metadata, WithinOptions};
+use mmdb_vectors::answer::is_ok;
 use mmdb_vectors::builder::{BASE_DATA, Field, base_file, changed_file};
 use mmdb_vectors::equality::equality;
 use std::alloc::{AllocError, Global};
@@ -26,7 +27,7 @@ fn options(rt: HostRuntime) {
     for a in 0..8u8 {
         for b in 0..8u8 {
             let told = equality(&options_of(a), &options_of(b));
-            assert!(rt; told == Some(a == b), "{a} and {b}");
+            assert_row(&rt, told == Some(a == b), &(a, b));
         }
     }
 }
@@ -87,12 +88,12 @@ fn apply(rt: &impl Abort, alloc: Global, metadata: &mut Metadata, change: &Chang
         Change::MajorVersion => metadata.binary_format_major_version = 3,
         Change::Languages => {
             let language = text(rt, alloc, "en");
-            metadata.languages.push(language).expect(rt, "a language");
+            assert_holds(rt, is_ok(metadata.languages.push(language)), "a language");
         }
         Change::Description => {
             let (language, text) = (text(rt, alloc, "de"), text(rt, alloc, "d"));
-            let before: Result<_, _> = metadata.description.insert(language, text);
-            assert_holds(rt, before.is_ok(), "a description");
+            let is_put = is_ok(metadata.description.insert(language, text));
+            assert_holds(rt, is_put, "a description");
         }
     }
 }

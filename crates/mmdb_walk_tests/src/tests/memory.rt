@@ -1,7 +1,7 @@
 //! Calls where memory is refused.
 ghost use Rattle.std.specs.Prelude.{◌<◌};
 
-use super::answers::{assert_text, opened, told};
+use super::answers::{assert_row, assert_text, opened, refusal, told};
 use maxminddb::{IpNetwork, LookupResult, MaxMindDbError, Metadata, Reader, fuzzing};
 use mmdb_vectors::base::BASE_FILE;
 use mmdb_vectors::builder::{BASE_DATA, BASE_NODE, Field, base_file, changed_file};
@@ -46,7 +46,9 @@ fn kind_met(error: &MaxMindDbError, of_decoding: Met) -> Met {
 }
 
 fn error_met(error: MaxMindDbError, of_decoding: Met) -> Met {
-    kind_met(&error, of_decoding)
+    let met = kind_met(&error, of_decoding);
+    drop(error);
+    met
 }
 
 fn metadata_met(alloc: Global) -> Met {
@@ -117,7 +119,7 @@ fn growths_refused_in_turn(rt: HostRuntime) {
     for (name, call, least) in CALLS {
         let (refused, met) = refused_in_turn(rt.alloc(), call, base.metadata());
         let is_right = met == Met::Answer && refused >= *least;
-        assert!(rt; is_right, "{name}: {refused} runs met a refusal");
+        assert_row(&rt, is_right, &(name, refused));
     }
 }
 
@@ -145,11 +147,16 @@ fn found_without_memory(
     found
 }
 
+// The address that a text spells.
+fn address_of(rt: &impl Abort, text: &str) -> IpAddr {
+    text.parse().expect(rt, text)
+}
+
 // The same as text.
 fn found_text(alloc: Global, found: Result<Parts, MaxMindDbError>) -> Result<String, AllocError> {
     match found {
         Ok((has_data, offset, network)) => format!(in alloc; "{has_data} {offset:?} {network}"),
-        Err(error) => format!(in alloc; "{error}"),
+        Err(error) => refusal(alloc, error),
     }
 }
 
@@ -169,8 +176,7 @@ fn lookups_without_memory(rt: HostRuntime) {
     let alloc = rt.alloc();
     let reader = opened(&rt, alloc, base_file(alloc));
     for (address, text) in FOUND {
-        let address: IpAddr = address.parse().expect(&rt, address);
-        let found = found_without_memory(alloc, &reader, address);
+        let found = found_without_memory(alloc, &reader, address_of(&rt, address));
         assert_text(&rt, found_text(alloc, found), text);
     }
 }
@@ -221,6 +227,22 @@ fn read_of(alloc: Global, found: LookupResult<'_, Vec<u8>>, is_number: bool) -> 
     }
 }
 
+// The same of an answer that may be a refusal.
+fn read_or_refused(
+    alloc: Global,
+    found: Result<LookupResult<'_, Vec<u8>>, MaxMindDbError>,
+    is_number: bool,
+) -> Read {
+    match found {
+        Ok(found) => read_of(alloc, found, is_number),
+        Err(error) => wrong(error),
+    }
+}
+
+fn wrong<E: Drop>(_error: E) -> Read {
+    Read::Wrong
+}
+
 fn read_without_memory(
     alloc: Global,
     reader: &Reader<Vec<u8>>,
@@ -229,10 +251,7 @@ fn read_without_memory(
 ) -> Read {
     let large = Hoard::of_large_blocks(alloc);
     let small = Hoard::of_all_left(alloc);
-    let read = match reader.lookup(address) {
-        Ok(found) => read_of(alloc, found, is_number),
-        Err(_) => Read::Wrong,
-    };
+    let read = read_or_refused(alloc, reader.lookup(address), is_number);
     drop(small);
     drop(large);
     read
@@ -251,9 +270,8 @@ fn reads_without_memory(rt: HostRuntime) {
     let alloc = rt.alloc();
     let reader = opened(&rt, alloc, base_file(alloc));
     for (text, is_number, wanted) in READS {
-        let address: IpAddr = text.parse().expect(&rt, text);
-        let read = read_without_memory(alloc, &reader, address, *is_number);
-        assert!(rt; read == *wanted, "{text}, as a number: {is_number}");
+        let read = read_without_memory(alloc, &reader, address_of(&rt, text), *is_number);
+        assert_row(&rt, read == *wanted, &(text, "as a number", is_number));
     }
 }
 

@@ -1,5 +1,5 @@
 //! Walks over networks, one by one.
-use super::answers::{assert_text, opened, told};
+use super::answers::{assert_row, assert_text, opened, range_of, refusal, told};
 use maxminddb::{IpNetwork, LookupResult, MaxMindDbError, Within, WithinOptions};
 use mmdb_vectors::builder::{BASE, BASE_NODE, base_file, base_with_node, file};
 use mmdb_vectors::hoard::Hoard;
@@ -14,7 +14,7 @@ fn network_text(
 ) -> Result<String, AllocError> {
     match network {
         Ok(network) => format!(in alloc; "{network} {offset:?}"),
-        Err(error) => format!(in alloc; "{error}"),
+        Err(error) => refusal(alloc, error),
     }
 }
 
@@ -43,23 +43,38 @@ fn call_text(
 /// What the calls of `next` tell of a walk over the whole space of the base file, without data too.
 const WHOLE_SPACE: &[&str] = &["0.0.0.0/1 None", "128.0.0.0/1 Some(0)", "end", "end"];
 
+// Asserts what the calls of `next` tell of a walk that is not refused.
+fn assert_walk(
+    rt: &impl Abort,
+    alloc: Global,
+    walk: Result<Within<'_, Vec<u8>>, MaxMindDbError>,
+    texts: &[&str],
+) {
+    match walk {
+        Ok(mut walk) => {
+            for text in texts {
+                assert_text(rt, call_text(alloc, walk.next()), text);
+            }
+        }
+        Err(error) => assert_text(rt, refusal(alloc, error), "a walk"),
+    }
+}
+
 #[test]
 fn whole_space_and_its_end(rt: HostRuntime) {
     let alloc = rt.alloc();
     let reader = opened(&rt, alloc, base_file(alloc));
-    let whole: IpNetwork = "0.0.0.0/0".parse().expect(&rt, "a range");
+    let whole = range_of(&rt, "0.0.0.0/0");
     let options = WithinOptions::default().include_networks_without_data();
-    let mut walk = reader.within(alloc, whole, options).expect(&rt, "a walk");
-    for text in WHOLE_SPACE {
-        assert_text(&rt, call_text(alloc, walk.next()), text);
-    }
+    let walk = reader.within(alloc, whole, options);
+    assert_walk(&rt, alloc, walk, WHOLE_SPACE);
 }
 
 #[test]
 fn ipv6_range_in_ipv4_database(rt: HostRuntime) {
     let alloc = rt.alloc();
     let reader = opened(&rt, alloc, base_file(alloc));
-    let range: IpNetwork = "::/0".parse().expect(&rt, "a range");
+    let range = range_of(&rt, "::/0");
     let walk = reader.within(alloc, range, WithinOptions::default());
     let text = "invalid input: cannot iterate IPv6 network in IPv4-only database";
     assert_text(&rt, told(alloc, walk, "walked"), text);
@@ -98,14 +113,34 @@ const FIRST_ITEMS: &[FirstItem] = &[
     ),
 ];
 
+// What the first item of a walk tells.
+fn first_told(
+    alloc: Global,
+    walk: Result<Within<'_, Vec<u8>>, MaxMindDbError>,
+) -> Result<String, AllocError> {
+    match walk {
+        Ok(mut walk) => next_told(alloc, walk.next()),
+        Err(error) => refusal(alloc, error),
+    }
+}
+
+fn next_told(
+    alloc: Global,
+    next: Option<Result<LookupResult<'_, Vec<u8>>, MaxMindDbError>>,
+) -> Result<String, AllocError> {
+    match next {
+        Some(item) => told(alloc, item, "found"),
+        None => String::from_str(alloc, "no item"),
+    }
+}
+
 // Asserts the text of the first item of a walk that skips empty values.
 fn assert_first_item(rt: &impl Abort, alloc: Global, row: &FirstItem) {
     let (nodes, data, text) = row;
     let reader = opened(rt, alloc, file(alloc, nodes, data, BASE));
     let options = WithinOptions::default().skip_empty_values();
-    let mut walk = reader.networks(alloc, options).expect(rt, "a walk");
-    let item = walk.next().expect(rt, "an item");
-    assert_text(rt, told(alloc, item, "found"), text);
+    let told = first_told(alloc, reader.networks(alloc, options));
+    assert_text(rt, told, text);
 }
 
 #[test]
@@ -132,12 +167,26 @@ fn counts_without_memory(alloc: Global, walk: Within<'_, Vec<u8>>) -> (u32, u32)
     (faults, networks)
 }
 
+// The same of a walk that is not refused.
+fn counts_of(
+    alloc: Global,
+    walk: Result<Within<'_, Vec<u8>>, MaxMindDbError>,
+) -> Option<(u32, u32)> {
+    match walk {
+        Ok(walk) => Some(counts_without_memory(alloc, walk)),
+        Err(error) => no_counts(error),
+    }
+}
+
+fn no_counts<E: Drop>(_error: E) -> Option<(u32, u32)> {
+    None
+}
+
 #[test]
 fn left_spine_without_memory(rt: HostRuntime) {
     let alloc = rt.alloc();
     let node = b"\x00\x00\x00\x00\x00\x11";
     let reader = opened(&rt, alloc, base_with_node(alloc, node));
-    let walk = reader.networks(alloc, WithinOptions::default());
-    let counts = counts_without_memory(alloc, walk.expect(&rt, "a walk"));
-    assert!(rt; counts == (1, 32), "{counts:?}");
+    let counts = counts_of(alloc, reader.networks(alloc, WithinOptions::default()));
+    assert_row(&rt, counts == Some((1, 32)), &counts);
 }
