@@ -97,6 +97,13 @@ Ends-at tree addresses old leaves j a0 d0 leaf inside within same ends a o start
     let E : IpAddr → Type 0 = λ x. Walks tree start (bits_of_address x) (get_or leaves j d0).taken (get_or leaves j d0).number → HasEnded tree start (bits_of_address x) leaf in
     subst E (get_or_default addresses j a0 a inside) (ends start) (subst W (get_or_default old j o d0 within ∙ sym same) w)
 
+-- as does one that has left the nodes
+pub Ends-off : (tree : SearchTree) (addresses : List IpAddr) (old leaves : List FoundLeaf) (j : ℕ) (d0 : FoundLeaf) → j < length old → get_or leaves j d0 ≡ get_or old j d0 → tree.node_count ≤ (get_or leaves j d0).number
+    → Ends tree addresses old j (get_or leaves j d0)
+Ends-off tree addresses old leaves j d0 within same off a o start w =
+    let W : FoundLeaf → Type 0 = λ l. Walks tree start (bits_of_address (get_or addresses j a)) l.taken l.number in
+    record { walks = subst W (get_or_default old j o d0 within ∙ sym same) w; ends = λ _. off }
+
 -- ---- one leaf after the other
 
 module _ (P : ℕ → FoundLeaf → Type 0) (leaves new : List FoundLeaf) (i : ℕ) (next : FoundLeaf) (is : new ≡ set leaves i next) (within : i < length leaves) where
@@ -114,6 +121,18 @@ module _ (P : ℕ → FoundLeaf → Type 0) (leaves new : List FoundLeaf) (i : �
         let same : get_or new i d ≡ next = ap (λ (xs : List FoundLeaf). get_or xs i d) is ∙ get_or-set_same leaves i next d within in
         subst Q at (subst (P i) (sym same) here)
   ]
+
+module _ (P : ℕ → FoundLeaf → Type 0) (leaves new : List FoundLeaf) (i : ℕ) (d0 : FoundLeaf) (is : new ≡ leaves) (within : i < length leaves) where
+  pub kept-done : ((j : ℕ) (d : FoundLeaf) → j < i → P j (get_or leaves j d)) → P i (get_or leaves i d0) → (j : ℕ) (d : FoundLeaf) → j < i + 1 → P j (get_or new j d)
+  kept-done before here j d h =
+      let R : List FoundLeaf → Type 0 = λ xs. P j (get_or xs j d) in
+      subst R (sym is) (elim (cases_lt j i) [
+        | inl less ↦ before j d less
+        | inr more ↦
+            let at : i ≡ j = omega arith in
+            let Q : ℕ → Type 0 = λ k. P k (get_or leaves k d) in
+            subst Q at (subst (P i) (get_or_default leaves i d0 d within) here)
+      ])
 
 -- ---- where the walks begin
 

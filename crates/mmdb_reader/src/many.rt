@@ -126,7 +126,7 @@ impl Nodes<'_> {
     }
 
     // Where a walk ends.
-    #[inline(always)]
+    #[inline(never)]
     fn finish(&self, leaf: FoundLeaf, address: IpAddr) -> FoundLeaf
         ensures { let tree = search_tree self.now.bytes.now self.now.node_count self.now.record_size in
             (start : ℕ) → Walks tree start (bits_of_address address) leaf.taken leaf.number
@@ -235,6 +235,34 @@ impl Nodes<'_> {
         }
     }
 
+    // These nodes, with the size of their records as the caller names it.
+    #[inline(always)]
+    fn with_size(&self, record_size: u16) -> Nodes<'_>
+        requires { record_size ≡ self.now.record_size }
+        ensures { let tree = search_tree self.now.bytes.now self.now.node_count self.now.record_size in search_tree result.bytes.now result.node_count result.record_size ≡ tree }
+    {
+        Nodes {
+            bytes: self.bytes,
+            node_count: self.node_count,
+            record_size,
+        }
+    }
+
+    // Goes on with the walks of a group, by code of its own for each size of records.
+    #[inline(always)]
+    fn walk_by_size(&self, addresses: &[IpAddr], words: &[u32; 64], leaves: &mut [FoundLeaf; 64])
+        requires few { length addresses.now ≤ 64 }
+        requires words { AreWordsOf addresses.now words.now }
+        ensures { let tree = search_tree self.now.bytes.now self.now.node_count self.now.record_size in
+            AllGoOn (IsBitsOf addresses.now) tree leaves.old leaves.new }
+    {
+        match self.record_size {
+            24 => self.with_size(24).walk_group(addresses, words, leaves),
+            28 => self.with_size(28).walk_group(addresses, words, leaves),
+            _ => self.walk_group(addresses, words, leaves),
+        }
+    }
+
     // Brings each walk of a group to its end; nearly all are there.
     #[inline(always)]
     fn finish_all(&self, addresses: &[IpAddr], leaves: &mut [FoundLeaf; 64])
@@ -243,7 +271,10 @@ impl Nodes<'_> {
             AllEnd tree addresses.now leaves.old leaves.new }
     {
         for i in 0..addresses.len() {
-            leaves[i] = self.finish(leaves[i], addresses[i]);
+            let number = leaves[i].number as usize;
+            if number < self.node_count {
+                leaves[i] = self.finish(leaves[i], addresses[i]);
+            }
         }
     }
 
@@ -255,7 +286,7 @@ impl Nodes<'_> {
     {
         let mut words = [0; 64];
         first_words(addresses, &mut words);
-        self.walk_group(addresses, &words, leaves);
+        self.walk_by_size(addresses, &words, leaves);
         self.finish_all(addresses, leaves);
     }
 }

@@ -4,4 +4,4 @@ use Rattle.mmdb_net.specs.Address.{bits_of_address}
 use Rattle.mmdb_reader.proofs.tree.Nodes.go_on.Goals as goal
 
 pub returns : goal.returns
-returns c i a d start h w = c.finish_all.ensures i a d start h (c.walk_group.ensures i d _ (h, λ b. ap bits_of_address (get_or_default c.args.addresses.now i a b h)) start w)
+returns c i a d start h w = c.finish_all.ensures i a d start h (c.walk_by_size.ensures i d _ (h, λ b. ap bits_of_address (get_or_default c.args.addresses.now i a b h)) start w)
