@@ -1,4 +1,4 @@
-//! Tests of checks: verdicts on sections, hostile values, and want of memory.
+//! Tests of checks: verdicts on sections, hostile values, and running out of memory.
 #![tactic(auto)]
 
 #[cfg(test)]

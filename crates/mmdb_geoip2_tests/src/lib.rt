@@ -1,5 +1,5 @@
 //! Tests of the GeoIP2 records: each struct with all its fields, worked rows with printed texts, equality,
-//! and want of memory.
+//! and running out of memory.
 #![tactic(auto)]
 
 #[cfg(test)]

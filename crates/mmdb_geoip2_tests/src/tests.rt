@@ -1,4 +1,4 @@
-//! What no clause says: worked rows over public calls, printed texts, and want of memory.
+//! What no clause says: worked rows over public calls, printed texts, and running out of memory.
 mod calls;
 mod equalities;
 mod fields;

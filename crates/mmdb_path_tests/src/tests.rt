@@ -1,4 +1,4 @@
-//! What no clause says of paths: worked rows, printed texts, limits and want of memory.
+//! What no clause says of paths: worked rows, printed texts, limits and running out of memory.
 mod answers;
 mod limits;
 mod memory;

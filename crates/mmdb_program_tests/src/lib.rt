@@ -1,4 +1,4 @@
-//! Tests of the program: its words, the files that it opens, and what it writes.
+//! Tests of the program: its arguments, the files that it opens, and what it writes.
 #![tactic(auto)]
 
 #[cfg(test)]

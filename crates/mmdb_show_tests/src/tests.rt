@@ -1,4 +1,4 @@
-//! What no clause says of the program `mmdb`: worked texts, words, statuses and refusals.
+//! What no clause says of the program `mmdb`: worked texts, words, statuses and errors.
 mod diffs;
 mod exports;
 mod failures;

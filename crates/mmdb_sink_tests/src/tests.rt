@@ -1,4 +1,4 @@
-//! What no clause says: sinks that end, printed texts, and want of memory.
+//! What no clause says: sinks that end, printed texts, and running out of memory.
 mod asserts;
 mod calls;
 mod errors;

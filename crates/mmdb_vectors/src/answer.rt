@@ -2,10 +2,10 @@
 use std::alloc::{AllocError, Global};
 use std::fmt::{Debug, Display};
 
-/// What an answer tells that is no refusal.
+/// What an answer says that is no error.
 pub const OK: &str = "ok";
 
-/// The text of a refusal, or `ok`.
+/// The text of an error, or `ok`.
 pub fn told<T: Drop, E: Display + Drop>(
     alloc: Global,
     answer: Result<T, E>,
@@ -29,7 +29,7 @@ pub fn is_text(text: Result<String, AllocError>, wanted: &str) -> bool {
     }
 }
 
-/// A value as `Debug` has it, or the text of a refusal.
+/// A value as `Debug` has it, or the text of an error.
 pub fn shown<T: Debug + Drop, E: Display + Drop>(
     alloc: Global,
     answer: Result<T, E>,

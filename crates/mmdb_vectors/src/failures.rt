@@ -10,7 +10,7 @@ pub struct Failures {
     count: u32,
 }
 
-// The text that was told, where memory for it was not lacking.
+// The text that was reported, where memory for it was not lacking.
 fn text_of(told: &Result<String, AllocError>) -> Option<&str> {
     match told {
         Ok(text) => Some(text.as_str()),
@@ -65,7 +65,7 @@ impl Failures {
         self.expect_told(row, &told, is_wanted);
     }
 
-    // Notes what a row was told, where that is not what is wanted.
+    // Notes what a row was given, where that is not what is wanted.
     fn expect_told(
         &mut self,
         row: &impl Debug,

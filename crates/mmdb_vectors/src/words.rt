@@ -1,4 +1,4 @@
-//! The words of a program.
+//! The arguments of a program.
 use std::alloc::{AllocError, Global};
 
 fn push_word(words: &mut Vec<String>, alloc: Global, text: &str) -> Result<(), AllocError> {
@@ -6,7 +6,7 @@ fn push_word(words: &mut Vec<String>, alloc: Global, text: &str) -> Result<(), A
     Ok(())
 }
 
-/// The words that follow a program's name.
+/// The arguments that follow a program's name.
 pub fn words_of(alloc: Global, texts: &[&str]) -> Result<Vec<String>, AllocError> {
     let mut words = Vec::new(alloc);
     for text in texts {

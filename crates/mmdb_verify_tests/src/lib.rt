@@ -1,4 +1,4 @@
-//! Tests of verifications: verdicts on files, the positions that they take, and want of memory.
+//! Tests of verifications: verdicts on files, the positions that they take, and running out of memory.
 #![tactic(auto)]
 
 #[cfg(test)]

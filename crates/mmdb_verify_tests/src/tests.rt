@@ -1,6 +1,6 @@
-//! What no clause says: worked rows over public calls, printed texts, and want of memory.
+//! What no clause says: worked rows over public calls, printed texts, and running out of memory.
 //!
-//! A refusal of the metadata or of the data has the place of the value that is refused, counted from the file's
+//! An error of the metadata or of the data has the place of the value that is refused, counted from the file's
 //! start, or the place to which a pointer leads. What is wrong with the tree or the separator has no place.
 mod files;
 mod memory;

@@ -1,4 +1,4 @@
-//! What no clause says: worked rows over public calls, printed texts, equalities, and want of memory.
+//! What no clause says: worked rows over public calls, printed texts, equalities, and running out of memory.
 mod answers;
 mod decodes;
 mod equalities;

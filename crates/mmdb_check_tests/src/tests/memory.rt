@@ -3,7 +3,7 @@ use mmdb_value::fuzzing::verify;
 use mmdb_value::{Checked, MaxMindDbError, check_value};
 use mmdb_vectors::answer::told;
 use mmdb_vectors::failures::Failures;
-use mmdb_vectors::hoard::{Hoard, Met, refused_in_turn};
+use mmdb_vectors::hoard::{Hoard, Outcome, refused_in_turn};
 use std::alloc::{AllocError, Global};
 
 /// A pointer to a pointer to a text.
@@ -12,18 +12,18 @@ const POINTERS: &[u8] = b"\x20\x02\x20\x04\x41x";
 /// A value of no type, whose refusal names a number.
 const OF_NO_TYPE: &[u8] = b"\x00\x06";
 
-fn outcome(answer: Result<(), MaxMindDbError>) -> Met {
+fn outcome(answer: Result<(), MaxMindDbError>) -> Outcome {
     match answer {
-        Ok(()) => Met::Value,
-        Err(MaxMindDbError::Memory) => Met::Memory,
-        Err(_) => Met::Refusal,
+        Ok(()) => Outcome::Value,
+        Err(MaxMindDbError::Memory) => Outcome::Memory,
+        Err(_) => Outcome::Refusal,
     }
 }
 
 #[test]
 fn growths_refused_in_turn(rt: HostRuntime) -> Result<(), Failures> {
     let (alloc, mut failures) = (rt.alloc(), Failures::new(rt.alloc()));
-    for (section, last) in [(POINTERS, Met::Value), (OF_NO_TYPE, Met::Refusal)] {
+    for (section, last) in [(POINTERS, Outcome::Value), (OF_NO_TYPE, Outcome::Refusal)] {
         let (refused, then) = refused_in_turn(alloc, 16, || outcome(verify(alloc, section)));
         failures.expect(&(section, refused, then), then == last && refused > 0);
     }
@@ -32,9 +32,9 @@ fn growths_refused_in_turn(rt: HostRuntime) -> Result<(), Failures> {
 
 // What a check of a section's first value meets where every growth is refused, and what is told by the same
 // check once more.
-fn checked_twice(alloc: Global, section: &[u8]) -> (Met, Result<String, AllocError>) {
+fn checked_twice(alloc: Global, section: &[u8]) -> (Outcome, Result<String, AllocError>) {
     let Ok(mut checked) = Checked::new(alloc, section) else {
-        return (Met::Refusal, Err(AllocError));
+        return (Outcome::Refusal, Err(AllocError));
     };
     let large = Hoard::of_large_blocks(alloc);
     let small = Hoard::of_all_left(alloc);
@@ -48,11 +48,11 @@ fn checked_twice(alloc: Global, section: &[u8]) -> (Met, Result<String, AllocErr
 fn check_takes_no_memory(rt: HostRuntime) -> Result<(), Failures> {
     let mut failures = Failures::new(rt.alloc());
     let (met, text) = checked_twice(rt.alloc(), POINTERS);
-    failures.expect(&met, met == Met::Value);
+    failures.expect(&met, met == Outcome::Value);
     failures.expect_text(&"again", text, "ok");
-    // Want of memory is a refusal as any other.
+    // Running out of memory is an error as any other.
     let (met, text) = checked_twice(rt.alloc(), OF_NO_TYPE);
-    failures.expect(&met, met == Met::Memory);
+    failures.expect(&met, met == Outcome::Memory);
     failures.expect_text(
         &"again",
         text,

@@ -9,26 +9,26 @@ use mmdb_format::error::MaxMindDbError;
 use mmdb_geoip2::{City, Country, Domain, Enterprise};
 use mmdb_vectors::answer::told;
 use mmdb_vectors::failures::Failures;
-use mmdb_vectors::hoard::{Hoard, Met, refused_in_turn};
+use mmdb_vectors::hoard::{Hoard, Outcome, refused_in_turn};
 use std::alloc::{AllocError, Global};
 
 // What an error says of a call.
-fn kind_met(error: &MaxMindDbError) -> Met {
+fn kind_met(error: &MaxMindDbError) -> Outcome {
     match error {
-        MaxMindDbError::Memory => Met::Memory,
-        _ => Met::Refusal,
+        MaxMindDbError::Memory => Outcome::Memory,
+        _ => Outcome::Refusal,
     }
 }
 
-fn error_met(error: MaxMindDbError) -> Met {
+fn error_met(error: MaxMindDbError) -> Outcome {
     let met = kind_met(&error);
     drop(error);
     met
 }
 
-fn outcome<T: Drop>(answer: Result<T, MaxMindDbError>) -> Met {
+fn outcome<T: Drop>(answer: Result<T, MaxMindDbError>) -> Outcome {
     match answer {
-        Ok(_) => Met::Value,
+        Ok(_) => Outcome::Value,
         Err(error) => error_met(error),
     }
 }
@@ -39,7 +39,7 @@ fn expect_turns<'de, T: Decode<'de>>(
     failures: &mut Failures,
     alloc: Global,
     section: &'de [u8],
-    last: Met,
+    last: Outcome,
 ) {
     let (refused, then) = refused_in_turn(alloc, 64, || outcome(decode::<T>(alloc, section)));
     failures.expect(&(section, refused, then), then == last && refused > 0);
@@ -48,7 +48,7 @@ fn expect_turns<'de, T: Decode<'de>>(
 /// A map without a pair is read as a record.
 pub fn expect_empty<'de, T: Decode<'de>>(failures: &mut Failures, alloc: Global) {
     let met = outcome(decode::<T>(alloc, b"\xE0"));
-    failures.expect(&"an empty map", met == Met::Value);
+    failures.expect(&"an empty map", met == Outcome::Value);
 }
 
 /// A record is read where every growth is refused.
@@ -62,13 +62,13 @@ pub fn expect_none<'de, T: Decode<'de>>(
     let met = outcome(decode::<T>(alloc, section));
     drop(small);
     drop(large);
-    failures.expect(&section, met == Met::Value);
+    failures.expect(&section, met == Outcome::Value);
 }
 
 /// A text is read as no record: where every growth is refused there is none for what is told of it, and then
 /// the text is refused.
 pub fn expect_no_record<'de, T: Decode<'de>>(failures: &mut Failures, alloc: Global) {
-    expect_turns::<T>(failures, alloc, b"\x41x", Met::Refusal);
+    expect_turns::<T>(failures, alloc, b"\x41x", Outcome::Refusal);
 }
 
 #[test]
@@ -77,9 +77,9 @@ fn records_without_a_list(rt: HostRuntime) -> Result<(), Failures> {
     let (mut failures, section) = (Failures::new(alloc), with_unknown(alloc, &TOP_COUNTRY));
     expect_none::<Country<'_>>(&mut failures, alloc, section.as_slice());
     expect_no_record::<Country<'_>>(&mut failures, alloc);
-    // A refusal that names a field takes memory for its text.
+    // An error that names a field takes memory for its text.
     let twice = b"\xE2\x46domain\x41x\x46domain\x41y";
-    expect_turns::<Domain<'_>>(&mut failures, alloc, twice, Met::Refusal);
+    expect_turns::<Domain<'_>>(&mut failures, alloc, twice, Outcome::Refusal);
     failures.verdict()
 }
 
@@ -88,11 +88,11 @@ impl Reads {
     fn expect_list<'de, T: Decode<'de> + Clone + Parts>(&'de mut self, row: &Row<'_>) {
         self.room = with_unknown(self.alloc, row);
         let (failures, alloc, section) = (&mut self.failures, self.alloc, self.room.as_slice());
-        expect_turns::<T>(failures, alloc, section, Met::Value);
+        expect_turns::<T>(failures, alloc, section, Outcome::Value);
         let (refused, then) = read_and_cloned_in_turn::<T>(alloc, section);
         failures.expect(
             &("a clone", section, refused, then),
-            refused > 0 && then == Met::Value,
+            refused > 0 && then == Outcome::Value,
         );
         failures.expect_text(&section, cloned_text::<T>(alloc, section), row.shown);
     }
@@ -100,7 +100,7 @@ impl Reads {
     // What comes of a field that is a text, and of a record without a list: where no list stands, none is made.
     fn expect_without<'de, T: Decode<'de>>(&mut self) {
         let (failures, alloc) = (&mut self.failures, self.alloc);
-        expect_turns::<T>(failures, alloc, b"\xE1\x44city\x41x", Met::Refusal);
+        expect_turns::<T>(failures, alloc, b"\xE1\x44city\x41x", Outcome::Refusal);
         expect_none::<T>(failures, alloc, b"\xE1\x44city\xE0");
     }
 }
@@ -115,8 +115,8 @@ fn lists_refused_in_turn(rt: HostRuntime) -> Result<(), Failures> {
     reads.verdict()
 }
 
-// How often a clone is refused for memory, with more of it each time, and what it meets then.
-fn cloned_in_turn<T: Clone + Drop>(alloc: Global, record: &T) -> (u32, Met) {
+// How often a clone fails for memory, with more of it each time, and what it meets then.
+fn cloned_in_turn<T: Clone + Drop>(alloc: Global, record: &T) -> (u32, Outcome) {
     refused_in_turn(
         alloc,
         64,
@@ -128,7 +128,7 @@ fn cloned_in_turn<T: Clone + Drop>(alloc: Global, record: &T) -> (u32, Met) {
 fn read_and_cloned_in_turn<'de, T: Decode<'de> + Clone>(
     alloc: Global,
     section: &'de [u8],
-) -> (u32, Met) {
+) -> (u32, Outcome) {
     match decode::<T>(alloc, section) {
         Ok(record) => cloned_in_turn(alloc, &record),
         Err(error) => (0, error_met(error)),

@@ -156,7 +156,7 @@ impl Parts for Enterprise<'_> {
     }
 }
 
-/// A field of each part of the record that a section is read as, or the text of the refusal.
+/// A field of each part of the record that a section is read as, or the text of the error.
 pub fn parts_told<'de, T: Decode<'de> + Parts>(
     alloc: Global,
     section: &'de [u8],

@@ -121,7 +121,7 @@ const CITIES: &[(&[u8], &str)] = &[
     (b"\x41x", "decoding error at offset 0: expected map, got type 2"),
     (b"\xE1\xA1\x07\xA1\x07", "invalid database at offset 1: expected string, got type 5"),
     (b"\xE2\x44city\xE0\x44city\xE0", "decoding error at offset 12: duplicate field `city`"),
-    // A field that stands again is refused before its value is read.
+    // A field that stands again is rejected before its value is read.
     (b"\xE2\x44city\xE0\x44city", "decoding error at offset 12: duplicate field `city`"),
     (b"\xE1\x46postal\xE2\x44code\x41x\x44code\x41y", "decoding error at offset 21: duplicate field `code`"),
     (b"\xE2\x4Csubdivisions\x00\x04\x4Csubdivisions\x00\x04", "decoding error at offset 29: duplicate field `subdivisions`"),

@@ -1,4 +1,4 @@
-//! What paths into small records find, and how they are refused.
+//! What paths into small records find, and how they fail.
 use super::vectors::{RECORD, Wanted, file_of, high, low, told_at};
 use maxminddb::PathElement::{Index, IndexFromEnd, Key};
 use maxminddb::{LookupResult, PathElement, Reader, Value, path};

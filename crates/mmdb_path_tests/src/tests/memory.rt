@@ -3,7 +3,7 @@ use super::vectors::{RECORD, file_of, high, low};
 use maxminddb::PathElement::{Index, IndexFromEnd, Key};
 use maxminddb::{LookupResult, MaxMindDbError, PathElement, Reader, Value, render_path};
 use mmdb_vectors::failures::Failures;
-use mmdb_vectors::hoard::{Hoard, Met, refused_in_turn};
+use mmdb_vectors::hoard::{Hoard, Outcome, refused_in_turn};
 use std::alloc::Global;
 
 /// A call that takes memory.
@@ -19,28 +19,28 @@ enum Call {
 }
 
 // What an error says of a call.
-fn kind_met(error: &MaxMindDbError) -> Met {
+fn kind_met(error: &MaxMindDbError) -> Outcome {
     match error {
-        MaxMindDbError::Memory => Met::Memory,
-        MaxMindDbError::Decoding { path: Some(_), .. } => Met::Refusal,
-        _ => Met::Other,
+        MaxMindDbError::Memory => Outcome::Memory,
+        MaxMindDbError::Decoding { path: Some(_), .. } => Outcome::Refusal,
+        _ => Outcome::Other,
     }
 }
 
-fn error_met(error: MaxMindDbError) -> Met {
+fn error_met(error: MaxMindDbError) -> Outcome {
     let met = kind_met(&error);
     drop(error);
     met
 }
 
-fn outcome<T: Drop>(told: Result<T, MaxMindDbError>) -> Met {
+fn outcome<T: Drop>(told: Result<T, MaxMindDbError>) -> Outcome {
     match told {
-        Ok(_) => Met::Value,
+        Ok(_) => Outcome::Value,
         Err(error) => error_met(error),
     }
 }
 
-fn call_met(alloc: Global, call: Call, found: LookupResult<'_, &[u8]>) -> Met {
+fn call_met(alloc: Global, call: Call, found: LookupResult<'_, &[u8]>) -> Outcome {
     match call {
         Call::ReadList => outcome(found.decode_path::<Vec<u16>>(alloc, &[Key("a")])),
         Call::RefusedStep => outcome(found.decode_path::<u16>(alloc, &[Key("a"), Key("x")])),
@@ -50,11 +50,11 @@ fn call_met(alloc: Global, call: Call, found: LookupResult<'_, &[u8]>) -> Met {
 }
 
 /// A call, what it meets once nothing is refused, and how many growths it has at least.
-const CALLS: [(Call, Met, u32); 4] = [
-    (Call::ReadList, Met::Value, 1),
-    (Call::RefusedStep, Met::Refusal, 2),
-    (Call::RefusedValue, Met::Refusal, 2),
-    (Call::RenderPath, Met::Value, 1),
+const CALLS: [(Call, Outcome, u32); 4] = [
+    (Call::ReadList, Outcome::Value, 1),
+    (Call::RefusedStep, Outcome::Refusal, 2),
+    (Call::RefusedValue, Outcome::Refusal, 2),
+    (Call::RenderPath, Outcome::Value, 1),
 ];
 
 // Notes the calls on a record that meet something else in turn.
@@ -65,7 +65,7 @@ fn expect_calls(failures: &mut Failures, alloc: Global, found: LookupResult<'_, 
     }
 }
 
-// The same of an answer that may be a refusal.
+// The same of an answer that may be an error.
 fn expect_found(
     failures: &mut Failures,
     alloc: Global,
@@ -77,7 +77,7 @@ fn expect_found(
     }
 }
 
-// The calls on the record of a file, or the refusal of the file.
+// The calls on the record of a file, or the error of the file.
 fn expect_turns(
     failures: &mut Failures,
     alloc: Global,
@@ -123,13 +123,14 @@ fn is_wanted(
     match wanted {
         Wanted::Number(number) => { found.decode_path::<u16>(alloc, path).ok() == Some(number) }
         Wanted::Text(text) => { found.decode_path::<&str>(alloc, path).ok() == Some(Some(text)) }
-        Wanted::RefusedNumber => outcome(found.decode_path::<u16>(alloc, path)) == Met::Memory,
-        Wanted::RefusedValue => outcome(found.decode_path::<Value<'_>>(alloc, path)) == Met::Memory,
-        Wanted::RefusedPath => outcome(render_path(alloc, path)) == Met::Memory,
+        Wanted::RefusedNumber => outcome(found.decode_path::<u16>(alloc, path)) == Outcome::Memory,
+        Wanted::RefusedValue => outcome(found.decode_path::<Value<'_>>(alloc, path))
+            == Outcome::Memory,
+        Wanted::RefusedPath => outcome(render_path(alloc, path)) == Outcome::Memory,
     }
 }
 
-// The same of an answer that may be a refusal.
+// The same of an answer that may be an error.
 fn is_found(
     alloc: Global,
     found: Option<LookupResult<'_, &[u8]>>,
@@ -168,7 +169,7 @@ const ROWS: &[Row] = &[
     (true, &[Key("a")], Wanted::RefusedPath),
 ];
 
-// Notes the rows that have another answer where every growth is refused, or the refusal of the file.
+// Notes the rows that have another answer where every growth is refused, or the error of the file.
 fn expect_rows(
     failures: &mut Failures,
     alloc: Global,

@@ -45,7 +45,7 @@ const TEXTS: &[(&[PathElement<'static>], &str)] = &[
     (&[IndexFromEnd(usize::MAX)], "/-18446744073709551616"),
 ];
 
-// The text of a path, or the refusal.
+// The text of a path, or the error.
 fn text_of(alloc: Global, path: &[PathElement<'_>]) -> Result<String, AllocError> {
     match render_path(alloc, path) {
         Ok(text) => Ok(text),

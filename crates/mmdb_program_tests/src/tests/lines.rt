@@ -6,7 +6,7 @@ use mmdb_vectors::builder::{base_file, base_with_node, file_with_alias, file_wit
 use std::alloc::{AllocError, Global};
 use std::process::Abort;
 
-// A line, or the text of the refusal.
+// A line, or the text of the error.
 fn line_text(alloc: Global, line: Result<String, MaxMindDbError>) -> Result<String, AllocError> {
     match line {
         Ok(line) => Ok(line),
@@ -14,7 +14,7 @@ fn line_text(alloc: Global, line: Result<String, MaxMindDbError>) -> Result<Stri
     }
 }
 
-// Asserts the line of an address, or the refusal.
+// Asserts the line of an address, or the error.
 fn assert_line(
     rt: &impl Abort,
     alloc: Global,

@@ -1,4 +1,4 @@
-//! The program's words, and the files that it opens.
+//! The program's arguments, and the files that it opens.
 use super::runs::{assert_done, assert_done_both, assert_done_with};
 use mmdb_vectors::base::BASE_FILE;
 use mmdb_vectors::builder::{BASE, BASE_DATA, BASE_NODE, file};

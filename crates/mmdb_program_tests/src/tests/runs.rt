@@ -23,7 +23,7 @@ fn assert_status(rt: &impl Abort, status: u8, wanted: u8, case: &[&str]) {
     assert!(rt; status == wanted, "at {case:?}: {status}");
 }
 
-/// Asserts what the program does with its words over files.
+/// Asserts what the program does with its arguments over files.
 pub fn assert_done<R: Files>(
     rt: &impl Abort,
     alloc: Global,
@@ -40,7 +40,7 @@ pub fn assert_done<R: Files>(
     assert_written(rt, err, done.2, texts);
 }
 
-/// Asserts what the program does with its words over the bytes of a file.
+/// Asserts what the program does with its arguments over the bytes of a file.
 pub fn assert_done_with(
     rt: &impl Abort,
     alloc: Global,
@@ -57,7 +57,7 @@ pub fn assert_done_with(
     assert_written(rt, err, done.2, texts);
 }
 
-/// Asserts what the program does with its words over a file of these bytes, whose read number `fails_at` is
+/// Asserts what the program does with its arguments over a file of these bytes, whose read number `fails_at` is
 /// refused, and over the bytes alone.
 pub fn assert_done_both(
     rt: &impl Abort,

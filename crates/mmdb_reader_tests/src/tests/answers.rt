@@ -34,7 +34,7 @@ fn made(alloc: Global, file: &File) -> Result<Vec<u8>, AllocError> {
     }
 }
 
-// A reader of these bytes, or the refusal.
+// A reader of these bytes, or the error.
 fn opened(
     alloc: Global,
     bytes: Result<Vec<u8>, AllocError>,
@@ -78,7 +78,7 @@ fn text_of<S: AsSlice<u8> + Drop>(
     }
 }
 
-/// The network that was found, whether there is data, and their offset, or the text of the refusal.
+/// The network that was found, whether there is data, and their offset, or the text of the error.
 pub fn found_text<S: AsSlice<u8> + Drop>(
     alloc: Global,
     found: Result<LookupResult<'_, S>, MaxMindDbError>,
@@ -89,7 +89,7 @@ pub fn found_text<S: AsSlice<u8> + Drop>(
     }
 }
 
-// The text that is found, or the refusal.
+// The text that is found, or the error.
 fn value_text<S: AsSlice<u8> + Drop>(
     alloc: Global,
     found: Result<LookupResult<'_, S>, MaxMindDbError>,
@@ -100,7 +100,7 @@ fn value_text<S: AsSlice<u8> + Drop>(
     }
 }
 
-/// The text that a reader has for the upper half of all addresses, or the refusal of its file.
+/// The text that a reader has for the upper half of all addresses, or the error of its file.
 pub fn value_by(
     alloc: Global,
     opened: Result<Reader<Vec<u8>>, MaxMindDbError>,
@@ -111,7 +111,7 @@ pub fn value_by(
     }
 }
 
-/// What an address is answered by a reader, or the refusal of its file.
+/// What an address is answered by a reader, or the error of its file.
 pub fn answer_by(
     alloc: Global,
     opened: Result<Reader<Vec<u8>>, MaxMindDbError>,

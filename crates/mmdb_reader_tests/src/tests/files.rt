@@ -25,7 +25,7 @@ fn unread<T: Drop>(alloc: Global, _opened: T) -> Result<String, AllocError> {
 }
 
 // What a file answers: what an address is told, the kind of refusal of a file that can't be read, or another
-// refusal.
+// error.
 fn text_of(
     alloc: Global,
     opened: Result<Reader<Vec<u8>>, MaxMindDbError>,

@@ -97,7 +97,7 @@ fn expect_found(
     failures.expect_text(row, shown(alloc, found.decode::<&str>(alloc)), value);
 }
 
-// The same of an answer that may be a refusal.
+// The same of an answer that may be an error.
 fn expect_answer(
     failures: &mut Failures,
     alloc: Global,

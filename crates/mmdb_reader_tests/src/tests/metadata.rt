@@ -18,7 +18,7 @@ const TOO_LATE: &str =
 const NO_LOCATION: &str =
     "invalid database: the MaxMind DB file's data pointer resolves to an invalid location";
 
-/// Changes of metadata, and the refusal.
+/// Changes of metadata, and the error.
 type Refusals = &'static [(Changes<'static>, &'static str)];
 
 const WITHOUT: &str = "0.0.0.0/1 false None";
@@ -72,7 +72,7 @@ fn accepted_and_refused(rt: HostRuntime) -> Result<(), Failures> {
     failures.verdict()
 }
 
-/// The first bytes of the base file, and the refusal. The marker ends at 38, and the metadata begin there:
+/// The first bytes of the base file, and the error. The marker ends at 38, and the metadata begin there:
 /// what stands in them has its place in the file.
 #[rattlefmt::skip]
 const BEGINNINGS: &[(usize, &str)] = &[
@@ -93,7 +93,7 @@ fn told_of_first(alloc: Global, len: usize) -> Result<String, AllocError> {
     told(alloc, Reader::from_source(alloc, beginning))
 }
 
-// Whether a refusal names the format.
+// Whether an error names the format.
 fn is_of_database(refusal: Result<String, AllocError>) -> bool {
     match refusal {
         Ok(refusal) => refusal.starts_with("invalid database"),
@@ -157,7 +157,7 @@ const FAULTS: Refusals = &[
     ),
 ];
 
-/// Metadata whose values are not read, and the refusal. `InvalidDatabase` counts from the start of the
+/// Metadata whose values are not read, and the error. `InvalidDatabase` counts from the start of the
 /// file, the others from that of the metadata: these begin at 36 and the length of the data.
 #[rattlefmt::skip]
 const UNREAD: Refusals = &[
@@ -200,7 +200,7 @@ const UNREAD_LATER: Refusals = &[
     ),
 ];
 
-// The refusal of a file of these data and changed metadata, or `ok`.
+// The error of a file of these data and changed metadata, or `ok`.
 fn refusal(alloc: Global, data: &[u8], changes: Changes<'_>) -> Result<String, AllocError> {
     let file = changed_file(alloc, BASE_NODE, data, changes)?;
     told(alloc, Reader::from_source(alloc, file))

@@ -57,7 +57,7 @@ fn push_word(words: &mut Vec<String>, alloc: Global, text: &str) {
     let _ = words.push(String::from_str(alloc, text).unwrap_or(String::new(alloc)));
 }
 
-/// The words of a run, the program's name first.
+/// The arguments of a run, the program's name first.
 pub(crate) fn words_with(alloc: Global, texts: &[&str]) -> Vec<String> {
     let mut words = Vec::new(alloc);
     push_word(&mut words, alloc, "mmdb");

@@ -323,7 +323,7 @@ fn is_as_wanted(run: &Run, status: u8, written: &str, told: &str) -> bool {
         && run.err().is_empty() == told.is_empty()
 }
 
-// Asserts what the program does with its words over a file.
+// Asserts what the program does with its arguments over a file.
 fn assert_runs(rt: &impl Abort, alloc: Global, bytes: &[u8], rows: &[Row<'_>]) {
     for (words, status, written, told) in rows {
         let run = run_of(alloc, bytes, words, "");

@@ -8,7 +8,7 @@ use std::alloc::Global;
 use std::fmt::Display;
 use std::process::Abort;
 
-/// The refusal of a range of IPv6 in an IPv4 file.
+/// The error of a range of IPv6 in an IPv4 file.
 pub(crate) const OF_RANGE: &str =
     "invalid input: cannot iterate IPv6 network in IPv4-only database";
 

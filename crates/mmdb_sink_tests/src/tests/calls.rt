@@ -1,6 +1,6 @@
 //! Each public call that can be refused, once with enough memory. The others answer a plain value.
 use super::asserts::{assert_holds, opened};
-use super::growths::{Met, error_met};
+use super::growths::{Outcome, error_met};
 use super::made::{CONSTRUCTORS, made};
 use super::reads::{PAIRS, is_done, of_decoders, of_types};
 use mmdb_reader::{
@@ -38,7 +38,7 @@ fn of_errors(rt: &impl Abort, alloc: Global) {
     for (name, constructor) in CONSTRUCTORS {
         // An error, and not one of memory.
         let met = error_met(made(alloc, constructor));
-        assert_holds(rt, met == Met::Refusal, name);
+        assert_holds(rt, met == Outcome::Refusal, name);
     }
 }
 

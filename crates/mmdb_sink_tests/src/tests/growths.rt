@@ -40,33 +40,37 @@ pub(crate) enum Call {
 
 /// What came of a call.
 #[derive(Clone, Copy, PartialEq, Eq)]
-pub(crate) enum Met {
+pub(crate) enum Outcome {
     Memory,
     Answer,
     Refusal,
     Wrong,
 }
 
-fn kind_met(error: &MaxMindDbError) -> Met {
+fn kind_met(error: &MaxMindDbError) -> Outcome {
     match error {
-        MaxMindDbError::Memory => Met::Memory,
-        _ => Met::Refusal,
+        MaxMindDbError::Memory => Outcome::Memory,
+        _ => Outcome::Refusal,
     }
 }
 
 /// What an error says of a call.
-pub(crate) fn error_met(error: MaxMindDbError) -> Met {
+pub(crate) fn error_met(error: MaxMindDbError) -> Outcome {
     kind_met(&error)
 }
 
-fn answer_met(is_right: bool) -> Met {
-    if is_right { Met::Answer } else { Met::Wrong }
+fn answer_met(is_right: bool) -> Outcome {
+    if is_right {
+        Outcome::Answer
+    } else {
+        Outcome::Wrong
+    }
 }
 
 /// What an answer says of a call.
-pub(crate) fn outcome<T: Drop>(answer: Result<T, MaxMindDbError>) -> Met {
+pub(crate) fn outcome<T: Drop>(answer: Result<T, MaxMindDbError>) -> Outcome {
     match answer {
-        Ok(_) => Met::Answer,
+        Ok(_) => Outcome::Answer,
         Err(error) => error_met(error),
     }
 }
@@ -121,50 +125,50 @@ impl Given {
     }
 }
 
-fn line_met(alloc: Global, given: &Given, address: IpAddr) -> Met {
+fn line_met(alloc: Global, given: &Given, address: IpAddr) -> Outcome {
     match lookup_line(alloc, &given.base, address) {
         Ok(line) => answer_met(line.as_str() == LEAF),
         Err(error) => error_met(error),
     }
 }
 
-fn list_error_met(error: ListError) -> Met {
+fn list_error_met(error: ListError) -> Outcome {
     match error {
         ListError::Database(error) => error_met(error),
-        _ => Met::Wrong,
+        _ => Outcome::Wrong,
     }
 }
 
-fn list_met(alloc: Global, given: &Given, range: IpNetwork, sink: &mut OneByte) -> Met {
+fn list_met(alloc: Global, given: &Given, range: IpNetwork, sink: &mut OneByte) -> Outcome {
     match list_to(alloc, &given.base, range, WithinOptions::default(), sink) {
-        Ok(()) => Met::Answer,
+        Ok(()) => Outcome::Answer,
         Err(error) => list_error_met(error),
     }
 }
 
-fn report_error_met(error: ReportError) -> Met {
+fn report_error_met(error: ReportError) -> Outcome {
     match error {
         ReportError::Database(error) => error_met(error),
-        ReportError::TooMany => Met::Wrong,
+        ReportError::TooMany => Outcome::Wrong,
     }
 }
 
-fn report_met(alloc: Global, given: &Given, range: IpNetwork) -> Met {
+fn report_met(alloc: Global, given: &Given, range: IpNetwork) -> Outcome {
     match report_on(alloc, &given.offsets, range, WithinOptions::default()) {
         Ok(report) => answer_met(report.distinct_offsets == 20),
         Err(error) => report_error_met(error),
     }
 }
 
-fn text_met(alloc: Global, network: IpNetwork) -> Met {
+fn text_met(alloc: Global, network: IpNetwork) -> Outcome {
     match network.full_text(alloc) {
-        Ok(_) => Met::Answer,
-        Err(_) => Met::Memory,
+        Ok(_) => Outcome::Answer,
+        Err(_) => Outcome::Memory,
     }
 }
 
 // What comes of a call.
-fn met_by(alloc: Global, call: &Call, given: &Given, sink: &mut OneByte) -> Met {
+fn met_by(alloc: Global, call: &Call, given: &Given, sink: &mut OneByte) -> Outcome {
     let options = WithinOptions::default();
     match call {
         Call::Within => outcome(given.base.within(alloc, given.ipv4, options)),
@@ -196,7 +200,7 @@ fn budget_of(call: &Call, step: usize) -> usize
 }
 
 // What comes of a call where about so many bytes are left. Only a list writes something, and all of it or nothing.
-fn met_within(rt: &impl Abort, alloc: Global, call: &Call, given: &Given, budget: usize) -> Met
+fn met_within(rt: &impl Abort, alloc: Global, call: &Call, given: &Given, budget: usize) -> Outcome
     requires { budget < 1000000 }
 {
     let mut sink = one_byte(rt, alloc, 100, End::Refuses);
@@ -204,21 +208,21 @@ fn met_within(rt: &impl Abort, alloc: Global, call: &Call, given: &Given, budget
     let met = met_by(alloc, call, given, &mut sink);
     drop(small);
     let wrote = match call {
-        Call::List if met == Met::Answer => LEAF,
+        Call::List if met == Outcome::Answer => LEAF,
         _ => "",
     };
     assert_holds(rt, sink.bytes() == wrote.as_bytes(), "what a list wrote");
     met
 }
 
-// How often a call is refused for want of memory, and what comes of it then.
-fn refusals(rt: &impl Abort, alloc: Global, call: &Call, given: &Given) -> (u32, Met) {
+// How often a call fails for lack of memory, and what comes of it then.
+fn refusals(rt: &impl Abort, alloc: Global, call: &Call, given: &Given) -> (u32, Outcome) {
     let large = Hoard::of_large_blocks(alloc);
     let mut refused = 0u32;
-    let mut met = Met::Memory;
+    let mut met = Outcome::Memory;
     for step in 0..512usize {
         met = met_within(rt, alloc, call, given, budget_of(call, step));
-        if met != Met::Memory {
+        if met != Outcome::Memory {
             break;
         }
         refused = refused.saturating_add(1);
@@ -229,7 +233,7 @@ fn refusals(rt: &impl Abort, alloc: Global, call: &Call, given: &Given) -> (u32,
 
 /// A call by name, what it meets with enough memory, and how often it is refused for it before, at least and at
 /// most.
-pub(crate) type Row = (&'static str, Call, Met, u32, u32);
+pub(crate) type Row = (&'static str, Call, Outcome, u32, u32);
 
 // Asserts what a call meets.
 fn assert_met(rt: &impl Abort, alloc: Global, given: &Given, row: &Row) {
@@ -247,25 +251,25 @@ pub(crate) fn assert_all_met(rt: &impl Abort, alloc: Global, rows: &[Row]) {
     }
 }
 
-/// The calls; one that takes no memory is never refused for it.
+/// The calls; one that takes no memory never fails for it.
 #[rattlefmt::skip]
 const CALLS: &[Row] = &[
-    ("within", Call::Within, Met::Answer, 1, 511),
-    ("within of IPv6", Call::WithinOfIpv6, Met::Refusal, 0, 0),
-    ("networks", Call::Networks, Met::Answer, 1, 511),
-    ("lookup_line of IPv6", Call::LineOfIpv6, Met::Refusal, 0, 0),
-    ("list_to of IPv6", Call::ListOfIpv6, Met::Refusal, 0, 0),
-    ("report_on of IPv6", Call::ReportOfIpv6, Met::Refusal, 0, 0),
-    ("from_source", Call::RefusedSource, Met::Refusal, 1, 511),
-    ("full_text", Call::FullText, Met::Answer, 1, 511),
-    ("Checked::new", Call::NewChecked, Met::Answer, 1, 511),
-    ("invalid_database", Call::Made(&Constructor::InvalidDatabase), Met::Refusal, 1, 511),
-    ("invalid_database_at", Call::Made(&Constructor::InvalidDatabaseAt), Met::Refusal, 1, 511),
-    ("decoding", Call::Made(&Constructor::Decoding), Met::Refusal, 1, 511),
-    ("decoding_at", Call::Made(&Constructor::DecodingAt), Met::Refusal, 1, 511),
-    ("decoding_at_path", Call::Made(&Constructor::DecodingAtPath), Met::Refusal, 1, 511),
-    ("resource_limit_at", Call::Made(&Constructor::ResourceLimitAt), Met::Refusal, 1, 511),
-    ("invalid_input", Call::Made(&Constructor::InvalidInput), Met::Refusal, 1, 511),
+    ("within", Call::Within, Outcome::Answer, 1, 511),
+    ("within of IPv6", Call::WithinOfIpv6, Outcome::Refusal, 0, 0),
+    ("networks", Call::Networks, Outcome::Answer, 1, 511),
+    ("lookup_line of IPv6", Call::LineOfIpv6, Outcome::Refusal, 0, 0),
+    ("list_to of IPv6", Call::ListOfIpv6, Outcome::Refusal, 0, 0),
+    ("report_on of IPv6", Call::ReportOfIpv6, Outcome::Refusal, 0, 0),
+    ("from_source", Call::RefusedSource, Outcome::Refusal, 1, 511),
+    ("full_text", Call::FullText, Outcome::Answer, 1, 511),
+    ("Checked::new", Call::NewChecked, Outcome::Answer, 1, 511),
+    ("invalid_database", Call::Made(&Constructor::InvalidDatabase), Outcome::Refusal, 1, 511),
+    ("invalid_database_at", Call::Made(&Constructor::InvalidDatabaseAt), Outcome::Refusal, 1, 511),
+    ("decoding", Call::Made(&Constructor::Decoding), Outcome::Refusal, 1, 511),
+    ("decoding_at", Call::Made(&Constructor::DecodingAt), Outcome::Refusal, 1, 511),
+    ("decoding_at_path", Call::Made(&Constructor::DecodingAtPath), Outcome::Refusal, 1, 511),
+    ("resource_limit_at", Call::Made(&Constructor::ResourceLimitAt), Outcome::Refusal, 1, 511),
+    ("invalid_input", Call::Made(&Constructor::InvalidInput), Outcome::Refusal, 1, 511),
 ];
 
 #[test]

@@ -1,6 +1,6 @@
 //! Lines, lists and reports where memory is refused.
 use super::asserts::{OF_RANGE, assert_holds, assert_printed, opened};
-use super::growths::{Call, Met, Row, assert_all_met, outcome};
+use super::growths::{Call, Outcome, Row, assert_all_met, outcome};
 use mmdb_reader::{IpNetwork, Reader, WithinOptions};
 use mmdb_report::report_on;
 use mmdb_tool::lookup_line;
@@ -8,11 +8,11 @@ use mmdb_vectors::base::{BASE_FILE, high};
 use mmdb_vectors::hoard::Hoard;
 use std::alloc::Global;
 
-const LIST: &[Row] = &[("list_to", Call::List, Met::Answer, 128, 255)];
+const LIST: &[Row] = &[("list_to", Call::List, Outcome::Answer, 128, 255)];
 
-const LINE: &[Row] = &[("lookup_line", Call::Line, Met::Answer, 2, 255)];
+const LINE: &[Row] = &[("lookup_line", Call::Line, Outcome::Answer, 2, 255)];
 
-const REPORT: &[Row] = &[("report_on", Call::Report, Met::Answer, 2, 511)];
+const REPORT: &[Row] = &[("report_on", Call::Report, Outcome::Answer, 2, 511)];
 
 #[test]
 fn growths_of_lists_refused_in_turn(rt: HostRuntime) {
@@ -30,7 +30,7 @@ fn growths_of_reports_refused_in_turn(rt: HostRuntime) {
 }
 
 // What comes of a line where every growth is refused.
-fn met_without_memory(alloc: Global, reader: &Reader<&[u8]>) -> Met {
+fn met_without_memory(alloc: Global, reader: &Reader<&[u8]>) -> Outcome {
     let large = Hoard::of_large_blocks(alloc);
     let small = Hoard::of_all_left(alloc);
     let line = lookup_line(alloc, reader, high());
@@ -43,7 +43,7 @@ fn met_without_memory(alloc: Global, reader: &Reader<&[u8]>) -> Met {
 fn line_without_memory(rt: HostRuntime) {
     let reader = opened(&rt, rt.alloc(), BASE_FILE);
     let met = met_without_memory(rt.alloc(), &reader);
-    assert_holds(&rt, met == Met::Memory, "a line");
+    assert_holds(&rt, met == Outcome::Memory, "a line");
 }
 
 #[test]

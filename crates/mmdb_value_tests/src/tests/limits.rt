@@ -13,7 +13,7 @@ type Parts = &'static [(&'static [u8], usize)];
 /// What a section is read as, and what is told of it.
 #[derive(Clone, Copy)]
 enum Wanted {
-    /// Any value, of which only is told that it is read, or the refusal.
+    /// Any value, of which only is told that it is read, or the error.
     Any,
     /// Any value, as it is printed. So are the others.
     Value,

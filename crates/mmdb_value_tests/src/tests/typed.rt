@@ -9,7 +9,7 @@ use std::fmt::Debug;
 
 type Rows = &'static [(&'static [u8], &'static str)];
 
-// Notes the sections that are read as something else: the value, as it is printed, or the refusal.
+// Notes the sections that are read as something else: the value, as it is printed, or the error.
 fn expect_shown<'de, T: Decode<'de> + Debug>(
     failures: &mut Failures,
     alloc: Global,

@@ -5,7 +5,7 @@ use mmdb_vectors::answer::shown;
 use mmdb_vectors::failures::Failures;
 use std::alloc::Global;
 
-/// Sections, and the value at the beginning of each, as it is printed, or the refusal.
+/// Sections, and the value at the beginning of each, as it is printed, or the error.
 type Rows = &'static [(&'static [u8], &'static str)];
 
 #[rattlefmt::skip]
@@ -53,7 +53,7 @@ const RAW: Rows = &[
     (b"\xE1\x41\xFF\x42\xFF\xFE", "Map([([255], String([255, 254]))])"),
 ];
 
-/// Sections at whose beginning no value stands, and the refusal.
+/// Sections at whose beginning no value stands, and the error.
 #[rattlefmt::skip]
 const REFUSED: Rows = &[
     (b"\xA1", "invalid database at offset 0: u16 of size 1"),

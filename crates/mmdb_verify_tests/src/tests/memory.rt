@@ -10,28 +10,28 @@ use std::process::Abort;
 
 /// What came of a verification.
 #[derive(Clone, Copy, PartialEq, Eq)]
-enum Met {
+enum Outcome {
     Memory,
     Whole,
     Refusal,
 }
 
-fn kind_met(error: &MaxMindDbError) -> Met {
+fn kind_met(error: &MaxMindDbError) -> Outcome {
     match error {
-        MaxMindDbError::Memory => Met::Memory,
-        _ => Met::Refusal,
+        MaxMindDbError::Memory => Outcome::Memory,
+        _ => Outcome::Refusal,
     }
 }
 
-fn outcome(answer: Result<(), MaxMindDbError>) -> Met {
+fn outcome(answer: Result<(), MaxMindDbError>) -> Outcome {
     match answer {
-        Ok(()) => Met::Whole,
+        Ok(()) => Outcome::Whole,
         Err(error) => kind_met(&error),
     }
 }
 
 // What came of the verification of a file where about so many bytes are left.
-fn met_within(alloc: Global, reader: &Reader<Vec<u8>>, budget: usize) -> Met
+fn met_within(alloc: Global, reader: &Reader<Vec<u8>>, budget: usize) -> Outcome
     requires { budget < 1000000 }
 {
     let small = Hoard::of_all_but(alloc, budget);
@@ -40,14 +40,14 @@ fn met_within(alloc: Global, reader: &Reader<Vec<u8>>, budget: usize) -> Met
     outcome(answer)
 }
 
-// How often a verification is refused for want of memory, and what comes of it then.
-fn refused_in_turn(alloc: Global, reader: &Reader<Vec<u8>>) -> (u32, Met) {
+// How often a verification fails for lack of memory, and what comes of it then.
+fn refused_in_turn(alloc: Global, reader: &Reader<Vec<u8>>) -> (u32, Outcome) {
     let large = Hoard::of_large_blocks(alloc);
     let mut refused = 0u32;
-    let mut met = Met::Memory;
+    let mut met = Outcome::Memory;
     for step in 0..256usize {
         met = met_within(alloc, reader, step * 16);
-        if met != Met::Memory {
+        if met != Outcome::Memory {
             break;
         }
         refused = refused.saturating_add(1);
@@ -56,12 +56,12 @@ fn refused_in_turn(alloc: Global, reader: &Reader<Vec<u8>>) -> (u32, Met) {
     (refused, met)
 }
 
-// Asserts that the verification of a file is refused for want of memory at first, and what comes of it then.
+// Asserts that the verification of a file is refused for lack of memory at first, and what comes of it then.
 fn assert_in_turn(
     rt: &impl Abort,
     alloc: Global,
     file: Result<Vec<u8>, AllocError>,
-    last: Met,
+    last: Outcome,
     case: &str,
 ) {
     let reader = opened(rt, alloc, file);
@@ -74,6 +74,12 @@ fn growths_refused_in_turn(rt: HostRuntime) {
     let alloc = rt.alloc();
     // The base file takes the marks of the metadata, the points and the offsets of the walk, and the marks of the
     // data; the other is refused with a text that takes memory.
-    assert_in_turn(&rt, alloc, base_file(alloc), Met::Whole, "the base file");
-    assert_in_turn(&rt, alloc, ladder(alloc, 4), Met::Refusal, "a ladder");
+    assert_in_turn(
+        &rt,
+        alloc,
+        base_file(alloc),
+        Outcome::Whole,
+        "the base file",
+    );
+    assert_in_turn(&rt, alloc, ladder(alloc, 4), Outcome::Refusal, "a ladder");
 }

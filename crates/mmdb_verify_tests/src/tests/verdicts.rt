@@ -29,7 +29,7 @@ const TOO_MANY_96: &str =
 const TOO_MANY_351: &str =
     "invalid database: search tree appears to have a cycle or invalid structure (exceeded 351 iterations)";
 
-// What was found of a file: that it is whole, or the text of the refusal with its kind and its place.
+// What was found of a file: that it is whole, or the text of the error with its kind and its place.
 fn found_text(alloc: Global, found: Result<(), MaxMindDbError>) -> Result<String, AllocError> {
     match found {
         Ok(()) => String::from_str(alloc, WHOLE),
@@ -124,7 +124,7 @@ fn whole_files(rt: HostRuntime) {
     assert_verdict(&rt, alloc, file_without_subtree(alloc), WHOLE);
 }
 
-/// Data, and the refusal of their file.
+/// Data, and the error of their file.
 #[rattlefmt::skip]
 const REFUSED_DATA: &[(&[u8], &str)] = &[
     (
@@ -136,7 +136,7 @@ const REFUSED_DATA: &[(&[u8], &str)] = &[
     (b"\x02\x04\xA1\x05", "invalid database at offset 26: unexpected end of buffer"),
 ];
 
-/// Changes of metadata, and the refusal. The unknown field's pointer leads outside the metadata, which have 165
+/// Changes of metadata, and the error. The unknown field's pointer leads outside the metadata, which have 165
 /// bytes: reading skips it.
 #[rattlefmt::skip]
 const REFUSED_METADATA: &[(Changes<'static>, &str)] = &[
@@ -205,7 +205,7 @@ fn assert_in_any_order(
 #[test]
 fn records_in_any_order(rt: HostRuntime) {
     let alloc = rt.alloc();
-    // 27 arrays, a pointer and a hundred arrays are 128 levels. The place of a refusal is that of the value to
+    // 27 arrays, a pointer and a hundred arrays are 128 levels. The place of an error is that of the value to
     // which the pointer leads, where it is known by then, or of the array that is one level too many.
     assert_in_any_order(&rt, alloc, deep(alloc, 27), [0, 202, 258], WHOLE);
     assert_in_any_order(&rt, alloc, deep_last(alloc, 27, 56), [56, 0, 258], WHOLE);

@@ -20,7 +20,7 @@ pub(crate) fn assert_text(rt: &impl Abort, text: Result<String, AllocError>, wan
     assert!(rt; text.as_str() == wanted, "{text}, not {wanted}");
 }
 
-/// The text of a refusal, or what is said of an answer.
+/// The text of an error, or what is said of an answer.
 pub(crate) fn told<T: Drop>(
     alloc: Global,
     answer: Result<T, MaxMindDbError>,
@@ -32,7 +32,7 @@ pub(crate) fn told<T: Drop>(
     }
 }
 
-/// What is told of a refusal.
+/// What is told of an error.
 pub(crate) fn refusal(alloc: Global, error: MaxMindDbError) -> Result<String, AllocError> {
     format!(in alloc; "{error}")
 }

@@ -30,7 +30,7 @@ enum Wanted {
     Raw,
 }
 
-/// Data, what is asked for at its beginning, and the refusal.
+/// Data, what is asked for at its beginning, and the error.
 type Row = (&'static [u8], Wanted, &'static str);
 
 /// The data begin at 22 in the file:
@@ -130,7 +130,7 @@ const SECOND_ROWS: &[Row] = &[
     ),
 ];
 
-// The refusal of what a lookup leads to, or `read`.
+// The error of what a lookup leads to, or `read`.
 fn lookup_told(
     alloc: Global,
     found: Result<LookupResult<'_, Vec<u8>>, MaxMindDbError>,
@@ -154,7 +154,7 @@ fn file_told(
     }
 }
 
-// Asserts the text of the refusal of what stands behind the upper half of a file of a node and data, or `read`.
+// Asserts the text of the error of what stands behind the upper half of a file of a node and data, or `read`.
 fn assert_decoded(rt: &impl Abort, alloc: Global, node: &[u8], row: &Row) {
     let (data, wanted, text) = row;
     let opened = reader_of(alloc, file(alloc, node, data, BASE));

@@ -26,57 +26,61 @@ enum Call {
 
 /// What came of a call.
 #[derive(Clone, Copy, PartialEq, Eq)]
-enum Met {
+enum Outcome {
     Refusal,
     Answer,
     Wrong,
 }
 
-fn answer_met(is_right: bool) -> Met {
-    if is_right { Met::Answer } else { Met::Wrong }
-}
-
-// What an error says, where one of decoding is this.
-fn kind_met(error: &MaxMindDbError, of_decoding: Met) -> Met {
-    match error {
-        MaxMindDbError::Memory => Met::Refusal,
-        MaxMindDbError::Decoding { .. } => of_decoding,
-        _ => Met::Wrong,
+fn answer_met(is_right: bool) -> Outcome {
+    if is_right {
+        Outcome::Answer
+    } else {
+        Outcome::Wrong
     }
 }
 
-fn error_met(error: MaxMindDbError, of_decoding: Met) -> Met {
+// What an error says, where one of decoding is this.
+fn kind_met(error: &MaxMindDbError, of_decoding: Outcome) -> Outcome {
+    match error {
+        MaxMindDbError::Memory => Outcome::Refusal,
+        MaxMindDbError::Decoding { .. } => of_decoding,
+        _ => Outcome::Wrong,
+    }
+}
+
+fn error_met(error: MaxMindDbError, of_decoding: Outcome) -> Outcome {
     let met = kind_met(&error, of_decoding);
     drop(error);
     met
 }
 
-fn metadata_met(alloc: Global) -> Met {
+fn metadata_met(alloc: Global) -> Outcome {
     let Some(bytes) = BASE_FILE.get(METADATA_AT..) else {
-        return Met::Wrong;
+        return Outcome::Wrong;
     };
     match fuzzing::decode::<Metadata>(alloc, bytes) {
         Ok(metadata) => answer_met(metadata.node_count == 1),
-        Err(error) => error_met(error, Met::Wrong),
+        Err(error) => error_met(error, Outcome::Wrong),
     }
 }
 
-fn clone_met(metadata: &Metadata) -> Met {
+fn clone_met(metadata: &Metadata) -> Outcome {
     match metadata.clone() {
         Ok(cloned) => answer_met(cloned == *metadata),
-        Err(_error) => Met::Refusal,
+        Err(_error) => Outcome::Refusal,
     }
 }
 
-fn refused_met(alloc: Global) -> Met {
+fn refused_met(alloc: Global) -> Outcome {
     match fuzzing::decode::<Metadata>(alloc, b"\xE0") {
-        Ok(_) => Met::Wrong,
-        Err(error) => error_met(error, Met::Answer),
+        Ok(_) => Outcome::Wrong,
+        Err(error) => error_met(error, Outcome::Answer),
     }
 }
 
 // What comes of a call where about so many bytes are left.
-fn met_within(alloc: Global, call: &Call, metadata: &Metadata, budget: usize) -> Met
+fn met_within(alloc: Global, call: &Call, metadata: &Metadata, budget: usize) -> Outcome
     requires { budget < 1000000 }
 {
     let small = Hoard::of_all_but(alloc, budget);
@@ -89,14 +93,14 @@ fn met_within(alloc: Global, call: &Call, metadata: &Metadata, budget: usize) ->
     met
 }
 
-// How many runs met a refusal before the first that met none, and what that one met.
-fn refused_in_turn(alloc: Global, call: &Call, metadata: &Metadata) -> (u32, Met) {
+// How many runs met an error before the first that met none, and what that one met.
+fn refused_in_turn(alloc: Global, call: &Call, metadata: &Metadata) -> (u32, Outcome) {
     let large = Hoard::of_large_blocks(alloc);
     let mut refused = 0u32;
-    let mut met = Met::Refusal;
+    let mut met = Outcome::Refusal;
     for step in 0..256usize {
         met = met_within(alloc, call, metadata, step * 16);
-        if met != Met::Refusal {
+        if met != Outcome::Refusal {
             break;
         }
         refused = refused.saturating_add(1);
@@ -105,7 +109,7 @@ fn refused_in_turn(alloc: Global, call: &Call, metadata: &Metadata) -> (u32, Met
     (refused, met)
 }
 
-/// The calls by name, and how many runs of each meet a refusal at least.
+/// The calls by name, and how many runs of each meet an error at least.
 #[rattlefmt::skip]
 const CALLS: &[(&str, Call, u32)] = &[
     ("reading metadata", Call::ReadMetadata, 4),
@@ -118,7 +122,7 @@ fn growths_refused_in_turn(rt: HostRuntime) {
     let base = opened(&rt, rt.alloc(), base_file(rt.alloc()));
     for (name, call, least) in CALLS {
         let (refused, met) = refused_in_turn(rt.alloc(), call, base.metadata());
-        let is_right = met == Met::Answer && refused >= *least;
+        let is_right = met == Outcome::Answer && refused >= *least;
         assert_row(&rt, is_right, &(name, refused));
     }
 }
@@ -199,8 +203,8 @@ fn text_read(text: Option<&str>) -> Read {
 }
 
 fn error_read(error: MaxMindDbError) -> Read {
-    match error_met(error, Met::Wrong) {
-        Met::Refusal => Read::Memory,
+    match error_met(error, Outcome::Wrong) {
+        Outcome::Refusal => Read::Memory,
         _ => Read::Wrong,
     }
 }
@@ -227,7 +231,7 @@ fn read_of(alloc: Global, found: LookupResult<'_, Vec<u8>>, is_number: bool) -> 
     }
 }
 
-// The same of an answer that may be a refusal.
+// The same of an answer that may be an error.
 fn read_or_refused(
     alloc: Global,
     found: Result<LookupResult<'_, Vec<u8>>, MaxMindDbError>,

@@ -6,7 +6,7 @@ use mmdb_vectors::hoard::Hoard;
 use std::alloc::{AllocError, Global};
 use std::process::Abort;
 
-// The text of a network and of its offset, or of a refusal.
+// The text of a network and of its offset, or of an error.
 fn network_text(
     alloc: Global,
     network: Result<IpNetwork, MaxMindDbError>,
