@@ -10,7 +10,7 @@ use std::net::IpAddr;
 fn main(rt: HostRuntime) -> anyhow::Result<()> {
     let mut words = env::args(&rt)?.skip(1);
     let (Some(file), Some(address)) = (words.next(), words.next()) else {
-        bail!("usage: mmdb_city_example FILE ADDR");
+        bail!("usage: example_city FILE ADDR");
     };
     let reader = Reader::open_readfile(&rt, rt.alloc(), file.as_str())?;
     let address: IpAddr = address.parse()?;

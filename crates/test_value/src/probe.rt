@@ -1,7 +1,7 @@
 //! A record written by hand, from outside the crates that read.
 ghost use Rattle.std.specs.Prelude.{◌≡◌, Some, true, IfOk, IfErr, option_map};
 ghost use Rattle.mmdb_decode.specs.Refusal.{Refuses, answer};
-ghost use Rattle.mmdb_value_tests.specs.Probe.{Probe as SpecProbe, no_probe, probe_fields, probe_at};
+ghost use Rattle.test_value.specs.Probe.{Probe as SpecProbe, no_probe, probe_fields, probe_at};
 
 use mmdb_decode::decode::Decode;
 use mmdb_decode::decoder::Decoder;

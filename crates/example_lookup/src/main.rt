@@ -8,7 +8,7 @@ use std::net::IpAddr;
 
 fn main(rt: HostRuntime) -> anyhow::Result<()> {
     let Some(file) = env::args(&rt)?.nth(1) else {
-        bail!("usage: mmdb_example FILE");
+        bail!("usage: example_lookup FILE");
     };
     let reader = Reader::open_readfile(&rt, rt.alloc(), file.as_str())?;
 
