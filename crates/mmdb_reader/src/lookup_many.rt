@@ -12,8 +12,8 @@ use std::net::IpAddr;
 
 /// The answers for addresses, in their order: each address with what `lookup` answers for it.
 ///
-/// The walks of up to 64 addresses go on side by side, and no item takes memory. An address that can't be
-/// asked for is an error in its place, and the others come after it.
+/// Up to 64 addresses are walked together, side by side where one of them is of IPv4, and no item takes memory.
+/// An address that can't be asked for is an error in its place, and the others come after it.
 ///
 ///     let mut with_data = 0usize;
 ///     for (_, answer) in reader.lookup_many(addresses) {

@@ -73,6 +73,16 @@ fn first_words(addresses: &[IpAddr], words: &mut [u32; 64])
     }
 }
 
+// Whether one of these addresses is of IPv4.
+fn has_ipv4(addresses: &[IpAddr]) -> bool {
+    for address in addresses {
+        if address.is_ipv4() {
+            return true;
+        }
+    }
+    false
+}
+
 // The numbers of all lanes, ascending.
 fn all_lanes() -> [u8; 64] {
     let mut lanes = [0; 64];
@@ -278,15 +288,19 @@ impl Nodes<'_> {
         }
     }
 
-    /// Goes on with walks that have taken their first sixteen bits, to the end of each.
+    /// Goes on with walks that have taken their first sixteen bits, to the end of each. Most walks of IPv6 addresses
+    /// have ended by then, so a group without IPv4 is not walked side by side: making its words and its list costs
+    /// more than the reads that it waits for.
     pub(crate) fn go_on(&self, addresses: &[IpAddr], leaves: &mut [FoundLeaf; 64])
         requires { length addresses.now ≤ 64 }
         ensures { let tree = search_tree self.now.bytes.now self.now.node_count self.now.record_size in
             AllEnd tree addresses.now leaves.old leaves.new }
     {
-        let mut words = [0; 64];
-        first_words(addresses, &mut words);
-        self.walk_by_size(addresses, &words, leaves);
+        if has_ipv4(addresses) {
+            let mut words = [0; 64];
+            first_words(addresses, &mut words);
+            self.walk_by_size(addresses, &words, leaves);
+        }
         self.finish_all(addresses, leaves);
     }
 }
