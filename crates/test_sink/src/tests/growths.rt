@@ -68,7 +68,7 @@ fn answer_met(is_right: bool) -> Outcome {
 }
 
 /// What an answer says of a call.
-pub(crate) fn outcome<T: Drop>(answer: Result<T, MaxMindDbError>) -> Outcome {
+pub(crate) fn outcome_of<T: Drop>(answer: Result<T, MaxMindDbError>) -> Outcome {
     match answer {
         Ok(_) => Outcome::Answer,
         Err(error) => error_met(error),
@@ -171,18 +171,18 @@ fn text_met(alloc: Global, network: IpNetwork) -> Outcome {
 fn met_by(alloc: Global, call: &Call, given: &Given, sink: &mut OneByte) -> Outcome {
     let options = WithinOptions::default();
     match call {
-        Call::Within => outcome(given.base.within(alloc, given.ipv4, options)),
-        Call::WithinOfIpv6 => outcome(given.base.within(alloc, given.ipv6, options)),
-        Call::Networks => outcome(given.base.networks(alloc, options)),
+        Call::Within => outcome_of(given.base.within(alloc, given.ipv4, options)),
+        Call::WithinOfIpv6 => outcome_of(given.base.within(alloc, given.ipv6, options)),
+        Call::Networks => outcome_of(given.base.networks(alloc, options)),
         Call::Line => line_met(alloc, given, high()),
         Call::LineOfIpv6 => line_met(alloc, given, IPV6),
         Call::List => list_met(alloc, given, given.ipv4, sink),
         Call::ListOfIpv6 => list_met(alloc, given, given.ipv6, sink),
         Call::Report => report_met(alloc, given, given.ipv4),
         Call::ReportOfIpv6 => report_met(alloc, given, given.ipv6),
-        Call::RefusedSource => outcome(Reader::from_source(alloc, given.refused.as_slice())),
+        Call::RefusedSource => outcome_of(Reader::from_source(alloc, given.refused.as_slice())),
         Call::FullText => text_met(alloc, given.ipv4),
-        Call::NewChecked => outcome(Checked::new(alloc, BASE_DATA)),
+        Call::NewChecked => outcome_of(Checked::new(alloc, BASE_DATA)),
         Call::Made(constructor) => error_met(made(alloc, constructor)),
     }
 }

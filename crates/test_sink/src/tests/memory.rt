@@ -1,6 +1,6 @@
 //! Lines, lists and reports where memory is refused.
 use super::asserts::{OF_RANGE, assert_holds, assert_printed, opened};
-use super::growths::{Call, Outcome, Row, assert_all_met, outcome};
+use super::growths::{Call, Outcome, Row, assert_all_met, outcome_of};
 use mmdb_reader::{IpNetwork, Reader, WithinOptions};
 use mmdb_report::report_on;
 use mmdb_tool::lookup_line;
@@ -36,7 +36,7 @@ fn met_without_memory(alloc: Global, reader: &Reader<&[u8]>) -> Outcome {
     let line = lookup_line(alloc, reader, high());
     drop(small);
     drop(large);
-    outcome(line)
+    outcome_of(line)
 }
 
 #[test]

@@ -23,7 +23,7 @@ fn kind_met(error: &MaxMindDbError) -> Outcome {
     }
 }
 
-fn outcome(answer: Result<(), MaxMindDbError>) -> Outcome {
+fn outcome_of(answer: Result<(), MaxMindDbError>) -> Outcome {
     match answer {
         Ok(()) => Outcome::Whole,
         Err(error) => kind_met(&error),
@@ -37,7 +37,7 @@ fn met_within(alloc: Global, reader: &Reader<Vec<u8>>, budget: usize) -> Outcome
     let small = Hoard::of_all_but(alloc, budget);
     let answer = reader.verify(alloc);
     drop(small);
-    outcome(answer)
+    outcome_of(answer)
 }
 
 // How often a verification fails for lack of memory, and what comes of it then.
