@@ -1,5 +1,5 @@
 //! A type of one's own, as the documentation of `Decode` shows it.
-ghost use Rattle.std.specs.Prelude.{ℕ};
+ghost use Rattle.std.specs.Prelude.{ℕ, true, false};
 ghost use Rattle.mmdb_decode.specs.Scalars.{u32_at};
 
 use mmdb_decode::decode::Decode;
