@@ -48,7 +48,7 @@ fn short(n: usize) -> u32
     (n % (1 << 32)) as u32
 }
 
-// A value that is no pointer: its offset, its header, and the offset after the pointer that led to it.
+/// A value that is no pointer: its offset, its header, and the offset after the pointer that led to it.
 #[derive(Clone, Copy)]
 pub struct Place {
     pub offset: usize,

@@ -88,6 +88,7 @@ pub fn bytes_at(section: &[u8], offset: usize, len: usize) -> Option<&[u8]>
     }
 }
 
+/// The number of up to 16 big-endian bytes at an offset, if they end inside the section.
 #[inline(always)]
 #[tactic(auto, unfolding(crate::specs::Header::number_at, crate::specs::Header::bytes_at))]
 pub fn wide_number_at(section: &[u8], offset: usize, len: usize) -> Option<u128>
