@@ -13,7 +13,7 @@ use Rattle.mmdb_decode.specs.Peeking.{is_empty_container, empty_at}
 use Rattle.mmdb_reader.specs.Empty.{IsUnreadable, IsEmptyContainer}
 use Rattle.mmdb_reader.specs.Options.{includes_without_data, skips_empty}
 use Rattle.mmdb_reader.specs.ListingLaws.{ListedAgrees}
-use Rattle.mmdb_reader.specs.Listing.{Finding, DecodeErrorKind, Absent, Found, HasValueAt, LeadsNowhere, IsFaulty, IsListedWith, finding_at, finding_of_outcome, finding_unless_empty}
+use Rattle.mmdb_reader.specs.Listing.{Finding, Fault, Absent, Found, HasValueAt, LeadsNowhere, IsFaulty, IsListedWith, finding_at, finding_of_outcome, finding_unless_empty}
 
 -- the outcome of a number past the nodes
 pub outcome-offset : (db : Database) (number offset : ℕ) → number ≡ db.metadata.node_count + 16 + offset → offset < data_length db → outcome_of db number ≡ Offset offset
@@ -48,7 +48,7 @@ unfolding outcome_of
 outcome-end db number low = let test : nat_le number db.metadata.node_count ≡ true = le-leb _ _ low in rw test refl
 
 module _ (db : Database) (options : WithinOptions) (number : ℕ) where
-  finding-node : number < db.metadata.node_count → finding_at db options number ≡ Some DecodeErrorKind
+  finding-node : number < db.metadata.node_count → finding_at db options number ≡ Some Fault
   unfolding finding_at
   finding-node on = let test : nat_lt number db.metadata.node_count ≡ true = lt-ltb _ _ on in rw test refl
 
@@ -59,7 +59,7 @@ module _ (db : Database) (options : WithinOptions) (number : ℕ) where
   finding-end : number ≡ db.metadata.node_count → finding_at db options number ≡ cond (includes_without_data options) (Some Absent) None
   finding-end is = finding-off (omega arith) ∙ ap (finding_of_outcome db options) (outcome-end db number (omega arith))
 
-  finding-nowhere : db.metadata.node_count < number → ((offset : ℕ) → number ≡ db.metadata.node_count + 16 + offset → offset < data_length db → ⊥) → finding_at db options number ≡ Some DecodeErrorKind
+  finding-nowhere : db.metadata.node_count < number → ((offset : ℕ) → number ≡ db.metadata.node_count + 16 + offset → offset < data_length db → ⊥) → finding_at db options number ≡ Some Fault
   finding-nowhere past nowhere = finding-off (omega arith) ∙ ap (finding_of_outcome db options) (outcome-nowhere db number past nowhere)
 
   finding-value : (offset : ℕ) → number ≡ db.metadata.node_count + 16 + offset → offset < data_length db
@@ -67,7 +67,7 @@ module _ (db : Database) (options : WithinOptions) (number : ℕ) where
   finding-value offset is inside = finding-off (omega arith) ∙ ap (finding_of_outcome db options) (outcome-offset db number offset is inside)
 
 -- where empty values are left out
-unless_empty-none : (offset : ℕ) (empty : Option Bool) (finding : Finding) → finding_unless_empty empty offset ≡ Some finding → ((finding ≡ DecodeErrorKind) × (empty ≡ None)) ⊎ ((finding ≡ Found offset) × (empty ≡ Some false))
+unless_empty-none : (offset : ℕ) (empty : Option Bool) (finding : Finding) → finding_unless_empty empty offset ≡ Some finding → ((finding ≡ Fault) × (empty ≡ None)) ⊎ ((finding ≡ Found offset) × (empty ≡ Some false))
 unless_empty-none offset None finding e = inl (cc, refl)
 unless_empty-none offset (Some true) finding e = cc
 unless_empty-none offset (Some false) finding e = inr (cc, refl)
@@ -173,8 +173,8 @@ kind_of_leaf db leaf = elim (cases_lt (walk (tree_of db) leaf) db.metadata.node_
 ]
 
 module _ (db : Database) (options : WithinOptions) (leaf : List Bool) (finding : Finding) where
-  fault_is : Some DecodeErrorKind ≡ Some finding → IsFaulty db options leaf → IsListedWith db options leaf finding
-  fault_is e faulty = let same : DecodeErrorKind ≡ finding = cc in subst (IsListedWith db options leaf) same faulty
+  fault_is : Some Fault ≡ Some finding → IsFaulty db options leaf → IsListedWith db options leaf finding
+  fault_is e faulty = let same : Fault ≡ finding = cc in subst (IsListedWith db options leaf) same faulty
 
   sound_end : walk (tree_of db) leaf ≡ db.metadata.node_count → cond (includes_without_data options) (Some Absent) None ≡ Some finding → IsListedWith db options leaf finding
   sound_end is e = elim (cases_Bool (includes_without_data options)) [
@@ -212,9 +212,9 @@ module _ (db : Database) (options : WithinOptions) (leaf : List Bool) (finding :
 
 -- and each that has such a reason stands in the list
 pub finding-complete : (db : Database) (options : WithinOptions) (leaf : List Bool) (finding : Finding) → IsListedWith db options leaf finding → finding_at db options (walk (tree_of db) leaf) ≡ Some finding
-finding-complete db options leaf DecodeErrorKind (inl n) = finding-nowhere db options (walk (tree_of db) leaf) n.past (λ offset leads inside. n.nowhere offset (record { leads = leads; inside = inside }))
-finding-complete db options leaf DecodeErrorKind (inr (inl on)) = finding-node db options (walk (tree_of db) leaf) on
-finding-complete db options leaf DecodeErrorKind (inr (inr (skips, u))) =
+finding-complete db options leaf Fault (inl n) = finding-nowhere db options (walk (tree_of db) leaf) n.past (λ offset leads inside. n.nowhere offset (record { leads = leads; inside = inside }))
+finding-complete db options leaf Fault (inr (inl on)) = finding-node db options (walk (tree_of db) leaf) on
+finding-complete db options leaf Fault (inr (inr (skips, u))) =
     finding-value db options (walk (tree_of db) leaf) u.offset u.value.leads u.value.inside ∙ ap (λ (b : Bool). cond b (finding_unless_empty (empty_at (data_section db) u.offset) u.offset) (Some (Found u.offset))) skips
     ∙ ap (λ (empty : Option Bool). finding_unless_empty empty u.offset) (none-unreadable (data_section db) u.offset u.unreadable)
 finding-complete db options leaf Absent h = finding-end db options (walk (tree_of db) leaf) h.0 ∙ ap (λ (b : Bool). cond b (Some Absent) None) h.1
@@ -227,16 +227,16 @@ finding-complete db options leaf (Found offset) h =
 -- each leaf is listed with something where those without data are, and empty values are kept
 pub some_finding : (db : Database) (options : WithinOptions) (leaf : List Bool) → includes_without_data options ≡ true → skips_empty options ≡ false → (finding : Finding) × IsListedWith db options leaf finding
 some_finding db options leaf asked keeps = elim (kind_of_leaf db leaf) [
-  | OnNode on ↦ (DecodeErrorKind, inr (inl on))
+  | OnNode on ↦ (Fault, inr (inl on))
   | AtEnd is ↦ (Absent, (is, asked))
-  | Nowhere n ↦ (DecodeErrorKind, inl n)
+  | Nowhere n ↦ (Fault, inl n)
   | Value offset v ↦ (Found offset, (v, (not_faulty db options leaf offset v (λ skips. absurd (both_ways _ keeps skips)), λ skips. absurd (both_ways _ keeps skips))))
 ]
 
 -- ---- answers
 
 pub listed_agrees : ListedAgrees
-listed_agrees db options range leaf DecodeErrorKind address h can on = tt
+listed_agrees db options range leaf Fault address h can on = tt
 listed_agrees db options range leaf Absent address h can on = record {
   can_ask = can;
   is_leaf = h.is_leaf;

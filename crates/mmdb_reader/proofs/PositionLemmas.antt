@@ -1,6 +1,6 @@
 -- Positions, and the halves of their addresses.
-use Rattle.std.proofs.Common.{◌≡◌, ℕ, suc, ◌+◌, ◌-◌, ◌^◌, ◌<◌, ◌≤◌, ◌&&◌, not, cond, Bool, true, false, [], ◌∷◌, ◌++◌, length, take, refl, ap, arith, sym, ◌∙◌, inl, inr, length-append}
-use Rattle.std.proofs.lemmas.Bool.{cases_Bool}
+use Rattle.std.proofs.Common.{◌≡◌, ◌⊎◌, ◌==◌, nat_lt, nat_le, if◌then◌else◌, Some, None, ℕ, suc, ◌+◌, ◌-◌, ◌^◌, ◌<◌, ◌≤◌, ◌&&◌, not, cond, Bool, true, false, [], ◌∷◌, ◌++◌, length, take, refl, ap, arith, sym, ◌∙◌, inl, inr, length-append}
+use Rattle.std.proofs.lemmas.Bool.{cases_Bool, and_left, and_right, and_parts, not_from_true, ne_eqb, ltb-true}
 use Rattle.std.proofs.lemmas.List.{length-take-le}
 use Rattle.std.proofs.Math.Pow.{pow_mono, pow_pos}
 use Rattle.mmdb_net.specs.Bits.{bits_of}
@@ -11,9 +11,10 @@ use Rattle.mmdb_reader.specs.File.{Database, tree_of, width, has_ipv6}
 use Rattle.mmdb_reader.specs.Tree.{walk, step}
 use Rattle.mmdb_net.specs.Bits.{number_of}
 use Rattle.mmdb_reader.specs.Alias.{is_alias, is_alias_at}
-use Rattle.mmdb_reader.specs.Positions.{IsAt, bits_to, half_of}
+use Rattle.mmdb_reader.specs.Positions.{IsAt, HidesAliases, bits_to, half_of, is_high_at}
 use Rattle.mmdb_reader.specs.Listing.{is_hidden}
 use Rattle.mmdb_reader.specs.Options.{includes_aliased}
+use Rattle.mmdb_reader.specs.Shown.{ipv4_start, has_ipv4_subtree}
 use Rattle.mmdb_reader.proofs.WalkLemmas.{walk-append, walk-nil, walk-one}
 use Rattle.mmdb_reader.proofs.NumberLemmas.{number-room, number-snoc, take-bits-number}
 
@@ -97,3 +98,59 @@ alias-at db p at = elim (cases_Bool (has_ipv6 db)) [
 
 pub hidden-at : (db : Database) (options : WithinOptions) (p : Position) (found : Bool) → IsAt db p → found ≡ is_alias_at db p.number p.address → includes_aliased options ≡ false → found ≡ is_hidden db options (bits_to db p)
 hidden-at db options p found at is off = is ∙ alias-at db p at ∙ sym (ap (λ (b : Bool). not b && is_alias db (bits_to db p)) off)
+
+-- ---- what is hidden
+
+no_node : (db : Database) (p : Position) → p.number < db.metadata.node_count → is_high_at p db.metadata.node_count ≡ false
+no_node db p on = and_left (p.number == db.metadata.node_count) (nat_le (2 ^ 32) p.address) (ne_eqb p.number db.metadata.node_count (λ e. omega (arith, e, on)))
+
+-- where aliases are listed, nothing is hidden
+pub hides-listed : (db : Database) (options : WithinOptions) (hidden : ℕ) → hidden ≡ db.metadata.node_count → includes_aliased options ≡ true → HidesAliases db options hidden
+hides-listed db options hidden is listed p on =
+    ap (is_high_at p) is ∙ no_node db p on ∙ sym (and_left _ _ (not_from_true _ listed))
+
+and_both : (a b x : Bool) → (a && b) ≡ true → (a && (b && x)) ≡ x
+and_both true true x h = refl
+and_both true false x h = cc
+and_both false b x h = cc
+
+and_none : (a b x : Bool) → (a && b) ≡ false → (a && (b && x)) ≡ false
+and_none true true x h = cc
+and_none true false x h = refl
+and_none false b x h = refl
+
+if_some : (test : Bool) (a b : ℕ) → Some a ≡ (if test then Some b else None) → (test ≡ true) × (a ≡ b)
+if_some true a b e = (refl, cc)
+if_some false a b e = cc
+
+if_none : (test : Bool) (b : ℕ) → None ≡ (if test then Some b else None) → test ≡ false
+if_none true b e = cc
+if_none false b e = refl
+
+-- the node where IPv4 begins
+pub hides-some : (db : Database) (options : WithinOptions) (start : ℕ) → Some start ≡ (if has_ipv4_subtree db && nat_lt 0 (ipv4_start db) then Some (ipv4_start db) else None) → includes_aliased options ≡ false → HidesAliases db options start
+hides-some db options start is off p on =
+    let parts = if_some (has_ipv4_subtree db && nat_lt 0 (ipv4_start db)) start (ipv4_start db) is in
+    ap (is_high_at p) parts.1 ∙ sym (and_both (has_ipv4_subtree db) (nat_lt 0 (ipv4_start db)) (is_high_at p (ipv4_start db)) parts.0)
+    ∙ sym (ap (λ (b : Bool). not b && is_alias_at db p.number p.address) off)
+
+-- there is no such node
+pub hides-none : (db : Database) (options : WithinOptions) (hidden : ℕ) → hidden ≡ db.metadata.node_count → None ≡ (if has_ipv4_subtree db && nat_lt 0 (ipv4_start db) then Some (ipv4_start db) else None) → HidesAliases db options hidden
+hides-none db options hidden is none p on =
+    let without = if_none (has_ipv4_subtree db && nat_lt 0 (ipv4_start db)) (ipv4_start db) none in
+    ap (is_high_at p) is ∙ no_node db p on
+    ∙ sym (and_right (not (includes_aliased options)) (is_alias_at db p.number p.address) (and_none (has_ipv4_subtree db) (nat_lt 0 (ipv4_start db)) (is_high_at p (ipv4_start db)) without))
+
+-- a node that is found to be hidden or not, as a walk tests it
+pub hidden-node : (db : Database) (options : WithinOptions) (hidden : ℕ) (p : Position) (found : Bool) → HidesAliases db options hidden → IsAt db p → p.number < db.metadata.node_count → found ≡ is_high_at p hidden → found ≡ is_hidden db options (bits_to db p)
+hidden-node db options hidden p found hides at on is = is ∙ hides p on ∙ ap (λ (b : Bool). not (includes_aliased options) && b) (alias-at db p at)
+
+-- what is no node hides nothing
+no_alias-off : (db : Database) (p : Position) → db.metadata.node_count ≤ p.number → (subtree : Bool) → has_ipv4_subtree db ≡ subtree → is_alias_at db p.number p.address ≡ false
+no_alias-off db p off false is = and_left (has_ipv4_subtree db) _ is
+no_alias-off db p off true is =
+    let on : ipv4_start db < db.metadata.node_count = ltb-true (ipv4_start db) db.metadata.node_count (and_parts (has_ipv6 db) _ is).1 in
+    and_right (has_ipv4_subtree db) _ (and_right (nat_lt 0 (ipv4_start db)) _ (and_left (p.number == ipv4_start db) (nat_le (2 ^ 32) p.address) (ne_eqb p.number (ipv4_start db) (λ e. omega (arith, e, on, off)))))
+
+pub shown-off : (db : Database) (options : WithinOptions) (p : Position) → IsAt db p → db.metadata.node_count ≤ p.number → is_hidden db options (bits_to db p) ≡ false
+shown-off db options p at off = and_right (not (includes_aliased options)) (is_alias db (bits_to db p)) (sym (alias-at db p at) ∙ no_alias-off db p off (has_ipv4_subtree db) refl)

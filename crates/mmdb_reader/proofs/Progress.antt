@@ -9,7 +9,7 @@ use Rattle.mmdb_reader.specs.Stops.{stops, cut, is_fault, offset_of, offsets, mo
 use Rattle.mmdb_reader.specs.Walked.{half_of, GoesOn, IsStopped, is_alias_of, end_from}
 use Rattle.mmdb_reader.specs.declared.walked.Point.{Point}
 use Rattle.mmdb_reader.specs.declared.walked.End.{End}
-use Rattle.mmdb_reader.specs.declared.walked.End.TheVariants.{Alias, DecodeErrorKind, Absent, Found}
+use Rattle.mmdb_reader.specs.declared.walked.End.TheVariants.{Alias, Fault, Absent, Found}
 use Rattle.mmdb_reader.proofs.Visits.{Visit, visit, with_lead, with_lead-zero, visits_below, total, cut_visits, offsets_of, has_fault, visits_of, total-visits_of, length-visits_of, offsets-visits_of, fault-visits_of, cut-visits_of, visits-stops}
 use Rattle.mmdb_reader.proofs.Points.{visits_of_stack, step-node, step-stop}
 
@@ -251,7 +251,7 @@ adds_offset end offset q old e = ap (λ b. old || b) (or_none (offset == q)) ∙
 pub adds_none : (end : End) (q : ℕ) (old : Bool) → ((end ≡ Alias) ⊎ (end ≡ Absent)) → old ≡ (old || list_any (λ o. o == q) (offset_of end))
 adds_none end q old is = elim is [ inl e ↦ rw e (or_none old) | inr e ↦ rw e (or_none old) ]
 
-pub adds_fault : (end : End) (q : ℕ) (old : Bool) → end ≡ DecodeErrorKind → old ≡ (old || list_any (λ o. o == q) (offset_of end))
+pub adds_fault : (end : End) (q : ℕ) (old : Bool) → end ≡ Fault → old ≡ (old || list_any (λ o. o == q) (offset_of end))
 adds_fault end q old e = rw e (or_none old)
 
 pub no_fault : (end : End) → ((end ≡ Alias) ⊎ (end ≡ Absent)) → is_fault end ≡ false
@@ -280,7 +280,7 @@ outcome_inside db number offset e = elim (cases_Bool (leb number db.metadata.nod
 leaf_inside : (db : Database) (number offset : ℕ) → end_of_leaf db number ≡ Found offset → offset < data_length db
 unfolding end_of_leaf
 leaf_inside db number offset e = elim (cases_Bool (ltb number db.metadata.node_count)) [
-  | inl on ↦ absurd (let no : DecodeErrorKind ≡ Found offset = rw on at e in cc)
+  | inl on ↦ absurd (let no : Fault ≡ Found offset = rw on at e in cc)
   | inr off ↦ outcome_inside db number offset (of_outcome (outcome_of db number) offset (let same : end_of_outcome (outcome_of db number) ≡ Found offset = rw off at e in same))
 ]
 

@@ -1,5 +1,5 @@
 -- What a step of an enumeration does to what is still to come.
-use Rattle.std.proofs.Common.{◌≡◌, ℕ, ◌+◌, ◌-◌, ◌<◌, ◌≤◌, zero, suc, Bool, true, false, List, [], ◌∷◌, ◌++◌, Option, length, get_or, arith, sym, ap, ◌∙◌, refl, append_assoc, length-append, subst, ◌⊎◌, inl, inr}
+use Rattle.std.proofs.Common.{◌≡◌, ℕ, ◌+◌, ◌-◌, ◌<◌, ◌≤◌, zero, suc, Bool, true, false, List, [], ◌∷◌, ◌++◌, Option, Some, None, MatchOption, length, get_or, arith, sym, ap, ◌∙◌, refl, append_assoc, length-append, subst, ◌⊎◌, inl, inr}
 use Rattle.std.proofs.lemmas.List.{append-nil, get_or_append_left}
 use Rattle.std.proofs.Math.Seq.{get_or-append_seam}
 use Rattle.std.proofs.lemmas.Bool.{cases_lt}
@@ -8,7 +8,7 @@ use Rattle.mmdb_reader.specs.declared.positions.Position.{Position}
 use Rattle.mmdb_reader.specs.File.{Database, tree_of, width}
 use Rattle.mmdb_reader.specs.Tree.{walk}
 use Rattle.mmdb_reader.specs.Listing.{Finding, Listed, listed_below, list_if, is_hidden, finding_at}
-use Rattle.mmdb_reader.specs.Positions.{IsAt, HasHalves, IsEnd, IsPlaced, IsStack, bits_to, half_of, listed_from, listed_of_stack, positions_below, positions_left}
+use Rattle.mmdb_reader.specs.Positions.{IsAt, HasHalves, IsEnd, IsPlaced, IsStack, GoesOn, IsLowest, IsNothing, bits_to, half_of, listed_from, listed_of_stack, positions_below, positions_left}
 use Rattle.mmdb_reader.proofs.ListingSteps.{below-hidden, below-node, below-full, below-leaf}
 use Rattle.mmdb_reader.proofs.PositionLemmas.{bits_to-half, IsAt-half}
 
@@ -137,6 +137,60 @@ halves-stack db capacity same one_same two_same old xs one two p upper lower e p
     let last : (xs ++ half_of db p true ∷ []) ++ half_of db p false ∷ [] ≡ two = cc in
     let size : capacity ≡ two_same = omega arith in
     subst (λ (n : ℕ). IsStack db n two) size (subst (IsStack db capacity) last both)
+
+-- ---- going down
+
+module _ (db : Database) (options : WithinOptions) (capacity : ℕ) (old : List Position) where
+  -- where a walk goes down from
+  pub goes_on-start : IsStack db capacity old → GoesOn db options capacity old old
+  goes_on-start placed = record { placed = placed; lists = refl; left = omega arith }
+
+  module _ (xs : List Position) (p : Position) (on : GoesOn db options capacity old (xs ++ p ∷ [])) where
+    pub top-placed : IsPlaced db capacity (length xs) p
+    top-placed = IsStack-top db capacity xs p on.placed
+
+    -- behind an alias nothing is listed
+    pub goes_on-hidden : is_hidden db options (bits_to db p) ≡ true → IsNothing db options capacity old xs
+    goes_on-hidden hidden = record {
+      placed = IsStack-front db capacity xs p on.placed;
+      lists = sym (step-hidden db options xs p hidden) ∙ on.lists;
+      left = let less = leaf-smaller db options xs p in let left = on.left in omega (arith, less, left);
+    }
+
+    -- the upper half of a node is put on the stack, and the walk goes on at the lower one
+    pub goes_on-node : is_hidden db options (bits_to db p) ≡ false → HasHalves db p → GoesOn db options capacity old ((xs ++ half_of db p true ∷ []) ++ half_of db p false ∷ [])
+    goes_on-node shown halves = record {
+      placed = halves-stack db capacity capacity capacity capacity (xs ++ p ∷ []) xs (xs ++ half_of db p true ∷ []) ((xs ++ half_of db p true ∷ []) ++ half_of db p false ∷ []) p (half_of db p true) (half_of db p false)
+          refl on.placed halves refl refl refl refl refl refl refl;
+      lists = sym (step-node db options xs p top-placed.at shown halves) ∙ on.lists;
+      left = let less = node-smaller db options xs p halves.1 in let left = on.left in omega (arith, less, left);
+    }
+
+    -- it ends at a leaf
+    pub goes_on-leaf : is_hidden db options (bits_to db p) ≡ false → IsEnd db p → IsLowest db options capacity old xs p
+    goes_on-leaf shown ends = record { on = on; shown = shown; ends = ends }
+
+-- ---- what a walk has come down to
+
+module _ (db : Database) (options : WithinOptions) (capacity : ℕ) (old xs : List Position) (p : Position) (lowest : IsLowest db options capacity old xs p) where
+  pub lowest-at : IsAt db p
+  lowest-at = (IsStack-top db capacity xs p lowest.on.placed).at
+
+  -- the rest of the stack keeps its place
+  pub rest-placed : IsStack db capacity xs
+  rest-placed = IsStack-front db capacity xs p lowest.on.placed
+
+  pub lowest-smaller : positions_left (width db) xs < positions_left (width db) old
+  lowest-smaller = let less = leaf-smaller db options xs p in let left = lowest.on.left in omega (arith, less, left)
+
+  -- the leaf comes first, if it is listed
+  pub lowest-lists : (found : Option Finding) → found ≡ finding_at db options p.number → listed_of_stack db options old ≡ list_if (bits_to db p) found ++ listed_of_stack db options xs
+  lowest-lists found is = sym lowest.on.lists ∙ step-leaf db options xs p found lowest-at is lowest.shown lowest.ends
+
+-- what is left on the stack keeps its place, whether a leaf was met or an alias
+pub left-placed : (db : Database) (options : WithinOptions) (capacity same : ℕ) (old xs : List Position) (met : Option Position) → MatchOption met (IsNothing db options capacity old xs) (λ p. IsLowest db options capacity old xs p) → capacity ≡ same → IsStack db same xs
+left-placed db options capacity same old xs None nothing size = subst (λ (n : ℕ). IsStack db n xs) size nothing.placed
+left-placed db options capacity same old xs (Some p) lowest size = subst (λ (n : ℕ). IsStack db n xs) size (rest-placed db options capacity old xs p lowest)
 
 -- ---- the first position
 

@@ -5,7 +5,7 @@ use Rattle.std.proofs.lemmas.Bool.{cases_Bool, ltb-true, ltb-false, lt-ltb, le-l
 use Rattle.std.proofs.lemmas.List.{append-nil, map-append}
 use Rattle.std.proofs.lemmas.List.Elements.{Contains-append_left, Contains-append_right, Contains-append_cases}
 use Rattle.mmdb_reader.specs.declared.walked.End.{End}
-use Rattle.mmdb_reader.specs.declared.walked.End.TheVariants.{Alias, DecodeErrorKind, Absent, Found}
+use Rattle.mmdb_reader.specs.declared.walked.End.TheVariants.{Alias, Fault, Absent, Found}
 use Rattle.mmdb_reader.specs.File.{Database, tree_of, width}
 use Rattle.mmdb_reader.specs.Tree.{walk}
 use Rattle.mmdb_reader.specs.Lookup.{outcome_of}
@@ -134,7 +134,7 @@ module _ (db : Database) where
 
 -- ---- what a leaf has
 
-leaf_on : (db : Database) (number : ℕ) → number < db.metadata.node_count → end_of_leaf db number ≡ DecodeErrorKind
+leaf_on : (db : Database) (number : ℕ) → number < db.metadata.node_count → end_of_leaf db number ≡ Fault
 unfolding end_of_leaf
 leaf_on db number on = let test : ltb number db.metadata.node_count ≡ true = lt-ltb _ _ on in rw test refl
 
@@ -142,7 +142,7 @@ leaf_off : (db : Database) (number : ℕ) → db.metadata.node_count ≤ number 
 unfolding end_of_leaf
 leaf_off db number off = let test : ltb number db.metadata.node_count ≡ false = le-ltb _ _ off in rw test refl
 
-nowhere-end : (db : Database) (leaf : List Bool) → LeadsNowhere db leaf → end_of_leaf db (walk (tree_of db) leaf) ≡ DecodeErrorKind
+nowhere-end : (db : Database) (leaf : List Bool) → LeadsNowhere db leaf → end_of_leaf db (walk (tree_of db) leaf) ≡ Fault
 nowhere-end db leaf n =
     let past = n.past in
     leaf_off db (walk (tree_of db) leaf) (omega (arith, past)) ∙ ap end_of_outcome (outcome-nowhere db (walk (tree_of db) leaf) past (λ offset leads inside. n.nowhere offset (record { leads = leads; inside = inside })))
@@ -168,9 +168,9 @@ no_skip e = cc
 
 pub end-has : (db : Database) (leaf : List Bool) (end : End) → HasEnd db leaf end → end_of_leaf db (walk (tree_of db) leaf) ≡ end
 end-has db leaf Alias h = absurd h
-end-has db leaf DecodeErrorKind (inl n) = nowhere-end db leaf n
-end-has db leaf DecodeErrorKind (inr (inl on)) = leaf_on db (walk (tree_of db) leaf) on
-end-has db leaf DecodeErrorKind (inr (inr (skips, u))) = no_skip skips
+end-has db leaf Fault (inl n) = nowhere-end db leaf n
+end-has db leaf Fault (inr (inl on)) = leaf_on db (walk (tree_of db) leaf) on
+end-has db leaf Fault (inr (inr (skips, u))) = no_skip skips
 end-has db leaf Absent h = absent-end db leaf h
 end-has db leaf (Found offset) h = value-end db leaf offset h
 

@@ -11,7 +11,7 @@ use Rattle.mmdb_check.specs.Checking.{holds, none, IsGood, CanAddAll}
 use Rattle.mmdb_check.specs.OffsetSet.{offsets_of}
 use Rattle.mmdb_check.proofs.Members.{can_add_places, can_add_at, good_tree}
 use Rattle.mmdb_reader.specs.declared.walked.End.{End}
-use Rattle.mmdb_reader.specs.declared.walked.End.TheVariants.{Alias, DecodeErrorKind, Absent, Found}
+use Rattle.mmdb_reader.specs.declared.walked.End.TheVariants.{Alias, Fault, Absent, Found}
 use Rattle.mmdb_reader.specs.File.{Database, data_section}
 use Rattle.mmdb_reader.specs.Stops.{Stop, stop, stops, is_fault, offset_of, offsets, most_stops}
 use Rattle.mmdb_reader.specs.Walked.{HoldsOffsets}
@@ -47,14 +47,14 @@ free_fault : (ms : List Stop) → ((m : Stop) → Contains ms m → is_fault m.e
 free_fault [] h = refl
 free_fault (n ∷ ms) h = rw (h n (0, omega arith, refl)) (free_fault ms (λ m c. h m (suc c.0, let b = c.1 in omega (arith, b), c.2)))
 
-the_fault : (end : End) → is_fault end ≡ true → end ≡ DecodeErrorKind
-the_fault DecodeErrorKind h = refl
+the_fault : (end : End) → is_fault end ≡ true → end ≡ Fault
+the_fault Fault h = refl
 the_fault Alias h = absurd (cc)
 the_fault Absent h = absurd (cc)
 the_fault (Found offset) h = absurd (cc)
 
-no_alias_fault : (end : End) → end ≡ Alias → end ≡ DecodeErrorKind → ⊥
-no_alias_fault end a b = let e : Alias ≡ DecodeErrorKind = sym a ∙ b in cc
+no_alias_fault : (end : End) → end ≡ Alias → end ≡ Fault → ⊥
+no_alias_fault end a b = let e : Alias ≡ Fault = sym a ∙ b in cc
 
 -- no stop is a fault, and there are not too many
 pub record IsClean (db : Database) : Type 0 where
@@ -64,8 +64,8 @@ pub record IsClean (db : Database) : Type 0 where
 pub tree_of_clean : (db : Database) → IsClean db → HasWholeTree db
 tree_of_clean db clean = record {
   faultless = λ leaf walked faulty.
-      let there = (stops_exact db (stop leaf DecodeErrorKind)).1 (inr (walked, faulty)) in
-      both_ways _ (fault_free (stops db) clean.faultless (stop leaf DecodeErrorKind) there) refl;
+      let there = (stops_exact db (stop leaf Fault)).1 (inr (walked, faulty)) in
+      both_ways _ (fault_free (stops db) clean.faultless (stop leaf Fault) there) refl;
   few = clean.few;
 }
 
@@ -94,7 +94,7 @@ unfolding offsets
 offsets_cons m ms = refl
 
 the_offset : (end : End) (offset : ℕ) → Contains (offset_of end) offset → end ≡ Found offset
-the_offset DecodeErrorKind offset (k, below, is) = absurd (omega arith)
+the_offset Fault offset (k, below, is) = absurd (omega arith)
 the_offset Alias offset (k, below, is) = absurd (omega arith)
 the_offset Absent offset (k, below, is) = absurd (omega arith)
 the_offset (Found o) offset (zero, below, is) = ap Found is

@@ -6,7 +6,7 @@ use Rattle.std.specs.declared.convert.AsSlice.{Ghosts}
 use Rattle.mmdb_format.specs.declared.error.MaxMindDbError.{MaxMindDbError}
 use Rattle.mmdb_reader.specs.declared.lookup_result.LookupResult.{LookupResult}
 use Rattle.mmdb_reader.specs.declared.options.WithinOptions.{WithinOptions}
-use Rattle.mmdb_reader.specs.declared.walking.Within.{Within}
+use Rattle.mmdb_reader.specs.declared.within.Within.{Within}
 use Rattle.mmdb_reader.specs.File.{Database}
 use Rattle.mmdb_reader.specs.Items.{Item, items_of, item_view, IsItemOf}
 use Rattle.mmdb_reader.specs.Listing.{Listed, IsListing}
@@ -15,7 +15,7 @@ use Rattle.mmdb_reader.specs.Positions.{listed_of_stack}
 module _ {S : Type 0} {G : Ghosts S ℕ} where
   -- the database that is walked
   abbrev pub database_walked : Within S G → Database
-  database_walked w = w.reader.now
+  database_walked w = w.walker.reader.now
 
   -- how many positions an enumeration has memory for
   abbrev pub positions_reserved : Within S G → ℕ
@@ -23,7 +23,7 @@ module _ {S : Type 0} {G : Ghosts S ℕ} where
 
   -- the items that an enumeration has still to give
   unfoldable pub items_to_come : Within S G → List Item
-  items_to_come w = items_of w.reader.now (listed_of_stack w.reader.now w.options w.stack.items)
+  items_to_come w = items_of w.walker.reader.now (listed_of_stack w.walker.reader.now w.options w.stack.items)
 
   -- one step: the first of the items to come, of the same database; the positions reserved stay all that there are
   abbrev pub YieldsItem : Within S G → Option (Result (LookupResult S G) MaxMindDbError) → Within S G → Type 0

@@ -2,12 +2,12 @@
 use Rattle.std.specs.Prelude.{◌≡◌, ℕ, Option, Some, None, Result, Ok, Err, IfSome, IfErr}
 use Rattle.mmdb_format.specs.Error.{OfDatabase, kind_of}
 use Rattle.mmdb_format.specs.declared.error.MaxMindDbError.{MaxMindDbError}
-use Rattle.mmdb_reader.specs.Listing.{Finding, DecodeErrorKind, Absent, Found}
+use Rattle.mmdb_reader.specs.Listing.{Finding, Fault, Absent, Found}
 
 -- an error is a fault, and an offset is that of a value
 abbrev pub finding_of_answer : Option (Result (Option ℕ) MaxMindDbError) → Option Finding
 finding_of_answer None = None
-finding_of_answer (Some (Err e)) = Some DecodeErrorKind
+finding_of_answer (Some (Err e)) = Some Fault
 finding_of_answer (Some (Ok None)) = Some Absent
 finding_of_answer (Some (Ok (Some offset))) = Some (Found offset)
 

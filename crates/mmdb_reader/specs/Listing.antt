@@ -15,7 +15,7 @@ use Rattle.mmdb_reader.specs.Options.{includes_aliased, includes_without_data, s
 
 -- What a leaf is listed with: a fault, no data, or the offset of its value in the data section.
 pub data Finding : Type 0 where
-  DecodeErrorKind : Finding
+  Fault : Finding
   Absent : Finding
   Found : ℕ → Finding
 
@@ -63,7 +63,7 @@ IsKept db options offset = skips_empty options ≡ true → ¬ IsEmptyContainer 
 -- A faulty leaf is listed with a fault, one without data where such are asked for, and any other with the
 -- offset of its value, unless it is empty and such are left out.
 abbrev pub IsListedWith : Database → WithinOptions → List Bool → Finding → Type 0
-IsListedWith db options leaf DecodeErrorKind = IsFaulty db options leaf
+IsListedWith db options leaf Fault = IsFaulty db options leaf
 IsListedWith db options leaf Absent = (walk (tree_of db) leaf ≡ db.metadata.node_count) × (includes_without_data options ≡ true)
 IsListedWith db options leaf (Found offset) = HasValueAt db leaf offset × (¬ IsFaulty db options leaf × IsKept db options offset)
 
@@ -109,19 +109,19 @@ is_hidden db options bits = not (includes_aliased options) && is_alias db bits
 
 -- where empty values are left out
 abbrev pub finding_unless_empty : Option Bool → ℕ → Option Finding
-finding_unless_empty None offset = Some DecodeErrorKind
+finding_unless_empty None offset = Some Fault
 finding_unless_empty (Some empty) offset = if empty then None else Some (Found offset)
 
 abbrev pub finding_of_outcome : Database → WithinOptions → Outcome → Option Finding
 finding_of_outcome db options (Offset offset) =
     if skips_empty options then finding_unless_empty (empty_at (data_section db) offset) offset else Some (Found offset)
 finding_of_outcome db options NoData = if includes_without_data options then Some Absent else None
-finding_of_outcome db options Refused = Some DecodeErrorKind
+finding_of_outcome db options Refused = Some Fault
 
 -- what a leaf is listed with that leads to this number, if it is listed
 unfoldable pub finding_at : Database → WithinOptions → ℕ → Option Finding
 finding_at db options number =
-    if nat_lt number db.metadata.node_count then Some DecodeErrorKind else finding_of_outcome db options (outcome_of db number)
+    if nat_lt number db.metadata.node_count then Some Fault else finding_of_outcome db options (outcome_of db number)
 
 abbrev pub list_if : List Bool → Option Finding → List Listed
 list_if leaf None = []

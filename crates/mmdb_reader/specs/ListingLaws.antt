@@ -7,7 +7,7 @@ use Rattle.mmdb_reader.specs.declared.options.WithinOptions.{WithinOptions}
 use Rattle.mmdb_reader.specs.File.{Database}
 use Rattle.mmdb_reader.specs.Leaves.{IsLeaf}
 use Rattle.mmdb_reader.specs.Lookup.{Offset, NoData, Answers, CanAsk, address_bits}
-use Rattle.mmdb_reader.specs.Listing.{Finding, DecodeErrorKind, Absent, Found, Listed, IsListing, IsListed, Ascends, leaves_of, listed}
+use Rattle.mmdb_reader.specs.Listing.{Finding, Fault, Absent, Found, Listed, IsListing, IsListed, Ascends, leaves_of, listed}
 use Rattle.mmdb_reader.specs.Options.{includes_aliased, includes_without_data, skips_empty}
 
 -- The list of a range, as a function, has exactly the leaves that are listed for it, ascending.
@@ -32,7 +32,7 @@ WholeWalkListsAll =
 
 -- the answer of a lookup is no data, or that offset; of a fault nothing is said
 abbrev pub AgreesWith : Database → IpAddr → List Bool → Finding → Type 0
-AgreesWith db address leaf DecodeErrorKind = ⊤
+AgreesWith db address leaf Fault = ⊤
 AgreesWith db address leaf Absent = Answers db address leaf NoData
 AgreesWith db address leaf (Found offset) = Answers db address leaf (Offset offset)
 

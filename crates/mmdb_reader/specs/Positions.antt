@@ -1,12 +1,14 @@
 -- The positions of a tree that a list has still to go to.
-use Rattle.std.specs.Prelude.{◌≡◌, ℕ, ◌+◌, ◌-◌, ◌≤◌, ◌<◌, ◌⊎◌, ◌^◌, zero, suc, Bool, List, [], ◌∷◌, ◌++◌, take, slice_index_or, length, if◌then◌else◌}
+use Rattle.std.specs.Prelude.{◌≡◌, ℕ, ◌+◌, ◌-◌, ◌≤◌, ◌<◌, ◌⊎◌, ◌^◌, zero, suc, Bool, List, [], ◌∷◌, ◌++◌, take, true, false, not, ◌&&◌, ◌==◌, nat_le, slice_index_or, length, if◌then◌else◌}
 use Rattle.mmdb_net.specs.Bits.{bits_of}
 use Rattle.mmdb_reader.specs.declared.options.WithinOptions.{WithinOptions}
 use Rattle.mmdb_reader.specs.declared.positions.Position.{Position}
 use Rattle.mmdb_reader.specs.File.{Database, tree_of, width}
 use Rattle.mmdb_reader.specs.Tree.{walk, step}
 use Rattle.mmdb_net.specs.Bits.{number_of}
-use Rattle.mmdb_reader.specs.Listing.{Listed, listed_below, listed}
+use Rattle.mmdb_reader.specs.Alias.{is_alias_at}
+use Rattle.mmdb_reader.specs.Listing.{Listed, listed_below, listed, is_hidden}
+use Rattle.mmdb_reader.specs.Options.{includes_aliased}
 
 -- the bits that lead to a position
 abbrev pub bits_to : Database → Position → List Bool
@@ -67,3 +69,32 @@ positions_left width (p ∷ below) = positions_left width below + positions_belo
 pub record IsStart (db : Database) (options : WithinOptions) (range : List Bool) (p : Position) : Type 0 where
   pub placed : IsPlaced db (width db - length range + 1) 0 p
   pub lists : listed_of_stack db options (p ∷ []) ≡ listed db options range
+
+-- the position is this node, reached by bits that are an address of 2^32 or more
+abbrev pub is_high_at : Position → ℕ → Bool
+is_high_at p number = p.number == number && nat_le (2 ^ 32) p.address
+
+-- of the nodes that a walk meets exactly the one with this number, reached by such bits, is an alias that hides
+-- what lies behind it
+abbrev pub HidesAliases : Database → WithinOptions → ℕ → Type 0
+HidesAliases db options hidden =
+    (p : Position) → p.number < db.metadata.node_count
+    → is_high_at p hidden ≡ (not (includes_aliased options) && is_alias_at db p.number p.address)
+
+-- the positions list the same leaves, in less or as much walk, and are placed
+pub record GoesOn (db : Database) (options : WithinOptions) (capacity : ℕ) (old new : List Position) : Type 0 where
+  pub placed : IsStack db capacity new
+  pub lists : listed_of_stack db options new ≡ listed_of_stack db options old
+  pub left : positions_left (width db) new ≤ positions_left (width db) old
+
+-- the last position is a leaf behind no alias
+pub record IsLowest (db : Database) (options : WithinOptions) (capacity : ℕ) (old stack : List Position) (leaf : Position) : Type 0 where
+  pub on : GoesOn db options capacity old (stack ++ leaf ∷ [])
+  pub shown : is_hidden db options (bits_to db leaf) ≡ false
+  pub ends : IsEnd db leaf
+
+-- an alias was met, below which nothing is listed
+pub record IsNothing (db : Database) (options : WithinOptions) (capacity : ℕ) (old stack : List Position) : Type 0 where
+  pub placed : IsStack db capacity stack
+  pub lists : listed_of_stack db options stack ≡ listed_of_stack db options old
+  pub left : positions_left (width db) stack < positions_left (width db) old

@@ -2,7 +2,7 @@
 -- Search Tree Section" and "IPv4 addresses in an IPv6 tree" of the MaxMind DB File Format Specification 2.0).
 use Rattle.std.specs.Prelude.{◌≡◌, ◌≤◌, ◌⊎◌, ℕ, ◌+◌, ◌-◌, ◌*◌, zero, suc, Bool, true, false, not, ◌&&◌, List, [], ◌∷◌, ◌++◌, length, if◌then◌else◌, nat_lt}
 use Rattle.mmdb_reader.specs.declared.walked.End.{End}
-use Rattle.mmdb_reader.specs.declared.walked.End.TheVariants.{Alias, DecodeErrorKind, Absent, Found}
+use Rattle.mmdb_reader.specs.declared.walked.End.TheVariants.{Alias, Fault, Absent, Found}
 use Rattle.mmdb_reader.specs.File.{Database, tree_of, width}
 use Rattle.mmdb_reader.specs.Tree.{walk}
 use Rattle.mmdb_reader.specs.Alias.{is_alias}
@@ -12,11 +12,11 @@ use Rattle.mmdb_reader.specs.Lookup.{Outcome, Offset, NoData, Refused, outcome_o
 abbrev pub end_of_outcome : Outcome → End
 end_of_outcome (Offset offset) = Found offset
 end_of_outcome NoData = Absent
-end_of_outcome Refused = DecodeErrorKind
+end_of_outcome Refused = Fault
 
 -- The same of the number to which a leaf leads. A full address that still stands on a node is a fault.
 unfoldable pub end_of_leaf : Database → ℕ → End
-end_of_leaf db number = if nat_lt number db.metadata.node_count then DecodeErrorKind else end_of_outcome (outcome_of db number)
+end_of_leaf db number = if nat_lt number db.metadata.node_count then Fault else end_of_outcome (outcome_of db number)
 
 -- where a walk stops, and at what
 pub record Stop : Type 0 where
@@ -50,7 +50,7 @@ stops db = stops_below db (width db) []
 abbrev pub offset_of : End → List ℕ
 offset_of (Found offset) = offset ∷ []
 offset_of Alias = []
-offset_of DecodeErrorKind = []
+offset_of Fault = []
 offset_of Absent = []
 
 unfoldable pub offsets : List Stop → List ℕ
@@ -58,7 +58,7 @@ offsets [] = []
 offsets (m ∷ ms) = offset_of m.end ++ offsets ms
 
 abbrev pub is_fault : End → Bool
-is_fault DecodeErrorKind = true
+is_fault Fault = true
 is_fault Alias = false
 is_fault Absent = false
 is_fault (Found offset) = false

@@ -5,7 +5,7 @@ use Rattle.std.specs.declared.net.ip_addr.IpAddr.{IpAddr}
 use Rattle.mmdb_format.specs.Unfolding.{Tree}
 use Rattle.mmdb_check.specs.Checking.{IsGood}
 use Rattle.mmdb_reader.specs.declared.walked.End.{End}
-use Rattle.mmdb_reader.specs.declared.walked.End.TheVariants.{Alias, DecodeErrorKind, Absent, Found}
+use Rattle.mmdb_reader.specs.declared.walked.End.TheVariants.{Alias, Fault, Absent, Found}
 use Rattle.mmdb_reader.specs.File.{Database, tree_of, before_ipv4, data_section}
 use Rattle.mmdb_reader.specs.Tree.{walk}
 use Rattle.mmdb_reader.specs.Leaves.{IsLeaf}
@@ -31,7 +31,7 @@ FewStopsAreTaken = (db : Database) → AreFirst (most_stops db + 1) (stops db) (
 -- what a leaf has: a fault, no data, or a value at an offset
 abbrev pub HasEnd : Database → List Bool → End → Type 0
 HasEnd db leaf Alias = ⊥
-HasEnd db leaf DecodeErrorKind = IsFaulty db default_options leaf
+HasEnd db leaf Fault = IsFaulty db default_options leaf
 HasEnd db leaf Absent = walk (tree_of db) leaf ≡ db.metadata.node_count
 HasEnd db leaf (Found offset) = HasValueAt db leaf offset
 

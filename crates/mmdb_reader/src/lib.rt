@@ -1,7 +1,8 @@
 //! A reader of MaxMind DB files: the metadata, the search tree, and lookups of addresses in it.
 #![tactic(auto)]
 
-mod data;
+mod decode_path;
+mod go_along;
 pub mod laws;
 mod lookup_many;
 mod lookup_result;
@@ -10,18 +11,17 @@ mod marker;
 pub mod metadata;
 mod metadata_fields;
 mod offsets;
+mod open;
 mod options;
 mod path;
 mod positions;
 pub mod reader;
-mod selecting;
-mod source;
 mod steps;
 mod table;
 pub mod tree;
 mod verify;
 mod walked;
-mod walking;
+mod within;
 
 pub use lookup_many::LookupMany;
 pub use lookup_result::LookupResult;
@@ -41,4 +41,4 @@ pub use reader::{Kept, Reader};
 pub use steps::Steps;
 pub use table::Entry;
 pub use tree::{Descent, Nodes, read_node};
-pub use walking::Within;
+pub use within::Within;

@@ -2,6 +2,7 @@
 ghost use Rattle.std.specs.Prelude.{◌≡◌, MatchBool};
 
 use crate::reader::Reader;
+use crate::walked::Walker;
 use std::convert::AsSlice;
 
 /// A number of the tree, with the bits that lead to it: the first `prefix` bits of an address whose
@@ -21,7 +22,7 @@ pub(crate) const ROOT: Position = Position {
 };
 
 impl Position {
-    ghost use Rattle.mmdb_reader.specs.Positions.{IsAt, HasHalves, IsEnd, half_of};
+    ghost use Rattle.mmdb_reader.specs.Positions.{IsAt, HasHalves, IsEnd, half_of, is_high_at};
 
     /// Whether the walk goes on below this position.
     pub(crate) fn has_halves<S: AsSlice<u8> + Drop>(&self, reader: &Reader<S>) -> bool
@@ -30,20 +31,29 @@ impl Position {
         self.prefix < usize::from(reader.width()) && self.number < reader.nodes().node_count
     }
 
-    /// The lower or the upper half of the addresses of this position.
-    pub(crate) fn half<S: AsSlice<u8> + Drop>(self, reader: &Reader<S>, right: bool) -> Position
-        requires at { IsAt reader.now self }
-        requires halves { HasHalves reader.now self }
-        ensures { result ≡ half_of reader.now self right }
+    /// Whether this is the node with a number, reached by bits that are an address of 2^32 or more.
+    #[inline(always)]
+    pub(crate) fn is_high_at(&self, number: usize) -> bool
+        ensures { result ≡ is_high_at self.now number }
     {
-        let size = 1u128 << (usize::from(reader.width()) - self.prefix - 1);
+        self.number == number && self.address >= 1 << 32
+    }
+
+    /// The lower or the upper half of the addresses of this position.
+    #[inline(always)]
+    pub(crate) fn half<S: AsSlice<u8> + Drop>(self, walker: &Walker<'_, S>, right: bool) -> Position
+        requires at { IsAt walker.now.reader.now self }
+        requires halves { HasHalves walker.now.reader.now self }
+        ensures { result ≡ half_of walker.now.reader.now self right }
+    {
+        let size = 1u128 << (walker.width - self.prefix - 1);
         Position {
             address: if right {
                 self.address + size
             } else {
                 self.address
             },
-            number: reader.nodes().child(self.number, right),
+            number: walker.nodes.child(self.number, right),
             prefix: self.prefix + 1,
         }
     }

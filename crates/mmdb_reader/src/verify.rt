@@ -12,7 +12,7 @@ use crate::offsets::counted_from_start;
 use crate::reader::Reader;
 use crate::steps::Steps;
 use crate::walked::{WalkEnd, Walked};
-use crate::walking::invalid;
+use crate::within::invalid;
 use mmdb_check::checked::Checked;
 use mmdb_check::fuzzing;
 use mmdb_check::offset_set::{OffsetSet, check_offsets};

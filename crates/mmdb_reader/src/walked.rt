@@ -16,7 +16,7 @@ use std::convert::AsSlice;
 #[derive(Clone, Copy)]
 pub(crate) enum End {
     Alias,
-    DecodeErrorKind,
+    Fault,
     Absent,
     Found(usize),
 }
@@ -73,10 +73,10 @@ impl<S: AsSlice<u8> + Drop> Reader<S> {
         ensures { result ≡ spec_end_of_leaf self.now number }
     {
         if number < self.nodes().node_count {
-            return End::DecodeErrorKind;
+            return End::Fault;
         }
         match self.place_of(number) {
-            None => End::DecodeErrorKind,
+            None => End::Fault,
             Some(None) => End::Absent,
             Some(Some(offset)) => End::Found(offset),
         }
@@ -116,7 +116,7 @@ impl<S: AsSlice<u8> + Drop> Reader<S> {
         ensures length { length set.new ≡ length set.old }
     {
         match self.end_from(point) {
-            End::DecodeErrorKind => return false,
+            End::Fault => return false,
             End::Found(offset) => set.insert(offset),
             End::Alias | End::Absent => {}
         }
@@ -215,8 +215,8 @@ impl<S: AsSlice<u8> + Drop> Reader<S> {
         None
     }
 
-    // What is asked at each point, at hand.
-    fn walker(&self) -> Walker<'_, S>
+    // What a walk asks at each point, at hand.
+    pub(crate) fn walker(&self) -> Walker<'_, S>
         ensures { result.reader.now ≡ self.now }
     {
         let start = self.ipv4_start();
@@ -237,13 +237,13 @@ impl<S: AsSlice<u8> + Drop> Reader<S> {
 // What a walk asks of a database at each point, at hand: its nodes, how many bits a full address has, where aliases
 // lead, if there are any, and how many bytes the data section has.
 #[derive(Drop)]
-struct Walker<'a, S: AsSlice<u8> + Drop> {
-    reader: &'a Reader<S>,
-    nodes: Nodes<'a>,
-    width: usize,
-    ipv4_start: Option<usize>,
+pub(crate) struct Walker<'a, S: AsSlice<u8> + Drop> {
+    pub(crate) reader: &'a Reader<S>,
+    pub(crate) nodes: Nodes<'a>,
+    pub(crate) width: usize,
+    pub(crate) ipv4_start: Option<usize>,
     data_len: usize,
-    ghost are: { AreLimits reader.now nodes width ipv4_start data_len },
+    pub(crate) ghost are: { AreLimits reader.now nodes width ipv4_start data_len },
 }
 
 impl<S: AsSlice<u8> + Drop> Walker<'_, S> {
@@ -291,14 +291,14 @@ impl<S: AsSlice<u8> + Drop> Walker<'_, S> {
             return if self.is_alias(point) {
                 End::Alias
             } else {
-                End::DecodeErrorKind
+                End::Fault
             };
         }
         let past = point.number - self.nodes.node_count;
         if past == 0 {
             End::Absent
         } else if past < SEPARATOR || past - SEPARATOR >= self.data_len {
-            End::DecodeErrorKind
+            End::Fault
         } else {
             End::Found(past - SEPARATOR)
         }
@@ -314,7 +314,7 @@ impl<S: AsSlice<u8> + Drop> Walker<'_, S> {
         ensures length { length set.new ≡ length set.old }
     {
         match self.end_from(point) {
-            End::DecodeErrorKind => return false,
+            End::Fault => return false,
             End::Found(offset) => set.insert(offset),
             End::Alias | End::Absent => {}
         }

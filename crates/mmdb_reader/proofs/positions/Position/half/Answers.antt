@@ -4,6 +4,6 @@ use Rattle.mmdb_reader.proofs.positions.Position.half.Goals as goal
 
 pub overflow_add-result : goal.overflow_add-result
 overflow_add-result g c =
-    let fits = upper-fits c.args.reader.now c.args.self c.requires.at c.requires.halves.1 in
-    let same = c.from.ensures ∙ c.width.ensures.value in
+    let fits = upper-fits c.args.walker.now.reader.now c.args.self c.requires.at c.requires.halves.1 in
+    let same = c.args.walker.now.are.width in
     omega (arith, fits, ap (λ (w : ℕ). 2 ^ (w - c.args.self.prefix - 1)) same)

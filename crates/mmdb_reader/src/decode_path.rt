@@ -7,10 +7,10 @@ ghost use Rattle.mmdb_reader.specs.Found.{database_asked, offset_found};
 ghost use Rattle.mmdb_reader.specs.Decoding.{DecodesTo, RefusesToDecode};
 ghost use Rattle.mmdb_reader.specs.Selecting.{selected, read_along, answer_along, SelectsTo, Reaches, LeadsNowhere, HasNone};
 
+use crate::go_along::{go_along, with_path};
 use crate::lookup_result::LookupResult;
 use crate::offsets::counted_from_start;
 use crate::path::PathElement;
-use crate::selecting::{go_along, with_path};
 use mmdb_decode::decode::Decode;
 use mmdb_decode::decoder::Decoder;
 use mmdb_decode::laws::values_bounded;

@@ -2,22 +2,22 @@ use Rattle.std.proofs.Common.{◌≡◌, ◌-◌, ◌<◌, sym, ap, ◌∙◌, s
 use Rattle.mmdb_net.specs.Bits.{bits_of, bit_of}
 use Rattle.mmdb_reader.specs.File.{width}
 use Rattle.mmdb_reader.proofs.RangeLemmas.{IsOnWay, way-root, way-hidden, way-step, way-ends, way-there, length-range, range-bit}
-use Rattle.mmdb_reader.proofs.reader.Reader.start.Goals as goal
+use Rattle.mmdb_reader.proofs.walked.Walker.start.Goals as goal
 
 pub loop-position-init : goal.loop-position-init
 loop-position-init g c = way-root _ _ _
 
 pub returns-then-hides : goal.returns-then-hides
 returns-then-hides g c =
-    way-hidden c.args.self.now c.args.options _ c.loop-position.position (let len = length-range (width c.args.self.now) c.args.range.prefix c.args.range.address c.requires in omega (arith, len, c.requires)) c.loop-position.invariant (sym c.hides.ensures ∙ c.if-hides.true)
+    way-hidden c.args.self.now.reader.now c.args.options _ c.loop-position.position (let len = length-range (width c.args.self.now.reader.now) c.args.range.prefix c.args.range.address c.requires in omega (arith, len, c.requires)) c.loop-position.invariant (sym c.hides.ensures ∙ c.if-hides.true)
 
 pub returns-then-not-has_halves : goal.returns-then-not-has_halves
 returns-then-not-has_halves g c =
-    way-ends c.args.self.now c.args.options _ c.loop-position.position (let len = length-range (width c.args.self.now) c.args.range.prefix c.args.range.address c.requires in omega (arith, len, c.requires)) c.loop-position.invariant (sym c.hides.ensures ∙ c.if-hides.false) c.if-not-has_halves.ensures
+    way-ends c.args.self.now.reader.now c.args.options _ c.loop-position.position (let len = length-range (width c.args.self.now.reader.now) c.args.range.prefix c.args.range.address c.requires in omega (arith, len, c.requires)) c.loop-position.invariant (sym c.hides.ensures ∙ c.if-hides.false) c.if-not-has_halves.ensures
 
 pub loop-position-preserved : goal.loop-position-preserved
 loop-position-preserved g c =
-    let db = c.args.self.now in
+    let db = c.args.self.now.reader.now in
     let p = c.loop-position.position in
     let len = length-range (width db) c.args.range.prefix c.args.range.address c.requires in
     let inner : p.prefix < c.args.range.prefix = subst (λ n. p.prefix < n) c.from.ensures c.loop-position-test.true in
@@ -27,6 +27,6 @@ loop-position-preserved g c =
 
 pub returns : goal.returns
 returns g c =
-    let len = length-range (width c.args.self.now) c.args.range.prefix c.args.range.address c.requires in
+    let len = length-range (width c.args.self.now.reader.now) c.args.range.prefix c.args.range.address c.requires in
     let there = c.loop-position-test.false in
-    way-there c.args.self.now c.args.options _ c.loop-position.position (omega (arith, len, c.requires)) c.loop-position.invariant (omega (arith, len, there))
+    way-there c.args.self.now.reader.now c.args.options _ c.loop-position.position (omega (arith, len, c.requires)) c.loop-position.invariant (omega (arith, len, there))

@@ -1,18 +1,19 @@
 //! The networks of a database, one after another.
-ghost use Rattle.std.specs.Prelude.{◌≡◌, ◌+◌, ◌≤◌, ◌<◌, ◌⊎◌, ◌↔◌, [], IfOk, IfErr, MatchOption, Some, option_map, take};
+ghost use Rattle.std.specs.Prelude.{◌≡◌, ◌+◌, ◌≤◌, ◌<◌, ◌⊎◌, ◌↔◌, [], ◌∷◌, ◌++◌, IfOk, IfErr, MatchOption, Some, option_map, take};
 ghost use Rattle.std.specs.Result.{result_ok};
 ghost use Rattle.std.specs.Vec.{vec_capacity};
 ghost use Rattle.mmdb_format.specs.Error.{OfDatabase, OfInput, OfMemory, kind_of, IsRefusedAs};
 ghost use Rattle.mmdb_net.specs.Bits.{bits_of, bit_of};
 ghost use Rattle.mmdb_net.specs.Network.{ip_of, prefix_of};
 ghost use Rattle.mmdb_reader.specs.File.{width};
-ghost use Rattle.mmdb_reader.specs.Positions.{IsStack};
+ghost use Rattle.mmdb_reader.specs.Positions.{IsStack, HidesAliases};
 
 use crate::lookup_result::{LookupResult, NumberedAddress};
 use crate::offsets::counted_from_start;
 use crate::options::WithinOptions;
 use crate::positions::{Position, ROOT};
 use crate::reader::Reader;
+use crate::walked::Walker;
 use mmdb_decode::peek::empty_container;
 use mmdb_format::error::MaxMindDbError;
 use mmdb_format::message::{Message, Text};
@@ -27,10 +28,12 @@ use std::net::{IpAddr, Ipv4Addr, Ipv6Addr};
 /// takes memory.
 #[derive(Drop)]
 pub struct Within<'de, S: AsSlice<u8> + Drop> {
-    pub(crate) reader: &'de Reader<S>,
+    pub(crate) walker: Walker<'de, S>,
     pub(crate) options: WithinOptions,
+    pub(crate) hidden: usize,
     pub(crate) stack: Vec<Position>,
-    pub(crate) ghost placed: { IsStack reader.now (vec_capacity stack) stack.items },
+    pub(crate) ghost placed: { IsStack walker.reader.now (vec_capacity stack) stack.items },
+    pub(crate) ghost hides: { HidesAliases walker.reader.now options hidden },
 }
 
 // The first bits of a range in a database, with zeros before IPv4.
@@ -63,7 +66,7 @@ pub(crate) fn invalid(text: Text) -> MaxMindDbError
 impl<S: AsSlice<u8> + Drop> Reader<S> {
     ghost use Rattle.mmdb_reader.specs.Items.{item_view, item_of_leaf, items_of};
     ghost use Rattle.mmdb_reader.specs.Listing.{is_hidden, finding_at, listed};
-    ghost use Rattle.mmdb_reader.specs.Positions.{IsAt, IsStart, bits_to};
+    ghost use Rattle.mmdb_reader.specs.Positions.{IsAt, bits_to};
     ghost use Rattle.mmdb_reader.specs.Found.{database_asked, leaf_of, offset_found, shown_as_ipv4};
     ghost use Rattle.mmdb_reader.specs.ShownLeaf.{begins_with_zeros, is_leaf_shown_as_ipv4};
     ghost use Rattle.mmdb_reader.specs.Shown.{block_in};
@@ -194,27 +197,6 @@ impl<S: AsSlice<u8> + Drop> Reader<S> {
         }
     }
 
-    // Where the walk of a range begins: at the range, or at the leaf that holds it. None where an
-    // alias leads to it.
-    fn start(&self, range: Range, options: WithinOptions) -> Option<Position>
-        requires { range.prefix ≤ width self.now }
-        ensures { let bits = take range.prefix (bits_of (width self.now) range.address) in MatchOption result (listed self.now options bits ≡ []) (IsStart self.now options bits) }
-    {
-        let width = self.width();
-        let mut position = ROOT;
-        while position.prefix < usize::from(range.prefix) {
-            if self.hides(position, options) {
-                return None;
-            }
-            if !position.has_halves(self) {
-                return Some(position);
-            }
-            let right = range.has_bit(width - position.prefix as u8 - 1);
-            position = position.half(self, right);
-        }
-        Some(position)
-    }
-
     /// The networks of a range, in ascending order, each once: the leaves of the tree that lie in the
     /// range, or the one that holds it, with its own wider network.
     ///
@@ -239,11 +221,13 @@ impl<S: AsSlice<u8> + Drop> Reader<S> {
             });
         };
         let mut stack = Vec::with_capacity(alloc, usize::from(self.width() - range.prefix) + 1)?;
-        if let Some(position) = self.start(range, options) {
+        let walker = self.walker();
+        if let Some(position) = walker.start(range, options) {
             stack.push_reserved(position);
         }
         Ok(Within {
-            reader: self,
+            hidden: walker.hidden_number(options),
+            walker,
             options,
             stack,
         })
@@ -271,6 +255,81 @@ impl<S: AsSlice<u8> + Drop> Reader<S> {
     }
 }
 
+impl<S: AsSlice<u8> + Drop> Walker<'_, S> {
+    ghost use Rattle.mmdb_reader.specs.Listing.{listed};
+    ghost use Rattle.mmdb_reader.specs.Positions.{IsLowest, IsNothing, IsStart};
+
+    // The node behind which nothing is listed where bits that are high lead to it: the number of nodes, which is none of
+    // them, where there is no such node.
+    fn hidden_number(&self, options: WithinOptions) -> usize
+        ensures { HidesAliases self.now.reader.now options result }
+    {
+        if options.includes_aliased() {
+            return self.nodes.node_count;
+        }
+        match self.ipv4_start {
+            Some(start) => start,
+            None => self.nodes.node_count,
+        }
+    }
+
+    // Where the walk of a range begins: at the range, or at the leaf that holds it. None where an
+    // alias leads to it.
+    fn start(&self, range: Range, options: WithinOptions) -> Option<Position>
+        requires { range.prefix ≤ width self.now.reader.now }
+        ensures { let db = self.now.reader.now in
+            let bits = take range.prefix (bits_of (width db) range.address) in
+            MatchOption result (listed db options bits ≡ []) (IsStart db options bits) }
+    {
+        let width = self.reader.width();
+        let mut position = ROOT;
+        while position.prefix < usize::from(range.prefix) {
+            if self.reader.hides(position, options) {
+                return None;
+            }
+            if !position.has_halves(self.reader) {
+                return Some(position);
+            }
+            let right = range.has_bit(width - position.prefix as u8 - 1);
+            position = position.half(self, right);
+        }
+        Some(position)
+    }
+
+    // The lowest leaf below a position. The upper halves that are passed are put on the stack. None where an alias is
+    // met, behind which nothing is listed.
+    #[inline(always)]
+    fn go_down(
+        &self,
+        start: Position,
+        options: WithinOptions,
+        hidden: usize,
+        stack: &mut Vec<Position>,
+    ) -> Option<Position>
+        requires placed { IsStack self.now.reader.now (vec_capacity stack.old) (stack.old.items ++ start ∷ []) }
+        requires hides { HidesAliases self.now.reader.now options hidden }
+        ensures lowest { let db = self.now.reader.now in
+            let old = stack.old.items ++ start ∷ [] in
+            MatchOption result
+            (IsNothing db options (vec_capacity stack.old) old stack.new.items)
+            (λ leaf. IsLowest db options (vec_capacity stack.old) old stack.new.items leaf) }
+        ensures capacity { vec_capacity stack.new ≡ vec_capacity stack.old }
+    {
+        let mut position = start;
+        while position.number < self.nodes.node_count {
+            if position.is_high_at(hidden) {
+                return None;
+            }
+            if position.prefix >= self.width {
+                return Some(position);
+            }
+            stack.push_reserved(position.half(self, true));
+            position = position.half(self, false);
+        }
+        Some(position)
+    }
+}
+
 impl<'de, S: AsSlice<u8> + Drop> Iterator for Within<'de, S> {
     ghost use Rattle.std.specs.Iterator.{item_count};
     ghost use Rattle.mmdb_reader.specs.Enumeration.{items_to_come, YieldsItem};
@@ -283,18 +342,14 @@ impl<'de, S: AsSlice<u8> + Drop> Iterator for Within<'de, S> {
 
     fn next(&mut self) -> Option<Self::Item> {
         while let Some(position) = self.stack.pop() {
-            if self.reader.hides(position, self.options) {
+            let below = self
+                .walker
+                .go_down(position, self.options, self.hidden, &mut self.stack);
+            let Some(leaf) = below else {
                 continue;
-            }
-            if position.has_halves(self.reader) {
-                let upper = position.half(self.reader, true);
-                let lower = position.half(self.reader, false);
-                self.stack.push_reserved(upper);
-                self.stack.push_reserved(lower);
-                continue;
-            }
-            if let Some(finding) = self.reader.finding(position.number, self.options) {
-                return Some(self.reader.item(position, finding));
+            };
+            if let Some(finding) = self.walker.reader.finding(leaf.number, self.options) {
+                return Some(self.walker.reader.item(leaf, finding));
             }
         }
         None

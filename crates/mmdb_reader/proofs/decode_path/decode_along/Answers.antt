@@ -4,7 +4,7 @@ use Rattle.mmdb_decode.specs.State.{decoded}
 use Rattle.mmdb_decode.proofs.StepLaws.{answer_ok, answer_none, refuses, refuses_more}
 use Rattle.mmdb_reader.specs.Selecting.{selected, read_along}
 use Rattle.mmdb_reader.proofs.PathLemmas.{along_mismatched, along_absent, along_read, along_unread, along_selected, still_started, refuses_as_much}
-use Rattle.mmdb_reader.proofs.data.decode_along.Goals as goal
+use Rattle.mmdb_reader.proofs.decode_path.decode_along.Goals as goal
 
 pub returns-in-Err-clause-err : goal.returns-in-Err-clause-err
 returns-in-Err-clause-err g c = λ x. refuses g.T.Decode.free _ _ (answer_none true (read_along c.args.path.now g.T.Decode.meaning) c.args.section.now c.args.offset c.new-d.result c.new-d.ensures (along_mismatched c.args.path.now g.T.Decode.meaning c.new-d.result c.begin_budget.new.self c.begin_budget.ensures.begun c.in-Err.ensures.taken.1))

@@ -2,7 +2,7 @@ use Rattle.std.proofs.Common.{◌≡◌, drop, false, IsSome}
 use Rattle.mmdb_decode.specs.State.{decoded}
 use Rattle.mmdb_decode.specs.Refusal.{Kept}
 use Rattle.mmdb_reader.specs.Selecting.{selected}
-use Rattle.mmdb_reader.proofs.selecting.go_along.Given as goal
+use Rattle.mmdb_reader.proofs.go_along.go_along.Given as goal
 
 -- what is left of the path is the rest
 abbrev pub invariant-loop-before : goal.invariant-loop-before

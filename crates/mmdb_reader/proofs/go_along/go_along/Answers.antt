@@ -4,7 +4,7 @@ use Rattle.mmdb_decode.specs.State.{decoded}
 use Rattle.mmdb_decode.proofs.StepLaws.{kept_decoded, kept_trans, given_up_trans, still_begun}
 use Rattle.mmdb_reader.specs.Selecting.{at_step}
 use Rattle.mmdb_reader.proofs.PathLemmas.{along_done, along_goes_on, along_ends, along_stops, step_at, next_step, no_more_steps}
-use Rattle.mmdb_reader.proofs.selecting.go_along.Goals as goal
+use Rattle.mmdb_reader.proofs.go_along.go_along.Goals as goal
 
 pub returns-in-Ok-false-clause-taken : goal.returns-in-Ok-false-clause-taken
 returns-in-Ok-false-clause-taken c =
