@@ -73,7 +73,7 @@ complete -c mmdb -n '__mmdb_is info' -s h -l help -d 'Print help'
 
 complete -c mmdb -n '__mmdb_is verify' -s h -l help -d 'Print help'
 
-complete -c mmdb -n '__mmdb_is help' -a 'show enrich export info verify help'
+complete -c mmdb -n '__mmdb_is help' -a 'show enrich export diff info verify help'
 
 # The first argument is a file; all arguments of verify are.
 complete -c mmdb -n '__mmdb_wants_file show enrich export info' -F
