@@ -17,7 +17,7 @@ extern "C" {
 
 /* Whether a file is a whole database: its metadata are valid, no network's leaf leads outside the data section, the
  * separator is zero, and the values of all networks end and have valid texts. 0 (MMDB_SUCCESS) where it is; else a
- * status code of maxminddb.h says why not. So a damaged update can be refused before it is opened. */
+ * status code of maxminddb.h says why not. So a damaged update can be rejected before it is opened. */
 extern int mmdb_verify(const char *filename);
 
 #ifdef __cplusplus

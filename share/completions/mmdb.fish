@@ -36,7 +36,7 @@ complete -c mmdb -n __mmdb_no_command -a enrich -d 'Copy lines from standard inp
 complete -c mmdb -n __mmdb_no_command -a export -d 'Write every network that has data'
 complete -c mmdb -n __mmdb_no_command -a diff -d 'Write what changed between two files'
 complete -c mmdb -n __mmdb_no_command -a info -d 'Show what a database says of itself'
-complete -c mmdb -n __mmdb_no_command -a verify -d 'Say whether files are whole'
+complete -c mmdb -n __mmdb_no_command -a verify -d 'Check whether files are whole'
 complete -c mmdb -n __mmdb_no_command -a help -d 'Print help'
 complete -c mmdb -n __mmdb_no_command -s h -l help -d 'Print help'
 complete -c mmdb -n __mmdb_no_command -s V -l version -d 'Print the version'
@@ -73,7 +73,7 @@ complete -c mmdb -n '__mmdb_is info' -s h -l help -d 'Print help'
 
 complete -c mmdb -n '__mmdb_is verify' -s h -l help -d 'Print help'
 
-complete -c mmdb -n '__mmdb_is help' -a 'show enrich export info verify help'
+complete -c mmdb -n '__mmdb_is help' -a 'show enrich export diff info verify help'
 
 # The first argument is a file; all arguments of verify are.
 complete -c mmdb -n '__mmdb_wants_file show enrich export info' -F

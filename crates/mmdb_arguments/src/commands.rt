@@ -6,9 +6,9 @@ const SHOW_EXAMPLE: &str = "Example:
   mmdb show GeoLite2-City.mmdb 1.1.1.1 2001:db8::1 --path country.iso_code
 
 With --path each value stands alone, as JSON. A path has dots between its
-steps; a whole number is an index, negative from the end; a key in double
-quotes may hold dots or digits. The status is 0 where all were found, 6 where
-one was not, 1 for a refusal, 2 for bad words.";
+steps; an integer is an index, negative from the end; a key in double quotes
+may hold dots or digits. The status is 0 if all were found, 6 if one was not,
+1 for an error, 2 for a usage error.";
 
 const INFO_EXAMPLE: &str = "Example:
   mmdb info GeoLite2-City.mmdb --json";
@@ -21,16 +21,18 @@ The status is 0 where all files are whole, else 1.";
 const ENRICH_EXAMPLE: &str = "Example:
   mmdb enrich GeoLite2-City.mmdb --field country.iso_code --field city.names.en < log > log.tsv
 
-Columns stand between tabs. A line without an address, or whose address has no record, gets empty
-columns; how many lines fared so is told on standard error at the end. A text stands as it is, unless it
-has control characters; any other value is JSON. With --delimiter , the input is CSV: cells may be in
-quotes, and added cells are where they need them. The address is looked for in the first 65,536 bytes
-of a line.
+Columns stand between tabs. A line without an address, or whose address has no
+record, gets empty columns. How many lines had a record, none, no address, or an
+error is said on standard error at the end. A text stands as it is, unless it
+has control characters; any other value is JSON. With --delimiter , the input is
+CSV: cells may be in quotes, and added cells are where they need them. The
+address is looked for in the first 65,536 bytes of a line.
 
   mmdb enrich GeoLite2-City.mmdb --json client.ip --field country.iso_code < log.jsonl
 
-With --json a line that is an object gets an object of the fields as its last member, named --into; a
-field is named by its path's last step, or by NAME=PATH. All other lines stay as they are.";
+With --json a line that is an object gets an object of the fields as its last
+member, named by --into. A field is named by its path's last step, or by
+NAME=PATH. All other lines stay as they are.";
 
 const EXPORT_EXAMPLE: &str = "Examples:
   mmdb export GeoLite2-Country.mmdb 81.2.69.0/24 --field country.iso_code
@@ -40,8 +42,8 @@ The networks come ascending, one a line: an object with the network and its
 record, or with the network and the value at each path; or, as csv, rows of
 cells below a header row. In a cell a text stands as it is, and any other value
 as JSON. Where a path leads nowhere a cell is empty, and a value null. A network
-whose record or field can't be read has no line, but is told on standard error,
-in its place, and the status is 1 then.
+whose record or field can't be read has no line: it is named on standard error,
+and the status is 1 at the end.
 
 With --where only networks whose record has this value at the path are written:
 a text as it stands, any other scalar as its JSON. Of one path several values
@@ -59,7 +61,7 @@ have one answer each and the answers differ: with the old value and the new one,
 null where there is none. They come ascending. Files of which one has only IPv4
 are compared on IPv4. How many networks and IPv4 addresses were added, removed
 and changed is said on standard error at the end. A network that can't be read is
-told there too, and the status is 1 then.";
+named there too, and the status is 1 then.";
 
 /// An argument of a command: its name, what its value is called, its help, and what else there is to say.
 #[derive(Clone, Copy)]
@@ -215,7 +217,7 @@ const COMMANDS: &[Usage] = &[
     },
     Usage {
         name: "verify",
-        about: "Tell whether files are whole, so that every lookup succeeds",
+        about: "Check whether files are whole, so that every lookup succeeds",
         example: VERIFY_EXAMPLE,
         arguments: &[Argument::Several("FILE", "MaxMind DB files")],
     },

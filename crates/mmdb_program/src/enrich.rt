@@ -155,7 +155,7 @@ fn text_of_rows(alloc: Global, counts: Counts) -> Result<String, AllocError> {
         ..
     } = counts;
     format!(in alloc;
-        "mmdb: {found} lines with a record, {absent} without, {unreadable} without an address, {refused} refused\n"
+        "mmdb: {found} lines with a record, {absent} without, {unreadable} without an address, {refused} with an error\n"
     )
 }
 
@@ -169,7 +169,7 @@ fn text_of_objects(alloc: Global, counts: Counts) -> Result<String, AllocError> 
         refused,
     } = counts;
     format!(in alloc;
-        "mmdb: {found} lines with a record, {absent} without, {unreadable} without an address, {refused} refused, {malformed} not objects of JSON\n"
+        "mmdb: {found} lines with a record, {absent} without, {unreadable} without an address, {refused} with an error, {malformed} not objects of JSON\n"
     )
 }
 

@@ -174,7 +174,7 @@ fn hand_out(joiner: &Joiner, joined: &mut Vec<Block>) -> Result<(), AllocError> 
     joined.extend_from_slice(joiner.settled())
 }
 
-// What a joiner hands out of the blocks, in order, and the first refusal.
+// What a joiner hands out of the blocks, in order, and the first error.
 fn joined_by(
     joiner: &mut Joiner,
     alloc: Global,
@@ -213,7 +213,7 @@ fn joined_as_python_does(rt: HostRuntime) -> Result<(), Failures> {
     failures.verdict()
 }
 
-// The first refusal of blocks that are pushed.
+// The first error of blocks that are pushed.
 fn refusal_of(alloc: Global, texts: &str) -> Result<Option<Refusal>, AllocError> {
     let mut joiner = Joiner::new(alloc)?;
     let blocks = blocks_of(alloc, texts)?;
@@ -221,7 +221,7 @@ fn refusal_of(alloc: Global, texts: &str) -> Result<Option<Refusal>, AllocError>
     Ok(told)
 }
 
-/// Blocks the last of which is refused.
+/// Blocks the last of which is rejected.
 const REFUSED: &[(&str, Refusal)] = &[
     ("10.0.0.0/25 10.0.0.0/25", Refusal::OutOfOrder),
     ("10.0.0.0/24 10.0.0.255/32", Refusal::OutOfOrder),

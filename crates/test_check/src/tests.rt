@@ -1,6 +1,6 @@
 //! What no clause says: worked rows over public calls, printed texts, and running out of memory.
 //!
-//! The place in an error is that of the value that is refused; of a pointer to a place under check, or past the
+//! The offset in an error is that of the value that is rejected; of a pointer to a place under check, or past the
 //! section, it is the place to which the pointer leads.
 mod checks;
 mod hostile;

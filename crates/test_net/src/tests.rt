@@ -6,7 +6,7 @@ use mmdb_vectors::failures::Failures;
 use std::alloc::{AllocError, Global};
 use std::net::IpAddr;
 
-/// A text that is read as a network, and what is told of it.
+/// A text that is read as a network, and what is reported of it.
 #[derive(Clone, Copy)]
 struct Row {
     text: &'static str,
@@ -79,7 +79,7 @@ const IPV6: &[Row] = &[
     },
 ];
 
-/// What is told of a network.
+/// What is reported of a network.
 #[derive(Drop)]
 struct Told {
     ip: IpAddr,
@@ -93,7 +93,7 @@ struct Told {
     is_made_again: bool,
 }
 
-// What is told of a text that is read as a network of either kind.
+// What is reported of a text that is read as a network of either kind.
 fn network_told(alloc: Global, text: &str) -> Option<Told> {
     let network: IpNetwork = text.parse().ok()?;
     let mut pushed = Vec::new(alloc);
@@ -146,7 +146,7 @@ fn is_text_of(text: &str, address: IpAddr) -> bool {
     text.parse::<IpAddr>().ok() == Some(address)
 }
 
-// Whether what is told without a text is what a row wants.
+// Whether what is reported without a text is what a row wants.
 fn is_wanted(told: &Told, row: &Row) -> bool {
     let (pushed, is_pushed) = &told.pushed;
     is_text_of(row.ip, told.ip)
@@ -157,7 +157,7 @@ fn is_wanted(told: &Told, row: &Row) -> bool {
         && told.is_made_again
 }
 
-// Notes what is told otherwise than a row wants.
+// Notes what is reported otherwise than a row wants.
 fn expect_told(failures: &mut Failures, row: &Row, told: Option<Told>) {
     match told {
         Some(told) => {

@@ -81,7 +81,7 @@ fn work_at_the_limit(rt: HostRuntime) -> Result<(), Failures> {
     let (alloc, mut failures) = (rt.alloc(), Failures::new(rt.alloc()));
     let good = overlap(alloc, 41);
     expect_verdict(&mut failures, alloc, good.as_slice(), 154, OK);
-    // An array, 42 pointers and 42 texts of 28 bytes cost 1261, and 8 times 157 is 1256: refused at the last text.
+    // An array, 42 pointers and 42 texts of 28 bytes cost 1261, and 8 times 157 is 1256: rejected at the last text.
     let refused = overlap(alloc, 42);
     let text = "resource limit exceeded at offset 128: exceeded maximum verification work";
     expect_verdict(&mut failures, alloc, refused.as_slice(), 157, text);

@@ -68,7 +68,7 @@ const WHOLE: &[&[u8]] = &[
     b"\x20\x02\x20\x04\x41x",
 ];
 
-// Whether the value at the beginning of a section is refused by each reading and by the check.
+// Whether the value at the beginning of a section is rejected by each reading and by the check.
 fn is_refused(alloc: Global, section: &[u8]) -> bool {
     decode::<Value<'_>>(alloc, section).is_err()
         && decode::<RawValue<'_>>(alloc, section).is_err()
@@ -87,7 +87,7 @@ fn proper_beginnings(rt: HostRuntime) -> Result<(), Failures> {
     failures.verdict()
 }
 
-// Notes where a value of an unknown type is not refused with the type's number.
+// Notes where a value of an unknown type is not rejected with the type's number.
 fn expect_unknown(failures: &mut Failures, alloc: Global, byte: u8) {
     match format!(in alloc; "unknown data type: {}", u32::from(byte) + 7) {
         Ok(text) => expect_verdicts(failures, alloc, &[0x00, byte], [text.as_str(); 3]),

@@ -1,4 +1,4 @@
-//! Checks where memory is refused.
+//! Checks where memory runs out.
 use mmdb_value::fuzzing::verify;
 use mmdb_value::{Checked, MaxMindDbError, check_value};
 use mmdb_vectors::answer::told;
@@ -9,7 +9,7 @@ use std::alloc::{AllocError, Global};
 /// A pointer to a pointer to a text.
 const POINTERS: &[u8] = b"\x20\x02\x20\x04\x41x";
 
-/// A value of no type, whose refusal names a number.
+/// A value of no type, whose error names a number.
 const OF_NO_TYPE: &[u8] = b"\x00\x06";
 
 fn outcome(answer: Result<(), MaxMindDbError>) -> Outcome {
@@ -30,7 +30,7 @@ fn growths_refused_in_turn(rt: HostRuntime) -> Result<(), Failures> {
     failures.verdict()
 }
 
-// What a check of a section's first value meets where every growth is refused, and what is told by the same
+// What a check of a section's first value meets where every allocation fails, and what is reported by the same
 // check once more.
 fn checked_twice(alloc: Global, section: &[u8]) -> (Outcome, Result<String, AllocError>) {
     let Ok(mut checked) = Checked::new(alloc, section) else {

@@ -146,7 +146,7 @@ impl Write for Counting {
     }
 }
 
-// What the filter counts, how many bytes it writes, and the number of rows that was told last.
+// What the filter counts, how many bytes it writes, and the number of rows that was reported last.
 fn counted<R: BufRead + Drop>(rt: &impl Abort, alloc: Global, mut input: R) -> (Counts, u64, u64) {
     let mut out = Counting { bytes: 0 };
     let mut told = Told(0);

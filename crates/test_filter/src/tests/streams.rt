@@ -139,7 +139,7 @@ impl Additions for Marks {
     }
 }
 
-/// The last number of rows that was told.
+/// The last number of rows that was reported.
 #[derive(Drop)]
 pub(crate) struct Told(pub(crate) u64);
 

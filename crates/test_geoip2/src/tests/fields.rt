@@ -15,7 +15,7 @@ use mmdb_vectors::failures::Failures;
 use std::fmt::Debug;
 
 impl Reads {
-    // A row's section is read as a record where every growth is refused, and `Debug` shows the record so; so is a map
+    // A row's section is read as a record where every allocation fails, and `Debug` shows the record so; so is a map
     // without a pair, and a text is read as none.
     fn expect_read<'de, T: Decode<'de> + Debug>(&'de mut self, row: &Row<'_>) {
         self.room = with_unknown(self.alloc, row);

@@ -1,4 +1,4 @@
-//! Reads and clones where memory is refused.
+//! Reads and clones where memory runs out.
 use super::fields::{TOP_CITY, TOP_COUNTRY, TOP_ENTERPRISE};
 use super::parts::Parts;
 use super::reads::Reads;
@@ -33,7 +33,7 @@ fn outcome<T: Drop>(answer: Result<T, MaxMindDbError>) -> Outcome {
     }
 }
 
-// A read is refused for memory at least so often, with more of it each time, before it meets the answer that
+// A read runs out of memory at least so often, with more of it each time, before it meets the answer that
 // it has with enough; a read that takes none meets it at once.
 fn expect_turns<'de, T: Decode<'de>>(
     failures: &mut Failures,
@@ -51,7 +51,7 @@ pub fn expect_empty<'de, T: Decode<'de>>(failures: &mut Failures, alloc: Global)
     failures.expect(&"an empty map", met == Outcome::Value);
 }
 
-/// A record is read where every growth is refused.
+/// A record is read where every allocation fails.
 pub fn expect_none<'de, T: Decode<'de>>(
     failures: &mut Failures,
     alloc: Global,
@@ -65,8 +65,8 @@ pub fn expect_none<'de, T: Decode<'de>>(
     failures.expect(&section, met == Outcome::Value);
 }
 
-/// A text is read as no record: where every growth is refused there is none for what is told of it, and then
-/// the text is refused.
+/// A text is read as no record: where every allocation fails there is none for what is reported of it, and then
+/// the text is rejected.
 pub fn expect_no_record<'de, T: Decode<'de>>(failures: &mut Failures, alloc: Global) {
     expect_turns::<T>(failures, alloc, b"\x41x", Outcome::Refusal);
 }
@@ -84,7 +84,7 @@ fn records_without_a_list(rt: HostRuntime) -> Result<(), Failures> {
 }
 
 impl Reads {
-    // What a row's section and its clone are where memory is refused, and what the clone says.
+    // What a row's section and its clone are where memory runs out, and what the clone says.
     fn expect_list<'de, T: Decode<'de> + Clone + Parts>(&'de mut self, row: &Row<'_>) {
         self.room = with_unknown(self.alloc, row);
         let (failures, alloc, section) = (&mut self.failures, self.alloc, self.room.as_slice());

@@ -167,7 +167,7 @@ pub fn parts_told<'de, T: Decode<'de> + Parts>(
     }
 }
 
-/// What holds of a record that was refused.
+/// What holds of a record that was rejected.
 pub fn refused<E: Drop>(_error: E) -> bool {
     false
 }

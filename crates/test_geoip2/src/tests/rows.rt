@@ -1,4 +1,4 @@
-//! Worked rows: bytes, and what is read of them or told.
+//! Worked rows: bytes, and what is read of them or reported.
 use super::parts::{Parts, parts_told, refused};
 use mmdb_decode::decode::Decode;
 use mmdb_decode::fuzzing::decode;
@@ -8,7 +8,7 @@ use mmdb_vectors::failures::Failures;
 use mmdb_vectors::section::section_of;
 use std::alloc::{AllocError, Global};
 
-/// A record of which rows tell.
+/// A record of which rows report.
 #[derive(Clone, Copy, Debug)]
 enum Kind {
     Country,
@@ -17,7 +17,7 @@ enum Kind {
     Domain,
 }
 
-// What is told of a section that is read as a record.
+// What is reported of a section that is read as a record.
 fn told_as(alloc: Global, kind: Kind, section: &[u8]) -> Result<String, AllocError> {
     match kind {
         Kind::Country => told(alloc, decode::<Country<'_>>(alloc, section)),
@@ -173,7 +173,7 @@ fn records_told(rt: HostRuntime) -> Result<(), Failures> {
     failures.verdict()
 }
 
-/// The beginning of a section, bytes behind it so many times, and what is told.
+/// The beginning of a section, bytes behind it so many times, and what is reported.
 type Long = (&'static [u8], &'static [u8], usize, &'static str);
 
 /// Two countries that are one map, and bytes of it so many times: each is charged.
@@ -201,7 +201,7 @@ const LONG_DOMAINS: &[Long] = &[
     (b"\xE1\x46domain\x5F\x1E\xFE\xE4", b"a", 2_097_153, "resource limit exceeded at offset 8: exceeded maximum size of data structure string and bytes values"),
 ];
 
-/// Records, and the rows that are told of each.
+/// Records, and the rows that are reported of each.
 const AT_LIMITS: &[(Kind, &[Long])] = &[
     (Kind::Country, CHARGED),
     (Kind::City, CHARGED),
@@ -211,7 +211,7 @@ const AT_LIMITS: &[(Kind, &[Long])] = &[
     (Kind::Domain, LONG_DOMAINS),
 ];
 
-// What is told of a row's section.
+// What is reported of a row's section.
 fn long_told(alloc: Global, kind: Kind, row: &Long) -> Result<String, AllocError> {
     let section = section_of(alloc, &[(row.0, 1), (row.1, row.2)]);
     told_as(alloc, kind, section.as_slice())

@@ -112,7 +112,7 @@ const ROWS: &[Row<'static>] = &[
         &["3 (1610612736) added, 0 (0) removed, 1 (536870912) changed"],
         0,
     ),
-    // what can't be read is told with its file, in its place, and is not compared
+    // what can't be read is reported with its file, in its place, and is not compared
     (
         BEFORE,
         FAULTY,

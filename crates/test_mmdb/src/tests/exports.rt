@@ -52,7 +52,7 @@ const THREE: &[&str] = &[
 
 #[rattlefmt::skip]
 const ROWS: &[Row<'static>] = &[
-    // faults are told in their places, and nothing before or after them is lost
+    // faults are reported in their places, and nothing before or after them is lost
     (&["export", "here.mmdb"], RECORDS, THREE),
     (&["export", "here.mmdb", "--field", "a", "--field", "n", "--format", "csv"], CELLS, THREE),
     // a fault in a field that is not asked for is none

@@ -1,4 +1,4 @@
-//! Files that can't be read to their end, and writers that refuse.
+//! Files that can't be read to their end, and writers that fail.
 use super::program::{Narrow, Run, assert_of, file_of, run_of, run_over, words_with};
 use mmdb_program::run;
 use mmdb_vectors::base::BASE_FILE;

@@ -100,7 +100,7 @@ add mmdb_ipv4 64.0.0.0/3
 
 #[rattlefmt::skip]
 const OF_DAMAGED: &[Row<'static>] = &[
-    // a condition is on the value alone: what can't be read is told, and not listed
+    // a condition is on the value alone: what can't be read is reported, and not listed
     (
         &["--where-not", "c=x", "--format", "cidr"],
         "0.0.0.0/3\n64.0.0.0/2\n160.0.0.0/3\n",

@@ -1,4 +1,4 @@
-//! Runs where memory is refused.
+//! Runs where memory runs out.
 ghost use Rattle.std.specs.Prelude.{◌<◌};
 
 use super::program::{Narrow, Run, assert_of, file_of, words_with};
@@ -9,7 +9,7 @@ use std::alloc::Global;
 use std::io::ErrorKind;
 use std::process::Abort;
 
-/// How many bytes a run may write or tell.
+/// How many bytes a run may write or report.
 const ROOM: usize = 2048;
 
 /// How many bytes budgets differ by.

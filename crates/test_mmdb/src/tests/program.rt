@@ -29,7 +29,7 @@ impl Run {
     }
 }
 
-/// A writer with room for so many bytes, which then refuses.
+/// A writer with room for so many bytes, which then fails.
 #[derive(Drop)]
 pub(crate) struct Narrow {
     pub(crate) bytes: Vec<u8>,

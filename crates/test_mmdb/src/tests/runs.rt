@@ -95,19 +95,19 @@ const LINES: &[Lines<'static>] = &[
         &["enrich", "here.mmdb", "--field", ""],
         "200.0.0.1\n1.1.1.1\trest\n::1\r\nnone\n\n200.0.0.2",
         "200.0.0.1\tx\n1.1.1.1\trest\t\n::1\t\r\nnone\t\n\t\n200.0.0.2\tx",
-        "2 lines with a record, 1 without, 2 without an address, 1 refused",
+        "2 lines with a record, 1 without, 2 without an address, 1 with an error",
     ),
     (
         &["enrich", "here.mmdb", "--column", "2", "--field", "", "--field", "a"],
         "200.0.0.1\na\t200.0.0.1\tb\na\t200.0.0.1 \n",
         "200.0.0.1\t\t\na\t200.0.0.1\tb\tx\t\na\t200.0.0.1 \t\t\n",
-        "0 lines with a record, 0 without, 2 without an address, 1 refused",
+        "0 lines with a record, 0 without, 2 without an address, 1 with an error",
     ),
     (
         &["enrich", "here.mmdb", "--header", "--column", "ip", "--field", ""],
         "name\tip\r\na\t200.0.0.1\r\n",
         "name\tip\t\r\na\t200.0.0.1\tx\r\n",
-        "1 lines with a record, 0 without, 0 without an address, 0 refused",
+        "1 lines with a record, 0 without, 0 without an address, 0 with an error",
     ),
     (&["enrich", "here.mmdb", "--field", ""], "", "", "0 lines with a record, 0 without, 0 without"),
     // nothing in, nothing out; a carriage return alone ends no header
@@ -176,21 +176,21 @@ const IN_JSON: &[&str] = &["enrich", "here.mmdb", "--json", "a", "--field", "r="
 /// Lines of JSON, the same as they are written, and how they fared.
 #[rattlefmt::skip]
 const OBJECTS: &[(&str, &str, &str)] = &[
-    ("{\"a\":\"200.0.0.1\"}\n", "{\"a\":\"200.0.0.1\",\"geo\":{\"r\":\"x\"}}\n", "1 lines with a record, 0 without, 0 without an address, 0 refused"),
+    ("{\"a\":\"200.0.0.1\"}\n", "{\"a\":\"200.0.0.1\",\"geo\":{\"r\":\"x\"}}\n", "1 lines with a record, 0 without, 0 without an address, 0 with an error"),
     // white space around the braces, other ends of lines, no end, a key that comes twice
     (" { \"a\" : \"200.0.0.1\" } \t\n", " { \"a\" : \"200.0.0.1\" ,\"geo\":{\"r\":\"x\"}} \t\n", "1 lines with a record"),
     ("{\"a\":\"200.0.0.1\"}\r\n", "{\"a\":\"200.0.0.1\",\"geo\":{\"r\":\"x\"}}\r\n", "1 lines with a record"),
     ("{\"b\":\"}\",\"a\":\"200.0.0.1\"}", "{\"b\":\"}\",\"a\":\"200.0.0.1\",\"geo\":{\"r\":\"x\"}}", "1 lines with a record"),
     ("{\"a\":\"1.1.1.1\",\"a\":\"200.0.0.1\"}", "{\"a\":\"1.1.1.1\",\"a\":\"200.0.0.1\",\"geo\":{\"r\":\"x\"}}", "1 lines with a record"),
-    // no record, refused
-    ("{\"a\":\"1.1.1.1\"}\n", "{\"a\":\"1.1.1.1\"}\n", "0 lines with a record, 1 without, 0 without an address, 0 refused"),
-    ("{\"a\":\"::1\"}\n", "{\"a\":\"::1\"}\n", "0 lines with a record, 0 without, 0 without an address, 1 refused"),
+    // no record; an error
+    ("{\"a\":\"1.1.1.1\"}\n", "{\"a\":\"1.1.1.1\"}\n", "0 lines with a record, 1 without, 0 without an address, 0 with an error"),
+    ("{\"a\":\"::1\"}\n", "{\"a\":\"::1\"}\n", "0 lines with a record, 0 without, 0 without an address, 1 with an error"),
     // no address: no member, no text, no address in it
-    ("{}\n{ }\n{\"b\":\"200.0.0.1\"}\n", "{}\n{ }\n{\"b\":\"200.0.0.1\"}\n", "0 lines with a record, 0 without, 3 without an address, 0 refused, 0 not objects of JSON"),
+    ("{}\n{ }\n{\"b\":\"200.0.0.1\"}\n", "{}\n{ }\n{\"b\":\"200.0.0.1\"}\n", "0 lines with a record, 0 without, 3 without an address, 0 with an error, 0 not objects of JSON"),
     ("{\"a\":2}\n{\"a\":[\"200.0.0.1\"]}\n{\"a\":\"200.0.0\"}\n", "{\"a\":2}\n{\"a\":[\"200.0.0.1\"]}\n{\"a\":\"200.0.0\"}\n", "3 without an address"),
     // no object; no JSON
-    ("[{\"a\":\"200.0.0.1\"}]\n\"{}\"\n{\"a\":\"200.0.0.1\"}}\n\n", "[{\"a\":\"200.0.0.1\"}]\n\"{}\"\n{\"a\":\"200.0.0.1\"}}\n\n", "0 without an address, 0 refused, 4 not objects of JSON"),
-    ("{\"a\":\"200.0.0.1\",}\n200.0.0.1\n", "{\"a\":\"200.0.0.1\",}\n200.0.0.1\n", "0 without an address, 0 refused, 2 not objects of JSON"),
+    ("[{\"a\":\"200.0.0.1\"}]\n\"{}\"\n{\"a\":\"200.0.0.1\"}}\n\n", "[{\"a\":\"200.0.0.1\"}]\n\"{}\"\n{\"a\":\"200.0.0.1\"}}\n\n", "0 without an address, 0 with an error, 4 not objects of JSON"),
+    ("{\"a\":\"200.0.0.1\",}\n200.0.0.1\n", "{\"a\":\"200.0.0.1\",}\n200.0.0.1\n", "0 without an address, 0 with an error, 2 not objects of JSON"),
 ];
 
 /// Other words for lines of JSON.
@@ -202,7 +202,7 @@ const JSON_LINES: &[Lines<'static>] = &[
         "{\"client\":{\"ips\":[0,{\"ip v\":\"200.0.0.1\"}]},\"a\\\"b\":{}}\n",
         "1 lines with a record",
     ),
-    (&["enrich", "here.mmdb", "--json", ""], "{}\n\"200.0.0.1\"\n", "{}\n\"200.0.0.1\"\n", "1 without an address, 0 refused, 1 not objects of JSON"),
+    (&["enrich", "here.mmdb", "--json", ""], "{}\n\"200.0.0.1\"\n", "{}\n\"200.0.0.1\"\n", "1 without an address, 0 with an error, 1 not objects of JSON"),
 ];
 
 /// Runs over lines of JSON of a record with fields.
@@ -214,12 +214,12 @@ const NESTED_LINES: &[Lines<'static>] = &[
         "{\"a\":\"200.0.0.1\",\"geo\":{\"0\":\"y\",\"n\":1,\"c\":null,\"a.b\":[1,{\"0\":\"y\"}]}}\n",
         "1 lines with a record",
     ),
-    // a field is refused
+    // a field that cannot be decoded
     (
         &["enrich", "here.mmdb", "--json", "a", "--field", "\"a.b\".0", "--field", "\"a.b\".1.0"],
         "{\"a\":\"200.0.0.1\"}\n",
         "{\"a\":\"200.0.0.1\"}\n",
-        "0 lines with a record, 0 without, 0 without an address, 1 refused",
+        "0 lines with a record, 0 without, 0 without an address, 1 with an error",
     ),
 ];
 
@@ -302,11 +302,11 @@ fn long_objects(rt: HostRuntime) {
         (65_536, "1 lines with"),
         (
             65_537,
-            "0 without an address, 0 refused, 1 not objects of JSON",
+            "0 without an address, 0 with an error, 1 not objects of JSON",
         ),
         (
             140_000,
-            "0 without an address, 0 refused, 1 not objects of JSON",
+            "0 without an address, 0 with an error, 1 not objects of JSON",
         ),
     ] {
         let text = object_of_length(rt.alloc(), length).expect(&rt, "a text");

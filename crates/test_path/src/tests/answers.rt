@@ -145,7 +145,7 @@ fn is_whole(alloc: Global, reader: &Reader<&[u8]>) -> bool {
     }
 }
 
-// The same of a file that may be refused.
+// The same of a file that may be rejected.
 fn is_opened_whole(alloc: Global, opened: Option<Reader<&[u8]>>) -> bool {
     match opened {
         Some(reader) => is_whole(alloc, &reader),

@@ -59,7 +59,7 @@ fn values_on_the_way_and_at_its_end(rt: HostRuntime) -> Result<(), Failures> {
     failures.verdict()
 }
 
-/// What a map with long keys begins with, a pair of it and how many there are, and what is told of a path to a
+/// What a map with long keys begins with, a pair of it and how many there are, and what is reported of a path to a
 /// key that it lacks. The key of each pair is a pointer to one text of 65,536 letters behind the pairs, and its
 /// value is a false.
 #[rattlefmt::skip]

@@ -1,4 +1,4 @@
-//! Paths where memory is refused.
+//! Paths where memory runs out.
 use super::vectors::{RECORD, file_of, high, low};
 use maxminddb::PathElement::{Index, IndexFromEnd, Key};
 use maxminddb::{LookupResult, MaxMindDbError, PathElement, Reader, Value, render_path};
@@ -11,7 +11,7 @@ use std::alloc::Global;
 enum Call {
     /// A list at the end of a path.
     ReadList,
-    /// A step that a value of another type refuses.
+    /// A step that fails at a value of another type.
     RefusedStep,
     /// A value at the end of a path that is of another type.
     RefusedValue,
@@ -49,7 +49,7 @@ fn call_met(alloc: Global, call: Call, found: LookupResult<'_, &[u8]>) -> Outcom
     }
 }
 
-/// A call, what it meets once nothing is refused, and how many growths it has at least.
+/// A call, what it meets once no allocation fails, and how many growths it has at least.
 const CALLS: [(Call, Outcome, u32); 4] = [
     (Call::ReadList, Outcome::Value, 1),
     (Call::RefusedStep, Outcome::Refusal, 2),
@@ -101,16 +101,16 @@ fn growths_refused_in_turn(rt: HostRuntime) -> Result<(), Failures> {
     failures.verdict()
 }
 
-/// What is asked for where every growth is refused, and the answer.
+/// What is asked for where every allocation fails, and the answer.
 #[derive(Clone, Copy)]
 enum Wanted {
     Number(Option<u16>),
     Text(&'static str),
-    /// A number, which is refused for memory.
+    /// A number, whose read runs out of memory.
     RefusedNumber,
-    /// Any value, which is refused for memory.
+    /// Any value, whose read runs out of memory.
     RefusedValue,
-    /// The path itself as a text, which is refused for memory.
+    /// The path itself as a text, which runs out of memory.
     RefusedPath,
 }
 
@@ -143,7 +143,7 @@ fn is_found(
     }
 }
 
-// Whether a row has its answer where every growth is refused.
+// Whether a row has its answer where every allocation fails.
 fn holds_without_memory(alloc: Global, reader: &Reader<&[u8]>, row: &Row) -> bool {
     let (has_data, path, wanted) = row;
     let address = if *has_data { high() } else { low() };
@@ -169,7 +169,7 @@ const ROWS: &[Row] = &[
     (true, &[Key("a")], Wanted::RefusedPath),
 ];
 
-// Notes the rows that have another answer where every growth is refused, or the error of the file.
+// Notes the rows that have another answer where every allocation fails, or the error of the file.
 fn expect_rows(
     failures: &mut Failures,
     alloc: Global,

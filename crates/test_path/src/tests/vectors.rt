@@ -74,7 +74,7 @@ fn told_of(
     }
 }
 
-/// What is told of a path into these data.
+/// What is reported of a path into these data.
 pub fn told_at(
     alloc: Global,
     data: &[u8],

@@ -45,7 +45,7 @@ fn opened(
     }
 }
 
-/// A reader of a file, or its refusal.
+/// A reader of a file, or its error.
 pub fn reader_of(alloc: Global, file: &File) -> Result<Reader<Vec<u8>>, MaxMindDbError> {
     opened(alloc, made(alloc, file))
 }
@@ -123,7 +123,7 @@ pub fn answer_by(
     }
 }
 
-/// What an address is answered by a file, or its refusal.
+/// What an address is answered by a file, or its error.
 pub fn answer(alloc: Global, file: &File, text: &str) -> Result<String, AllocError> {
     answer_by(alloc, reader_of(alloc, file), text)
 }

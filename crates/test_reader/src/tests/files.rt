@@ -19,12 +19,12 @@ fn is_unread(opened: &Result<Reader<Vec<u8>>, MaxMindDbError>) -> bool {
     matches!(opened, Err(MaxMindDbError::Io(_)))
 }
 
-// The kind of refusal of a file that can't be read, which is let go.
+// The kind of error of a file that can't be read, which is let go.
 fn unread<T: Drop>(alloc: Global, _opened: T) -> Result<String, AllocError> {
     String::from_str(alloc, UNREAD)
 }
 
-// What a file answers: what an address is told, the kind of refusal of a file that can't be read, or another
+// What a file answers: what is answered for an address, the kind of error of a file that can't be read, or another
 // error.
 fn text_of(
     alloc: Global,

@@ -81,7 +81,7 @@ const FOUND: &[FoundRow] = &[
     ("200.0.0.1", "128.0.0.0/1 true Some(0)", "Some(\"x\")"),
 ];
 
-// Notes what is told otherwise by a result, a copy and a clone of it, and by its value.
+// Notes what is reported otherwise by a result, a copy and a clone of it, and by its value.
 fn expect_found(
     failures: &mut Failures,
     alloc: Global,
@@ -131,7 +131,7 @@ fn expect_rows(failures: &mut Failures, alloc: Global, reader: &Reader<&'static 
     }
 }
 
-// The same of a file that may be refused.
+// The same of a file that may be rejected.
 fn expect_base(
     failures: &mut Failures,
     alloc: Global,

@@ -102,7 +102,7 @@ fn expect_counts(failures: &mut Failures, alloc: Global, reader: &Reader<Vec<u8>
     }
 }
 
-// The same of a file that may be refused.
+// The same of a file that may be rejected.
 fn expect_group(
     failures: &mut Failures,
     alloc: Global,

@@ -87,7 +87,7 @@ const BEGINNINGS: &[(usize, &str)] = &[
     (198, "invalid database at offset 197: u16 of size 1"),
 ];
 
-// What is told of the first bytes of the base file.
+// What is reported of the first bytes of the base file.
 fn told_of_first(alloc: Global, len: usize) -> Result<String, AllocError> {
     let beginning = BASE_FILE.get(..len).unwrap_or(BASE_FILE);
     told(alloc, Reader::from_source(alloc, beginning))
@@ -206,7 +206,7 @@ fn refusal(alloc: Global, data: &[u8], changes: Changes<'_>) -> Result<String, A
     told(alloc, Reader::from_source(alloc, file))
 }
 
-// Notes what is told otherwise of files of these data.
+// Notes what is reported otherwise of files of these data.
 fn expect_refusals(failures: &mut Failures, alloc: Global, data: &[u8], rows: Refusals) {
     for (changes, text) in rows {
         failures.expect_text(text, refusal(alloc, data, changes), text);
@@ -257,7 +257,7 @@ const READ: &[(File, &str, &str)] = &[
     ),
 ];
 
-// Notes what is told otherwise by metadata, by their time, and by the first time that is too large.
+// Notes what is reported otherwise by metadata, by their time, and by the first time that is too large.
 fn expect_metadata(
     failures: &mut Failures,
     alloc: Global,
@@ -285,7 +285,7 @@ fn expect_clone(
     }
 }
 
-// The same of a file that may be refused.
+// The same of a file that may be rejected.
 fn expect_read(
     failures: &mut Failures,
     alloc: Global,

@@ -66,7 +66,7 @@ fn expect_count(failures: &mut Failures, alloc: Global, reader: &Reader<Vec<u8>>
     failures.expect_text(text, found_text(alloc, reader.lookup(address)), wanted);
 }
 
-// The same of a file that may be refused.
+// The same of a file that may be rejected.
 fn expect_opened(
     failures: &mut Failures,
     alloc: Global,
@@ -89,7 +89,7 @@ fn nodes_that_are_read(rt: HostRuntime) -> Result<(), Failures> {
 }
 
 /// A file, an address of IPv6, how many nodes are read at most, and whether it is answered. A lookup reads at most
-/// one node for each bit of its leaf, one that is refused none.
+/// one node for each bit of its leaf, one that fails none.
 type AtMost = (File, &'static str, u64, bool);
 
 const AT_MOST: &[AtMost] = &[
@@ -107,7 +107,7 @@ fn is_at_most(reader: &Reader<Vec<u8>>, row: &AtMost) -> bool {
     found == *is_answered && steps.count() <= *most
 }
 
-// Notes where it is not so, or the file is refused.
+// Notes where it is not so, or the file is rejected.
 fn expect_at_most(
     failures: &mut Failures,
     alloc: Global,

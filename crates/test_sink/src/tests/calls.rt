@@ -1,4 +1,4 @@
-//! Each public call that can be refused, once with enough memory. The others answer a plain value.
+//! Each public call that can fail, once with enough memory. The others answer a plain value.
 use super::asserts::{assert_holds, opened};
 use super::growths::{Outcome, error_met};
 use super::made::{CONSTRUCTORS, made};

@@ -1,4 +1,4 @@
-//! Calls with more memory in turn, until none is refused.
+//! Calls with more memory in turn, until no allocation fails.
 ghost use Rattle.std.specs.Prelude.{◌<◌};
 
 use super::asserts::{assert_holds, opened};
@@ -31,7 +31,7 @@ pub(crate) enum Call {
     ListOfIpv6,
     Report,
     ReportOfIpv6,
-    /// A file whose refusal names a number.
+    /// A file whose error names a number.
     RefusedSource,
     FullText,
     NewChecked,
@@ -231,7 +231,7 @@ fn refusals(rt: &impl Abort, alloc: Global, call: &Call, given: &Given) -> (u32,
     (refused, met)
 }
 
-/// A call by name, what it meets with enough memory, and how often it is refused for it before, at least and at
+/// A call by name, what it meets with enough memory, and how often it fails for it before, at least and at
 /// most.
 pub(crate) type Row = (&'static str, Call, Outcome, u32, u32);
 

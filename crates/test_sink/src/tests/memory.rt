@@ -1,4 +1,4 @@
-//! Lines, lists and reports where memory is refused.
+//! Lines, lists and reports where memory runs out.
 use super::asserts::{OF_RANGE, assert_holds, assert_printed, opened};
 use super::growths::{Call, Outcome, Row, assert_all_met, outcome_of};
 use mmdb_reader::{IpNetwork, Reader, WithinOptions};
@@ -29,7 +29,7 @@ fn growths_of_reports_refused_in_turn(rt: HostRuntime) {
     assert_all_met(&rt, rt.alloc(), REPORT);
 }
 
-// What comes of a line where every growth is refused.
+// What comes of a line where every allocation fails.
 fn met_without_memory(alloc: Global, reader: &Reader<&[u8]>) -> Outcome {
     let large = Hoard::of_large_blocks(alloc);
     let small = Hoard::of_all_left(alloc);

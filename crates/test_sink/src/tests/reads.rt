@@ -21,7 +21,7 @@ const DOUBLE: &[u8] = b"\x68\x00\x00\x00\x00\x00\x00\x00\x00";
 /// The number zero as a float.
 const FLOAT: &[u8] = b"\x04\x08\x00\x00\x00\x00";
 
-/// A call of a decoder that reads one value, or tells of it.
+/// A call of a decoder that reads one value, or says what comes.
 enum Scalar {
     Bool,
     U16,

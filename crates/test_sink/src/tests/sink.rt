@@ -1,4 +1,4 @@
-//! A sink that takes one byte a call, and then refuses or takes none.
+//! A sink that takes one byte a call, and then fails or takes none.
 ghost use Rattle.std.specs.Prelude.{Some};
 ghost use Rattle.std.specs.Io.{WritesAtMost};
 ghost use Rattle.std.specs.Io.KnownBytes.{WriteAppends};

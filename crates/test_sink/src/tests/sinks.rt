@@ -25,7 +25,7 @@ const RUNS: &[Run] = &[
     (&[], 7, End::TakesNone, "usage:", Fault::Stalled, 1),
 ];
 
-// Asserts what a run writes, and what it tells of a sink that refuses.
+// Asserts what a run writes, and what it reports of a sink that fails.
 fn assert_run(rt: &impl Abort, alloc: Global, run: &Run, refused: &str) {
     let (texts, ends_at, end, wrote, fault, status) = run;
     let mut out = one_byte(rt, alloc, *ends_at, *end);
@@ -90,7 +90,7 @@ fn faults_that_are_equal(rt: HostRuntime) {
     }
 }
 
-// The fault that a list was refused for; none where the database refused.
+// The fault for which a list failed; none where the database failed.
 fn fault_of(error: ListError) -> Option<Fault> {
     match error {
         ListError::Write(_) => Some(Fault::Refused),

@@ -41,7 +41,7 @@ impl Write for Counting {
     }
 }
 
-/// What the writer does, how many bytes are put, and how many the put answers, unless it is refused.
+/// What the writer does, how many bytes are put, and how many the put answers, unless it fails.
 type Row = (Takes, usize, Option<usize>);
 
 #[rattlefmt::skip]

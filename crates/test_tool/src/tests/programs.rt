@@ -116,12 +116,12 @@ fn bad_words(rt: HostRuntime) {
     let done = (2, "", USAGE);
     for texts in BAD {
         assert_done_both(&rt, rt.alloc(), BASE_FILE, 1000, texts, done);
-        // No file, and one that can't be read: neither is told of.
+        // No file, and one that can't be read: neither is reported.
         assert_done_both(&rt, rt.alloc(), b"", 0, texts, done);
     }
 }
 
-// Asserts that a file which can't be opened, or is no database, is told of by `lookup` and by `verify`.
+// Asserts that a file which can't be opened, or is no database, is reported by `lookup` and by `verify`.
 fn assert_refused(rt: &impl Abort, alloc: Global, files: &OneFile<'_>, path: &str, text: &str) {
     let lookup = ["lookup", path, "1.1.1.1"];
     assert_done(rt, alloc, files, &lookup, (1, "", text));
@@ -142,7 +142,7 @@ fn refused_files(rt: HostRuntime) {
     assert_done_with(&rt, rt.alloc(), b"", &FOUND, (1, "", no_marker));
 }
 
-/// A path, the read of the base file that is refused, and why the file can't be read.
+/// A path, the read of the base file that fails, and why the file can't be read.
 const UNREAD: [(&str, u32, io::ErrorKind); 2] = [
     ("gone.mmdb", 1000, io::ErrorKind::NotFound),
     ("here.mmdb", 2, io::ErrorKind::InvalidData),
@@ -166,7 +166,7 @@ fn unread_files(rt: HostRuntime) {
     }
 }
 
-/// A node, data, and what is told of their file.
+/// A node, data, and what is reported of their file.
 #[rattlefmt::skip]
 const DAMAGED: &[(&[u8], &[u8], &str)] = &[
     (

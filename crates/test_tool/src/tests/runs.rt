@@ -58,7 +58,7 @@ pub fn assert_done_with(
 }
 
 /// Asserts what the program does with its arguments over a file of these bytes, whose read number `fails_at` is
-/// refused, and over the bytes alone.
+/// rejected, and over the bytes alone.
 pub fn assert_done_both(
     rt: &impl Abort,
     alloc: Global,

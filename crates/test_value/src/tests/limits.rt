@@ -10,10 +10,10 @@ use std::collections::BTreeMap;
 /// Bytes in parts, each as often as it says.
 type Parts = &'static [(&'static [u8], usize)];
 
-/// What a section is read as, and what is told of it.
+/// What a section is read as, and what is reported of it.
 #[derive(Clone, Copy)]
 enum Wanted {
-    /// Any value, of which only is told that it is read, or the error.
+    /// Any value, of which only is reported that it is read, or the error.
     Any,
     /// Any value, as it is printed. So are the others.
     Value,
@@ -23,7 +23,7 @@ enum Wanted {
     Probe,
 }
 
-/// A name, a section, what it is read as, and what is told of it.
+/// A name, a section, what it is read as, and what is reported of it.
 type Row = (&'static str, Parts, Wanted, Parts);
 
 const FALSES: Parts = &[(b"\x1E\x04\xFE\xE2", 1), (b"\x00\x07", 65_535)];
@@ -123,7 +123,7 @@ const ROWS: &[Row] = &[
     ),
 ];
 
-// What is told of a section.
+// What is reported of a section.
 fn told_as(alloc: Global, section: &[u8], wanted: Wanted) -> Result<String, AllocError> {
     match wanted {
         Wanted::Any => told(alloc, fuzzing::decode::<Value<'_>>(alloc, section)),
@@ -146,7 +146,7 @@ fn is_text(text: &Result<String, AllocError>, bytes: &[u8]) -> bool {
     }
 }
 
-// Whether a row's section is told of as the row wants.
+// Whether a row's section is reported as the row wants.
 fn is_told(alloc: Global, row: &Row) -> bool {
     let (_, section, wanted, text) = row;
     let section = section_of(alloc, section);

@@ -1,4 +1,4 @@
-//! Reads where memory is refused.
+//! Reads where memory runs out.
 use crate::probe::Probe;
 use mmdb_value::{Decode, DecodeResult, MaxMindDbError, OwnedBytes, RawValue, Value, fuzzing};
 use mmdb_vectors::failures::Failures;
@@ -31,7 +31,7 @@ fn read_met<'de, T: Decode<'de>>(alloc: Global, section: &'de [u8]) -> Outcome {
     answer_met(fuzzing::decode::<T>(alloc, section))
 }
 
-// Notes where a read is not refused for memory, with more of it each time, before it meets the answer that it
+// Notes where a read does not run out of memory, with more of it each time, before it meets the answer that it
 // has with enough, or where it meets another; a read that takes none meets it at once.
 fn expect_turns<'de, T: Decode<'de>>(
     failures: &mut Failures,

@@ -25,7 +25,7 @@ fn is_first_of_two(rt: &impl Abort, alloc: Global, d: &mut Decoder<'_>, items: &
     are_two && has_first && first == 5 && d.remaining(items) == 1
 }
 
-// Whether the key of the map is told, the type of its value, and what the array tells.
+// Whether the key of the map is read, the type of its value, and what the array holds.
 fn is_pair(rt: &impl Abort, alloc: Global, d: &mut Decoder<'_>, entries: &mut Entries) -> bool {
     let key = d.next_raw_key(alloc, entries).expect(rt, "a key");
     let kind = d.peek_kind(alloc).expect(rt, "the kind of its value");
@@ -35,7 +35,7 @@ fn is_pair(rt: &impl Abort, alloc: Global, d: &mut Decoder<'_>, entries: &mut En
     is_right && key == Some(b"k".as_slice()) && kind == Kind::Array
 }
 
-// Whether the map is entered, its key and array are told as they stand, and what is left is skipped.
+// Whether the map is entered, its key and array are read as they stand, and what is left is skipped.
 fn is_stepped_through(rt: &impl Abort, alloc: Global, d: &mut Decoder<'_>) -> bool {
     let kind = d.peek_kind(alloc).expect(rt, "a kind");
     let is_first = d.offset() == 0;
@@ -63,7 +63,7 @@ fn enter_array(alloc: Global, section: &[u8], place: usize, len: usize) -> Decod
     Ok(())
 }
 
-/// A section, a place, a length, and what is told where an array of that length is asked for there.
+/// A section, a place, a length, and what is reported where an array of that length is asked for there.
 #[rattlefmt::skip]
 const ENTERED: &[(&[u8], usize, usize, &str)] = &[
     (PAIR, 3, 2, OK),
@@ -72,7 +72,7 @@ const ENTERED: &[(&[u8], usize, usize, &str)] = &[
     (PAIR, 0, 1, "decoding error at offset 0: expected array, got type 7"),
 ];
 
-/// Values that are skipped, and what is told. The size of a pointer is the number of its own bytes after
+/// Values that are skipped, and what is reported. The size of a pointer is the number of its own bytes after
 /// the control byte.
 #[rattlefmt::skip]
 const SKIPPED: &[(&[u8], &str)] = &[

@@ -1,4 +1,4 @@
-//! Verifications where memory is refused.
+//! Verifications where memory runs out.
 ghost use Rattle.std.specs.Prelude.{◌<◌};
 
 use super::files::{ladder, opened};
@@ -56,7 +56,7 @@ fn refused_in_turn(alloc: Global, reader: &Reader<Vec<u8>>) -> (u32, Outcome) {
     (refused, met)
 }
 
-// Asserts that the verification of a file is refused for lack of memory at first, and what comes of it then.
+// Asserts that the verification of a file runs out of memory at first, and what comes of it then.
 fn assert_in_turn(
     rt: &impl Abort,
     alloc: Global,
@@ -73,7 +73,7 @@ fn assert_in_turn(
 fn growths_refused_in_turn(rt: HostRuntime) {
     let alloc = rt.alloc();
     // The base file takes the marks of the metadata, the points and the offsets of the walk, and the marks of the
-    // data; the other is refused with a text that takes memory.
+    // data; the other is rejected with a text that takes memory.
     assert_in_turn(
         &rt,
         alloc,

@@ -32,12 +32,12 @@ pub(crate) fn told<T: Drop>(
     }
 }
 
-/// What is told of an error.
+/// What is reported of an error.
 pub(crate) fn refusal(alloc: Global, error: MaxMindDbError) -> Result<String, AllocError> {
     format!(in alloc; "{error}")
 }
 
-/// A reader of a file, or its refusal.
+/// A reader of a file, or its error.
 pub(crate) fn reader_of(
     alloc: Global,
     file: Result<Vec<u8>, AllocError>,

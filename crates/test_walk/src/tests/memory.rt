@@ -1,4 +1,4 @@
-//! Calls where memory is refused.
+//! Calls where memory runs out.
 ghost use Rattle.std.specs.Prelude.{◌<◌};
 
 use super::answers::{assert_row, assert_text, opened, refusal, told};
@@ -20,7 +20,7 @@ const NO_TABLE: usize = 65_536;
 enum Call {
     ReadMetadata,
     CloneOfMetadata,
-    /// A read of metadata that lack a field, whose refusal names the field.
+    /// A read of metadata that lack a field, whose error names the field.
     RefusedMetadata,
 }
 
@@ -137,7 +137,7 @@ fn parts(found: LookupResult<'_, Vec<u8>>) -> Result<Parts, MaxMindDbError> {
     }
 }
 
-// What an address is told where every growth is refused.
+// What is answered for an address where every allocation fails.
 fn found_without_memory(
     alloc: Global,
     reader: &Reader<Vec<u8>>,
@@ -164,7 +164,7 @@ fn found_text(alloc: Global, found: Result<Parts, MaxMindDbError>) -> Result<Str
     }
 }
 
-/// Addresses, and what each is told.
+/// Addresses, and what is answered for each.
 #[rattlefmt::skip]
 const FOUND: &[(&str, &str)] = &[
     ("1.1.1.1", "false None 0.0.0.0/1"),
@@ -185,7 +185,7 @@ fn lookups_without_memory(rt: HostRuntime) {
     }
 }
 
-/// What is read where every growth is refused.
+/// What is read where every allocation fails.
 #[derive(Clone, Copy, PartialEq, Eq)]
 enum Read {
     LetterX,
@@ -279,7 +279,7 @@ fn reads_without_memory(rt: HostRuntime) {
     }
 }
 
-// What a file is told where about so many bytes are left, or the text of its refusal.
+// What is answered of a file where about so many bytes are left, or the text of its error.
 fn verdict_within(alloc: Global, file: &[u8], budget: usize) -> Result<String, AllocError>
     requires { budget < 1000000 }
 {
@@ -304,7 +304,7 @@ fn assert_verdict(rt: &impl Abort, alloc: Global, size: &[u8], budget: usize, te
 fn table_refused(rt: HostRuntime) {
     let alloc = rt.alloc();
     let wrong_size = "invalid database: record_size - Expected: 24, 28, or 32 Actual: 16";
-    // What else refuses a file does so before the table is reserved.
+    // What else rejects a file does so before the table is reserved.
     assert_verdict(&rt, alloc, b"\xA1\x18", NO_TABLE, "out of memory");
     assert_verdict(&rt, alloc, b"\xA1\x18", 0, "out of memory");
     assert_verdict(&rt, alloc, b"\xA1\x10", NO_TABLE, wrong_size);
@@ -313,7 +313,7 @@ fn table_refused(rt: HostRuntime) {
     }
 }
 
-// What a file is told where every growth is refused.
+// What is answered of a file where every allocation fails.
 fn verdict_without_memory(alloc: Global, file: &[u8]) -> Result<String, AllocError> {
     let large = Hoard::of_large_blocks(alloc);
     let small = Hoard::of_all_left(alloc);

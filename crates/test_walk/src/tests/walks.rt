@@ -18,7 +18,7 @@ fn network_text(
     }
 }
 
-// What an item tells.
+// What an item says.
 fn item_text(
     alloc: Global,
     item: Result<LookupResult<'_, Vec<u8>>, MaxMindDbError>,
@@ -29,7 +29,7 @@ fn item_text(
     }
 }
 
-// What a call of `next` tells: a network and its offset, or that no item is left.
+// What a call of `next` says: a network and its offset, or that no item is left.
 fn call_text(
     alloc: Global,
     called: Option<Result<LookupResult<'_, Vec<u8>>, MaxMindDbError>>,
@@ -40,10 +40,10 @@ fn call_text(
     }
 }
 
-/// What the calls of `next` tell of a walk over the whole space of the base file, without data too.
+/// What the calls of `next` say of a walk over the whole space of the base file, without data too.
 const WHOLE_SPACE: &[&str] = &["0.0.0.0/1 None", "128.0.0.0/1 Some(0)", "end", "end"];
 
-// Asserts what the calls of `next` tell of a walk that is not refused.
+// Asserts what the calls of `next` answer of a walk that does not fail.
 fn assert_walk(
     rt: &impl Abort,
     alloc: Global,
@@ -113,7 +113,7 @@ const FIRST_ITEMS: &[FirstItem] = &[
     ),
 ];
 
-// What the first item of a walk tells.
+// What the first item of a walk says.
 fn first_told(
     alloc: Global,
     walk: Result<Within<'_, Vec<u8>>, MaxMindDbError>,
@@ -150,7 +150,7 @@ fn first_items(rt: HostRuntime) {
     }
 }
 
-// How many items of a walk are faults and how many are networks, where every growth is refused.
+// How many items of a walk are faults and how many are networks, where every allocation fails.
 fn counts_without_memory(alloc: Global, walk: Within<'_, Vec<u8>>) -> (u32, u32) {
     let large = Hoard::of_large_blocks(alloc);
     let small = Hoard::of_all_left(alloc);
@@ -167,7 +167,7 @@ fn counts_without_memory(alloc: Global, walk: Within<'_, Vec<u8>>) -> (u32, u32)
     (faults, networks)
 }
 
-// The same of a walk that is not refused.
+// The same of a walk that does not fail.
 fn counts_of(
     alloc: Global,
     walk: Result<Within<'_, Vec<u8>>, MaxMindDbError>,
