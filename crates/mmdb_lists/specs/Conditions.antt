@@ -43,7 +43,7 @@ SaysAmong (array _) texts b = b ≡ false
 SaysAmong (table _) texts b = b ≡ false
 SaysAmong v texts b = (json : List ℕ) × IsCompact v json × SaysOneOf json texts b
 
--- the same of what was read along a path: where there is no value, there is none of the texts
+-- a Bool says so of what was read along a path: where nothing is there, it is none of the texts
 abbrev pub SaysRead : Option Tree → List (List ℕ) → Bool → Type 0
 SaysRead None texts b = b ≡ false
 SaysRead (Some v) texts b = SaysAmong v texts b
@@ -92,18 +92,14 @@ HasUnreadAt (condition ∷ conditions) s offset =
 abbrev pub section_of : {S : Type 0} {G : Ghosts S ℕ} → LookupResult S G → List ℕ
 section_of found = data_section (database_asked found)
 
--- the same of the record that a lookup found
+-- a Bool says whether the value along a condition's path, in the record that a lookup found, is one of its texts
 abbrev pub SaysFound : {S : Type 0} {G : Ghosts S ℕ} → Condition → LookupResult S G → Bool → Type 0
 SaysFound condition found b = SaysFoundAt condition.path.items (texts_of condition) (section_of found) (offset_found found) b
 
+-- a Bool says whether a condition is met by the record that a lookup found
 abbrev pub SaysMet : {S : Type 0} {G : Ghosts S ℕ} → Condition → LookupResult S G → Bool → Type 0
 SaysMet condition found b = SaysMetAt condition (section_of found) (offset_found found) b
 
-abbrev pub SaysAllMet : {S : Type 0} {G : Ghosts S ℕ} → List Condition → LookupResult S G → Bool → Type 0
-SaysAllMet conditions found b = SaysAllMetAt conditions (section_of found) (offset_found found) b
-
+-- what a condition is on is refused in the record that a lookup found
 abbrev pub IsUnread : {S : Type 0} {G : Ghosts S ℕ} → Condition → LookupResult S G → Type 0
 IsUnread condition found = IsUnreadAt condition.path.items (section_of found) (offset_found found)
-
-abbrev pub HasUnread : {S : Type 0} {G : Ghosts S ℕ} → List Condition → LookupResult S G → Type 0
-HasUnread conditions found = HasUnreadAt conditions (section_of found) (offset_found found)

@@ -2,8 +2,7 @@
 ghost use Rattle.std.specs.Prelude.{◌≡◌, ℕ, List, true, IfOk, IfErr, IfSome, is_some};
 ghost use Rattle.std.specs.List.{All};
 ghost use Rattle.mmdb_format.specs.Error.{MemoryApart};
-ghost use Rattle.mmdb_lists.specs.Conditions.{SaysAllMetAt, SaysAllMet, HasUnread, section_of};
-ghost use Rattle.mmdb_lists.specs.Choices.{IsOfNone, IsKept, IsOfSection};
+ghost use Rattle.mmdb_lists.specs.Choices.{SaysChosen, HasUnread, IsOfNone, IsOfSection, IsOf, SaysKept, Keeps};
 
 use crate::condition::Condition;
 use mmdb_reader::{LookupResult, MaxMindDbError};
@@ -77,8 +76,8 @@ impl<'a> Choice<'a> {
         &self,
         found: &LookupResult<'_, S>,
     ) -> Result<bool, MaxMindDbError>
-        ensures met { IfOk result (SaysAllMet self.now.conditions.now found.now) }
-        ensures refused { IfErr result (λ e. MemoryApart e (HasUnread self.now.conditions.now found.now)) }
+        ensures met { IfOk result (SaysChosen self.now found.now) }
+        ensures refused { IfErr result (λ e. MemoryApart e (HasUnread self.now found.now)) }
     {
         for condition in self.conditions {
             if !condition.holds(self.alloc, found)? {
@@ -90,7 +89,7 @@ impl<'a> Choice<'a> {
 
     // The answer that is kept for an offset.
     fn kept_at(&self, place: usize, offset: Option<usize>) -> Option<bool>
-        ensures { IfSome result (λ b. (s : List ℕ) → IsOfSection self.now s → SaysAllMetAt self.now.conditions.now s offset b) }
+        ensures { IfSome result (SaysKept self.now offset) }
     {
         let answer = self.kept.get(place)?;
         if answer.is_of(offset) {
@@ -101,7 +100,7 @@ impl<'a> Choice<'a> {
 
     // Keeps an answer.
     fn keep(&mut self, place: usize, answer: Answer)
-        ensures of { (s : List ℕ) → IsKept self.old.conditions.now s answer → IsOfSection self.old s → IsOfSection self.new s }
+        ensures of { Keeps self.old answer self.new }
         ensures conditions { self.new.conditions ≡ self.old.conditions }
     {
         if let Some(kept) = self.kept.get_mut(place) {
@@ -116,9 +115,9 @@ impl<'a> Choice<'a> {
         place: usize,
         found: &LookupResult<'_, S>,
     ) -> Result<bool, MaxMindDbError>
-        ensures met { IfOk result (SaysAllMet self.old.conditions.now found.now) }
-        ensures refused { IfErr result (λ e. MemoryApart e (HasUnread self.old.conditions.now found.now)) }
-        ensures of { IsOfSection self.old (section_of found.now) → IsOfSection self.new (section_of found.now) }
+        ensures met { IfOk result (SaysChosen self.old found.now) }
+        ensures refused { IfErr result (λ e. MemoryApart e (HasUnread self.old found.now)) }
+        ensures of { IsOf self.old found.now → IsOf self.new found.now }
         ensures conditions { self.new.conditions ≡ self.old.conditions }
     {
         let is_chosen = self.meets_all(found)?;
@@ -135,14 +134,14 @@ impl<'a> Choice<'a> {
     /// Whether a network is chosen: its record meets all conditions. They are asked in turn up to the first that is not
     /// met. Answers are kept by the record's offset, so one choice is for the networks of one database.
     ///
-    /// Fails, unless out of memory, exactly where what a condition is on is refused, and those before it are met.
+    /// Fails, unless out of memory, only where what a condition is on is refused, and those before it are met.
     pub fn chooses<S: AsSlice<u8> + Drop>(
         &mut self,
         found: &LookupResult<'_, S>,
     ) -> Result<bool, MaxMindDbError>
-        ensures chosen { IsOfSection self.old (section_of found.now) → IfOk result (SaysAllMet self.old.conditions.now found.now) }
-        ensures refused { IfErr result (λ e. MemoryApart e (HasUnread self.old.conditions.now found.now)) }
-        ensures of { IsOfSection self.old (section_of found.now) → IsOfSection self.new (section_of found.now) }
+        ensures chosen { IsOf self.old found.now → IfOk result (SaysChosen self.old found.now) }
+        ensures refused { IfErr result (λ e. MemoryApart e (HasUnread self.old found.now)) }
+        ensures of { IsOf self.old found.now → IsOf self.new found.now }
         ensures conditions { self.new.conditions ≡ self.old.conditions }
     {
         if self.conditions.is_empty() {

@@ -1,4 +1,4 @@
-use Rattle.std.proofs.Common.{rules, ◌≡◌, map, length, take, false, sym, ap, ◌∙◌, subst, arith}
+use Rattle.std.proofs.Common.{rules, ◌≡◌, map, false, sym, ◌∙◌, subst, arith}
 use Rattle.std.proofs.lemmas.List.{take_all}
 use Rattle.mmdb_lists.specs.Conditions.{SaysOneOf}
 use Rattle.mmdb_lists.proofs.TextLaws.{at_one, none_more}
