@@ -1,4 +1,9 @@
 //! The choice of networks by their records.
+ghost use Rattle.std.specs.Prelude.{◌≡◌, ℕ, List, true, IfOk, IfErr, IfSome, is_some};
+ghost use Rattle.std.specs.List.{All};
+ghost use Rattle.mmdb_format.specs.Error.{MemoryApart};
+ghost use Rattle.mmdb_lists.specs.Choices.{SaysChosen, HasUnread, IsOfNone, IsOfSection, IsOf, SaysKept, Keeps};
+
 use crate::condition::Condition;
 use mmdb_reader::{LookupResult, MaxMindDbError};
 use std::alloc::{AllocError, Global};
@@ -23,8 +28,20 @@ pub struct Choice<'a> {
     kept: Vec<Answer>,
 }
 
+impl Answer {
+    // Whether the answer is of the record at an offset.
+    fn is_of(&self, offset: Option<usize>) -> bool
+        ensures at { result ≡ true → self.now.offset ≡ offset }
+        ensures of_record { result ≡ true → is_some offset ≡ true }
+    {
+        offset.is_some() && self.offset == offset
+    }
+}
+
 // No answers.
-fn no_answers(alloc: Global) -> Result<Vec<Answer>, AllocError> {
+fn no_answers(alloc: Global) -> Result<Vec<Answer>, AllocError>
+    ensures { IfOk result (λ kept. All IsOfNone kept.items) }
+{
     let none = Answer {
         offset: None,
         is_chosen: false,
@@ -38,7 +55,10 @@ fn no_answers(alloc: Global) -> Result<Vec<Answer>, AllocError> {
 
 impl<'a> Choice<'a> {
     /// The choice by these conditions. All its memory is taken here, none where there are no conditions.
-    pub fn new(alloc: Global, conditions: &'a [Condition<'a>]) -> Result<Choice<'a>, AllocError> {
+    pub fn new(alloc: Global, conditions: &'a [Condition<'a>]) -> Result<Choice<'a>, AllocError>
+        ensures conditions { IfOk result (λ choice. choice.conditions.now ≡ conditions.now) }
+        ensures of { IfOk result (λ choice. (s : List ℕ) → IsOfSection choice s) }
+    {
         let kept = if conditions.is_empty() {
             Vec::new(alloc)
         } else {
@@ -55,7 +75,10 @@ impl<'a> Choice<'a> {
     fn meets_all<S: AsSlice<u8> + Drop>(
         &self,
         found: &LookupResult<'_, S>,
-    ) -> Result<bool, MaxMindDbError> {
+    ) -> Result<bool, MaxMindDbError>
+        ensures met { IfOk result (SaysChosen self.now found.now) }
+        ensures refused { IfErr result (λ e. MemoryApart e (HasUnread self.now found.now)) }
+    {
         for condition in self.conditions {
             if !condition.holds(self.alloc, found)? {
                 return Ok(false);
@@ -65,12 +88,24 @@ impl<'a> Choice<'a> {
     }
 
     // The answer that is kept for an offset.
-    fn kept_at(&self, place: usize, offset: Option<usize>) -> Option<bool> {
+    fn kept_at(&self, place: usize, offset: Option<usize>) -> Option<bool>
+        ensures { IfSome result (SaysKept self.now offset) }
+    {
         let answer = self.kept.get(place)?;
-        if answer.offset.is_some() && answer.offset == offset {
+        if answer.is_of(offset) {
             return Some(answer.is_chosen);
         }
         None
+    }
+
+    // Keeps an answer.
+    fn keep(&mut self, place: usize, answer: Answer)
+        ensures of { Keeps self.old answer self.new }
+        ensures conditions { self.new.conditions ≡ self.old.conditions }
+    {
+        if let Some(kept) = self.kept.get_mut(place) {
+            *kept = answer;
+        }
     }
 
     // Answers anew, and keeps the answer.
@@ -79,23 +114,36 @@ impl<'a> Choice<'a> {
         &mut self,
         place: usize,
         found: &LookupResult<'_, S>,
-    ) -> Result<bool, MaxMindDbError> {
+    ) -> Result<bool, MaxMindDbError>
+        ensures met { IfOk result (SaysChosen self.old found.now) }
+        ensures refused { IfErr result (λ e. MemoryApart e (HasUnread self.old found.now)) }
+        ensures of { IsOf self.old found.now → IsOf self.new found.now }
+        ensures conditions { self.new.conditions ≡ self.old.conditions }
+    {
         let is_chosen = self.meets_all(found)?;
-        if let Some(kept) = self.kept.get_mut(place) {
-            *kept = Answer {
+        self.keep(
+            place,
+            Answer {
                 offset: found.offset(),
                 is_chosen,
-            };
-        }
+            },
+        );
         Ok(is_chosen)
     }
 
-    /// Whether a network is chosen: its record meets all conditions. An error where a value that a condition is on
-    /// can't be read.
+    /// Whether a network is chosen: its record meets all conditions. They are asked in turn up to the first that is not
+    /// met. Answers are kept by the record's offset, so one choice is for the networks of one database.
+    ///
+    /// Fails, unless out of memory, only where what a condition is on is refused, and those before it are met.
     pub fn chooses<S: AsSlice<u8> + Drop>(
         &mut self,
         found: &LookupResult<'_, S>,
-    ) -> Result<bool, MaxMindDbError> {
+    ) -> Result<bool, MaxMindDbError>
+        ensures chosen { IsOf self.old found.now → IfOk result (SaysChosen self.old found.now) }
+        ensures refused { IfErr result (λ e. MemoryApart e (HasUnread self.old found.now)) }
+        ensures of { IsOf self.old found.now → IsOf self.new found.now }
+        ensures conditions { self.new.conditions ≡ self.old.conditions }
+    {
         if self.conditions.is_empty() {
             return Ok(true);
         }

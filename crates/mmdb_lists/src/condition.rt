@@ -1,4 +1,9 @@
 //! Conditions on the value at a path of a record.
+ghost use Rattle.std.specs.Prelude.{◌≡◌, IfOk, IfErr, map, option_map};
+ghost use Rattle.mmdb_format.specs.Error.{MemoryApart};
+ghost use Rattle.mmdb_value.specs.Values.{value_tree};
+ghost use Rattle.mmdb_lists.specs.Conditions.{SaysOneOf, text_of as spec_text_of, is_container as spec_is_container, SaysAmong, SaysFound, wants as spec_wants, SaysMet, IsUnread};
+
 use mmdb_json::compact;
 use mmdb_reader::{LookupResult, MaxMindDbError, PathElement, Value};
 use std::alloc::{AllocError, Global};
@@ -22,18 +27,61 @@ pub struct Condition<'a> {
     pub wanted: Wanted,
 }
 
-// Whether the JSON of a value is one of the texts.
-fn is_json_among(alloc: Global, value: &Value<'_>, texts: &[&str]) -> Result<bool, AllocError> {
-    let json = compact(alloc, value)?;
-    Ok(texts.iter().any(|text| text.as_bytes() == json.as_slice()))
+// Whether a text is one of the texts.
+fn is_one_of(own: &[u8], texts: &[&str]) -> bool
+    ensures { SaysOneOf own.now (map (λ t. t.now) texts.now) result }
+{
+    for text in texts {
+        if text.as_bytes() == own {
+            return true;
+        }
+    }
+    false
+}
+
+// The text that a value is, if it is one.
+fn text_of<'t>(value: &'t Value<'_>) -> Option<&'t str>
+    ensures { option_map (λ t. t.now) result ≡ spec_text_of (value_tree value.now) }
+{
+    match value {
+        Value::String(own) => Some(*own),
+        _ => None,
+    }
+}
+
+// Whether a value is an array or a map.
+fn is_container(value: &Value<'_>) -> bool
+    ensures { result ≡ spec_is_container (value_tree value.now) }
+{
+    match value {
+        Value::Array(_) | Value::Map(_) => true,
+        _ => false,
+    }
 }
 
 // Whether a value is one of the texts.
-fn is_among(alloc: Global, value: &Value<'_>, texts: &[&str]) -> Result<bool, AllocError> {
-    match value {
-        Value::String(own) => Ok(texts.iter().any(|text| *text == *own)),
-        Value::Array(_) | Value::Map(_) => Ok(false),
-        _ => is_json_among(alloc, value, texts),
+fn is_among(alloc: Global, value: &Value<'_>, texts: &[&str]) -> Result<bool, AllocError>
+    ensures { IfOk result (SaysAmong (value_tree value.now) (map (λ t. t.now) texts.now)) }
+{
+    if let Some(own) = text_of(value) {
+        return Ok(is_one_of(own.as_bytes(), texts));
+    }
+    if is_container(value) {
+        return Ok(false);
+    }
+    let json = compact(alloc, value)?;
+    Ok(is_one_of(json.as_slice(), texts))
+}
+
+impl Wanted {
+    // What a condition says where the value is one of its texts or not.
+    fn wants(self, is_found: bool) -> bool
+        ensures { result ≡ spec_wants self is_found }
+    {
+        match self {
+            Wanted::OneOf => is_found,
+            Wanted::NoneOf => !is_found,
+        }
     }
 }
 
@@ -43,22 +91,29 @@ impl Condition<'_> {
         &self,
         alloc: Global,
         found: &LookupResult<'_, S>,
-    ) -> Result<bool, MaxMindDbError> {
+    ) -> Result<bool, MaxMindDbError>
+        ensures found { IfOk result (SaysFound self.now found.now) }
+        ensures refused { IfErr result (λ e. MemoryApart e (IsUnread self.now found.now)) }
+    {
         let value: Option<Value<'_>> = found.decode_path(alloc, self.path.as_slice())?;
-        let Some(value) = value else {
-            return Ok(false);
-        };
-        Ok(is_among(alloc, &value, self.texts.as_slice())?)
+        match &value {
+            Some(value) => Ok(is_among(alloc, value, self.texts.as_slice())?),
+            None => Ok(false),
+        }
     }
 
-    /// Whether the condition holds of a record. An error where the value at the path can't be read.
+    /// Whether the condition is met by a record. Fails, unless out of memory, exactly where the way of the path in the
+    /// record, or the value at its end, is refused.
     pub fn holds<S: AsSlice<u8> + Drop>(
         &self,
         alloc: Global,
         found: &LookupResult<'_, S>,
-    ) -> Result<bool, MaxMindDbError> {
+    ) -> Result<bool, MaxMindDbError>
+        ensures met { IfOk result (SaysMet self.now found.now) }
+        ensures refused { IfErr result (λ e. MemoryApart e (IsUnread self.now found.now)) }
+    {
         let is_found = self.finds(alloc, found)?;
-        Ok(is_found == (self.wanted == Wanted::OneOf))
+        Ok(self.wanted.wants(is_found))
     }
 }
 
