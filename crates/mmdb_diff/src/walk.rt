@@ -1,5 +1,5 @@
 //! The networks of one database.
-ghost use Rattle.std.specs.Prelude.{MatchOption, Unit};
+ghost use Rattle.std.specs.Prelude.{MatchOption};
 ghost use Rattle.mmdb_blocks.specs.Blocks.{IsBlock};
 
 use mmdb_blocks::Block;
