@@ -1,5 +1,6 @@
 //! Two databases side by side.
 ghost use Rattle.std.specs.Prelude.{Option, ℕ, MatchOption, IfOk, ◌≡◌, ◌≤◌};
+ghost use Rattle.mmdb_blocks.specs.Blocks.{IsBlock, end};
 ghost use Rattle.mmdb_diff.specs.Parts.{IsNextPart, start_of};
 
 use crate::blocks::largest_block;
@@ -112,12 +113,44 @@ impl<'a, S: AsSlice<u8> + Drop> Comparison<'a, S> {
         })
     }
 
+    // The block of both networks, where the two begin at an address and are the same. It is the largest one then.
+    fn shared_block(&self, at: u128) -> Option<Block>
+        ensures block { MatchOption result Unit (λ block. IsBlock block) }
+        ensures first { MatchOption result Unit (λ block. block.first ≡ at) }
+    {
+        let (old, new) = (self.old.block()?, self.new.block()?);
+        if old.first == at && old == new {
+            Some(old)
+        } else {
+            None
+        }
+    }
+
+    // The stretch of a block. Goes behind it.
+    fn stretch_of(&mut self, block: Block, has_old: bool, has_new: bool) -> Stretch
+        requires { IsBlock block }
+        ensures block { result.block ≡ block }
+        ensures behind { start_of self.exit.now ≡ end block }
+    {
+        self.at = block.last().checked_add(1);
+        let shows_ipv4 = has_old && self.old.is_ipv4() || has_new && self.new.is_ipv4();
+        Stretch {
+            block,
+            is_ipv4: self.is_ipv4 || shows_ipv4,
+            has_old,
+            has_new,
+        }
+    }
+
     // The part of what both have at an address, if there is something to compare. Goes behind it.
     fn part_at(&mut self, at: u128) -> Option<Part>
         requires { start_of self.now ≡ at }
         ensures none { MatchOption result (start_of self.entry.now ≤ start_of self.exit.now) (λ _. Unit) }
         ensures some { MatchOption result Unit (λ part. IsNextPart self.entry.now self.exit.now part) }
     {
+        if let Some(block) = self.shared_block(at) {
+            return Some(Part::Stretch(self.stretch_of(block, true, true)));
+        }
         let (old, new) = (self.old.at(at), self.new.at(at));
         let last = until(old).min(until(new)).max(at);
         if !is_compared(old, new) {
@@ -125,15 +158,8 @@ impl<'a, S: AsSlice<u8> + Drop> Comparison<'a, S> {
             return None;
         }
         let block = largest_block(at, last);
-        self.at = block.last().checked_add(1);
-        let (has_old, has_new) = (is_record(old), is_record(new));
-        let shows_ipv4 = has_old && self.old.is_ipv4() || has_new && self.new.is_ipv4();
-        Some(Part::Stretch(Stretch {
-            block,
-            is_ipv4: self.is_ipv4 || shows_ipv4,
-            has_old,
-            has_new,
-        }))
+        let stretch = self.stretch_of(block, is_record(old), is_record(new));
+        Some(Part::Stretch(stretch))
     }
 
     /// The next part. A stretch begins where the one before ends, or later. None where all is compared.

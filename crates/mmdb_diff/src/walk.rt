@@ -1,4 +1,7 @@
 //! The networks of one database.
+ghost use Rattle.std.specs.Prelude.{MatchOption};
+ghost use Rattle.mmdb_blocks.specs.Blocks.{IsBlock};
+
 use mmdb_blocks::Block;
 use mmdb_reader::{IpNetwork, LookupResult, MaxMindDbError, Reader, Within, WithinOptions};
 use std::alloc::Global;
@@ -14,10 +17,11 @@ pub struct Fault {
 // A network with what was found there, as much of it as lies in the range.
 #[derive(Drop)]
 struct Piece<'a, S: AsSlice<u8> + Drop> {
-    first: u128,
+    block: Block,
     last: u128,
     is_ipv4: bool,
     found: LookupResult<'a, S>,
+    ghost is_block: { IsBlock block },
 }
 
 /// The networks of one database, one at a time.
@@ -25,8 +29,10 @@ struct Piece<'a, S: AsSlice<u8> + Drop> {
 pub(crate) struct Walk<'a, S: AsSlice<u8> + Drop> {
     networks: Within<'a, S>,
     range: IpNetwork,
+    /// The prefix of the range's block.
+    range_prefix: u8,
     here: Option<Piece<'a, S>>,
-    /// The last network that was met.
+    /// The network behind which the last leaf came that can't be read.
     behind: Option<IpNetwork>,
     /// Whether a leaf that can't be read came before `here`: what the database has there is not known.
     is_unknown: bool,
@@ -44,26 +50,6 @@ pub(crate) enum Here {
     Unknown(u128),
 }
 
-// The piece of what was found that lies in a range. A network that is wider than the range has all of it.
-fn piece_of<'a, S: AsSlice<u8> + Drop>(
-    found: LookupResult<'a, S>,
-    network: IpNetwork,
-    range: IpNetwork,
-) -> Piece<'a, S> {
-    let (whole, range) = (Block::of_network(network), Block::of_network(range));
-    let block = if whole.prefix < range.prefix {
-        range
-    } else {
-        whole
-    };
-    Piece {
-        first: block.first,
-        last: block.last(),
-        is_ipv4: matches!(network, IpNetwork::V4(_)),
-        found,
-    }
-}
-
 impl<'a, S: AsSlice<u8> + Drop> Walk<'a, S> {
     /// The walk of a range.
     pub(crate) fn new(
@@ -74,6 +60,7 @@ impl<'a, S: AsSlice<u8> + Drop> Walk<'a, S> {
         Ok(Walk {
             networks: reader.within(alloc, range, WithinOptions::default())?,
             range,
+            range_prefix: Block::of_network(range).prefix,
             here: None,
             behind: None,
             is_unknown: false,
@@ -81,19 +68,48 @@ impl<'a, S: AsSlice<u8> + Drop> Walk<'a, S> {
         })
     }
 
+    // As much of a network as lies in the range. One that is wider than the range has all of it.
+    fn block_of(&self, network: IpNetwork) -> Block
+        ensures { IsBlock result }
+    {
+        let whole = Block::of_network(network);
+        if whole.prefix < self.range_prefix {
+            Block::of_network(self.range)
+        } else {
+            whole
+        }
+    }
+
     // Takes what was found as the next piece.
     fn take(&mut self, found: LookupResult<'a, S>) -> Result<(), MaxMindDbError> {
         let network = found.network()?;
-        self.behind = Some(network);
-        self.here = Some(piece_of(found, network, self.range));
+        let block = self.block_of(network);
+        self.here = Some(Piece {
+            block,
+            last: block.last(),
+            is_ipv4: matches!(network, IpNetwork::V4(_)),
+            found,
+        });
         Ok(())
+    }
+
+    // A leaf behind the piece that can't be read.
+    fn fault_of(&mut self, error: MaxMindDbError) -> Fault {
+        if let Some(piece) = &self.here {
+            self.behind = piece.found.network().ok();
+        }
+        self.here = None;
+        self.is_unknown = true;
+        Fault {
+            behind: self.behind,
+            error,
+        }
     }
 
     // Takes the next network, or gives why it can't be read.
     fn advance(&mut self) -> Option<Fault> {
-        self.here = None;
-        let behind = self.behind;
         let Some(item) = self.networks.next() else {
+            self.here = None;
             self.is_over = true;
             return None;
         };
@@ -103,10 +119,7 @@ impl<'a, S: AsSlice<u8> + Drop> Walk<'a, S> {
         };
         match taken {
             Ok(()) => None,
-            Err(error) => {
-                self.is_unknown = true;
-                Some(Fault { behind, error })
-            }
+            Err(error) => Some(self.fault_of(error)),
         }
     }
 
@@ -138,14 +151,24 @@ impl<'a, S: AsSlice<u8> + Drop> Walk<'a, S> {
     /// What the database has at an address.
     pub(crate) fn at(&self, at: u128) -> Here {
         let until = match &self.here {
-            Some(piece) if piece.first <= at => return Here::Record(piece.last),
-            Some(piece) => piece.first.saturating_sub(1),
+            Some(piece) if piece.block.first <= at => return Here::Record(piece.last),
+            Some(piece) => piece.block.first.saturating_sub(1),
             None => u128::MAX,
         };
         if self.is_unknown {
             Here::Unknown(until)
         } else {
             Here::Nothing(until)
+        }
+    }
+
+    /// The block of the network that the walk stands at, as much of it as lies in the range.
+    pub(crate) fn block(&self) -> Option<Block>
+        ensures { MatchOption result Unit (λ block. IsBlock block) }
+    {
+        match &self.here {
+            Some(piece) => Some(piece.block),
+            None => None,
         }
     }
 

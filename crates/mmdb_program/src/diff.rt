@@ -1,93 +1,32 @@
 //! What changed between two files.
+use crate::changes::{Changes, network_of};
+use crate::counts::Counts;
 use crate::database::{Database, open};
-use crate::differences::{Answers, Pairs, Unreadable, put_difference, put_names};
+use crate::differences::{Answers, Pairs, Unreadable, put_names};
 use crate::error::ProgramError;
 use crate::export::Where;
-use crate::layout::Layout;
 use crate::output::{Console, DIFFERENT, DONE, FAILED};
 use crate::task::DiffTask;
 use mmdb_diff::{Comparison, Fault, Part, Side, Stretch};
-use mmdb_lists::Kind;
 use mmdb_reader::{IpNetwork, MaxMindDbError};
-use std::alloc::{AllocError, Global};
 use std::io::Write;
 use std::net::{IpAddr, Ipv4Addr, Ipv6Addr};
 use std::rt::Files;
 
-// How many networks there are, and how many addresses those of IPv4 have.
-#[derive(Clone, Copy)]
-struct Tally {
-    networks: u64,
-    addresses: u64,
-}
-
-const NONE: Tally = Tally {
-    networks: 0,
-    addresses: 0,
-};
-
-impl Tally {
-    fn count(&mut self, network: IpNetwork) {
-        self.networks = self.networks.saturating_add(1);
-        if let IpNetwork::V4(network) = network {
-            let bits = 32 - u32::from(network.prefix());
-            self.addresses = self.addresses.saturating_add(1 << bits);
-        }
-    }
-}
-
-// What changed, and how many networks could not be read.
-#[derive(Clone, Copy)]
-struct Counts {
-    added: Tally,
-    removed: Tally,
-    changed: Tally,
+// The pairs that were compared, what differs, and how many networks could not be read.
+#[derive(Drop)]
+struct SoFar<'a, 'r> {
+    pairs: Pairs,
+    changes: Changes<'a, 'r>,
     faults: u64,
 }
 
-impl Counts {
-    fn new() -> Counts {
-        Counts {
-            added: NONE,
-            removed: NONE,
-            changed: NONE,
-            faults: 0,
-        }
-    }
-
-    fn count(&mut self, network: IpNetwork, has_old: bool, has_new: bool) {
-        match (has_old, has_new) {
-            (false, _) => self.added.count(network),
-            (_, false) => self.removed.count(network),
-            _ => self.changed.count(network),
-        }
-    }
-
-    fn count_fault(&mut self) {
+impl SoFar<'_, '_> {
+    // Counts what can't be read, before which what waits is written.
+    fn begin_fault<O: Write>(&mut self, out: &mut O) -> Result<(), ProgramError> {
         self.faults = self.faults.saturating_add(1);
+        self.changes.finish(out)
     }
-
-    fn are_same(&self) -> bool {
-        self.added.networks == 0 && self.removed.networks == 0 && self.changed.networks == 0
-    }
-
-    // The line on them.
-    fn text(&self, alloc: Global) -> Result<String, AllocError> {
-        let (added, removed, changed) = (self.added, self.removed, self.changed);
-        let (a, a_addresses) = (added.networks, added.addresses);
-        let (r, r_addresses) = (removed.networks, removed.addresses);
-        let (c, c_addresses) = (changed.networks, changed.addresses);
-        format!(in alloc;
-            "mmdb: networks (IPv4 addresses): {a} ({a_addresses}) added, {r} ({r_addresses}) removed, {c} ({c_addresses}) changed\n"
-        )
-    }
-}
-
-// The pairs that were compared, and what they gave.
-#[derive(Drop)]
-struct SoFar {
-    pairs: Pairs,
-    counts: Counts,
 }
 
 // The file of a side.
@@ -125,7 +64,7 @@ fn report_leaf<O: Write, E: Write>(
 // Reports a value that can't be read, unless memory is out.
 fn report_value<O: Write, E: Write>(
     task: &DiffTask<'_>,
-    network: IpNetwork,
+    stretch: Stretch,
     unreadable: &Unreadable,
     console: &mut Console<'_, O, E>,
 ) -> Result<(), ProgramError> {
@@ -133,55 +72,26 @@ fn report_value<O: Write, E: Write>(
         return Err(ProgramError::Memory);
     }
     let file = file_of(task, unreadable.side);
+    let network = network_of(stretch.block, stretch.is_ipv4)?;
     report_at(file, Where::At(network), &unreadable.error, console)
 }
 
-// Writes a network that differs.
-fn put_network<O: Write>(
-    alloc: Global,
-    layout: &Layout<'_>,
-    network: IpNetwork,
-    answers: Answers<'_, '_>,
-    out: &mut O,
-) -> Result<(), ProgramError> {
-    let text = network.to_string(alloc)?;
-    put_difference(alloc, layout, text.as_str(), answers, out)
-}
-
-// The network of a stretch.
-fn network_of(stretch: Stretch) -> Result<IpNetwork, ProgramError> {
-    let kind = if stretch.is_ipv4 {
-        Kind::Ipv4
-    } else {
-        Kind::Ipv6
-    };
-    match kind.network_of(stretch.block) {
-        Ok(network) => Ok(network),
-        Err(_) => Err(ProgramError::OutOfOrder),
-    }
-}
-
-// Compares a stretch, and writes or reports it where there is something to say.
-fn compare_stretch<O: Write, E: Write>(
+// Compares a stretch, and takes or reports it where there is something to say.
+fn compare_stretch<'r, O: Write, E: Write>(
     task: &DiffTask<'_>,
     stretch: Stretch,
-    answers: Answers<'_, '_>,
-    so_far: &mut SoFar,
+    answers: Answers<'_, 'r>,
+    so_far: &mut SoFar<'_, 'r>,
     console: &mut Console<'_, O, E>,
 ) -> Result<(), ProgramError> {
-    let (alloc, layout) = (console.alloc, &task.layout);
-    let network = network_of(stretch)?;
-    match so_far.pairs.is_same(alloc, layout, answers) {
+    match so_far.pairs.is_same(console.alloc, &task.layout, answers) {
         Ok(true) => Ok(()),
-        Ok(false) => {
-            so_far
-                .counts
-                .count(network, answers.old.is_some(), answers.new.is_some());
-            put_network(alloc, layout, network, answers, console.out)
-        }
+        Ok(false) => so_far.changes.push(stretch, answers, console.out),
         Err(unreadable) => {
-            so_far.counts.count_fault();
-            let reported = report_value(task, network, &unreadable, console);
+            let mut reported = so_far.begin_fault(console.out);
+            if reported.is_ok() {
+                reported = report_value(task, stretch, &unreadable, console);
+            }
             drop(unreadable);
             reported
         }
@@ -189,16 +99,16 @@ fn compare_stretch<O: Write, E: Write>(
 }
 
 // Compares a part of two databases, or reports why it can't be.
-fn compare_part<O: Write, E: Write>(
+fn compare_part<'r, O: Write, E: Write>(
     task: &DiffTask<'_>,
-    comparison: &Comparison<'_, Vec<u8>>,
+    comparison: &Comparison<'r, Vec<u8>>,
     part: &Part,
-    so_far: &mut SoFar,
+    so_far: &mut SoFar<'_, 'r>,
     console: &mut Console<'_, O, E>,
 ) -> Result<(), ProgramError> {
     match part {
         Part::Fault { side, fault } => {
-            so_far.counts.count_fault();
+            so_far.begin_fault(console.out)?;
             report_leaf(file_of(task, *side), fault, console)
         }
         Part::Stretch(stretch) => {
@@ -211,34 +121,35 @@ fn compare_part<O: Write, E: Write>(
     }
 }
 
-// Compares two databases, and counts what differs.
-fn compare_all<O: Write, E: Write>(
+// Compares two databases, and writes what differs.
+fn compare_all<'r, O: Write, E: Write>(
     task: &DiffTask<'_>,
-    comparison: &mut Comparison<'_, Vec<u8>>,
-    so_far: &mut SoFar,
+    comparison: &mut Comparison<'r, Vec<u8>>,
+    so_far: &mut SoFar<'_, 'r>,
     console: &mut Console<'_, O, E>,
 ) -> Result<(), ProgramError> {
     for _ in 0..u64::MAX {
         let Some(part) = comparison.next_part() else {
-            return Ok(());
+            break;
         };
         let compared = compare_part(task, comparison, &part, so_far, console);
         drop(part);
         compared?;
     }
-    Ok(())
+    so_far.changes.finish(console.out)
 }
 
 // Reports what was counted behind what was written, and answers the status.
 fn report_counts<O: Write, E: Write>(
     counts: Counts,
+    faults: u64,
     exit_code: bool,
     console: &mut Console<'_, O, E>,
 ) -> Result<u8, ProgramError> {
     console.flush()?;
     let text = counts.text(console.alloc)?;
     console.note(Ok(text));
-    if counts.faults > 0 {
+    if faults > 0 {
         Ok(FAILED)
     } else if exit_code && !counts.are_same() {
         Ok(DIFFERENT)
@@ -259,35 +170,41 @@ fn all_of(old: &Database, new: &Database) -> Result<IpNetwork, MaxMindDbError> {
 }
 
 // Compares two databases side by side with what is kept so far, and answers the status.
-fn compare_with<O: Write, E: Write>(
+fn compare_with<'r, O: Write, E: Write>(
     task: &DiffTask<'_>,
-    comparison: &mut Comparison<'_, Vec<u8>>,
-    so_far: &mut SoFar,
+    comparison: &mut Comparison<'r, Vec<u8>>,
+    so_far: &mut SoFar<'_, 'r>,
     console: &mut Console<'_, O, E>,
 ) -> Result<u8, ProgramError> {
     put_names(console.alloc, &task.layout, console.out)?;
     compare_all(task, comparison, so_far, console)?;
-    report_counts(so_far.counts, task.exit_code, console)
+    report_counts(
+        so_far.changes.counts,
+        so_far.faults,
+        task.exit_code,
+        console,
+    )
 }
 
 // Compares two databases side by side, and answers the status.
-fn compare<O: Write, E: Write>(
-    task: &DiffTask<'_>,
-    comparison: &mut Comparison<'_, Vec<u8>>,
+fn compare<'a, 'r, O: Write, E: Write>(
+    task: &'a DiffTask<'a>,
+    comparison: &mut Comparison<'r, Vec<u8>>,
     console: &mut Console<'_, O, E>,
 ) -> Result<u8, ProgramError> {
     let mut so_far = SoFar {
         pairs: Pairs::new(console.alloc)?,
-        counts: Counts::new(),
+        changes: Changes::new(console.alloc, &task.layout)?,
+        faults: 0,
     };
     compare_with(task, comparison, &mut so_far, console)
 }
 
 // Compares two databases, and answers the status.
-fn diff_databases<O: Write, E: Write>(
+fn diff_databases<'a, O: Write, E: Write>(
     old: &Database,
     new: &Database,
-    task: &DiffTask<'_>,
+    task: &'a DiffTask<'a>,
     console: &mut Console<'_, O, E>,
 ) -> Result<u8, ProgramError> {
     let range = match task.range {
@@ -309,9 +226,9 @@ fn diff_databases<O: Write, E: Write>(
 }
 
 /// Writes what changed between two files, and reports what of them can't be read.
-pub(crate) fn diff<R: Files, O: Write, E: Write>(
+pub(crate) fn diff<'a, R: Files, O: Write, E: Write>(
     rt: &R,
-    task: &DiffTask<'_>,
+    task: &'a DiffTask<'a>,
     console: &mut Console<'_, O, E>,
 ) -> Result<u8, ProgramError> {
     let Some(old) = open(rt, task.old, console) else {

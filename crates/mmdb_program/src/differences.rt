@@ -6,28 +6,37 @@ use crate::output::put;
 use json::{Token, Writer};
 use mmdb_diff::Side;
 use mmdb_json::found_json;
-use mmdb_reader::MaxMindDbError;
+use mmdb_reader::{IpNetwork, MaxMindDbError};
 use std::alloc::{AllocError, Global};
 use std::io::Write;
 
-/// How many pairs are kept.
-const PLACES: usize = 1 << 19;
+/// How many sets of pairs are kept.
+const SETS: usize = 1 << 17;
 
 /// The offset of no record.
-const NO_RECORD: usize = usize::MAX;
+const NO_RECORD: u32 = u32::MAX;
+
+// The offsets of two records.
+#[derive(Clone, Copy, PartialEq, Eq)]
+struct Offsets {
+    old: u32,
+    new: u32,
+}
 
 // Two records, and whether they are shown the same.
 #[derive(Clone, Copy)]
 struct Pair {
-    old: usize,
-    new: usize,
+    offsets: Offsets,
     is_same: bool,
 }
+
+// The last four pairs of a set, the last one first.
+type Set = [Pair; 4];
 
 /// The pairs of records that were compared last. Many networks share a pair.
 #[derive(Drop)]
 pub(crate) struct Pairs {
-    kept: Vec<Pair>,
+    sets: Vec<Set>,
 }
 
 /// Why a value can't be shown: the database that it is of, and its error.
@@ -42,6 +51,13 @@ pub(crate) struct Unreadable {
 pub(crate) struct Answers<'f, 'r> {
     pub(crate) old: Option<&'f Found<'r>>,
     pub(crate) new: Option<&'f Found<'r>>,
+}
+
+/// The values of a network in two databases as JSON.
+#[derive(PartialEq, Eq, Drop)]
+pub(crate) struct Shown {
+    old: Vec<u8>,
+    new: Vec<u8>,
 }
 
 // An object of the values at some paths, each null where there is no record.
@@ -113,49 +129,93 @@ fn are_same(
     Ok(old_text == new_text)
 }
 
-fn offset_of(found: Option<&Found<'_>>) -> usize {
+fn offset_of(found: Option<&Found<'_>>) -> Option<usize> {
     match found {
-        Some(found) => found.offset().unwrap_or(NO_RECORD),
-        None => NO_RECORD,
+        Some(found) => found.offset(),
+        None => None,
     }
 }
 
-// Where a pair of offsets is kept: the upper bits of a product, which depend on all bits of both.
-fn place_of(old: usize, new: usize) -> usize {
-    let mixed = (old as u64) ^ (new as u64).rotate_left(32);
-    (mixed.wrapping_mul(0x9E37_79B9_7F4A_7C15) >> 45) as usize % PLACES
+impl Answers<'_, '_> {
+    /// Whether others are the same records of the same databases.
+    pub(crate) fn are_same_records(&self, others: Answers<'_, '_>) -> bool {
+        offset_of(self.old) == offset_of(others.old) && offset_of(self.new) == offset_of(others.new)
+    }
+}
+
+impl Shown {
+    /// Of what two databases have.
+    pub(crate) fn of(
+        alloc: Global,
+        layout: &Layout<'_>,
+        answers: Answers<'_, '_>,
+    ) -> Result<Shown, MaxMindDbError> {
+        Ok(Shown {
+            old: value_text(alloc, layout, answers.old)?,
+            new: value_text(alloc, layout, answers.new)?,
+        })
+    }
+}
+
+// The offset by which a record is kept, unless it is too large.
+fn kept_offset(found: Option<&Found<'_>>) -> Option<u32> {
+    let Some(offset) = offset_of(found) else {
+        return Some(NO_RECORD);
+    };
+    if offset < NO_RECORD as usize {
+        Some(offset as u32)
+    } else {
+        None
+    }
+}
+
+// The offsets by which a pair is kept.
+fn kept_offsets(answers: Answers<'_, '_>) -> Option<Offsets> {
+    Some(Offsets {
+        old: kept_offset(answers.old)?,
+        new: kept_offset(answers.new)?,
+    })
+}
+
+// The set of a pair: the upper bits of a product, which depend on all bits of both offsets.
+fn set_of(offsets: Offsets) -> usize {
+    let mixed = u64::from(offsets.old) ^ u64::from(offsets.new).rotate_left(32);
+    (mixed.wrapping_mul(0x9E37_79B9_7F4A_7C15) >> 47) as usize % SETS
 }
 
 impl Pairs {
     /// No pairs yet.
     pub(crate) fn new(alloc: Global) -> Result<Pairs, AllocError> {
         let none = Pair {
-            old: NO_RECORD,
-            new: NO_RECORD,
+            offsets: Offsets {
+                old: NO_RECORD,
+                new: NO_RECORD,
+            },
             is_same: true,
         };
-        let mut kept = Vec::with_capacity(alloc, PLACES)?;
-        for _ in 0..PLACES {
-            kept.push(none)?;
+        let mut sets = Vec::with_capacity(alloc, SETS)?;
+        for _ in 0..SETS {
+            sets.push([none; 4])?;
         }
-        Ok(Pairs { kept })
+        Ok(Pairs { sets })
     }
 
     // What is kept of a pair.
-    fn kept_at(&self, place: usize, old: usize, new: usize) -> Option<bool> {
-        let pair = self.kept.get(place)?;
-        if pair.old == old && pair.new == new {
-            return Some(pair.is_same);
+    fn kept(&self, offsets: Offsets) -> Option<bool> {
+        for pair in self.sets.get(set_of(offsets))? {
+            if pair.offsets == offsets {
+                return Some(pair.is_same);
+            }
         }
         None
     }
 
-    // Keeps whether a pair is shown the same.
-    fn keep(&mut self, place: usize, pair: Pair) -> bool {
-        if let Some(kept) = self.kept.get_mut(place) {
-            *kept = pair;
+    // Keeps a pair in place of the oldest one of its set.
+    fn keep(&mut self, pair: Pair) {
+        if let Some(set) = self.sets.get_mut(set_of(pair.offsets)) {
+            let [first, second, third, _] = *set;
+            *set = [pair, first, second, third];
         }
-        pair.is_same
     }
 
     /// Whether a network is shown the same in both databases.
@@ -165,17 +225,15 @@ impl Pairs {
         layout: &Layout<'_>,
         answers: Answers<'_, '_>,
     ) -> Result<bool, Unreadable> {
-        let (old, new) = (offset_of(answers.old), offset_of(answers.new));
-        let place = place_of(old, new);
-        if let Some(is_same) = self.kept_at(place, old, new) {
+        let Some(offsets) = kept_offsets(answers) else {
+            return are_same(alloc, layout, answers);
+        };
+        if let Some(is_same) = self.kept(offsets) {
             return Ok(is_same);
         }
-        let pair = Pair {
-            old,
-            new,
-            is_same: are_same(alloc, layout, answers)?,
-        };
-        Ok(self.keep(place, pair))
+        let is_same = are_same(alloc, layout, answers)?;
+        self.keep(Pair { offsets, is_same });
+        Ok(is_same)
     }
 }
 
@@ -212,29 +270,24 @@ fn put_cells<O: Write>(
     put(line.as_slice(), out)
 }
 
-fn put_values<O: Write>(
-    alloc: Global,
-    layout: &Layout<'_>,
-    network: &str,
-    answers: Answers<'_, '_>,
-    out: &mut O,
-) -> Result<(), ProgramError> {
-    let old = value_text(alloc, layout, answers.old)?;
-    let new = value_text(alloc, layout, answers.new)?;
-    put_object(network, old.as_slice(), new.as_slice(), out)
-}
-
 /// Writes the line of a network with its values in both databases.
 pub(crate) fn put_difference<O: Write>(
     alloc: Global,
     layout: &Layout<'_>,
-    network: &str,
+    network: IpNetwork,
     answers: Answers<'_, '_>,
+    shown: &Shown,
     out: &mut O,
 ) -> Result<(), ProgramError> {
+    let text = network.to_string(alloc)?;
     match layout {
-        Layout::Cells(fields) => put_cells(alloc, fields, network, answers, out),
-        _ => put_values(alloc, layout, network, answers, out),
+        Layout::Cells(fields) => put_cells(alloc, fields, text.as_str(), answers, out),
+        _ => put_object(
+            text.as_str(),
+            shown.old.as_slice(),
+            shown.new.as_slice(),
+            out,
+        ),
     }
 }
 

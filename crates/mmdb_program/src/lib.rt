@@ -1,7 +1,9 @@
 //! The program `mmdb`: what people ask of databases.
 #![tactic(auto)]
 
+mod changes;
 mod conditions;
+mod counts;
 mod database;
 mod diff;
 mod differences;

@@ -20,6 +20,18 @@ const HALF: &[(u32, u32)] = &[(17, 1)];
 /// A database: its nodes, their count as it is encoded, and its IP version as it is encoded.
 type Database<'a> = (&'a [(u32, u32)], &'a [u8], &'a [u8]);
 
+/// None, {"n": "7"}, and none in 128.0.0.0/1. Of two nodes: offset o is 18 + o, 2 is none.
+const LATER: &[(u32, u32)] = &[(1, 2), (2, 49)];
+
+/// {"n": "7"}, none, and none in 128.0.0.0/1.
+const EARLIER: &[(u32, u32)] = &[(1, 2), (49, 2)];
+
+/// AT, a fault, AT, AT, and none in 128.0.0.0/1. Of four nodes: offset o is 20 + o, 4 is none.
+const TORN: &[(u32, u32)] = &[(1, 4), (2, 3), (33, 4096), (33, 33)];
+
+/// AT, a text that is not UTF-8, AT, AT, and none in 128.0.0.0/1.
+const MARRED: &[(u32, u32)] = &[(1, 4), (2, 3), (33, 46), (33, 33)];
+
 const IPV4: &[u8] = b"\xA1\x04";
 
 const IPV6: &[u8] = b"\xA1\x06";
@@ -31,6 +43,10 @@ const AFTER: Database<'static> = (CHANGED, b"\xC1\x06", IPV4);
 const FAULTY: Database<'static> = (DAMAGED, b"\xC1\x07", IPV4);
 
 const SHORT: Database<'static> = (HALF, b"\xC1\x01", IPV4);
+
+const FIRST_LACKS: Database<'static> = (EARLIER, b"\xC1\x02", IPV4);
+
+const SECOND_LACKS: Database<'static> = (LATER, b"\xC1\x02", IPV4);
 
 /// DE everywhere.
 const WIDE: Database<'static> = (&[(17, 17)], b"\xC1\x01", IPV6);
@@ -99,17 +115,16 @@ const ROWS: &[Row<'static>] = &[
         &["0 (0) added, 0 (0) removed, 1 (256) changed"],
         0,
     ),
-    // a network that was split
+    // a network that was split; two halves with the same two values are one line
     (
         SHORT,
         BEFORE,
         &["--field", "c.i"],
         "{\"network\":\"64.0.0.0/3\",\"old\":{\"c.i\":\"DE\"},\"new\":{\"c.i\":\"AT\"}}
 {\"network\":\"160.0.0.0/3\",\"old\":{\"c.i\":null},\"new\":{\"c.i\":\"DE\"}}
-{\"network\":\"192.0.0.0/3\",\"old\":{\"c.i\":null},\"new\":{\"c.i\":\"DE\"}}
-{\"network\":\"224.0.0.0/3\",\"old\":{\"c.i\":null},\"new\":{\"c.i\":\"DE\"}}
+{\"network\":\"192.0.0.0/2\",\"old\":{\"c.i\":null},\"new\":{\"c.i\":\"DE\"}}
 ",
-        &["3 (1610612736) added, 0 (0) removed, 1 (536870912) changed"],
+        &["2 (1610612736) added, 0 (0) removed, 1 (536870912) changed"],
         0,
     ),
     // what can't be read is reported with its file, in its place, and is not compared
@@ -117,10 +132,10 @@ const ROWS: &[Row<'static>] = &[
         BEFORE,
         FAULTY,
         &["--field", "n", "--format", "csv", "--exit-code"],
-        "network,old.n,new.n\n32.0.0.0/3,7,\n64.0.0.0/3,true,7\n96.0.0.0/3,7,true\n192.0.0.0/3,7,\n224.0.0.0/3,7,\n",
+        "network,old.n,new.n\n32.0.0.0/3,7,\n64.0.0.0/3,true,7\n96.0.0.0/3,7,true\n192.0.0.0/2,7,\n",
         &[
             "mmdb: new.mmdb: a network behind 96.0.0.0/3: invalid database",
-            "0 (0) added, 2 (1073741824) removed, 3 (1610612736) changed",
+            "0 (0) added, 1 (1073741824) removed, 3 (1610612736) changed",
         ],
         1,
     ),
@@ -131,6 +146,65 @@ const ROWS: &[Row<'static>] = &[
         "",
         &["mmdb: old.mmdb: 32.0.0.0/3: ", NOTHING],
         1,
+    ),
+    // networks on both sides of one that can't be read are not joined
+    (
+        SHORT,
+        (TORN, b"\xC1\x04", IPV4),
+        &["--field", "c.i", "--format", "csv"],
+        "network,old.c.i,new.c.i\n0.0.0.0/3,DE,AT\n64.0.0.0/2,DE,AT\n",
+        &[
+            "mmdb: new.mmdb: a network behind 0.0.0.0/3: invalid database",
+            "0 (0) added, 0 (0) removed, 2 (1610612736) changed",
+        ],
+        1,
+    ),
+    (
+        SHORT,
+        (MARRED, b"\xC1\x04", IPV4),
+        &["--field", "c.i", "--format", "csv"],
+        "network,old.c.i,new.c.i\n0.0.0.0/3,DE,AT\n64.0.0.0/2,DE,AT\n",
+        &[
+            "mmdb: new.mmdb: 32.0.0.0/3: ",
+            "0 (0) added, 0 (0) removed, 2 (1610612736) changed",
+        ],
+        1,
+    ),
+    // without a record and without a field the same is shown, and the first address is counted
+    (
+        SECOND_LACKS,
+        SHORT,
+        &["--field", "c.i"],
+        "{\"network\":\"0.0.0.0/1\",\"old\":{\"c.i\":null},\"new\":{\"c.i\":\"DE\"}}\n",
+        &["1 (2147483648) added, 0 (0) removed, 0 (0) changed"],
+        0,
+    ),
+    (
+        FIRST_LACKS,
+        SHORT,
+        &["--field", "c.i", "--format", "csv"],
+        "network,old.c.i,new.c.i\n0.0.0.0/1,,DE\n",
+        &["0 (0) added, 0 (0) removed, 1 (2147483648) changed"],
+        0,
+    ),
+    (
+        SHORT,
+        SECOND_LACKS,
+        &["--field", "c.i"],
+        "{\"network\":\"0.0.0.0/1\",\"old\":{\"c.i\":\"DE\"},\"new\":{\"c.i\":null}}\n",
+        &["0 (0) added, 1 (2147483648) removed, 0 (0) changed"],
+        0,
+    ),
+    // as whole records the two differ
+    (
+        SHORT,
+        FIRST_LACKS,
+        &[],
+        "{\"network\":\"0.0.0.0/2\",\"old\":{\"c\":{\"i\":\"DE\"},\"n\":7},\"new\":{\"n\":\"7\"}}
+{\"network\":\"64.0.0.0/2\",\"old\":{\"c\":{\"i\":\"DE\"},\"n\":7},\"new\":null}
+",
+        &["0 (0) added, 1 (1073741824) removed, 1 (1073741824) changed"],
+        0,
     ),
     // kinds that differ are compared on IPv4
     (
@@ -266,6 +340,33 @@ fn differences_of_two_files(rt: HostRuntime) {
     for row in ROWS {
         assert_row(&rt, rt.alloc(), row);
     }
+}
+
+// The nodes of DE in ::/95: in both halves of IPv4, and in as many addresses behind it. Of 97 nodes: offset o is 113 + o,
+// 97 is none.
+fn nodes_of_both_kinds(alloc: Global) -> Vec<(u32, u32)> {
+    let mut nodes = Vec::new(alloc);
+    for node in 1..96 {
+        let _ = nodes.push((node, 97));
+    }
+    let _ = nodes.extend_from_slice(&[(96, 113), (113, 113)]);
+    nodes
+}
+
+#[test]
+fn ipv4_and_ipv6_are_joined_apart(rt: HostRuntime) {
+    let nodes = nodes_of_both_kinds(rt.alloc());
+    let old: Database<'_> = (nodes.as_slice(), b"\xC1\x61", IPV6);
+    let new: Database<'_> = (&[(1, 1)], b"\xC1\x01", IPV6);
+    let row: Row<'_> = (
+        old,
+        new,
+        &["--field", "n", "--format", "csv"],
+        "network,old.n,new.n\n0.0.0.0/0,7,\n::1:0:0/96,7,\n",
+        &["0 (0) added, 2 (4294967296) removed, 0 (0) changed"],
+        0,
+    );
+    assert_row(&rt, rt.alloc(), &row);
 }
 
 #[test]
