@@ -48,8 +48,8 @@ pub(crate) struct Changes<'a, 'r> {
     layout: &'a Layout<'a>,
     joiner: Joiner,
     run: Option<Run<'r>>,
-    /// What the first address of each block that waits in the joiner has, by how many zero bits that address ends with. It is
-    /// another number for each: they stand side by side, and each is smaller than the one before.
+    /// What the first address of each block that waits in the joiner has, by how many zero bits that address ends
+    /// with. It is another number for each: they stand side by side, and each is smaller than the one before.
     presences: [Presence; ENDINGS],
     /// What was written.
     pub(crate) counts: Counts,
@@ -97,22 +97,35 @@ impl<'a, 'r> Changes<'a, 'r> {
         }
     }
 
+    // The network of a block of the run.
+    fn network_of(&self, block: Block) -> Result<IpNetwork, ProgramError> {
+        match &self.run {
+            Some(run) => network_of(block, run.is_ipv4),
+            None => network_of(block, false),
+        }
+    }
+
+    // Writes the line of a network of the run.
+    fn put_network<O: Write>(&self, network: IpNetwork, out: &mut O) -> Result<(), ProgramError> {
+        match &self.run {
+            Some(run) => put_difference(
+                self.alloc,
+                self.layout,
+                network,
+                run.answers(),
+                &run.shown,
+                out,
+            ),
+            None => Ok(()),
+        }
+    }
+
     // Writes and counts a block of the run.
     fn put_block<O: Write>(&mut self, block: Block, out: &mut O) -> Result<(), ProgramError> {
+        let network = self.network_of(block)?;
         let presence = self.presence_at(block.first);
-        let Some(run) = &self.run else {
-            return Ok(());
-        };
-        let network = network_of(block, run.is_ipv4)?;
         self.counts.count(network, presence);
-        put_difference(
-            self.alloc,
-            self.layout,
-            network,
-            run.answers(),
-            &run.shown,
-            out,
-        )
+        self.put_network(network, out)
     }
 
     // Writes the blocks that nothing can join any more.
