@@ -80,9 +80,8 @@ impl<'a, S: AsSlice<u8> + Drop> Walk<'a, S> {
         }
     }
 
-    // Takes what was found as the next piece.
-    fn take(&mut self, found: LookupResult<'a, S>) -> Result<(), MaxMindDbError> {
-        let network = found.network()?;
+    // Stands at what was found in a network.
+    fn stand_at(&mut self, network: IpNetwork, found: LookupResult<'a, S>) {
         let block = self.block_of(network);
         self.here = Some(Piece {
             block,
@@ -90,36 +89,43 @@ impl<'a, S: AsSlice<u8> + Drop> Walk<'a, S> {
             is_ipv4: matches!(network, IpNetwork::V4(_)),
             found,
         });
-        Ok(())
     }
 
-    // A leaf behind the piece that can't be read.
-    fn fault_of(&mut self, error: MaxMindDbError) -> Fault {
+    // Gives a leaf behind the piece that can't be read.
+    #[inline(never)]
+    fn give(&mut self, error: MaxMindDbError) -> Option<Fault> {
         if let Some(piece) = &self.here {
             self.behind = piece.found.network().ok();
         }
         self.here = None;
         self.is_unknown = true;
-        Fault {
+        Some(Fault {
             behind: self.behind,
             error,
+        })
+    }
+
+    // Takes what was found as the next piece, or gives why it can't be.
+    fn take(&mut self, found: LookupResult<'a, S>) -> Option<Fault> {
+        match found.network() {
+            Ok(network) => {
+                self.stand_at(network, found);
+                None
+            }
+            Err(error) => self.give(error),
         }
     }
 
     // Takes the next network, or gives why it can't be read.
     fn advance(&mut self) -> Option<Fault> {
-        let Some(item) = self.networks.next() else {
-            self.here = None;
-            self.is_over = true;
-            return None;
-        };
-        let taken = match item {
-            Ok(found) => self.take(found),
-            Err(error) => Err(error),
-        };
-        match taken {
-            Ok(()) => None,
-            Err(error) => Some(self.fault_of(error)),
+        match self.networks.next() {
+            Some(Ok(found)) => self.take(found),
+            Some(Err(error)) => self.give(error),
+            None => {
+                self.here = None;
+                self.is_over = true;
+                None
+            }
         }
     }
 

@@ -202,6 +202,7 @@ impl<'a, 'r> Changes<'a, 'r> {
     }
 
     /// Takes a stretch whose values differ, behind those that were taken.
+    #[inline(never)]
     pub(crate) fn push<O: Write>(
         &mut self,
         stretch: Stretch,

@@ -48,12 +48,15 @@ fn report_at<O: Write, E: Write>(
     console.report_behind(format!(in console.alloc; "{file}: {name}"), error)
 }
 
-// Reports a leaf that can't be read.
+// Reports a leaf that can't be read, behind what waits.
+#[inline(never)]
 fn report_leaf<O: Write, E: Write>(
     file: &str,
     fault: &Fault,
+    so_far: &mut SoFar<'_, '_>,
     console: &mut Console<'_, O, E>,
 ) -> Result<(), ProgramError> {
+    so_far.begin_fault(console.out)?;
     let place = match fault.behind {
         Some(network) => Where::Behind(network),
         None => Where::First,
@@ -61,13 +64,16 @@ fn report_leaf<O: Write, E: Write>(
     report_at(file, place, &fault.error, console)
 }
 
-// Reports a value that can't be read, unless memory is out.
+// Reports a value that can't be read, unless memory is out, behind what waits.
+#[inline(never)]
 fn report_value<O: Write, E: Write>(
     task: &DiffTask<'_>,
     stretch: Stretch,
     unreadable: &Unreadable,
+    so_far: &mut SoFar<'_, '_>,
     console: &mut Console<'_, O, E>,
 ) -> Result<(), ProgramError> {
+    so_far.begin_fault(console.out)?;
     if let MaxMindDbError::Memory = unreadable.error {
         return Err(ProgramError::Memory);
     }
@@ -88,10 +94,7 @@ fn compare_stretch<'r, O: Write, E: Write>(
         Ok(true) => Ok(()),
         Ok(false) => so_far.changes.push(stretch, answers, console.out),
         Err(unreadable) => {
-            let mut reported = so_far.begin_fault(console.out);
-            if reported.is_ok() {
-                reported = report_value(task, stretch, &unreadable, console);
-            }
+            let reported = report_value(task, stretch, &unreadable, so_far, console);
             drop(unreadable);
             reported
         }
@@ -107,10 +110,7 @@ fn compare_part<'r, O: Write, E: Write>(
     console: &mut Console<'_, O, E>,
 ) -> Result<(), ProgramError> {
     match part {
-        Part::Fault { side, fault } => {
-            so_far.begin_fault(console.out)?;
-            report_leaf(file_of(task, *side), fault, console)
-        }
+        Part::Fault { side, fault } => report_leaf(file_of(task, *side), fault, so_far, console),
         Part::Stretch(stretch) => {
             let answers = Answers {
                 old: comparison.found_in_old(*stretch),
@@ -122,6 +122,7 @@ fn compare_part<'r, O: Write, E: Write>(
 }
 
 // Compares two databases, and writes what differs.
+#[inline(never)]
 fn compare_all<'r, O: Write, E: Write>(
     task: &DiffTask<'_>,
     comparison: &mut Comparison<'r, Vec<u8>>,

@@ -6,7 +6,7 @@ use crate::output::put;
 use json::{Token, Writer};
 use mmdb_diff::Side;
 use mmdb_json::found_json;
-use mmdb_reader::{IpNetwork, MaxMindDbError};
+use mmdb_reader::{IpNetwork, MaxMindDbError, Value};
 use std::alloc::{AllocError, Global};
 use std::io::Write;
 
@@ -118,12 +118,43 @@ fn text_in(
     }
 }
 
+// The whole record, if it can be read.
+fn record_of<'r>(alloc: Global, found: &Found<'r>) -> Option<Value<'r>> {
+    match found.decode_path(alloc, &[]) {
+        Ok(record) => record,
+        Err(_) => None,
+    }
+}
+
+// Whether two records can be read and are equal.
+fn are_equal<'r>(alloc: Global, old: &Found<'r>, new: &Found<'r>) -> bool {
+    let Some(old) = record_of(alloc, old) else {
+        return false;
+    };
+    match record_of(alloc, new) {
+        Some(new) => old == new,
+        None => false,
+    }
+}
+
+// Whether whole records are asked for, and both are equal. Others can be shown the same too.
+fn are_equal_records(alloc: Global, layout: &Layout<'_>, answers: Answers<'_, '_>) -> bool {
+    match (layout, answers.old, answers.new) {
+        (Layout::Records, Some(old), Some(new)) => are_equal(alloc, old, new),
+        _ => false,
+    }
+}
+
 // Whether the values of a network in both databases are shown the same.
+#[inline(never)]
 fn are_same(
     alloc: Global,
     layout: &Layout<'_>,
     answers: Answers<'_, '_>,
 ) -> Result<bool, Unreadable> {
+    if are_equal_records(alloc, layout, answers) {
+        return Ok(true);
+    }
     let old_text = text_in(alloc, layout, Side::Old, answers.old)?;
     let new_text = text_in(alloc, layout, Side::New, answers.new)?;
     Ok(old_text == new_text)
