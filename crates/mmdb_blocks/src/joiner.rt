@@ -16,7 +16,7 @@ const MOST_WAITING: usize = 129;
 
 /// Why a block is not taken.
 #[derive(Clone, Copy, Debug, PartialEq, Eq)]
-pub enum Refusal {
+pub enum JoinError {
     /// Its prefix is longer than 128, or bits after the prefix are not 0.
     NotABlock,
     /// It begins before the last address of those that were pushed.
@@ -53,7 +53,7 @@ impl Joiner {
 
     /// Takes the next block. Blocks that nothing can join any more are handed out by `settled`, until the next call.
     /// An error changes nothing.
-    pub fn push(&mut self, block: Block) -> Result<(), Refusal>
+    pub fn push(&mut self, block: Block) -> Result<(), JoinError>
         // Whatever was pushed and handed out before: what is handed out now and what waits completes the joined form.
         ensures ok { OnOk result ((pushed handed : List SpecBlock) → IsJoining pushed handed (waiting_of self.old)
             → IsJoining (pushed ++ block ∷ []) (handed ++ settled_of self.new) (waiting_of self.new)) }
@@ -62,10 +62,10 @@ impl Joiner {
         ensures err { OnErr result (self.new ≡ self.old) }
     {
         if !block.is_block() {
-            return Err(Refusal::NotABlock);
+            return Err(JoinError::NotABlock);
         }
         if !is_after(&self.waiting, block) {
-            return Err(Refusal::OutOfOrder);
+            return Err(JoinError::OutOfOrder);
         }
         add(&mut self.waiting, &mut self.settled, block);
         Ok(())

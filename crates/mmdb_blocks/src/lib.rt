@@ -10,4 +10,4 @@ mod network;
 mod waiting;
 
 pub use block::Block;
-pub use joiner::{Joiner, Refusal};
+pub use joiner::{JoinError, Joiner};

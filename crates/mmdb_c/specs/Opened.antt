@@ -12,7 +12,7 @@ use Rattle.mmdb_reader.specs.Descents.{Descends}
 use Rattle.mmdb_reader.specs.File.{Database, tree_of, data_start, before_ipv4}
 use Rattle.mmdb_reader.specs.Source.{IsDatabaseOf}
 use Rattle.mmdb_reader.specs.Whole.{IsWhole}
-use Rattle.mmdb_reader.specs.Lookup.{Outcome, Offset, NoData, Refused, Answers}
+use Rattle.mmdb_reader.specs.Lookup.{Outcome, Offset, NoData, Failed, Answers}
 use Rattle.mmdb_c.specs.declared.db.Facts.{Facts}
 use Rattle.mmdb_c.specs.declared.db.Found.{Found}
 
@@ -59,7 +59,7 @@ pub record IsOpened (file : List ℕ) (facts : Facts) (ipv4 ipv6 : List Entry) :
 
 -- what the status and the offset say
 abbrev pub outcome_reported : Found → Outcome
-outcome_reported found = if nat_eq found.status 0 then Offset found.offset else (if nat_eq found.status 1 then NoData else Refused)
+outcome_reported found = if nat_eq found.status 0 then Offset found.offset else (if nat_eq found.status 1 then NoData else Failed)
 
 -- The answer of the database for the address is reported, and how many bits its leaf has. The status is 0, 1 or,
 -- where the leaf's number is no offset of the data section, 2.

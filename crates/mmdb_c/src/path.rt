@@ -14,7 +14,7 @@ pub extern "C" fn mmdb_c_to_key(section: &[u8], offset: usize, key: &[u8], to: &
     ensures statuses { IsTrue (is_step_status result || nat_eq result 8) }
     ensures found { result ≡ 0 → key_leads key.now section.now offset ≡ Some (Some to.new) }
     ensures none { result ≡ 9 → key_leads key.now section.now offset ≡ Some None }
-    ensures refused { result ≡ 7 → key_leads key.now section.now offset ≡ None }
+    ensures rejected { result ≡ 7 → key_leads key.now section.now offset ≡ None }
     ensures no_text { result ≡ 8 → ¬ (IsUtf8 key.now) }
 {
     let Ok(key) = str::from_utf8(key) else {
@@ -42,7 +42,7 @@ pub extern "C" fn mmdb_c_to_element(
     ensures statuses { IsTrue (is_step_status result) }
     ensures found { result ≡ 0 → element_leads index section.now offset ≡ Some (Some to.new) }
     ensures none { result ≡ 9 → element_leads index section.now offset ≡ Some None }
-    ensures refused { result ≡ 7 → element_leads index section.now offset ≡ None }
+    ensures rejected { result ≡ 7 → element_leads index section.now offset ≡ None }
 {
     let mut d = Decoder::new(section, offset);
     match d.go_to_index(index) {

@@ -1,4 +1,4 @@
--- A check that is refused, step by step.
+-- A check that fails, step by step.
 use Rattle.std.proofs.Common.{◌≡◌, ◌≢◌, ◌⊎◌, ℕ, zero, suc, ◌+◌, ◌-◌, ◌*◌, ◌<◌, ◌≤◌, List, [], ◌∷◌, length, Some, Bool, true, ◌==◌, set, map, leb, refl, sym, ◌∙◌, subst, inl, inr, arith}
 use Rattle.std.proofs.lemmas.Bool.{or_cases, cases_eq, eqb-true, false≢true}
 use Rattle.mmdb_check.specs.declared.inline.Inline.TheVariants.{Scalar, Parts, Pointer}
@@ -60,7 +60,7 @@ goes_by s p a end A [] e w = tt
 goes_by s p a end A (x ∷ parts) e w =
     (subst (λ z. EndsAtPointer s p 1 (1 + 0) z) (sym w.0) (p, 0, end, 0, none_passed, e, refl), w.1)
 
--- ---- refusals
+-- ---- errors
 
 pub halted_here : (s m : List ℕ) (l l' cost : ℕ) → Sound s m → l' + cost ≡ l → Halted s m l cost m l'
 halted_here s m l l' cost sound paid = record {
@@ -93,7 +93,7 @@ module _ (s s' m m' : List ℕ) (l l' p : ℕ) (es : s' ≡ s) (em : m' ≡ m) w
     spent = omega (arith, w.spent, paid);
   }
 
-  -- a scalar was charged, and refused for its text
+  -- a scalar was charged, and failed for its text
   pub halts_scalar : (size end : ℕ) (v : Bool) → Sound s m → inline_at s p ≡ Some (Scalar size v end) → l' + (1 + size) ≡ l → Halts s m l 1 p m' l'
   unfolding halted_here
   halts_scalar size end v sound e paid =

@@ -174,7 +174,7 @@ answered words n first p s e after is before (Some x) (same, inside) =
 pub next-in-word : (words : List ℕ) (n first j k bit : ℕ) (s : List Bool) → set_of words n ≡ s → IsLowest (slice_index words j) k bit
     → first ≤ j * 64 + k → NoneIn words first (j * 64 + k) → (r : Option ℕ)
     → MatchOption r (length s ≤ j * 64 + bit) (λ same. (same ≡ j * 64 + bit) × (j * 64 + bit < length s)) → MatchOption r (HasNoneFrom s first) (IsNext s first)
-next-in-word words n first j k bit s e lowest from none r told =
+next-in-word words n first j k bit s e lowest from none r said =
     let inside = lowest.inside in
     let after = lowest.after in
     answered words n first (j * 64 + bit) s e (omega (arith, from, after))
@@ -185,4 +185,4 @@ next-in-word words n first j k bit s e lowest from none r told =
           let i : ℕ = q - j * 64 in
           bit-in words j i q (omega arith) (omega (arith, below, inside)) ∙ ap (λ b. b == 1) (lowest.least i (omega arith) (omega arith))
     ])
-    r told
+    r said

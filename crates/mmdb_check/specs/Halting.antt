@@ -1,4 +1,4 @@
--- What a check had done when it was refused.
+-- What a check had done when it failed.
 use Rattle.std.specs.Prelude.{◌≡◌, ◌⊎◌, ℕ, suc, ◌+◌, ◌≤◌, List, [], ◌∷◌, length, Some, Bool, true, false, ◌||◌, ◌==◌}
 use Rattle.mmdb_check.specs.declared.inline.Inline.TheVariants.{Scalar, Parts, Pointer}
 use Rattle.mmdb_check.specs.Inline.{inline_at}

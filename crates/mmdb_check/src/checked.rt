@@ -1,11 +1,11 @@
 //! A check with a memory.
 ghost use Rattle.std.specs.Prelude.{◌≡◌, ◌↔◌, ℕ, ◌-◌, ◌*◌, length, IfOk, IfErr, OnOk, OnErr, IsOk, map, leb, true, false};
-ghost use Rattle.mmdb_format.specs.Error.{OfInput, OfMemory, kind_of, IsRefusedAs};
+ghost use Rattle.mmdb_format.specs.Error.{OfInput, OfMemory, kind_of, FailsAs};
 ghost use Rattle.mmdb_check.specs.Checking.{Seen, holds, IsAllowed, CanAdd, Added, Costs};
 ghost use Rattle.mmdb_check.specs.Halting.{IsHalted};
 ghost use Rattle.mmdb_check.specs.Memory.{Ready};
 
-use crate::work::{Refusal, UNSEEN, Work};
+use crate::work::{Failure, UNSEEN, Work};
 use mmdb_format::decode_error_kind::DecodeErrorKind;
 use mmdb_format::error::MaxMindDbError;
 use mmdb_format::message::{Message, Text};
@@ -34,7 +34,7 @@ impl<'s> Model for Checked<'s> {
 
 impl<'s> Checked<'s> {
     /// A check of this section, no offset of which is good yet. It takes a byte of memory for each byte of the
-    /// section, and is refused, as `Memory`, only where there is none.
+    /// section, and fails, as `Memory`, only where there is none.
     pub fn new(alloc: Global, section: &'s [u8]) -> Result<Checked<'s>, MaxMindDbError>
         ensures section { IfOk result (λ c. c.section ≡ section.now) }
         ensures none { IfOk result (λ c. (q : ℕ) → holds c.good q ≡ false) }
@@ -49,7 +49,7 @@ impl<'s> Checked<'s> {
                 section,
                 marks,
                 left,
-                refusal: Refusal {
+                failure: Failure {
                     fault: DecodeErrorKind::EndOfBuffer,
                     offset: 0,
                 },
@@ -75,7 +75,7 @@ pub fn check_value(alloc: Global, c: &mut Checked, offset: usize) -> Result<(), 
     ensures going { OnOk result (c.new.failed ≡ false) }
     ensures err { OnErr result (c.new.failed ≡ true) }
     ensures halted { OnErr result (c.old.failed ≡ false → IsHalted c.new.section (holds c.new.good) offset c.new.charged) }
-    ensures after_err { IsRefusedAs OfInput result ↔ (c.old.failed ≡ true) }
+    ensures after_err { FailsAs OfInput result ↔ (c.old.failed ≡ true) }
 {
     if c.failed {
         return Err(MaxMindDbError::InvalidInput {
@@ -89,8 +89,8 @@ pub fn check_value(alloc: Global, c: &mut Checked, offset: usize) -> Result<(), 
             Ok(())
         }
         Err(_) => {
-            let refusal = c.work.refusal;
-            Err(refusal.fault.refusal(alloc, refusal.offset))
+            let failure = c.work.failure;
+            Err(failure.fault.to_error(alloc, failure.offset))
         }
     }
 }

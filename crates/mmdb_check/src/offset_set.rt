@@ -41,7 +41,7 @@ fn lowest_bit(word: u64, from: usize) -> Option<usize>
 }
 
 impl OffsetSet {
-    /// None of the offsets of a section with so many bytes. It is refused, as `Memory`, only where there is
+    /// None of the offsets of a section with so many bytes. It fails, as `Memory`, only where there is
     /// none.
     pub fn new(alloc: Global, len: usize) -> Result<OffsetSet, MaxMindDbError>
         ensures length { IfOk result (λ offsets. length offsets ≡ len) }
@@ -96,7 +96,7 @@ impl OffsetSet {
     }
 }
 
-/// Checks the values at the offsets of a set, ascending, with one memory of good offsets. It is refused as the
+/// Checks the values at the offsets of a set, ascending, with one memory of good offsets. It fails as the
 /// first `check_value` that is.
 pub fn check_offsets(
     alloc: Global,

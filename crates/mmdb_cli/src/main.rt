@@ -7,7 +7,7 @@ use std::io::{self, BufWriter, ErrorKind, Write};
 use std::process::ExitCode;
 
 // The status of an error.
-const REFUSED: u8 = 1;
+const REJECTED: u8 = 1;
 
 // The status of arguments that are no command.
 const BAD_WORDS: u8 = 2;
@@ -31,7 +31,7 @@ fn finished<W: Write + Drop>(rt: &HostRuntime, mut writer: W, status: u8) -> u8 
     match writer.flush() {
         Err(error) if status == 0 => {
             let _ = eprintln!(rt; "write error: {error}");
-            REFUSED
+            REJECTED
         }
         _ => status,
     }
@@ -55,7 +55,7 @@ fn main(rt: HostRuntime) -> ExitCode {
         }
         Err(error) => {
             let _ = eprintln!(rt; "{error}");
-            ExitCode::from(REFUSED)
+            ExitCode::from(REJECTED)
         }
     }
 }

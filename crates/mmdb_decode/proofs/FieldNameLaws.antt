@@ -6,7 +6,7 @@ use Rattle.mmdb_decode.specs.Reading.{Reading, Meaning}
 use Rattle.mmdb_decode.specs.Records.{named, field}
 use Rattle.mmdb_decode.specs.Tables.{Table, end, optional, part, Parts, no_parts, part_field, fields_into, fields_of}
 use Rattle.mmdb_decode.specs.TypedReads.{StandsOnce, FieldNamesOnce, FieldNamesStandOnce, IsKnown}
-use Rattle.mmdb_decode.proofs.RecordStandingLaws.{known_names_stand_once, field_fills, field_refused, skipped_keeps}
+use Rattle.mmdb_decode.proofs.RecordStandingLaws.{known_names_stand_once, field_fills, field_rejected, skipped_keeps}
 
 abbrev at : {A : Type 0} → A → ℕ → ℕ → ℕ → Reading A
 at v q c b = record { value = v; next = q; values = c; bytes = b }
@@ -23,7 +23,7 @@ has_stood end n p = false
 has_stood (optional name shape get rest) n p = if named n name then is_some p.0 else has_stood rest n p.1
 has_stood (part name shape none is_absent get rest) n p = if named n name then p.0.0 else has_stood rest n p.1
 
--- a part that stands at most once is filled by its own name and refused then
+-- a part that stands at most once is filled by its own name and an error then
 part_fills : {P A : Type 0} (set : Bool × A → P) (read : Meaning A) (slot : Bool × A) (s : List ℕ) (p d : ℕ) (y : Reading P) → part_field set read slot s p d ≡ Some y → (v : A) × (y.value ≡ set (true, v))
 unfolding part_field
 part_fills set read (true, v) s p d y h = absurd (cc)
@@ -33,10 +33,10 @@ part_fills {P = P} {A = A} set read (false, v) s p d y h = filled (read s p d) h
     filled None e = absurd (cc)
     filled (Some r) e = let same : at (set (true, r.value)) r.next r.values r.bytes ≡ y = cc in (r.value, sym (ap (λ z. z.value) same))
 
-part_refused : {P A : Type 0} (set : Bool × A → P) (read : Meaning A) (slot : Bool × A) (s : List ℕ) (p d : ℕ) → slot.0 ≡ true → part_field set read slot s p d ≡ None
+part_rejected : {P A : Type 0} (set : Bool × A → P) (read : Meaning A) (slot : Bool × A) (s : List ℕ) (p d : ℕ) → slot.0 ≡ true → part_field set read slot s p d ≡ None
 unfolding part_field
-part_refused set read (true, v) s p d h = refl
-part_refused set read (false, v) s p d h = absurd (cc)
+part_rejected set read (true, v) s p d h = refl
+part_rejected set read (false, v) s p d h = absurd (cc)
 
 -- what a name leaves: no field is emptied, and its own is filled
 abbrev Left : {R P : Type 0} → (t : Table R) → (Parts t → P) → Parts t → List ℕ → P → Type 0
@@ -80,17 +80,17 @@ module _ {R P : Type 0} (s : List ℕ) (i d : ℕ) where
           ((p.0, f.0), f.1, λ m. other_kept (named m name) p.0.0 (has_stood rest m p.1) (has_stood rest m f.0) (f.2 m), f.3)
 
   -- and where its field has stood nothing is read behind it
-  into_refused : (t : Table R) (put : Parts t → P) (p : Parts t) (n : List ℕ) → has_stood t n p ≡ true → fields_into t put p n s i d ≡ None
-  into_refused end put p n h = absurd (cc)
-  into_refused (optional name shape get rest) put p n h = by_name (named n name) (into_refused rest (λ q. put (p.0, q)) p.1 n) h
+  into_failed : (t : Table R) (put : Parts t → P) (p : Parts t) (n : List ℕ) → has_stood t n p ≡ true → fields_into t put p n s i d ≡ None
+  into_failed end put p n h = absurd (cc)
+  into_failed (optional name shape get rest) put p n h = by_name (named n name) (into_failed rest (λ q. put (p.0, q)) p.1 n) h
     where
       by_name : (b : Bool) → (has_stood rest n p.1 ≡ true → fields_into rest (λ q. put (p.0, q)) p.1 n s i d ≡ None) → (if b then is_some p.0 else has_stood rest n p.1) ≡ true → (if b then field (λ v. put (v, p.1)) shape.meaning p.0 else fields_into rest (λ q. put (p.0, q)) p.1 n) s i d ≡ None
-      by_name true more k = field_refused (λ v. put (v, p.1)) shape.meaning p.0 s i d k
+      by_name true more k = field_rejected (λ v. put (v, p.1)) shape.meaning p.0 s i d k
       by_name false more k = more k
-  into_refused (part name shape none is_absent get rest) put p n h = by_name (named n name) (into_refused rest (λ q. put (p.0, q)) p.1 n) h
+  into_failed (part name shape none is_absent get rest) put p n h = by_name (named n name) (into_failed rest (λ q. put (p.0, q)) p.1 n) h
     where
       by_name : (b : Bool) → (has_stood rest n p.1 ≡ true → fields_into rest (λ q. put (p.0, q)) p.1 n s i d ≡ None) → (if b then p.0.0 else has_stood rest n p.1) ≡ true → (if b then part_field (λ v. put (v, p.1)) shape.meaning p.0 else fields_into rest (λ q. put (p.0, q)) p.1 n) s i d ≡ None
-      by_name true more k = part_refused (λ v. put (v, p.1)) shape.meaning p.0 s i d k
+      by_name true more k = part_rejected (λ v. put (v, p.1)) shape.meaning p.0 s i d k
       by_name false more k = more k
 
 -- the name of each row is known
@@ -99,7 +99,7 @@ unfolding fields_of
 rows_are_known {R = R} t n row = record {
   stays = λ x other s p d y k h. let f = into_leaves {R = R} s p d t (λ q. q) x other y h in rw f.1 (f.2 n k);
   fills = λ x s p d y h. let f = into_leaves {R = R} s p d t (λ q. q) x n y h in rw f.1 (f.3 row);
-  refused = λ x s p d k. into_refused {R = R} s p d t (λ q. q) x n k;
+  rejected = λ x s p d k. into_failed {R = R} s p d t (λ q. q) x n k;
 }
 
 -- each row's name is the name of a row

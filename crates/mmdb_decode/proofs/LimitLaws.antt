@@ -5,7 +5,7 @@ use Rattle.mmdb_format.specs.Header.{◌>>=◌}
 use Rattle.mmdb_decode.specs.declared.budget.Charges.{Charges}
 use Rattle.mmdb_decode.specs.Reading.{Reading, Meaning}
 use Rattle.mmdb_decode.specs.State.{State, most_values, most_bytes, decoded, settled, after}
-use Rattle.mmdb_decode.specs.Refusal.{answer}
+use Rattle.mmdb_decode.specs.Errors.{answer}
 use Rattle.mmdb_decode.specs.Limits.{IsWithinLimits, AnswerIsWithinLimits, OneReading}
 use Rattle.mmdb_decode.proofs.StepLaws.{state}
 

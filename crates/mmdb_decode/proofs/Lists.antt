@@ -5,7 +5,7 @@ use Rattle.std.proofs.lemmas.Bool.Decides.{nat_tests}
 use Rattle.mmdb_format.specs.Header.{◌>>=◌}
 use Rattle.mmdb_decode.specs.Arrays.{elements, list_at, entered_array, left_array, array_at, few_at, if_sized, entered_array_of}
 use Rattle.mmdb_decode.specs.Reading.{Meaning, given}
-use Rattle.mmdb_decode.specs.Refusal.{Kept}
+use Rattle.mmdb_decode.specs.Errors.{Kept}
 use Rattle.mmdb_decode.specs.State.{State, charged, spent_of, begun, decoded, Within, NoneBack, GivenUp}
 use Rattle.mmdb_decode.specs.declared.budget.Charges.{Charges}
 use Rattle.mmdb_decode.specs.declared.items.Items.{Items}
@@ -134,8 +134,8 @@ entered_from σ τ items h = entered_of σ τ items (array_at σ.section σ.offs
 pub few_read : {A : Type 0} (most : ℕ) (read : Meaning A) (σ τ : State) (items : Items) → entered_array σ ≡ Some (items, τ) → items.remaining ≤ most → decoded true (few_at most read) σ ≡ decoded true (list_at read) σ
 few_read most read σ τ items h k = let x = entered_from σ τ items h in let few : nat_le x.0.count most ≡ true = grind (arith, nat_tests, x.2) in few_by most read σ x.0 x.1 few
 
-pub few_refused : {A : Type 0} (most : ℕ) (read : Meaning A) (σ τ : State) (items : Items) → entered_array σ ≡ Some (items, τ) → most < items.remaining → decoded true (few_at most read) σ ≡ None
-few_refused most read σ τ items h k = let x = entered_from σ τ items h in let many : nat_le x.0.count most ≡ false = grind (arith, nat_tests, x.2) in few_past most read σ x.0 x.1 many
+pub few_rejected : {A : Type 0} (most : ℕ) (read : Meaning A) (σ τ : State) (items : Items) → entered_array σ ≡ Some (items, τ) → most < items.remaining → decoded true (few_at most read) σ ≡ None
+few_rejected most read σ τ items h k = let x = entered_from σ τ items h in let many : nat_le x.0.count most ≡ false = grind (arith, nat_tests, x.2) in few_past most read σ x.0 x.1 many
 
 -- an array of another length
 other_by : (len : ℕ) (x : Items × State) (b : Bool) → nat_eq x.0.remaining len ≡ b → (x.0.remaining ≡ len → ⊥) → if_sized len x ≡ None

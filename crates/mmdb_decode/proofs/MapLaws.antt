@@ -3,7 +3,7 @@ use Rattle.mmdb_format.specs.Contents.{key_bytes_at}
 use Rattle.mmdb_format.specs.Header.{◌>>=◌}
 use Rattle.mmdb_decode.specs.Maps.{map_at, whole_map, in_map, entered_map, left_map, Fields, pairs_from, key_past}
 use Rattle.mmdb_decode.specs.Reading.{Reading, Meaning, given, followed}
-use Rattle.mmdb_decode.specs.Refusal.{Kept}
+use Rattle.mmdb_decode.specs.Errors.{Kept}
 use Rattle.mmdb_decode.specs.State.{State, charged, spent_of, begun, settled, after, decoded, Within, NoneBack, GivenUp}
 use Rattle.std.proofs.Common.{◌≡◌, ℕ, suc, ◌+◌, ◌*◌, ◌-◌, ◌<◌, List, length, Option, Some, None, true, false, option_map, refl, ap, ◌∙◌, arith, add-one, subst, IsSome}
 use Rattle.mmdb_decode.specs.declared.budget.Charges.{Charges}

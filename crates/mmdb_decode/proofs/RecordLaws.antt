@@ -4,12 +4,12 @@ use Rattle.mmdb_format.specs.declared.error.MaxMindDbError.{MaxMindDbError}
 use Rattle.mmdb_decode.specs.Maps.{KeyRead, NoKey, NoneLeft, Fields, pairs_from, name_at}
 use Rattle.mmdb_decode.specs.Reading.{Meaning, mapped}
 use Rattle.mmdb_decode.specs.Records.{field, FieldRead, once, finished}
-use Rattle.mmdb_decode.specs.Refusal.{Refuses, Kept}
+use Rattle.mmdb_decode.specs.Errors.{Fails, Kept}
 use Rattle.mmdb_decode.specs.State.{State, after, decoded, GivenUp}
-use Rattle.mmdb_decode.proofs.StepLaws.{refuses_more, refuses_weaker}
+use Rattle.mmdb_decode.proofs.StepLaws.{fails_more, fails_weaker}
 use Rattle.std.proofs.Common.{◌≡◌, ℕ, ◌-◌, List, Option, Some, None, Bool, true, false, option_map, refl, sym, ap, ◌∙◌, IsSome, Result, Ok, Err, is_some, cond}
 use Rattle.mmdb_decode.specs.declared.items.Entries.{Entries}
-use Rattle.mmdb_decode.proofs.StepLaws.{kept_decoded, kept_trans, given_up_trans, decoded_begun, still_begun, refuses, kept_same}
+use Rattle.mmdb_decode.proofs.StepLaws.{kept_decoded, kept_trans, given_up_trans, decoded_begun, still_begun, fails, kept_same}
 use Rattle.mmdb_decode.proofs.ReadingLaws.{mapped_none, decoded-mapped, seen, checked_ok, checked_missing, checked_none}
 use Rattle.mmdb_decode.proofs.MapLaws.{some_left_to_read, pairs_done, pairs_go_on, pairs_stop, pairs_nameless}
 
@@ -48,12 +48,12 @@ field_none set read slot σ h = decoded-mapped false set (once read slot) σ ∙
 
 pub field_read : {P A : Type 0} (free : Bool) (set : Option A → P) (read : Meaning A) (slot : Option A) (v : Option A) (σ τ : State) (r : Result (Unit {0}) MaxMindDbError) → FieldRead free (decoded false (once read slot) σ) v σ τ r → FieldRead free (decoded false (field set read slot) σ) (set v) σ τ r
 field_read free set read slot v σ τ (Ok x) h = record { ok = field_ok set read slot σ τ v h.ok; err = tt; given_up = tt }
-field_read free set read slot v σ τ (Err e) h = record { ok = tt; err = refuses_more free e (decoded false (once read slot) σ) (decoded false (field set read slot) σ) (field_none set read slot σ) h.err; given_up = h.given_up }
+field_read free set read slot v σ τ (Err e) h = record { ok = tt; err = fails_more free e (decoded false (once read slot) σ) (decoded false (field set read slot) σ) (field_none set read slot σ) h.err; given_up = h.given_up }
 
 -- the same of a record that may take memory
 pub field_read_not_free : {P A : Type 0} (free : Bool) (set : Option A → P) (read : Meaning A) (slot : Option A) (v : Option A) (σ τ : State) (r : Result (Unit {0}) MaxMindDbError) → FieldRead free (decoded false (once read slot) σ) v σ τ r → FieldRead false (decoded false (field set read slot) σ) (set v) σ τ r
 field_read_not_free free set read slot v σ τ (Ok x) h = record { ok = field_ok set read slot σ τ v h.ok; err = tt; given_up = tt }
-field_read_not_free free set read slot v σ τ (Err e) h = record { ok = tt; err = refuses_weaker free e (decoded false (once read slot) σ) (decoded false (field set read slot) σ) (field_none set read slot σ) h.err; given_up = h.given_up }
+field_read_not_free free set read slot v σ τ (Err e) h = record { ok = tt; err = fails_weaker free e (decoded false (once read slot) σ) (decoded false (field set read slot) σ) (field_none set read slot σ) h.err; given_up = h.given_up }
 
 -- a test of a name
 pub then_read : {P : Type 0} (free : Bool) (b : Bool) (m n : Meaning P) (v : P) (σ τ : State) (r : Result (Unit {0}) MaxMindDbError) → b ≡ true → FieldRead free (decoded false m σ) v σ τ r → FieldRead free (decoded false (cond b m n) σ) v σ τ r
@@ -67,8 +67,8 @@ pub read_into : {P A : Type 0} (free : Bool) (set : Option A → P) (read : Mean
 read_into free set read slot v w σ τ r h e = rw e (field_read free set read slot v σ τ r h)
 
 -- what a partial record is made
-pub mapped_refuses : {P R : Type 0} (free starts : Bool) (e : MaxMindDbError) (f : P → R) (read : Meaning P) (σ : State) → Refuses free e (decoded starts read σ) → Refuses free e (decoded starts (mapped f read) σ)
-mapped_refuses free starts e f read σ h = refuses_more free e (decoded starts read σ) (decoded starts (mapped f read) σ) (mapped_none starts f read σ) h
+pub mapped_fails : {P R : Type 0} (free starts : Bool) (e : MaxMindDbError) (f : P → R) (read : Meaning P) (σ : State) → Fails free e (decoded starts read σ) → Fails free e (decoded starts (mapped f read) σ)
+mapped_fails free starts e f read σ h = fails_more free e (decoded starts read σ) (decoded starts (mapped f read) σ) (mapped_none starts f read σ) h
 
 -- A loop over fields: what is left to read, with the fields so far, is the whole.
 pub record Progress {P : Type 0} (fields : Fields P) (whole : Option (P × State)) (first : State) (p : P) (n : ℕ) (σ : State) : Type 0 where
@@ -94,11 +94,11 @@ progress_goes_on free fields whole first p q σ τ ρ before after name h k f =
       started = still_begun σ.budget ρ.budget both.charges h.started;
     }
 
-pub progress_stops : {P : Type 0} (free : Bool) (fields : Fields P) (whole : Option (P × State)) (first : State) (p q : P) (σ τ ρ : State) (before after : Entries) (name : List ℕ) (e : MaxMindDbError) → Progress fields whole first p before.remaining σ → KeyRead name_at σ τ before after name → FieldRead free (decoded false (fields p name) τ) q τ ρ (Err e) → Refuses free e whole × GivenUp first ρ
-progress_stops free fields whole first p q σ τ ρ before after name e h k f = (refuses_more free e (decoded false (fields p name) τ) whole (pairs_stop name_at fields whole p name before.remaining after.remaining σ τ h.rest k.one k.step) f.err, given_up_trans first τ ρ (kept_trans first σ τ h.kept (key_kept σ τ before after name k)) f.given_up)
+pub progress_stops : {P : Type 0} (free : Bool) (fields : Fields P) (whole : Option (P × State)) (first : State) (p q : P) (σ τ ρ : State) (before after : Entries) (name : List ℕ) (e : MaxMindDbError) → Progress fields whole first p before.remaining σ → KeyRead name_at σ τ before after name → FieldRead free (decoded false (fields p name) τ) q τ ρ (Err e) → Fails free e whole × GivenUp first ρ
+progress_stops free fields whole first p q σ τ ρ before after name e h k f = (fails_more free e (decoded false (fields p name) τ) whole (pairs_stop name_at fields whole p name before.remaining after.remaining σ τ h.rest k.one k.step) f.err, given_up_trans first τ ρ (kept_trans first σ τ h.kept (key_kept σ τ before after name k)) f.given_up)
 
-pub progress_nameless : {P : Type 0} (free : Bool) (fields : Fields P) (whole : Option (P × State)) (first : State) (p : P) (σ τ : State) (before : Entries) (e : MaxMindDbError) → Progress fields whole first p before.remaining σ → NoKey name_at σ τ before → Refuses free e whole × GivenUp first τ
-progress_nameless free fields whole first p σ τ before e h k = (refuses free e whole (pairs_nameless name_at fields whole p before.remaining (before.remaining - 1) σ h.rest (some_left_to_read before.remaining k.some) k.refuses), given_up_trans first σ τ h.kept k.given_up)
+pub progress_nameless : {P : Type 0} (free : Bool) (fields : Fields P) (whole : Option (P × State)) (first : State) (p : P) (σ τ : State) (before : Entries) (e : MaxMindDbError) → Progress fields whole first p before.remaining σ → NoKey name_at σ τ before → Fails free e whole × GivenUp first τ
+progress_nameless free fields whole first p σ τ before e h k = (fails free e whole (pairs_nameless name_at fields whole p before.remaining (before.remaining - 1) σ h.rest (some_left_to_read before.remaining k.some) k.fails), given_up_trans first σ τ h.kept k.given_up)
 
 pub progress_ends : {P : Type 0} (fields : Fields P) (whole : Option (P × State)) (first : State) (p : P) (σ τ : State) (before after : Entries) → Progress fields whole first p before.remaining σ → NoneLeft σ τ before after → whole ≡ Some (p, τ)
 progress_ends fields whole first p σ τ before after h k = pairs_done name_at fields whole p before.remaining σ τ h.rest k.none k.same k.within
@@ -108,9 +108,9 @@ pub whole_ok : {P R X : Type 0} {E : Type 0} (f : P → Option R) (view : X → 
 whole_ok f view read σ τ p (Ok v) h k = checked_ok true f read σ τ p (view v) h k
 whole_ok f view read σ τ p (Err e) h k = tt
 
-pub whole_err : {P R X : Type 0} (free : Bool) (f : P → Option R) (read : Meaning P) (σ τ : State) (p : P) (r : Result X MaxMindDbError) → decoded true read σ ≡ Some (p, τ) → IfErr r (λ e. Refuses free e (f p)) → IfErr r (λ e. Refuses free e (decoded true (finished f read) σ))
+pub whole_err : {P R X : Type 0} (free : Bool) (f : P → Option R) (read : Meaning P) (σ τ : State) (p : P) (r : Result X MaxMindDbError) → decoded true read σ ≡ Some (p, τ) → IfErr r (λ e. Fails free e (f p)) → IfErr r (λ e. Fails free e (decoded true (finished f read) σ))
 whole_err free f read σ τ p (Ok v) h k = tt
-whole_err free f read σ τ p (Err e) h k = refuses_more free e (f p) (decoded true (finished f read) σ) (checked_missing true f read σ τ p h) k
+whole_err free f read σ τ p (Err e) h k = fails_more free e (f p) (decoded true (finished f read) σ) (checked_missing true f read σ τ p h) k
 
-pub whole_unread : {P R : Type 0} (free : Bool) (e : MaxMindDbError) (f : P → Option R) (read : Meaning P) (σ : State) → Refuses free e (decoded true read σ) → Refuses free e (decoded true (finished f read) σ)
-whole_unread free e f read σ h = refuses_more free e (decoded true read σ) (decoded true (finished f read) σ) (checked_none true f read σ) h
+pub whole_unread : {P R : Type 0} (free : Bool) (e : MaxMindDbError) (f : P → Option R) (read : Meaning P) (σ : State) → Fails free e (decoded true read σ) → Fails free e (decoded true (finished f read) σ)
+whole_unread free e f read σ h = fails_more free e (decoded true read σ) (decoded true (finished f read) σ) (checked_none true f read σ) h

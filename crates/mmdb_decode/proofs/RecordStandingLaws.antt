@@ -91,7 +91,7 @@ module _ {P : Type 0} (fields : Fields P) (name : List ℕ) (has_stood : P → B
   no_more {s = s} {d = d} {x = x} (one_field_follows {names = names} {name = n} {y = y} h e f) k = none_here (bytes_eq name n.value) refl (no_more f (known.stays x n.value s n.next d y k e))
     where
       none_here : (t : Bool) → bytes_eq name n.value ≡ t → count_by (bytes_eq name) names ≡ 0 → count_by (bytes_eq name) (n.value ∷ names) ≡ 0
-      none_here true i more = let some = field_of_name x n.value s n.next d y i e in let none = known.refused x s n.next d k in absurd (cc)
+      none_here true i more = let some = field_of_name x n.value s n.next d y i e in let none = known.rejected x s n.next d k in absurd (cc)
       none_here false i more = let one = counted false n.value names i in omega (arith, more, one)
 
   pub at_most_once : {s : List ℕ} {d p : ℕ} {x z : P} {names : List (List ℕ)} {q c b : ℕ} → FieldsFollow fields s d x p names z q c b → count_by (bytes_eq name) names ≤ 1
@@ -105,7 +105,7 @@ module _ {P : Type 0} (fields : Fields P) (name : List ℕ) (has_stood : P → B
 pub known_names_stand_once : {P : Type 0} (fields : Fields P) (none : P) → KnownNamesStandOnce fields none
 known_names_stand_once fields none name has_stood s p d names x q c b k h = at_most_once fields name has_stood k h.follow
 
--- a field that stands at most once is filled by its own name and refused then, and an unknown one changes
+-- a field that stands at most once is filled by its own name and an error then, and an unknown one changes
 -- nothing
 pub field_fills : {P A : Type 0} (set : Option A → P) (read : Meaning A) (slot : Option A) (s : List ℕ) (p d : ℕ) (y : Reading P) → field set read slot s p d ≡ Some y → (v : A) × (y.value ≡ set (Some v))
 unfolding field
@@ -116,10 +116,10 @@ field_fills {A = A} set read None s p d y h = filled (read s p d) h
     filled None e = absurd (cc)
     filled (Some r) e = let same : at (set (Some r.value)) r.next r.values r.bytes ≡ y = cc in (r.value, sym (ap (λ z. z.value) same))
 
-pub field_refused : {P A : Type 0} (set : Option A → P) (read : Meaning A) (slot : Option A) (s : List ℕ) (p d : ℕ) → is_some slot ≡ true → field set read slot s p d ≡ None
+pub field_rejected : {P A : Type 0} (set : Option A → P) (read : Meaning A) (slot : Option A) (s : List ℕ) (p d : ℕ) → is_some slot ≡ true → field set read slot s p d ≡ None
 unfolding field
-field_refused set read (Some v) s p d h = refl
-field_refused set read None s p d h = absurd (cc)
+field_rejected set read (Some v) s p d h = refl
+field_rejected set read None s p d h = absurd (cc)
 
 pub skipped_keeps : {P : Type 0} (x : P) (s : List ℕ) (p d : ℕ) (y : Reading P) → skipped x s p d ≡ Some y → y.value ≡ x
 unfolding skipped

@@ -7,10 +7,10 @@ use Rattle.mmdb_format.specs.Header.{◌>>=◌, header_at}
 use Rattle.mmdb_decode.specs.Reading.{Reading, Meaning, given}
 use Rattle.mmdb_decode.specs.Scalars.{free_of_charge}
 use Rattle.mmdb_decode.specs.Records.{FieldRead, skipped}
-use Rattle.mmdb_decode.specs.Refusal.{Reads, Takes, Kept}
+use Rattle.mmdb_decode.specs.Errors.{Reads, Takes, Kept}
 use Rattle.mmdb_decode.specs.Skipping.{skip_at, parts_of, passes, counted, skip_within, scalar_passed, entered_inline}
 use Rattle.mmdb_decode.specs.State.{State, charged, spent_of, begun, settled, after, decoded, Within, NoneBack, GivenUp}
-use Rattle.mmdb_decode.proofs.StepLaws.{still_begun, kept_decoded, refuses, decoded_begun}
+use Rattle.mmdb_decode.proofs.StepLaws.{still_begun, kept_decoded, fails, decoded_begun}
 use Rattle.mmdb_decode.proofs.ReadingLaws.{decoded-mapped, seen}
 use Rattle.std.proofs.Common.{◌≡◌, ℕ, suc, zero, List, Option, Some, None, Bool, true, false, option_map, refl, sym, ap, ◌∙◌, subst}
 use Rattle.mmdb_decode.specs.declared.budget.Charges.{Charges}
@@ -148,8 +148,8 @@ begins_kept σ = record { section = refl; levels = refl; charges = begins_back �
 pub skip_read : (read : Meaning (Unit {0})) (σ τ ρ : State) → τ ≡ begins σ → decoded false read τ ≡ Some (tt, ρ) → decoded true read σ ≡ Some (tt, ρ)
 skip_read read σ τ ρ e h = decoded_begins read σ ∙ (rw (← e) h)
 
-pub skip_refused : (read : Meaning (Unit {0})) (σ τ ρ : State) → τ ≡ begins σ → decoded false read τ ≡ None → GivenUp τ ρ → GivenUp σ ρ × (decoded true read σ ≡ None)
-skip_refused read σ τ ρ e h g = (given_up_trans σ (begins σ) ρ (begins_kept σ) (rw e at g), decoded_begins read σ ∙ (rw (← e) h))
+pub skip_rejected : (read : Meaning (Unit {0})) (σ τ ρ : State) → τ ≡ begins σ → decoded false read τ ≡ None → GivenUp τ ρ → GivenUp σ ρ × (decoded true read σ ≡ None)
+skip_rejected read σ τ ρ e h g = (given_up_trans σ (begins σ) ρ (begins_kept σ) (rw e at g), decoded_begins read σ ∙ (rw (← e) h))
 
 skipped_as : {P : Type 0} (p : P) (σ : State) → IsSome σ.budget → decoded false (skipped p) σ ≡ seen (λ x. p) (decoded true skip_at σ)
 unfolding skipped
@@ -158,7 +158,7 @@ skipped_as p σ s = decoded-mapped false (λ (x : Unit {0}). p) skip_at σ ∙ a
 -- an unknown field, which is skipped
 pub skipped_read : {P : Type 0} (free : Bool) (p : P) (σ τ : State) (r : Result (Unit {0}) MaxMindDbError) → IsSome σ.budget → Reads (λ x. tt) true (decoded true skip_at σ) σ τ r → FieldRead free (decoded false (skipped p) σ) p σ τ r
 skipped_read free p σ τ (Ok x) s h = record { ok = skipped_as p σ s ∙ rw h refl; err = tt; given_up = tt }
-skipped_read free p σ τ (Err e) s h = record { ok = tt; err = refuses free e (decoded false (skipped p) σ) (skipped_as p σ s ∙ rw h.1 refl); given_up = h.0 }
+skipped_read free p σ τ (Err e) s h = record { ok = tt; err = fails free e (decoded false (skipped p) σ) (skipped_as p σ s ∙ rw h.1 refl); given_up = h.0 }
 
 -- a budget that had begun has still begun
 pub skip_begun : {E : Type 0} (σ τ : State) (r : Result (Unit {0}) E) → Takes (λ x. tt) (decoded true skip_at σ) σ τ r → IsSome σ.budget → IsSome τ.budget

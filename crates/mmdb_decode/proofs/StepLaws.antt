@@ -4,7 +4,7 @@ use Rattle.std.proofs.lemmas.Bool.Decides.{nat_tests}
 use Rattle.mmdb_format.specs.Header.{◌>>=◌}
 use Rattle.mmdb_decode.specs.Arrays.{array_at, entered_array}
 use Rattle.mmdb_decode.specs.Reading.{Reading, Meaning}
-use Rattle.mmdb_decode.specs.Refusal.{Refuses, Declines, Reads, Kept, answer}
+use Rattle.mmdb_decode.specs.Errors.{Fails, Declines, Reads, Kept, answer}
 use Rattle.mmdb_decode.specs.State.{State, charged, spent_of, begun, settled, after, decoded, Within, NoneBack, GivenUp, most_values, most_bytes}
 use Rattle.mmdb_decode.specs.declared.budget.Charges.{Charges}
 use Rattle.mmdb_decode.specs.declared.direct.Entered.{Entered}
@@ -12,8 +12,8 @@ use Rattle.std.specs.Result.{OnOk, IfOk, IfErr}
 use Rattle.std.specs.Option.{IsSome}
 use Rattle.mmdb_format.specs.declared.error.MaxMindDbError.{MaxMindDbError}
 use Rattle.mmdb_format.specs.declared.error.MaxMindDbError.TheVariants.{InvalidDatabase, Io, Decoding, ResourceLimit, InvalidNetwork, InvalidInput, Memory}
-use Rattle.mmdb_decode.specs.declared.refused.Refused.{Refused}
-use Rattle.mmdb_decode.specs.declared.refused.Refused.TheVariants.{OutOfMemory, Unreadable}
+use Rattle.mmdb_decode.specs.declared.failed.Failed.{Failed}
+use Rattle.mmdb_decode.specs.declared.failed.Failed.TheVariants.{OutOfMemory, Unreadable}
 
 abbrev pub state : List ℕ → ℕ → ℕ → Option Charges → State
 state s p d budget = record { section = s; offset = p; levels = d; budget = budget }
@@ -22,22 +22,22 @@ pub none_back : (budget : Option Charges) → NoneBack budget budget
 none_back None = tt
 none_back (Some c) = (omega arith, omega arith)
 
-pub refuses : {A : Type 0} (free : Bool) (e : MaxMindDbError) (read : Option A) → read ≡ None → Refuses free e read
-refuses true e read h = h
-refuses false Memory read h = tt
-refuses false (InvalidDatabase m o) read h = h
-refuses false (Io e) read h = h
-refuses false (Decoding m o p) read h = h
-refuses false (ResourceLimit m o p) read h = h
-refuses false (InvalidNetwork e) read h = h
-refuses false (InvalidInput m) read h = h
+pub fails : {A : Type 0} (free : Bool) (e : MaxMindDbError) (read : Option A) → read ≡ None → Fails free e read
+fails true e read h = h
+fails false Memory read h = tt
+fails false (InvalidDatabase m o) read h = h
+fails false (Io e) read h = h
+fails false (Decoding m o p) read h = h
+fails false (ResourceLimit m o p) read h = h
+fails false (InvalidNetwork e) read h = h
+fails false (InvalidInput m) read h = h
 
 pub unread : {A : Type 0} (starts : Bool) (read : Meaning A) (σ : State) → read σ.section σ.offset σ.levels ≡ None → decoded starts read σ ≡ None
 unfolding decoded
 unread starts read σ h = rw h refl
 
-pub unread_gives_up : {A : Type 0} (free starts : Bool) (e : MaxMindDbError) (read : Meaning A) (σ : State) → read σ.section σ.offset σ.levels ≡ None → GivenUp σ σ × Refuses free e (decoded starts read σ)
-unread_gives_up free starts e read σ h = (record { section = refl; charges = none_back σ.budget }, refuses free e (decoded starts read σ) (unread starts read σ h))
+pub unread_gives_up : {A : Type 0} (free starts : Bool) (e : MaxMindDbError) (read : Meaning A) (σ : State) → read σ.section σ.offset σ.levels ≡ None → GivenUp σ σ × Fails free e (decoded starts read σ)
+unread_gives_up free starts e read σ h = (record { section = refl; charges = none_back σ.budget }, fails free e (decoded starts read σ) (unread starts read σ h))
 
 nothing_charged : (c : Charges) → (c.values ≤ most_values) × (c.bytes ≤ most_bytes) → charged c 0 0 ≡ Some c
 nothing_charged c h = simp add-zero (grind (arith, nat_tests))
@@ -60,39 +60,39 @@ read_past starts read σ r h k = rw (h, k) refl
 pub read_free : {A : Type 0} (read : Meaning A) (σ : State) (v : A) (next : ℕ) → Within σ.budget → read σ.section σ.offset σ.levels ≡ Some (record { value = v; next = next; values = 0; bytes = 0 }) → decoded false read σ ≡ Some (v, state σ.section next σ.levels σ.budget)
 read_free read σ v next w h = read_at false read σ (record { value = v; next = next; values = 0; bytes = 0 }) σ.budget h (nothing_spent σ.budget w)
 
-pub declines : {A : Type 0} (free : Bool) (r : Refused) (read : Option A) → read ≡ None → Declines free r read
+pub declines : {A : Type 0} (free : Bool) (r : Failed) (read : Option A) → read ≡ None → Declines free r read
 declines true r read h = h
 declines false OutOfMemory read h = tt
 declines false Unreadable read h = h
 
-pub declines_more : {A B : Type 0} (free : Bool) (r : Refused) (p : Option A) (q : Option B) → (p ≡ None → q ≡ None) → Declines free r p → Declines free r q
+pub declines_more : {A B : Type 0} (free : Bool) (r : Failed) (p : Option A) (q : Option B) → (p ≡ None → q ≡ None) → Declines free r p → Declines free r q
 declines_more true r p q k h = k h
 declines_more false OutOfMemory p q k h = tt
 declines_more false Unreadable p q k h = k h
 
-pub declines_weaker : {A B : Type 0} (free : Bool) (r : Refused) (p : Option A) (q : Option B) → (p ≡ None → q ≡ None) → Declines free r p → Declines false r q
+pub declines_weaker : {A B : Type 0} (free : Bool) (r : Failed) (p : Option A) (q : Option B) → (p ≡ None → q ≡ None) → Declines free r p → Declines false r q
 declines_weaker true r p q k h = declines false r q (k h)
 declines_weaker false r p q k h = declines_more false r p q k h
 
--- the error that is made of a refusal
-pub refuses_as : {A : Type 0} (free : Bool) (r : Refused) (e : MaxMindDbError) (read : Option A) → (r ≡ OutOfMemory → e ≡ Memory) → Declines free r read → Refuses free e read
-refuses_as true r e read k h = h
-refuses_as false OutOfMemory e read k h = rw (k refl) tt
-refuses_as false Unreadable e read k h = refuses false e read h
+-- the error that is made of a failed read
+pub fails_as : {A : Type 0} (free : Bool) (r : Failed) (e : MaxMindDbError) (read : Option A) → (r ≡ OutOfMemory → e ≡ Memory) → Declines free r read → Fails free e read
+fails_as true r e read k h = h
+fails_as false OutOfMemory e read k h = rw (k refl) tt
+fails_as false Unreadable e read k h = fails false e read h
 
-pub refuses_more : {A B : Type 0} (free : Bool) (e : MaxMindDbError) (r : Option A) (q : Option B) → (r ≡ None → q ≡ None) → Refuses free e r → Refuses free e q
-refuses_more true e r q k h = k h
-refuses_more false Memory r q k h = tt
-refuses_more false (InvalidDatabase m o) r q k h = k h
-refuses_more false (Io e) r q k h = k h
-refuses_more false (Decoding m o p) r q k h = k h
-refuses_more false (ResourceLimit m o p) r q k h = k h
-refuses_more false (InvalidNetwork e) r q k h = k h
-refuses_more false (InvalidInput m) r q k h = k h
+pub fails_more : {A B : Type 0} (free : Bool) (e : MaxMindDbError) (r : Option A) (q : Option B) → (r ≡ None → q ≡ None) → Fails free e r → Fails free e q
+fails_more true e r q k h = k h
+fails_more false Memory r q k h = tt
+fails_more false (InvalidDatabase m o) r q k h = k h
+fails_more false (Io e) r q k h = k h
+fails_more false (Decoding m o p) r q k h = k h
+fails_more false (ResourceLimit m o p) r q k h = k h
+fails_more false (InvalidNetwork e) r q k h = k h
+fails_more false (InvalidInput m) r q k h = k h
 
-pub refuses_weaker : {A B : Type 0} (free : Bool) (e : MaxMindDbError) (r : Option A) (q : Option B) → (r ≡ None → q ≡ None) → Refuses free e r → Refuses false e q
-refuses_weaker true e r q k h = refuses false e q (k h)
-refuses_weaker false e r q k h = refuses_more false e r q k h
+pub fails_weaker : {A B : Type 0} (free : Bool) (e : MaxMindDbError) (r : Option A) (q : Option B) → (r ≡ None → q ≡ None) → Fails free e r → Fails false e q
+fails_weaker true e r q k h = fails false e q (k h)
+fails_weaker false e r q k h = fails_more false e r q k h
 
 -- charges only grow
 back_charged : (t : Bool) (c d : Charges) (left : Option Charges) → (c.values ≤ d.values) × (c.bytes ≤ d.bytes) → option_map Some (cond t (Some d) None) ≡ Some left → NoneBack (Some c) left

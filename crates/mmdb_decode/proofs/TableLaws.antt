@@ -5,8 +5,8 @@ use Rattle.mmdb_decode.specs.State.{State, decoded}
 use Rattle.mmdb_decode.proofs.StepLaws.{decoded_begun, declines_more}
 use Rattle.mmdb_decode.proofs.ReadingLaws.{decoded-mapped, seen, checked_ok, checked_none}
 use Rattle.mmdb_decode.specs.Records.{record_at, finished}
-use Rattle.mmdb_decode.specs.declared.refused.Refused.{Refused}
-use Rattle.mmdb_decode.specs.Refusal.{Declines}
+use Rattle.mmdb_decode.specs.declared.failed.Failed.{Failed}
+use Rattle.mmdb_decode.specs.Errors.{Declines}
 use Rattle.mmdb_decode.specs.Tables.{Table, end, optional, part, Data, data_of, no_data, Parts, parts_met, no_parts, all_parts, first_flag, other_flags, part_once, fields_of, whole_of, record_of}
 
 -- no part was met
@@ -54,7 +54,7 @@ pub record_read : {R : Type 0} (t : Table R) (met : List Bool) (v : R) (σ τ : 
 unfolding record_of
 record_read t met v σ τ h = checked_ok true (whole_of t) (record_at (fields_of t) (no_parts t)) σ τ (parts_met t met v) (data_of t v) h (ap Some (all_of_parts t met v))
 
-pub record_declined : {R : Type 0} (free : Bool) (r : Refused) (t : Table R) (σ : State) → Declines free r (decoded true (record_at (fields_of t) (no_parts t)) σ) → Declines free r (decoded true (record_of t) σ)
+pub record_declined : {R : Type 0} (free : Bool) (r : Failed) (t : Table R) (σ : State) → Declines free r (decoded true (record_at (fields_of t) (no_parts t)) σ) → Declines free r (decoded true (record_of t) σ)
 unfolding record_of
 record_declined free r t σ h = declines_more free r (decoded true (record_at (fields_of t) (no_parts t)) σ) (decoded true (finished (whole_of t) (record_at (fields_of t) (no_parts t))) σ) (checked_none true (whole_of t) (record_at (fields_of t) (no_parts t)) σ) h
 

@@ -7,7 +7,7 @@ use Rattle.std.specs.Result.{result_ok}
 use Rattle.mmdb_decode.specs.Scalars.{if_text}
 use Rattle.mmdb_decode.specs.Reading.{Meaning, checked}
 use Rattle.mmdb_decode.specs.State.{State, decoded}
-use Rattle.mmdb_decode.specs.Refusal.{Takes}
+use Rattle.mmdb_decode.specs.Errors.{Takes}
 use Rattle.mmdb_decode.specs.State.{GivenUp}
 use Rattle.mmdb_decode.proofs.StepLaws.{kept_decoded, given_up_kept}
 use Rattle.mmdb_decode.proofs.ReadingLaws.{checked_ok, checked_missing, checked_none}

@@ -1,6 +1,6 @@
 pub mod Reading
 pub mod State
-pub mod Refusal
+pub mod Errors
 pub mod Scalars
 pub mod SmallNumbers
 pub mod Peeking

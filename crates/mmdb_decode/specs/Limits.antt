@@ -2,7 +2,7 @@
 use Rattle.std.specs.Prelude.{◌≡◌, ◌↔◌, ℕ, ◌+◌, ◌≤◌, List, Some, true}
 use Rattle.mmdb_decode.specs.Reading.{Reading, Meaning}
 use Rattle.mmdb_decode.specs.State.{most_values, most_bytes}
-use Rattle.mmdb_decode.specs.Refusal.{answer}
+use Rattle.mmdb_decode.specs.Errors.{answer}
 
 -- a reading that begins a budget visits the first value and those that it costs, a pointer and its
 -- target being one, and takes so many bytes of texts and byte strings

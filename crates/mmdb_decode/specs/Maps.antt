@@ -90,7 +90,7 @@ pub record NoneLeft (old new : State) (before after : Entries) : Type 0 where
 
 pub record NoKey (read : Meaning (List ℕ)) (old new : State) (before : Entries) : Type 0 where
   pub some : 0 < pairs_left before
-  pub refuses : decoded false read old ≡ None
+  pub fails : decoded false read old ≡ None
   pub given_up : GivenUp old new
 
 abbrev pub NextKey : {E : Type 0} → Meaning (List ℕ) → State → State → Entries → Entries → Result (Option (Bor (List ℕ))) E → Type 0

@@ -5,8 +5,8 @@ use Rattle.std.specs.Str.{bytes_eq}
 use Rattle.mmdb_format.specs.declared.error.MaxMindDbError.{MaxMindDbError}
 use Rattle.mmdb_decode.specs.Reading.{Meaning, mapped, checked}
 use Rattle.mmdb_decode.specs.State.{State, GivenUp}
-use Rattle.mmdb_decode.specs.Refusal.{Refuses, Declines}
-use Rattle.mmdb_decode.specs.declared.refused.Refused.{Refused}
+use Rattle.mmdb_decode.specs.Errors.{Fails, Declines}
+use Rattle.mmdb_decode.specs.declared.failed.Failed.{Failed}
 use Rattle.mmdb_decode.specs.declared.items.Entries.{Entries}
 use Rattle.mmdb_decode.specs.Maps.{Fields, pairs_from, name_at, in_map}
 use Rattle.mmdb_decode.specs.Skipping.{skip_at}
@@ -38,17 +38,17 @@ skipped p = mapped (λ (x : Unit {0}). p) skip_at
 -- what the reading of one field did
 pub record FieldRead {P : Type 0} (free : Bool) (read : Option (P × State)) (value : P) (old new : State) (r : Result (Unit {0}) MaxMindDbError) : Type 0 where
   pub ok : OnOk r (read ≡ Some (value, new))
-  pub err : IfErr r (λ e. Refuses free e read)
+  pub err : IfErr r (λ e. Fails free e read)
   pub given_up : OnErr r (GivenUp old new)
 
--- the same of a reading that keeps aside why it was refused
-pub record FieldTaken {P : Type 0} (free : Bool) (read : Option (P × State)) (value : P) (old new : State) (r : Result (Unit {0}) Refused) : Type 0 where
+-- the same of a reading that keeps aside why it failed
+pub record FieldTaken {P : Type 0} (free : Bool) (read : Option (P × State)) (value : P) (old new : State) (r : Result (Unit {0}) Failed) : Type 0 where
   pub ok : OnOk r (read ≡ Some (value, new))
   pub err : IfErr r (λ e. Declines free e read)
   pub given_up : OnErr r (GivenUp old new)
 
 -- the same of the fields that are left of a map
-pub record RestTaken {P : Type 0} (free : Bool) (read : Option (P × State)) (value : P) (old new : State) (before after : Entries) (r : Result (Unit {0}) Refused) : Type 0 where
+pub record RestTaken {P : Type 0} (free : Bool) (read : Option (P × State)) (value : P) (old new : State) (before after : Entries) (r : Result (Unit {0}) Failed) : Type 0 where
   pub ok : OnOk r (read ≡ Some (value, new))
   pub err : IfErr r (λ e. Declines free e read)
   pub given_up : OnErr r (GivenUp old new)

@@ -5,7 +5,7 @@ use Rattle.mmdb_decode.specs.Reading.{Meaning}
 
 -- a type that says these of itself: its values say so, it is read so, and it begins or takes so
 pub record IsShape {X A : Type 0} (datum : X → A) (meaning : Meaning A) (exact starts free : Bool) (says : X → A) (read : Meaning A) (budget no_memory : Bool) : Type 0 where
-  pub told : (v : X) → datum v ≡ says v
+  pub agrees : (v : X) → datum v ≡ says v
   pub is_read : meaning ≡ read
   pub is_exact : exact ≡ true
   pub begins : starts ≡ budget

@@ -170,7 +170,7 @@ ReadsTables t =
 pub record IsKnown {P : Type 0} (fields : Fields P) (name : List ℕ) (has_stood : P → Bool) : Type 0 where
   pub stays : (x : P) (other s : List ℕ) (p d : ℕ) (y : Reading P) → has_stood x ≡ true → fields x other s p d ≡ Some y → has_stood y.value ≡ true
   pub fills : (x : P) (s : List ℕ) (p d : ℕ) (y : Reading P) → fields x name s p d ≡ Some y → has_stood y.value ≡ true
-  pub refused : (x : P) (s : List ℕ) (p d : ℕ) → has_stood x ≡ true → fields x name s p d ≡ None
+  pub rejected : (x : P) (s : List ℕ) (p d : ℕ) → has_stood x ≡ true → fields x name s p d ≡ None
 
 -- a name stands at most once among these
 abbrev pub StandsOnce : List (List ℕ) → List ℕ → Type 0

@@ -6,7 +6,7 @@ ghost use Rattle.mmdb_decode.specs.State.{State, decoded, GivenUp};
 ghost use Rattle.mmdb_decode.specs.Scalars.{u16_at, u32_at, u64_at, u128_at, i32_at, bool_at, double_at, float_at, text_at, byte_string_at};
 ghost use Rattle.mmdb_decode.specs.SmallNumbers.{small_at};
 ghost use Rattle.mmdb_decode.specs.Arrays.{list_at, elements, items_left, with_items_left};
-ghost use Rattle.mmdb_decode.specs.Refusal.{Reads, Refuses, Kept};
+ghost use Rattle.mmdb_decode.specs.Errors.{Reads, Fails, Kept};
 
 use crate::decoder::Decoder;
 use crate::items::Items;
@@ -48,17 +48,17 @@ pub trait Decode<'de>: Sized + Drop {
     /// Whether a success takes no memory.
     ghost free: { Bool };
 
-    /// Whether the meaning is exact. Otherwise only `told` is known, and of Ok alone.
+    /// Whether the meaning is exact. Otherwise only `also` is known, and of Ok alone.
     ghost exact: { Bool } = { true };
 
     /// A relation of the type's own between the decoder before, the value and the decoder then.
-    ghost told: { State → Self → State → Type 0 } = { λ _ _ _. Unit {0} };
+    ghost also: { State → Self → State → Type 0 } = { λ _ _ _. Unit {0} };
 
     fn decode(alloc: Global, d: &mut Decoder<'de>) -> DecodeResult<Self>
         ensures ok { IfOk result (λ v. exact ≡ true → decoded starts meaning d.old ≡ Some (datum v, d.new)) }
-        ensures told { IfOk result (λ v. told d.old v d.new) }
+        ensures also { IfOk result (λ v. also d.old v d.new) }
         ensures kept { OnOk result (Kept d.old d.new) }
-        ensures err { IfErr result (λ e. exact ≡ true → Refuses free e (decoded starts meaning d.old)) }
+        ensures err { IfErr result (λ e. exact ≡ true → Fails free e (decoded starts meaning d.old)) }
         ensures given_up { OnErr result (GivenUp d.old d.new) };
 }
 
@@ -213,7 +213,7 @@ fn read_between<'de>(
     if low <= number && number <= high {
         return Ok(number);
     }
-    Err(DecodeErrorKind::OutOfRange.refusal(alloc, d.offset()))
+    Err(DecodeErrorKind::OutOfRange.to_error(alloc, d.offset()))
 }
 
 impl<'de> Decode<'de> for u8 {
@@ -384,7 +384,7 @@ pub fn read_items<'de, T: Decode<'de>>(
     ensures ok { IfOk result (λ v. T.exact ≡ true → decoded false (elements T.meaning (items_left items.old)) d.old ≡ Some (map T.datum v.items, d.new)) }
     ensures spent { OnOk result (items.new ≡ with_items_left 0 items.old) }
     ensures kept { OnOk result (Kept d.old d.new) }
-    ensures err { IfErr result (λ e. T.exact ≡ true → Refuses false e (decoded false (elements T.meaning (items_left items.old)) d.old)) }
+    ensures err { IfErr result (λ e. T.exact ≡ true → Fails false e (decoded false (elements T.meaning (items_left items.old)) d.old)) }
     ensures given_up { OnErr result (GivenUp d.old d.new) }
 {
     let mut out = Vec::new(alloc);

@@ -6,8 +6,8 @@ ghost use Rattle.mmdb_decode.specs.State.{State, begun as spec_begun, Within};
 ghost use Rattle.mmdb_decode.specs.Peeking.{kind_at};
 
 mod containers;
+mod failures;
 mod keys;
-mod refusals;
 mod scalars;
 mod selecting;
 mod skipping;
@@ -15,8 +15,8 @@ mod stepping;
 mod try_reads;
 
 use crate::budget::{Charges, begun};
+use crate::failed::Step;
 use crate::peek::kind_of_value;
-use crate::refused::Step;
 use mmdb_format::decode_error_kind::DecodeErrorKind;
 use mmdb_format::error::DecodeResult;
 use mmdb_format::header::{Header, header_at};
@@ -88,7 +88,7 @@ impl<'de> Decoder<'de> {
     {
         match kind_of_value(self.section, self.offset) {
             Ok(kind) => Ok(kind),
-            Err(fault) => Err(fault.refusal(alloc, self.offset)),
+            Err(fault) => Err(fault.to_error(alloc, self.offset)),
         }
     }
 

@@ -7,8 +7,8 @@ ghost use Rattle.mmdb_decode.specs.Tables.{Table, Data, data_of, no_data, parts_
 
 use crate::decode::Decode;
 use crate::decoder::Decoder;
+use crate::failed::Failed;
 use crate::items::Entries;
-use crate::refused::Refused;
 use mmdb_format::error::DecodeResult;
 use std::alloc::Global;
 
@@ -46,7 +46,7 @@ pub trait Fields<'de>: Sized + Drop {
         alloc: Global,
         name: &'de [u8],
         d: &mut Decoder<'de>,
-    ) -> Result<(), Refused>
+    ) -> Result<(), Failed>
         requires { IsSome d.old.budget }
         ensures { FieldTaken free (decoded false (fields_of table (parts_met table (flags met.old) self.old) name.now) d.old) (parts_met table (flags met.new) self.new) d.old d.new result };
 }
@@ -60,7 +60,7 @@ pub trait TryFields<'de>: Fields<'de> {
         alloc: Global,
         d: &mut Decoder<'de>,
         entries: &mut Entries,
-    ) -> Result<(), Refused>
+    ) -> Result<(), Failed>
         requires { IsSome d.old.budget }
         ensures { RestTaken Self.free (decoded false (pairs_from name_at (fields_of Self.table) (parts_met Self.table (flags met.old) self.old) (pairs_left entries.old)) d.old) (parts_met Self.table (flags met.new) self.new) d.old d.new entries.old entries.new result };
 }
@@ -73,7 +73,7 @@ fn read_each<'de, R: Fields<'de>>(
     entries: &mut Entries,
     fields: &mut R,
     met: &mut FieldsSeen,
-) -> Result<(), Refused>
+) -> Result<(), Failed>
     requires { IsSome d.old.budget }
     ensures { RestTaken R.free (decoded false (pairs_from name_at (fields_of R.table) (parts_met R.table (flags met.old) fields.old) (pairs_left entries.old)) d.old) (parts_met R.table (flags met.new) fields.new) d.old d.new entries.old entries.new result }
 {
@@ -94,7 +94,7 @@ impl<'de, R: Fields<'de> + EachByItself> TryFields<'de> for R {
         alloc: Global,
         d: &mut Decoder<'de>,
         entries: &mut Entries,
-    ) -> Result<(), Refused> {
+    ) -> Result<(), Failed> {
         read_each(alloc, d, entries, self, met)
     }
 }
@@ -105,7 +105,7 @@ fn read_map_into<'de, R: TryFields<'de>>(
     alloc: Global,
     d: &mut Decoder<'de>,
     fields: &mut R,
-) -> Result<(), Refused>
+) -> Result<(), Failed>
     requires { data_of R.table fields.old ≡ no_data R.table }
     ensures { FieldTaken R.free (decoded true (record_of R.table) d.old) (data_of R.table fields.new) d.old d.new result }
 {
@@ -118,9 +118,9 @@ fn read_map_into<'de, R: TryFields<'de>>(
             d.end_map(entries);
             Ok(())
         }
-        Err(refused) => {
+        Err(rejected) => {
             entries.forget();
-            Err(refused)
+            Err(rejected)
         }
     }
 }
@@ -130,7 +130,7 @@ pub(crate) fn read_into<'de, R: TryFields<'de>>(
     alloc: Global,
     d: &mut Decoder<'de>,
     fields: &mut R,
-) -> Result<(), Refused>
+) -> Result<(), Failed>
     requires { data_of R.table fields.old ≡ no_data R.table }
     ensures { FieldTaken R.free (decoded true (record_of R.table) d.old) (data_of R.table fields.new) d.old d.new result }
 {
@@ -140,9 +140,9 @@ pub(crate) fn read_into<'de, R: TryFields<'de>>(
             d.go_to(&here);
             Ok(())
         }
-        Err(refused) => {
+        Err(rejected) => {
             *d = here;
-            Err(refused)
+            Err(rejected)
         }
     }
 }
@@ -162,7 +162,7 @@ impl<'de, R: TryFields<'de>> Decode<'de> for R {
         let mut fields = R::empty(alloc);
         match read_into(alloc, d, &mut fields) {
             Ok(()) => Ok(fields),
-            Err(refused) => Err(d.refusal(alloc, refused)),
+            Err(rejected) => Err(d.error_of(alloc, rejected)),
         }
     }
 }
@@ -174,12 +174,12 @@ pub fn read_part<'de, R: TryFields<'de>>(
     name: &'de [u8],
     met: &mut bool,
     part: &mut R,
-) -> Result<(), Refused>
+) -> Result<(), Failed>
     requires { IsSome d.old.budget }
     ensures { FieldTaken R.free (decoded false (part_once (record_of R.table) (met.old, data_of R.table part.old)) d.old) (met.new, data_of R.table part.new) d.old d.new result }
 {
     if *met {
-        return Err(d.refuse_repeated(name));
+        return Err(d.fail_repeated(name));
     }
     *part = R::empty(alloc);
     read_into(alloc, d, part)?;

@@ -2,7 +2,7 @@
 
 ghost use Rattle.std.specs.Prelude.{◌≡◌, ℕ, List, Option, Some, None, Bool, true, false, IfOk, IfErr, option_map};
 ghost use Rattle.mmdb_decode.specs.State.{State, begin};
-ghost use Rattle.mmdb_decode.specs.Refusal.{Refuses, answer};
+ghost use Rattle.mmdb_decode.specs.Errors.{Fails, answer};
 
 use crate::decode::Decode;
 use crate::decoder::Decoder;
@@ -15,8 +15,8 @@ use std::alloc::Global;
 /// within the limits. Of a type whose meaning is not exact its own relation is known, and of Ok alone.
 pub fn decode<'de, T: Decode<'de>>(alloc: Global, section: &'de [u8]) -> DecodeResult<T>
     ensures ok { IfOk result (λ v. T.exact ≡ true → answer T.starts T.meaning section.now 0 ≡ Some (T.datum v)) }
-    ensures err { IfErr result (λ e. T.exact ≡ true → Refuses T.free e (answer T.starts T.meaning section.now 0)) }
-    ensures told { IfOk result (λ v. (after : State) × T.told (begin section.now 0) v after) }
+    ensures err { IfErr result (λ e. T.exact ≡ true → Fails T.free e (answer T.starts T.meaning section.now 0)) }
+    ensures also { IfOk result (λ v. (after : State) × T.also (begin section.now 0) v after) }
 {
     let mut d = Decoder::new(section, 0);
     T::decode(alloc, &mut d)

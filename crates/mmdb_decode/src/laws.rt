@@ -136,7 +136,7 @@ pub fn text_map_is_what_stands<'de, T: Decode<'de>>()
 {}
 
 /// What is read as a record is the map that stands there, directly or behind one pointer: its fields in
-/// turn. A name of which the record says whether it has stood, and that is refused then, stands at most
+/// turn. A name of which the record says whether it has stood, and that is an error then, stands at most
 /// once.
 pub fn record_is_what_stands<'de, R: Record<'de>>()
     ensures read { ReadsRecords R.fields R.none }

@@ -8,9 +8,9 @@ ghost use Rattle.mmdb_decode.specs.Memos.{IsMemoOf};
 ghost use Rattle.mmdb_decode.specs.Tables.{data_of, no_data, no_parts, parts_met, flags, fields_of, record_of, part_once};
 
 use crate::decoder::Decoder;
+use crate::failed::Failed;
 use crate::fields::{Fields, FieldsSeen, TryFields};
 use crate::items::Entries;
-use crate::refused::Refused;
 use std::alloc::Global;
 
 /// A record that was read, with the decoders before its pairs and behind them.
@@ -59,7 +59,7 @@ fn read_or_reuse<'de, R: TryFields<'de> + Copy>(
     fields: &mut R,
     met: &mut FieldsSeen,
     memo: &mut Option<Memo<'de, R>>,
-) -> Result<(), Refused>
+) -> Result<(), Failed>
     requires none { parts_met R.table (flags met.old) fields.old ≡ no_parts R.table }
     requires started { IsSome d.old.budget }
     requires memo { IsMemoOf R.table memo.old d.old.section }
@@ -89,7 +89,7 @@ fn read_map_or_reuse<'de, R: TryFields<'de> + Copy>(
     d: &mut Decoder<'de>,
     fields: &mut R,
     memo: &mut Option<Memo<'de, R>>,
-) -> Result<(), Refused>
+) -> Result<(), Failed>
     requires none { data_of R.table fields.old ≡ no_data R.table }
     requires memo { IsMemoOf R.table memo.old d.old.section }
     ensures read { FieldTaken R.free (decoded true (record_of R.table) d.old) (data_of R.table fields.new) d.old d.new result }
@@ -104,9 +104,9 @@ fn read_map_or_reuse<'de, R: TryFields<'de> + Copy>(
             d.end_map(entries);
             Ok(())
         }
-        Err(refused) => {
+        Err(rejected) => {
             entries.forget();
-            Err(refused)
+            Err(rejected)
         }
     }
 }
@@ -117,7 +117,7 @@ fn read_into_or_reuse<'de, R: TryFields<'de> + Copy>(
     d: &mut Decoder<'de>,
     fields: &mut R,
     memo: &mut Option<Memo<'de, R>>,
-) -> Result<(), Refused>
+) -> Result<(), Failed>
     requires none { data_of R.table fields.old ≡ no_data R.table }
     requires memo { IsMemoOf R.table memo.old d.old.section }
     ensures read { FieldTaken R.free (decoded true (record_of R.table) d.old) (data_of R.table fields.new) d.old d.new result }
@@ -129,9 +129,9 @@ fn read_into_or_reuse<'de, R: TryFields<'de> + Copy>(
             d.go_to(&here);
             Ok(())
         }
-        Err(refused) => {
+        Err(rejected) => {
             *d = here;
-            Err(refused)
+            Err(rejected)
         }
     }
 }
@@ -145,14 +145,14 @@ pub fn read_part_or_reuse<'de, R: TryFields<'de> + Copy>(
     met: &mut bool,
     part: &mut R,
     memo: &mut Option<Memo<'de, R>>,
-) -> Result<(), Refused>
+) -> Result<(), Failed>
     requires started { IsSome d.old.budget }
     requires memo { IsMemoOf R.table memo.old d.old.section }
     ensures read { FieldTaken R.free (decoded false (part_once (record_of R.table) (met.old, data_of R.table part.old)) d.old) (met.new, data_of R.table part.new) d.old d.new result }
     ensures memo { OnOk result (IsMemoOf R.table memo.new d.old.section) }
 {
     if *met {
-        return Err(d.refuse_repeated(name));
+        return Err(d.fail_repeated(name));
     }
     *part = R::empty(alloc);
     read_into_or_reuse(alloc, d, part, memo)?;
@@ -171,7 +171,7 @@ pub trait Recalls<'de, T: TryFields<'de> + Copy>: Fields<'de> {
         alloc: Global,
         name: &'de [u8],
         d: &mut Decoder<'de>,
-    ) -> Result<(), Refused>
+    ) -> Result<(), Failed>
         requires started { IsSome d.old.budget }
         requires memo { IsMemoOf T.table memo.old d.old.section }
         ensures read { FieldTaken Self.free (decoded false (fields_of Self.table (parts_met Self.table (flags met.old) self.old) name.now) d.old) (parts_met Self.table (flags met.new) self.new) d.old d.new result }
@@ -187,7 +187,7 @@ fn read_each_reusing<'de, T: TryFields<'de> + Copy, R: Recalls<'de, T>>(
     fields: &mut R,
     met: &mut FieldsSeen,
     memo: &mut Option<Memo<'de, T>>,
-) -> Result<(), Refused>
+) -> Result<(), Failed>
     requires started { IsSome d.old.budget }
     requires memo { IsMemoOf T.table memo.old d.old.section }
     ensures { RestTaken R.free (decoded false (pairs_from name_at (fields_of R.table) (parts_met R.table (flags met.old) fields.old) (pairs_left entries.old)) d.old) (parts_met R.table (flags met.new) fields.new) d.old d.new entries.old entries.new result }
@@ -206,7 +206,7 @@ pub fn read_reusing<'de, T: TryFields<'de> + Copy, R: Recalls<'de, T>>(
     entries: &mut Entries,
     fields: &mut R,
     met: &mut FieldsSeen,
-) -> Result<(), Refused>
+) -> Result<(), Failed>
     requires { IsSome d.old.budget }
     ensures { RestTaken R.free (decoded false (pairs_from name_at (fields_of R.table) (parts_met R.table (flags met.old) fields.old) (pairs_left entries.old)) d.old) (parts_met R.table (flags met.new) fields.new) d.old d.new entries.old entries.new result }
 {

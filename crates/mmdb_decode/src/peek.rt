@@ -21,7 +21,7 @@ pub(crate) fn kind_of_value(section: &[u8], offset: usize) -> Result<Kind, Decod
 
 /// Whether the value at an offset, or behind one pointer there, is a map or an array of size 0.
 ///
-/// It is refused exactly where no header that is no pointer can be read so. It takes no memory.
+/// It fails exactly where no header that is no pointer can be read so. It takes no memory.
 #[tactic(auto, unfolding(crate::specs::Peeking::empty_at))]
 pub fn empty_container(section: &[u8], offset: usize) -> DecodeResult<bool>
     ensures value { result_ok result ≡ empty_at section.now offset }

@@ -5,7 +5,7 @@ ghost use Rattle.mmdb_decode.specs.Reading.{Meaning};
 ghost use Rattle.mmdb_decode.specs.Maps.{Fields, pairs_from, name_at};
 ghost use Rattle.mmdb_decode.specs.Records.{record_at, finished, once, FieldRead, named as spec_named};
 ghost use Rattle.mmdb_decode.specs.State.{State, decoded, GivenUp};
-ghost use Rattle.mmdb_decode.specs.Refusal.{Refuses, Kept};
+ghost use Rattle.mmdb_decode.specs.Errors.{Fails, Kept};
 
 use crate::decode::Decode;
 use crate::decoder::Decoder;
@@ -58,7 +58,7 @@ pub trait Record<'de>: Sized + Drop {
     /// The whole record. A field that is required and missing is rejected, as `missing_field` says.
     fn finish(self, alloc: Global, offset: usize) -> DecodeResult<Self::Whole>
         ensures ok { IfOk result (λ v. whole (datum self) ≡ Some (whole_datum v)) }
-        ensures err { IfErr result (λ e. Refuses free e (whole (datum self))) };
+        ensures err { IfErr result (λ e. Fails free e (whole (datum self))) };
 }
 
 /// Whether a name has these bytes.
@@ -143,7 +143,7 @@ fn read_fields<'de, R: Record<'de>>(
     ensures rest { entries.new ≡ record entries.old { remaining = entries.new.remaining } }
     ensures spent { OnOk result (entries.new.remaining ≡ 0) }
     ensures kept { OnOk result (Kept d.old d.new) }
-    ensures err { IfErr result (λ e. Refuses R.free e (decoded false (pairs_from name_at R.fields R.none entries.old.remaining) d.old)) }
+    ensures err { IfErr result (λ e. Fails R.free e (decoded false (pairs_from name_at R.fields R.none entries.old.remaining) d.old)) }
     ensures given_up { OnErr result (GivenUp d.old d.new) }
 {
     let mut record = R::empty(alloc);
@@ -157,7 +157,7 @@ fn read_fields<'de, R: Record<'de>>(
 fn read_map<'de, R: Record<'de>>(alloc: Global, d: &mut Decoder<'de>) -> DecodeResult<R>
     ensures ok { IfOk result (λ v. decoded true (record_at R.fields R.none) d.old ≡ Some (R.datum v, d.new)) }
     ensures kept { OnOk result (Kept d.old d.new) }
-    ensures err { IfErr result (λ e. Refuses R.free e (decoded true (record_at R.fields R.none) d.old)) }
+    ensures err { IfErr result (λ e. Fails R.free e (decoded true (record_at R.fields R.none) d.old)) }
     ensures given_up { OnErr result (GivenUp d.old d.new) }
 {
     let mut entries = d.begin_map(alloc)?;
@@ -180,7 +180,7 @@ pub fn read_record<'de, R: Record<'de>>(
 ) -> DecodeResult<R::Whole>
     ensures ok { IfOk result (λ v. decoded true (finished R.whole (record_at R.fields R.none)) d.old ≡ Some (R.whole_datum v, d.new)) }
     ensures kept { OnOk result (Kept d.old d.new) }
-    ensures err { IfErr result (λ e. Refuses R.free e (decoded true (finished R.whole (record_at R.fields R.none)) d.old)) }
+    ensures err { IfErr result (λ e. Fails R.free e (decoded true (finished R.whole (record_at R.fields R.none)) d.old)) }
     ensures given_up { OnErr result (GivenUp d.old d.new) }
 {
     let fields: R = read_map(alloc, d)?;

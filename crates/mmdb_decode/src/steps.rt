@@ -5,7 +5,7 @@ ghost use Rattle.std.specs.Result.{result_ok};
 ghost use Rattle.mmdb_format.specs.Header.{header_at};
 ghost use Rattle.mmdb_decode.specs.State.{State, begun, Within, GivenUp};
 ghost use Rattle.mmdb_decode.specs.Levels.{entered_pointer, entered_parts};
-ghost use Rattle.mmdb_decode.specs.Refusal.{Reads};
+ghost use Rattle.mmdb_decode.specs.Errors.{Reads};
 
 use mmdb_format::error::DecodeResult;
 use mmdb_format::header::Header;

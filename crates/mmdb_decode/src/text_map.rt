@@ -3,7 +3,7 @@ ghost use Rattle.std.specs.Prelude.{◌≡◌, ℕ, List, [], Option, Some, None
 ghost use Rattle.std.specs.String.{string_bytes};
 ghost use Rattle.mmdb_decode.specs.Maps.{pairs_from, pair_of, key_at, text_map_at};
 ghost use Rattle.mmdb_decode.specs.State.{decoded, GivenUp};
-ghost use Rattle.mmdb_decode.specs.Refusal.{Refuses, Kept};
+ghost use Rattle.mmdb_decode.specs.Errors.{Fails, Kept};
 
 use crate::decode::Decode;
 use crate::decoder::Decoder;
@@ -23,7 +23,7 @@ fn read_pairs<'de, T: Decode<'de>>(
     ensures rest { entries.new ≡ record entries.old { remaining = entries.new.remaining } }
     ensures spent { OnOk result (entries.new.remaining ≡ 0) }
     ensures kept { OnOk result (Kept d.old d.new) }
-    ensures err { IfErr result (λ e. T.exact ≡ true → Refuses false e (decoded false (pairs_from key_at (pair_of T.meaning) [] entries.old.remaining) d.old)) }
+    ensures err { IfErr result (λ e. T.exact ≡ true → Fails false e (decoded false (pairs_from key_at (pair_of T.meaning) [] entries.old.remaining) d.old)) }
     ensures given_up { OnErr result (GivenUp d.old d.new) }
 {
     let mut pairs = BTreeMap::new(alloc);

@@ -7,7 +7,7 @@ use Rattle.mmdb_reader.specs.File.{Database, data_section}
 use Rattle.mmdb_reader.specs.Lookup.{Answers, outcome_at}
 use Rattle.mmdb_reader.specs.declared.path.PathElement.{PathElement}
 use Rattle.mmdb_filter.specs.declared.counts.Outcome.{Outcome}
-use Rattle.mmdb_filter.specs.declared.counts.Outcome.TheVariants.{Absent, Found, Refused}
+use Rattle.mmdb_filter.specs.declared.counts.Outcome.TheVariants.{Absent, Found, Failed}
 use Rattle.mmdb_filter.specs.declared.rows.Rows.{Rows}
 use Rattle.mmdb_enrich.specs.Added.{AddsAt}
 use Rattle.mmdb_enrich.specs.Cells.{blanks, AreCells, are_read}
@@ -21,9 +21,9 @@ pub absent_added : (db : Database) (rows : Rows) (fields : Vec (Vec PathElement)
 absent_added db rows fields outcome old new e put = (blanks rows (paths_of fields), (refl, e), put)
 
 pub read_added : (db asked : Database) (rows : Rows) (paths : List (List PathElement)) (offset : ℕ) (shown cells : List ℕ) (read : Bool) (outcome : Outcome)
-    → asked ≡ db → shown ≡ cells → AreCells rows paths (data_section asked) offset cells → read ≡ are_read paths (data_section asked) offset → outcome ≡ (if read then Found else Refused) → AddsAt db rows paths (Some offset) shown outcome
+    → asked ≡ db → shown ≡ cells → AreCells rows paths (data_section asked) offset cells → read ≡ are_read paths (data_section asked) offset → outcome ≡ (if read then Found else Failed) → AddsAt db rows paths (Some offset) shown outcome
 read_added db asked rows paths offset shown cells read outcome same put are r addition =
-    subst (λ d. AddsAt d rows paths (Some offset) shown outcome) same (subst (λ x. AreCells rows paths (data_section asked) offset x) (sym put) are, addition ∙ ap (λ b. if b then Found else Refused) r)
+    subst (λ d. AddsAt d rows paths (Some offset) shown outcome) same (subst (λ x. AreCells rows paths (data_section asked) offset x) (sym put) are, addition ∙ ap (λ b. if b then Found else Failed) r)
 
 -- what stands behind what was there
 pub behind : (old new added : List ℕ) (n : ℕ) → n ≡ length old → new ≡ old ++ added → drop n new ≡ added

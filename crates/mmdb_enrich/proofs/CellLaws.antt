@@ -4,7 +4,7 @@ use Rattle.mmdb_format.specs.declared.error.MaxMindDbError.{MaxMindDbError}
 use Rattle.mmdb_value.specs.AnyValue.{value_at}
 use Rattle.mmdb_value.specs.Values.{value_tree}
 use Rattle.mmdb_value.specs.declared.any_value.Value.{Value}
-use Rattle.mmdb_reader.specs.Decoding.{RefusesToDecode}
+use Rattle.mmdb_reader.specs.Decoding.{FailsToDecode}
 use Rattle.mmdb_reader.specs.Selecting.{answer_along, SelectsTo}
 use Rattle.mmdb_reader.specs.declared.path.PathElement.{PathElement}
 use Rattle.mmdb_filter.specs.declared.rows.Rows.{Rows}
@@ -14,10 +14,10 @@ use Rattle.mmdb_enrich.specs.Cells.{read_at, IsReadAs, IsCell, AreCells, are_rea
 -- what decoding along a path gave, where there is data
 pub read_as : (path : List PathElement) (s : List ℕ) (found : Option ℕ) (offset : ℕ) (r : Result (Option Value) MaxMindDbError) → found ≡ Some offset
     → IfOk r (λ value. true ≡ true → SelectsTo value_tree (answer_along path true (value_at true) s) found value)
-    → IfErr r (λ e. true ≡ true → RefusesToDecode false e (answer_along path true (value_at true) s) found)
+    → IfErr r (λ e. true ≡ true → FailsToDecode false e (answer_along path true (value_at true) s) found)
     → IsReadAs (read_at path s offset) r
 read_as path s found offset (Ok value) at ok err = subst (λ f. SelectsTo value_tree (answer_along path true (value_at true) s) f value) at (ok refl)
-read_as path s found offset (Err e) at ok err = subst (λ f. RefusesToDecode false e (answer_along path true (value_at true) s) f) at (err refl)
+read_as path s found offset (Err e) at ok err = subst (λ f. FailsToDecode false e (answer_along path true (value_at true) s) f) at (err refl)
 
 -- a cell behind what was added before it
 pub behind_both : (old here cell pushed new : List ℕ) → pushed ≡ old ++ here → new ≡ pushed ++ cell → new ≡ old ++ (here ++ cell)

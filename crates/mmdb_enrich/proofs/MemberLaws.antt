@@ -7,17 +7,17 @@ use Rattle.mmdb_format.specs.Error.{MemoryApart, kind_of, OfInput, OfDatabase}
 use Rattle.mmdb_format.specs.Unfolding.{Tree}
 use Rattle.mmdb_format.specs.declared.error.MaxMindDbError.{MaxMindDbError}
 use Rattle.mmdb_format.specs.declared.error.MaxMindDbError.TheVariants.{InvalidDatabase, Io, Decoding, ResourceLimit, InvalidNetwork, InvalidInput, Memory}
-use Rattle.mmdb_reader.specs.Decoding.{RefusesToDecode}
+use Rattle.mmdb_reader.specs.Decoding.{FailsToDecode}
 use Rattle.mmdb_reader.specs.declared.path.PathElement.{PathElement}
 use Rattle.mmdb_json.specs.Found.{WritesAlong}
 use Rattle.mmdb_reader.specs.File.{Database, data_section}
-use Rattle.mmdb_reader.specs.Lookup.{Answers, CanAsk, IsRefusedAt, outcome_at}
+use Rattle.mmdb_reader.specs.Lookup.{Answers, CanAsk, IsInvalidAt, outcome_at}
 use Rattle.mmdb_filter.specs.declared.counts.Outcome.{Outcome}
-use Rattle.mmdb_filter.specs.declared.counts.Outcome.TheVariants.{Found, Absent, Refused}
+use Rattle.mmdb_filter.specs.declared.counts.Outcome.TheVariants.{Found, Absent, Failed}
 use Rattle.mmdb_filter.specs.declared.filter.Added.{Added}
 use Rattle.mmdb_enrich.specs.Cells.{read_at}
-use Rattle.mmdb_enrich.specs.Fields.{AreValue, AreFields, HasRefused, IsMember}
-use Rattle.mmdb_enrich.specs.Members.{IsMemberRefused, PutsMember, PutsMemberFor, comma_behind}
+use Rattle.mmdb_enrich.specs.Fields.{AreValue, AreFields, HasUnreadField, IsMember}
+use Rattle.mmdb_enrich.specs.Members.{HasUnreadMember, PutsMember, PutsMemberFor, comma_behind}
 use Rattle.mmdb_enrich.specs.Wanted.{MemberAt}
 use Rattle.mmdb_enrich.specs.declared.members.Field.{Field}
 use Rattle.mmdb_enrich.specs.declared.objects.Line.{Line}
@@ -54,33 +54,33 @@ pub written_at : (path given : List PathElement) (s : List ℕ) (offset : ℕ) (
 written_at path given s offset found old new is_found there same w =
     grew_by_value path s offset is_found old new (subst (λ f. WritesAlong path s f is_found old new) there (subst (λ p. WritesAlong p s found is_found old new) same w))
 
--- one of the fields is refused
-pub refused_in : (fields : List Field) (at : ℕ) (field : Field) (rest : List Field) (s : List ℕ) (offset : ℕ)
-    → drop at fields ≡ field ∷ rest → read_at field.path.items s offset ≡ None → HasRefused fields s offset
-refused_in fields zero field rest s offset here none = subst (λ l. HasRefused l s offset) (sym here) (inl none)
-refused_in [] (suc at) field rest s offset here none = absurd (cc)
-refused_in (x ∷ xs) (suc at) field rest s offset here none = inr (refused_in xs at field rest s offset here none)
+-- one of the fields can't be read
+pub rejected_in : (fields : List Field) (at : ℕ) (field : Field) (rest : List Field) (s : List ℕ) (offset : ℕ)
+    → drop at fields ≡ field ∷ rest → read_at field.path.items s offset ≡ None → HasUnreadField fields s offset
+rejected_in fields zero field rest s offset here none = subst (λ l. HasUnreadField l s offset) (sym here) (inl none)
+rejected_in [] (suc at) field rest s offset here none = absurd (cc)
+rejected_in (x ∷ xs) (suc at) field rest s offset here none = inr (rejected_in xs at field rest s offset here none)
 
 -- what follows of a record that could not be decoded, unless out of memory
 pub declined : (e : MaxMindDbError) (read : ℕ → Option (Option Tree)) (found : Option ℕ) (P : ℕ → Type 0)
-    → ((offset : ℕ) → read offset ≡ None → P offset) → MemoryApart e (RefusesToDecode false e read found) → MemoryApart e ((offset : ℕ) → found ≡ Some offset → P offset)
+    → ((offset : ℕ) → read offset ≡ None → P offset) → MemoryApart e (FailsToDecode false e read found) → MemoryApart e ((offset : ℕ) → found ≡ Some offset → P offset)
 declined Memory read found P goes r = r
-declined (InvalidDatabase message o) read found P goes r = λ offset at. goes offset (subst (RefusesToDecode false (InvalidDatabase message o) read) at r)
-declined (Io cause) read found P goes r = λ offset at. goes offset (subst (RefusesToDecode false (Io cause) read) at r)
-declined (Decoding message o path) read found P goes r = λ offset at. goes offset (subst (RefusesToDecode false (Decoding message o path) read) at r)
-declined (ResourceLimit message o path) read found P goes r = λ offset at. goes offset (subst (RefusesToDecode false (ResourceLimit message o path) read) at r)
-declined (InvalidNetwork cause) read found P goes r = λ offset at. goes offset (subst (RefusesToDecode false (InvalidNetwork cause) read) at r)
-declined (InvalidInput message) read found P goes r = λ offset at. goes offset (subst (RefusesToDecode false (InvalidInput message) read) at r)
+declined (InvalidDatabase message o) read found P goes r = λ offset at. goes offset (subst (FailsToDecode false (InvalidDatabase message o) read) at r)
+declined (Io cause) read found P goes r = λ offset at. goes offset (subst (FailsToDecode false (Io cause) read) at r)
+declined (Decoding message o path) read found P goes r = λ offset at. goes offset (subst (FailsToDecode false (Decoding message o path) read) at r)
+declined (ResourceLimit message o path) read found P goes r = λ offset at. goes offset (subst (FailsToDecode false (ResourceLimit message o path) read) at r)
+declined (InvalidNetwork cause) read found P goes r = λ offset at. goes offset (subst (FailsToDecode false (InvalidNetwork cause) read) at r)
+declined (InvalidInput message) read found P goes r = λ offset at. goes offset (subst (FailsToDecode false (InvalidInput message) read) at r)
 
--- the member of a record, or that a field is refused
+-- the member of a record, or that a field can't be read
 pub member_kept : (db asked : Database) (name : List ℕ) (fields : List Field) (found : Option ℕ) (offset : ℕ) (member : Option (Vec ℕ)) (cells : List ℕ) (outcome : Outcome)
     → asked ≡ db → found ≡ Some offset
     → IfSome member (λ text. (here : ℕ) → found ≡ Some here → IsMember asked name fields here text.items)
-    → IfNone member ((here : ℕ) → found ≡ Some here → HasRefused fields (data_section asked) here)
-    → MatchOption member ((cells ≡ []) × (outcome ≡ Refused)) (λ text. (cells ≡ text.items) × (outcome ≡ Found))
+    → IfNone member ((here : ℕ) → found ≡ Some here → HasUnreadField fields (data_section asked) here)
+    → MatchOption member ((cells ≡ []) × (outcome ≡ Failed)) (λ text. (cells ≡ text.items) × (outcome ≡ Found))
     → MemberAt db name fields offset cells outcome
 member_kept db asked name fields found offset None cells outcome same at some none kept =
-    inr (subst (λ d. HasRefused fields (data_section d) offset) same (none offset at), kept.0, kept.1)
+    inr (subst (λ d. HasUnreadField fields (data_section d) offset) same (none offset at), kept.0, kept.1)
 member_kept db asked name fields found offset (Some text) cells outcome same at some none kept =
     inl (subst (λ d. IsMember d name fields offset cells) same (subst (IsMember asked name fields offset) (sym kept.0) (some offset at)), kept.1)
 
@@ -91,10 +91,10 @@ member_put db name fields line leaf found offset text outcome addition old new a
     let there = subst (λ f. Answers db line.address leaf (outcome_at f)) at answers in
     let (o, b, put) = subst (λ x. PutsMember line text x addition old new) here puts in
     (comma_behind line.is_empty ++ text, inr (inr (leaf, offset, text, there, is, refl, b, o)), put)
-member_put db name fields line leaf found offset text outcome addition old new at answers (inr (refused, none, here)) puts =
+member_put db name fields line leaf found offset text outcome addition old new at answers (inr (rejected, none, here)) puts =
     let there = subst (λ f. Answers db line.address leaf (outcome_at f)) at answers in
     let (o, b, put) = subst (λ x. PutsMember line text x addition old new) here puts in
-    ([], inl (refl, o, inr (inr (leaf, offset, there, refused))), put ∙ sym (append-nil old))
+    ([], inl (refl, o, inr (inr (leaf, offset, there, rejected))), put ∙ sym (append-nil old))
 
 -- no record
 pub absent_put : (db : Database) (name : List ℕ) (fields : List Field) (line : Line) (leaf : List Bool) (found : Option ℕ) (addition : Added) (old : List ℕ)
@@ -102,19 +102,19 @@ pub absent_put : (db : Database) (name : List ℕ) (fields : List Field) (line :
 absent_put db name fields line leaf found addition old none answers o =
     ([], inr (inl (refl, o, (leaf, subst (λ f. Answers db line.address leaf (outcome_at f)) none answers))), sym (append-nil old))
 
--- the address is refused
-pub refused_put : (db : Database) (name : List ℕ) (fields : List Field) (line : Line) (addition : Added) (old : List ℕ) → IsMemberRefused db fields line.address → addition.outcome ≡ Refused → PutsMemberFor db name fields line addition old old
-refused_put db name fields line addition old refused o = ([], inl (refl, o, refused), sym (append-nil old))
+-- the lookup of the address fails
+pub rejected_put : (db : Database) (name : List ℕ) (fields : List Field) (line : Line) (addition : Added) (old : List ℕ) → HasUnreadMember db fields line.address → addition.outcome ≡ Failed → PutsMemberFor db name fields line addition old old
+rejected_put db name fields line addition old rejected o = ([], inl (refl, o, rejected), sym (append-nil old))
 
 -- as many bytes behind as behind the brace, or none
-pub behind_put : (line : Line) (text : List ℕ) (outcome : Outcome) (addition : Added) (old new : List ℕ) → (outcome ≡ Found) ⊎ (outcome ≡ Refused) → PutsMember line text outcome addition old new → addition.behind ≤ line.behind
+pub behind_put : (line : Line) (text : List ℕ) (outcome : Outcome) (addition : Added) (old new : List ℕ) → (outcome ≡ Found) ⊎ (outcome ≡ Failed) → PutsMember line text outcome addition old new → addition.behind ≤ line.behind
 behind_put line text outcome addition old new (inl here) puts =
     let (o, b, put) = subst (λ x. PutsMember line text x addition old new) here puts in omega (arith, b)
 behind_put line text outcome addition old new (inr here) puts =
     let (o, b, put) = subst (λ x. PutsMember line text x addition old new) here puts in omega (arith, b)
 
--- why the lookup of an address is refused
-pub address_refused : (db : Database) (fields : List Field) (address : IpAddr) (e : MaxMindDbError) → (kind_of e ≡ OfInput) ⊎ (kind_of e ≡ OfDatabase)
-    → (kind_of e ≡ OfInput → CanAsk db address → ⊥) → (kind_of e ≡ OfDatabase → IsRefusedAt db address) → IsMemberRefused db fields address
-address_refused db fields address e (inl is) ask at = inl (ask is)
-address_refused db fields address e (inr is) ask at = inr (inl (at is))
+-- why the lookup of an address fails
+pub address_rejected : (db : Database) (fields : List Field) (address : IpAddr) (e : MaxMindDbError) → (kind_of e ≡ OfInput) ⊎ (kind_of e ≡ OfDatabase)
+    → (kind_of e ≡ OfInput → CanAsk db address → ⊥) → (kind_of e ≡ OfDatabase → IsInvalidAt db address) → HasUnreadMember db fields address
+address_rejected db fields address e (inl is) ask at = inl (ask is)
+address_rejected db fields address e (inr is) ask at = inr (inl (at is))

@@ -4,7 +4,7 @@ use Rattle.std.specs.Bool.{MatchBool}
 use Rattle.mmdb_format.specs.Contents.{text}
 use Rattle.mmdb_format.specs.Unfolding.{Tree, scalar}
 use Rattle.mmdb_format.specs.declared.error.MaxMindDbError.{MaxMindDbError}
-use Rattle.mmdb_decode.specs.Refusal.{Refuses}
+use Rattle.mmdb_decode.specs.Errors.{Fails}
 use Rattle.mmdb_value.specs.AnyValue.{value_at}
 use Rattle.mmdb_value.specs.Values.{value_tree}
 use Rattle.mmdb_value.specs.declared.any_value.Value.{Value}
@@ -59,7 +59,7 @@ read_at path s offset = answer_along path true (value_at true) s offset
 -- the way or the value failed. Out of memory is any answer.
 abbrev pub IsReadAs : Option (Option Tree) → Result (Option Value) MaxMindDbError → Type 0
 IsReadAs answer (Ok value) = answer ≡ Some (option_map value_tree value)
-IsReadAs answer (Err e) = Refuses false e answer
+IsReadAs answer (Err e) = Fails false e answer
 
 -- the cell of what was read: empty where nothing is there, or the way or the value failed
 abbrev pub IsCell : Rows → Option (Option Tree) → List ℕ → Type 0

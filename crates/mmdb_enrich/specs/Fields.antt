@@ -18,10 +18,10 @@ AreFields [] s offset tokens = tokens ≡ []
 AreFields (field ∷ fields) s offset tokens =
     (value rest : List Token) × (tokens ≡ key field.name.now ∷ (value ++ rest)) × AreValue field.path.items s offset value × AreFields fields s offset rest
 
--- the way to a field, or its value, is refused
-abbrev pub HasRefused : List Field → List ℕ → ℕ → Type 0
-HasRefused [] s offset = ⊥
-HasRefused (field ∷ fields) s offset = (read_at field.path.items s offset ≡ None) ⊎ HasRefused fields s offset
+-- the way to a field, or its value, can't be read
+abbrev pub HasUnreadField : List Field → List ℕ → ℕ → Type 0
+HasUnreadField [] s offset = ⊥
+HasUnreadField (field ∷ fields) s offset = (read_at field.path.items s offset ≡ None) ⊎ HasUnreadField fields s offset
 
 -- a name, and an object of these members
 abbrev pub member_tokens : List ℕ → List Token → List Token

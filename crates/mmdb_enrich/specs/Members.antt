@@ -3,11 +3,11 @@ use Rattle.std.specs.Prelude.{◌≡◌, ◌⊎◌, ℕ, List, [], ◌∷◌, �
 use Rattle.std.specs.declared.net.ip_addr.IpAddr.{IpAddr}
 use Rattle.json.specs.Json.{Members}
 use Rattle.mmdb_reader.specs.File.{Database, data_section}
-use Rattle.mmdb_reader.specs.Lookup.{CanAsk, IsRefusedAt, Answers, outcome_at}
+use Rattle.mmdb_reader.specs.Lookup.{CanAsk, IsInvalidAt, Answers, outcome_at}
 use Rattle.mmdb_reader.specs.declared.path.PathElement.{PathElement}
 use Rattle.mmdb_filter.specs.declared.counts.Outcome.{Outcome}
-use Rattle.mmdb_filter.specs.declared.counts.Outcome.TheVariants.{Found, Absent, Unreadable, Malformed, Refused}
-use Rattle.mmdb_enrich.specs.Fields.{IsMember, HasRefused}
+use Rattle.mmdb_filter.specs.declared.counts.Outcome.TheVariants.{Found, Absent, Unreadable, Malformed, Failed}
+use Rattle.mmdb_enrich.specs.Fields.{IsMember, HasUnreadField}
 use Rattle.mmdb_enrich.specs.Objects.{IsObject, LeadsToAddress, is_empty}
 use Rattle.mmdb_enrich.specs.declared.members.Field.{Field}
 use Rattle.mmdb_enrich.specs.declared.objects.Line.{Line}
@@ -18,17 +18,17 @@ abbrev pub comma_behind : Bool → List ℕ
 comma_behind true = []
 comma_behind false = 44 ∷ []
 
--- The address, or a field of its record, is refused.
-abbrev pub IsMemberRefused : Database → List Field → IpAddr → Type 0
-IsMemberRefused db fields address =
-    (¬ CanAsk db address) ⊎ (IsRefusedAt db address
-    ⊎ ((leaf : List Bool) × (offset : ℕ) × Answers db address leaf (outcome_at (Some offset)) × HasRefused fields (data_section db) offset))
+-- The lookup of the address fails, or a field of its record can't be read.
+abbrev pub HasUnreadMember : Database → List Field → IpAddr → Type 0
+HasUnreadMember db fields address =
+    (¬ CanAsk db address) ⊎ (IsInvalidAt db address
+    ⊎ ((leaf : List Bool) × (offset : ℕ) × Answers db address leaf (outcome_at (Some offset)) × HasUnreadField fields (data_section db) offset))
 
 -- The member of the record of an address is added before the last brace, or nothing: where the address or a field is
--- refused, or there is no record.
+-- rejected, or there is no record.
 abbrev pub AddsMemberFor : Database → List ℕ → List Field → Bool → ℕ → IpAddr → List ℕ → ℕ → Outcome → Type 0
 AddsMemberFor db name fields empty at address extra behind outcome =
-    ((extra ≡ []) × (outcome ≡ Refused) × IsMemberRefused db fields address)
+    ((extra ≡ []) × (outcome ≡ Failed) × HasUnreadMember db fields address)
     ⊎ (((extra ≡ []) × (outcome ≡ Absent) × ((leaf : List Bool) × Answers db address leaf (outcome_at None)))
     ⊎ ((leaf : List Bool) × (offset : ℕ) × (text : List ℕ) × Answers db address leaf (outcome_at (Some offset)) × IsMember db name fields offset text
     × (extra ≡ comma_behind empty ++ text) × (behind ≡ at) × (outcome ≡ Found)))
@@ -42,7 +42,7 @@ AddsMember db path name fields text goes_on extra behind outcome =
     ⊎ ((members : Members) × (at : ℕ) × (address : IpAddr) × IsObject text goes_on members at × LeadsToAddress path members address
     × AddsMemberFor db name fields (is_empty members) at address extra behind outcome))
 
--- Bytes grow by a member, as the first or behind a comma; by nothing where a field is refused.
+-- Bytes grow by a member, as the first or behind a comma; by nothing where a field can't be read.
 abbrev pub PutsMember : Line → List ℕ → Outcome → Added → List ℕ → List ℕ → Type 0
 PutsMember line text Found addition old new = (addition.outcome ≡ Found) × (addition.behind ≡ line.behind) × (new ≡ old ++ (comma_behind line.is_empty ++ text))
 PutsMember line text outcome addition old new = (addition.outcome ≡ outcome) × (addition.behind ≡ 0) × (new ≡ old)

@@ -4,20 +4,20 @@ use Rattle.mmdb_reader.specs.File.{Database, data_section}
 use Rattle.mmdb_reader.specs.declared.path.PathElement.{PathElement}
 use Rattle.mmdb_filter.specs.declared.rows.Rows.{Rows}
 use Rattle.mmdb_filter.specs.declared.counts.Outcome.{Outcome}
-use Rattle.mmdb_filter.specs.declared.counts.Outcome.TheVariants.{Found, Refused}
+use Rattle.mmdb_filter.specs.declared.counts.Outcome.TheVariants.{Found, Failed}
 use Rattle.mmdb_enrich.specs.Added.{AddsAt}
-use Rattle.mmdb_enrich.specs.Fields.{IsMember, HasRefused}
+use Rattle.mmdb_enrich.specs.Fields.{IsMember, HasUnreadField}
 use Rattle.mmdb_enrich.specs.declared.members.Field.{Field}
 
 pub data Wanted : Type 0 where
   cells : Database → Rows → List (List PathElement) → Wanted
   member : Database → List ℕ → List Field → Wanted
 
--- the text of a member, or none where a field is refused
+-- the text of a member, or none where a field can't be read
 abbrev pub MemberAt : Database → List ℕ → List Field → ℕ → List ℕ → Outcome → Type 0
 MemberAt db name fields offset text outcome =
     (IsMember db name fields offset text × (outcome ≡ Found))
-    ⊎ (HasRefused fields (data_section db) offset × (text ≡ []) × (outcome ≡ Refused))
+    ⊎ (HasUnreadField fields (data_section db) offset × (text ≡ []) × (outcome ≡ Failed))
 
 -- what is added for the record at an offset
 abbrev pub AddsOf : Wanted → ℕ → List ℕ → Outcome → Type 0

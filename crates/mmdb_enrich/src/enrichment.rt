@@ -1,6 +1,6 @@
 //! What is added to a row.
 ghost use Rattle.std.specs.Prelude.{◌≡◌, ◌++◌, Some, IfOk, if◌then◌else◌};
-ghost use Rattle.mmdb_filter.specs.declared.counts.Outcome.TheVariants.{Found, Refused};
+ghost use Rattle.mmdb_filter.specs.declared.counts.Outcome.TheVariants.{Found, Failed};
 ghost use Rattle.mmdb_enrich.specs.Added.{AddsTo};
 ghost use Rattle.mmdb_enrich.specs.Cells.{blanks};
 ghost use Rattle.mmdb_enrich.specs.Rows.{paths_of, AreKeptFor};
@@ -31,12 +31,12 @@ pub struct Enrichment<'a, 'f, S: AsSlice<u8> + Drop> {
 
 // How a row fares whose record was found.
 fn outcome_of(are_read: bool) -> Outcome
-    ensures { result ≡ (if are_read then Found else Refused) }
+    ensures { result ≡ (if are_read then Found else Failed) }
 {
     if are_read {
         Outcome::Found
     } else {
-        Outcome::Refused
+        Outcome::Failed
     }
 }
 
@@ -95,7 +95,7 @@ impl<'a, 'f, S: AsSlice<u8> + Drop> Enrichment<'a, 'f, S> {
         ensures kept { AreKeptFor self.now.reader.now self.now.rows self.now.paths cache.new }
     {
         let Ok(found) = self.reader.lookup(address) else {
-            return self.put_none(Outcome::Refused, out);
+            return self.put_none(Outcome::Failed, out);
         };
         let Some(offset) = found.offset() else {
             return self.put_none(Outcome::Absent, out);

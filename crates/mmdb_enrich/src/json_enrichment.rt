@@ -1,7 +1,7 @@
 //! What is added to a line of JSON.
 ghost use Rattle.std.specs.Prelude.{◌≡◌, ◌≤◌, ℕ, List, [], Some, IfOk, MatchOption};
 ghost use Rattle.mmdb_filter.specs.declared.counts.Outcome.{Outcome as SpecOutcome};
-ghost use Rattle.mmdb_filter.specs.declared.counts.Outcome.TheVariants.{Found, Refused};
+ghost use Rattle.mmdb_filter.specs.declared.counts.Outcome.TheVariants.{Found, Failed};
 ghost use Rattle.mmdb_enrich.specs.Members.{PutsMember};
 
 use crate::cache::{Cache, Kept};
@@ -59,7 +59,7 @@ fn nothing(outcome: Outcome) -> Added
 
 // What is kept of a record: the text of its member, or that a field failed.
 fn kept_of(member: &Option<Vec<u8>>) -> Kept<'_>
-    ensures { MatchOption member.now ((result.cells.now ≡ []) × (result.outcome ≡ Refused)) (λ text. (result.cells.now ≡ text.items) × (result.outcome ≡ Found)) }
+    ensures { MatchOption member.now ((result.cells.now ≡ []) × (result.outcome ≡ Failed)) (λ text. (result.cells.now ≡ text.items) × (result.outcome ≡ Found)) }
 {
     match member {
         Some(text) => Kept {
@@ -68,7 +68,7 @@ fn kept_of(member: &Option<Vec<u8>>) -> Kept<'_>
         },
         None => Kept {
             cells: &[],
-            outcome: Outcome::Refused,
+            outcome: Outcome::Failed,
         },
     }
 }
@@ -131,7 +131,7 @@ impl<'a, 'f, S: AsSlice<u8> + Drop> JsonEnrichment<'a, 'f, S> {
         ensures kept { AreKept (spec_member self.now.reader.now self.now.name.now self.now.fields.items) cache.new }
     {
         let Ok(found) = self.reader.lookup(line.address) else {
-            return Ok(nothing(Outcome::Refused));
+            return Ok(nothing(Outcome::Failed));
         };
         let Some(offset) = found.offset() else {
             return Ok(nothing(Outcome::Absent));

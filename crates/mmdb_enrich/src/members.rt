@@ -3,7 +3,7 @@ ghost use Rattle.std.specs.Prelude.{◌≡◌, ◌++◌, ℕ, List, Some, OnOk, 
 ghost use Rattle.json.specs.Token.{Token as SpecToken};
 ghost use Rattle.mmdb_reader.specs.File.{data_section};
 ghost use Rattle.mmdb_reader.specs.Found.{database_asked, offset_found};
-ghost use Rattle.mmdb_enrich.specs.Fields.{AreFields, HasRefused, member_tokens, IsMember};
+ghost use Rattle.mmdb_enrich.specs.Fields.{AreFields, HasUnreadField, member_tokens, IsMember};
 ghost use Rattle.mmdb_format.specs.Error.{MemoryApart};
 
 use json::{Token, Writer};
@@ -28,7 +28,7 @@ fn put_fields<S: AsSlice<u8> + Drop>(
     out: &mut Writer,
 ) -> Result<(), MaxMindDbError>
     ensures fields { OnOk result ((offset : ℕ) → offset_found found.now ≡ Some offset → (tokens : List SpecToken) × AreFields fields.now (data_section (database_asked found.now)) offset tokens × (out.new.tokens ≡ out.old.tokens ++ tokens)) }
-    ensures refused { IfErr result (λ e. MemoryApart e ((offset : ℕ) → offset_found found.now ≡ Some offset → HasRefused fields.now (data_section (database_asked found.now)) offset)) }
+    ensures rejected { IfErr result (λ e. MemoryApart e ((offset : ℕ) → offset_found found.now ≡ Some offset → HasUnreadField fields.now (data_section (database_asked found.now)) offset)) }
     ensures before { out.new.before ≡ out.old.before }
 {
     for at in 0..fields.len() {
@@ -48,7 +48,7 @@ fn put_member<S: AsSlice<u8> + Drop>(
     out: &mut Writer,
 ) -> Result<(), MaxMindDbError>
     ensures member { OnOk result ((offset : ℕ) → offset_found found.now ≡ Some offset → (tokens : List SpecToken) × AreFields fields.now (data_section (database_asked found.now)) offset tokens × (out.new.tokens ≡ out.old.tokens ++ member_tokens name.now tokens)) }
-    ensures refused { IfErr result (λ e. MemoryApart e ((offset : ℕ) → offset_found found.now ≡ Some offset → HasRefused fields.now (data_section (database_asked found.now)) offset)) }
+    ensures rejected { IfErr result (λ e. MemoryApart e ((offset : ℕ) → offset_found found.now ≡ Some offset → HasUnreadField fields.now (data_section (database_asked found.now)) offset)) }
     ensures before { out.new.before ≡ out.old.before }
 {
     out.token(Token::Key(name))?;
@@ -66,7 +66,7 @@ pub(crate) fn member_of<S: AsSlice<u8> + Drop>(
     fields: &[Field<'_>],
 ) -> Result<Option<Vec<u8>>, AllocError>
     ensures some { IfOk result (λ member. IfSome member (λ text. (offset : ℕ) → offset_found found.now ≡ Some offset → IsMember (database_asked found.now) name.now fields.now offset text.items)) }
-    ensures none { IfOk result (λ member. IfNone member ((offset : ℕ) → offset_found found.now ≡ Some offset → HasRefused fields.now (data_section (database_asked found.now)) offset)) }
+    ensures none { IfOk result (λ member. IfNone member ((offset : ℕ) → offset_found found.now ≡ Some offset → HasUnreadField fields.now (data_section (database_asked found.now)) offset)) }
 {
     let mut out = Writer::new(Vec::with_capacity(alloc, 256)?);
     match put_member(alloc, found, name, fields, &mut out) {

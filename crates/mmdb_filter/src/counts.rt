@@ -13,7 +13,7 @@ pub enum Outcome {
     /// It is not of the form that was asked for, or too long to be read.
     Malformed,
     /// The address, the record or a field failed.
-    Refused,
+    Failed,
 }
 
 /// How many lines fared so.
@@ -23,7 +23,7 @@ pub struct Counts {
     pub absent: u64,
     pub unreadable: u64,
     pub malformed: u64,
-    pub refused: u64,
+    pub rejected: u64,
 }
 
 impl Counts {
@@ -38,7 +38,7 @@ impl Counts {
             absent: 0,
             unreadable: 0,
             malformed: 0,
-            refused: 0,
+            rejected: 0,
         }
     }
 
@@ -53,7 +53,7 @@ impl Counts {
             Outcome::Absent => self.absent += 1,
             Outcome::Unreadable => self.unreadable += 1,
             Outcome::Malformed => self.malformed += 1,
-            Outcome::Refused => self.refused += 1,
+            Outcome::Failed => self.rejected += 1,
         }
     }
 }

@@ -1,5 +1,5 @@
 //! Laws of rows and counts, each the contract of a function that does nothing.
-ghost use Rattle.mmdb_filter.specs.Equality.{IsEquality, IsCloneSame, IsNeverRefused};
+ghost use Rattle.mmdb_filter.specs.Equality.{IsEquality, IsCloneSame, NeverFails};
 
 use crate::counts::{Counts, Outcome};
 use crate::rows::{Position, Rows};
@@ -18,8 +18,8 @@ pub fn count_clones_are_same()
     ensures position { IsCloneSame ⟦<Position as Clone>⟧.is_clone }
     ensures outcome { IsCloneSame ⟦<Outcome as Clone>⟧.is_clone }
     ensures counts { IsCloneSame ⟦<Counts as Clone>⟧.is_clone }
-    ensures rows_given { IsNeverRefused ⟦<Rows as Clone>⟧.is_infallible }
-    ensures place_given { IsNeverRefused ⟦<Position as Clone>⟧.is_infallible }
-    ensures outcome_given { IsNeverRefused ⟦<Outcome as Clone>⟧.is_infallible }
-    ensures counts_given { IsNeverRefused ⟦<Counts as Clone>⟧.is_infallible }
+    ensures rows_given { NeverFails ⟦<Rows as Clone>⟧.is_infallible }
+    ensures place_given { NeverFails ⟦<Position as Clone>⟧.is_infallible }
+    ensures outcome_given { NeverFails ⟦<Outcome as Clone>⟧.is_infallible }
+    ensures counts_given { NeverFails ⟦<Counts as Clone>⟧.is_infallible }
 {}

@@ -23,8 +23,8 @@ kind_of (InvalidNetwork e) = OfNetwork
 kind_of (InvalidInput message) = OfInput
 kind_of Memory = OfMemory
 
--- Memory apart: the error is for memory, which was refused, or this holds of it. A call whose
--- contract says so owes nothing where a growth was refused, the making of an error's text included.
+-- Memory apart: the error is for memory, which ran out, or this holds of it. A call whose
+-- contract says so owes nothing where a growth failed, the making of an error's text included.
 abbrev pub MemoryApart : MaxMindDbError → Type 0 → Type 0
 MemoryApart Memory P = Unit {0}
 MemoryApart (InvalidDatabase message offset) P = P
@@ -39,9 +39,9 @@ abbrev pub IsOfOrMemory : Kind → MaxMindDbError → Type 0
 IsOfOrMemory kind e = (kind_of e ≡ kind) ⊎ (kind_of e ≡ OfMemory)
 
 -- the call failed, with an error of this kind
-abbrev pub IsRefusedAs : {T : Type 0} → Kind → Result T MaxMindDbError → Type 0
-IsRefusedAs kind (Ok x) = ⊥
-IsRefusedAs kind (Err e) = kind_of e ≡ kind
+abbrev pub FailsAs : {T : Type 0} → Kind → Result T MaxMindDbError → Type 0
+FailsAs kind (Ok x) = ⊥
+FailsAs kind (Err e) = kind_of e ≡ kind
 
 -- what a constructor is given
 pub record Parts : Type 0 where

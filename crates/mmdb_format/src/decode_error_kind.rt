@@ -61,7 +61,7 @@ impl DecodeErrorKind {
         }
     }
 
-    // Kept out of line, and its result small: so the calls that may refuse hold no large local.
+    // Kept out of line, and its result small: so the calls that may fail hold no large local.
     #[cold]
     #[inline(never)]
     fn message(self, alloc: Global) -> Result<Message, AllocError> {
@@ -120,7 +120,7 @@ impl DecodeErrorKind {
     /// The error that reports this fault at an offset, or `Memory` where its text holds a number
     /// and there is no memory for it.
     #[inline(always)]
-    pub fn refusal(self, alloc: Global, offset: usize) -> MaxMindDbError
+    pub fn to_error(self, alloc: Global, offset: usize) -> MaxMindDbError
         ensures { IsOfOrMemory (kind_of_fault self) result }
     {
         let Ok(message) = self.message(alloc) else {

@@ -1,4 +1,4 @@
-//! What a call of any layer may refuse with.
+//! What a call of any layer may fail with.
 ghost use Rattle.std.specs.Prelude.{◌≡◌, Some, None, IfOk};
 ghost use Rattle.mmdb_format.specs.Error.{OfDatabase, OfDecoding, OfLimit, OfInput, IsMadeOf, parts};
 
@@ -45,7 +45,7 @@ pub enum MaxMindDbError {
     InvalidInput {
         message: Message,
     },
-    /// A growth was refused; the making of an error's text is one too.
+    /// A growth failed; the making of an error's text is one too.
     #[error("out of memory")]
     Memory,
 }

@@ -166,7 +166,7 @@ fn sized_header(
     Ok(Header { kind, size, body })
 }
 
-/// The header at an offset. One that is its control byte alone is told apart first, and nothing here that stays out of
+/// The header at an offset. One that is its control byte alone is recognised first, and nothing here that stays out of
 /// line has a large answer: its memory would be cleared for each header.
 #[inline(always)]
 #[tactic(auto, unfolding(crate::specs::Header::header_at, crate::specs::Header::sized_header, crate::specs::Header::size_at))]

@@ -1,5 +1,5 @@
 //! Laws of data and of the format: each is the contract of a function that does nothing.
-ghost use Rattle.mmdb_net.specs.Clones.{IsCloneSame, IsNeverRefused};
+ghost use Rattle.mmdb_net.specs.Clones.{IsCloneSame, NeverFails};
 ghost use Rattle.mmdb_format.specs.Equality.{IsEqualityOf};
 ghost use Rattle.mmdb_format.specs.Error.{HoldsCause};
 ghost use Rattle.mmdb_format.specs.Unfolding.{OneTreeUnfolds};
@@ -25,7 +25,7 @@ pub fn scalars_equal_where_same()
 {}
 
 /// A clone of a number, a kind, a fault, a fixed text, a header, a pointer or a content is its source, and is
-/// never refused.
+/// never an error.
 pub fn scalar_clones_are_same()
     ensures double { IsCloneSame ⟦<Double as Clone>⟧.is_clone }
     ensures float { IsCloneSame ⟦<Float as Clone>⟧.is_clone }
@@ -36,15 +36,15 @@ pub fn scalar_clones_are_same()
     ensures pointer { IsCloneSame ⟦<Pointer as Clone>⟧.is_clone }
     ensures direct { IsCloneSame ⟦<Direct as Clone>⟧.is_clone }
     ensures content { IsCloneSame ⟦<Content<'static> as Clone>⟧.is_clone }
-    ensures double_given { IsNeverRefused ⟦<Double as Clone>⟧.is_infallible }
-    ensures float_given { IsNeverRefused ⟦<Float as Clone>⟧.is_infallible }
-    ensures kind_given { IsNeverRefused ⟦<Kind as Clone>⟧.is_infallible }
-    ensures fault_given { IsNeverRefused ⟦<DecodeErrorKind as Clone>⟧.is_infallible }
-    ensures text_given { IsNeverRefused ⟦<Text as Clone>⟧.is_infallible }
-    ensures header_given { IsNeverRefused ⟦<Header as Clone>⟧.is_infallible }
-    ensures pointer_given { IsNeverRefused ⟦<Pointer as Clone>⟧.is_infallible }
-    ensures direct_given { IsNeverRefused ⟦<Direct as Clone>⟧.is_infallible }
-    ensures content_given { IsNeverRefused ⟦<Content<'static> as Clone>⟧.is_infallible }
+    ensures double_given { NeverFails ⟦<Double as Clone>⟧.is_infallible }
+    ensures float_given { NeverFails ⟦<Float as Clone>⟧.is_infallible }
+    ensures kind_given { NeverFails ⟦<Kind as Clone>⟧.is_infallible }
+    ensures fault_given { NeverFails ⟦<DecodeErrorKind as Clone>⟧.is_infallible }
+    ensures text_given { NeverFails ⟦<Text as Clone>⟧.is_infallible }
+    ensures header_given { NeverFails ⟦<Header as Clone>⟧.is_infallible }
+    ensures pointer_given { NeverFails ⟦<Pointer as Clone>⟧.is_infallible }
+    ensures direct_given { NeverFails ⟦<Direct as Clone>⟧.is_infallible }
+    ensures content_given { NeverFails ⟦<Content<'static> as Clone>⟧.is_infallible }
 {}
 
 /// An error made of an error of the system, or of a network's, holds the error that was handed in.

@@ -8,9 +8,9 @@ ghost use Rattle.mmdb_geoip2.specs.CityTables.{city_table, location_table, posta
 use crate::fields::fields_by_name;
 use crate::names::Names;
 use mmdb_decode::decoder::Decoder;
+use mmdb_decode::failed::Failed;
 use mmdb_decode::fields::{EachByItself, Fields, FieldsSeen, read_part};
 use mmdb_decode::record::named;
-use mmdb_decode::refused::Refused;
 use mmdb_decode::try_decode::try_once;
 use mmdb_format::content::Double;
 use std::alloc::Global;
@@ -40,7 +40,7 @@ impl<'de> Fields<'de> for City<'de> {
         alloc: Global,
         name: &'de [u8],
         d: &mut Decoder<'de>,
-    ) -> Result<(), Refused> {
+    ) -> Result<(), Failed> {
         fields_by_name!(alloc, name, d;
             "geoname_id" => try_once(&mut self.geoname_id),
             "names" => read_part(&mut met.0, &mut self.names),
@@ -89,7 +89,7 @@ impl<'de> Fields<'de> for Location<'de> {
         alloc: Global,
         name: &'de [u8],
         d: &mut Decoder<'de>,
-    ) -> Result<(), Refused> {
+    ) -> Result<(), Failed> {
         fields_by_name!(alloc, name, d;
             "accuracy_radius" => try_once(&mut self.accuracy_radius),
             "latitude" => try_once(&mut self.latitude),
@@ -137,7 +137,7 @@ impl<'de> Fields<'de> for Postal<'de> {
         alloc: Global,
         name: &'de [u8],
         d: &mut Decoder<'de>,
-    ) -> Result<(), Refused> {
+    ) -> Result<(), Failed> {
         fields_by_name!(alloc, name, d;
             "code" => try_once(&mut self.code),
             _ => try_skip_scalar(),
@@ -181,7 +181,7 @@ impl<'de> Fields<'de> for Subdivision<'de> {
         alloc: Global,
         name: &'de [u8],
         d: &mut Decoder<'de>,
-    ) -> Result<(), Refused> {
+    ) -> Result<(), Failed> {
         fields_by_name!(alloc, name, d;
             "geoname_id" => try_once(&mut self.geoname_id),
             "iso_code" => try_once(&mut self.iso_code),

@@ -8,9 +8,9 @@ ghost use Rattle.mmdb_geoip2.specs.CountryTables.{continent_table, country_table
 use crate::fields::fields_by_name;
 use crate::names::Names;
 use mmdb_decode::decoder::Decoder;
+use mmdb_decode::failed::Failed;
 use mmdb_decode::fields::{EachByItself, Fields, FieldsSeen, read_part};
 use mmdb_decode::record::named;
-use mmdb_decode::refused::Refused;
 use mmdb_decode::try_decode::try_once;
 use std::alloc::Global;
 
@@ -41,7 +41,7 @@ impl<'de> Fields<'de> for Continent<'de> {
         alloc: Global,
         name: &'de [u8],
         d: &mut Decoder<'de>,
-    ) -> Result<(), Refused> {
+    ) -> Result<(), Failed> {
         fields_by_name!(alloc, name, d;
             "code" => try_once(&mut self.code),
             "geoname_id" => try_once(&mut self.geoname_id),
@@ -89,7 +89,7 @@ impl<'de> Fields<'de> for Country<'de> {
         alloc: Global,
         name: &'de [u8],
         d: &mut Decoder<'de>,
-    ) -> Result<(), Refused> {
+    ) -> Result<(), Failed> {
         fields_by_name!(alloc, name, d;
             "geoname_id" => try_once(&mut self.geoname_id),
             "is_in_european_union" => try_once(&mut self.is_in_european_union),
@@ -143,7 +143,7 @@ impl<'de> Fields<'de> for RepresentedCountry<'de> {
         alloc: Global,
         name: &'de [u8],
         d: &mut Decoder<'de>,
-    ) -> Result<(), Refused> {
+    ) -> Result<(), Failed> {
         fields_by_name!(alloc, name, d;
             "geoname_id" => try_once(&mut self.geoname_id),
             "is_in_european_union" => try_once(&mut self.is_in_european_union),
@@ -191,7 +191,7 @@ impl<'de> Fields<'de> for Traits {
         alloc: Global,
         name: &'de [u8],
         d: &mut Decoder<'de>,
-    ) -> Result<(), Refused> {
+    ) -> Result<(), Failed> {
         fields_by_name!(alloc, name, d;
             "is_anycast" => try_once(&mut self.is_anycast),
             _ => try_skip_scalar(),

@@ -8,9 +8,9 @@ ghost use Rattle.mmdb_geoip2.specs.EnterpriseTables.{enterprise_city_table, ente
 use crate::fields::fields_by_name;
 use crate::names::Names;
 use mmdb_decode::decoder::Decoder;
+use mmdb_decode::failed::Failed;
 use mmdb_decode::fields::{EachByItself, Fields, FieldsSeen, read_part};
 use mmdb_decode::record::named;
-use mmdb_decode::refused::Refused;
 use mmdb_decode::try_decode::try_once;
 use std::alloc::Global;
 
@@ -41,7 +41,7 @@ impl<'de> Fields<'de> for City<'de> {
         alloc: Global,
         name: &'de [u8],
         d: &mut Decoder<'de>,
-    ) -> Result<(), Refused> {
+    ) -> Result<(), Failed> {
         fields_by_name!(alloc, name, d;
             "confidence" => try_once(&mut self.confidence),
             "geoname_id" => try_once(&mut self.geoname_id),
@@ -91,7 +91,7 @@ impl<'de> Fields<'de> for Country<'de> {
         alloc: Global,
         name: &'de [u8],
         d: &mut Decoder<'de>,
-    ) -> Result<(), Refused> {
+    ) -> Result<(), Failed> {
         fields_by_name!(alloc, name, d;
             "confidence" => try_once(&mut self.confidence),
             "geoname_id" => try_once(&mut self.geoname_id),
@@ -141,7 +141,7 @@ impl<'de> Fields<'de> for Postal<'de> {
         alloc: Global,
         name: &'de [u8],
         d: &mut Decoder<'de>,
-    ) -> Result<(), Refused> {
+    ) -> Result<(), Failed> {
         fields_by_name!(alloc, name, d;
             "code" => try_once(&mut self.code),
             "confidence" => try_once(&mut self.confidence),
@@ -188,7 +188,7 @@ impl<'de> Fields<'de> for Subdivision<'de> {
         alloc: Global,
         name: &'de [u8],
         d: &mut Decoder<'de>,
-    ) -> Result<(), Refused> {
+    ) -> Result<(), Failed> {
         fields_by_name!(alloc, name, d;
             "confidence" => try_once(&mut self.confidence),
             "geoname_id" => try_once(&mut self.geoname_id),
@@ -263,7 +263,7 @@ impl<'de> Fields<'de> for Traits<'de> {
         alloc: Global,
         name: &'de [u8],
         d: &mut Decoder<'de>,
-    ) -> Result<(), Refused> {
+    ) -> Result<(), Failed> {
         fields_by_name!(alloc, name, d;
             "autonomous_system_number" => try_once(&mut self.autonomous_system_number),
             "autonomous_system_organization" => try_once(&mut self.autonomous_system_organization),

@@ -2,13 +2,13 @@
 ghost use Rattle.std.specs.Prelude.{◌≡◌, true, false, Some, IfOk, IfErr, OnOk, OnErr, IsSome, map};
 ghost use Rattle.mmdb_decode.specs.Arrays.{few_at};
 ghost use Rattle.mmdb_decode.specs.State.{decoded, GivenUp};
-ghost use Rattle.mmdb_decode.specs.Refusal.{Declines, Kept};
+ghost use Rattle.mmdb_decode.specs.Errors.{Declines, Kept};
 ghost use Rattle.mmdb_decode.specs.Records.{FieldTaken};
 ghost use Rattle.mmdb_decode.specs.Tables.{part_once};
-ghost use Rattle.mmdb_geoip2.specs.Cap.{IsRefusedEarly};
+ghost use Rattle.mmdb_geoip2.specs.Cap.{FailsEarly};
 
 use mmdb_decode::decoder::Decoder;
-use mmdb_decode::refused::Refused;
+use mmdb_decode::failed::Failed;
 use mmdb_decode::try_decode::{TryDecode, try_items};
 use std::alloc::Global;
 
@@ -29,24 +29,24 @@ pub const MAX_SUBDIVISIONS: usize = 32;
 
 // Reads a list of at most 32. A longer one is rejected before an element is read, unless at most 32 bytes
 // are left, and never handed out.
-fn read_few<'de, T: TryDecode<'de>>(alloc: Global, d: &mut Decoder<'de>) -> Result<Vec<T>, Refused>
+fn read_few<'de, T: TryDecode<'de>>(alloc: Global, d: &mut Decoder<'de>) -> Result<Vec<T>, Failed>
     ensures ok { IfOk result (λ v. decoded true (few_at 32 T.meaning) d.old ≡ Some (map T.datum v.items, d.new)) }
     ensures kept { OnOk result (Kept d.old d.new) }
     ensures err { IfErr result (λ e. Declines false e (decoded true (few_at 32 T.meaning) d.old)) }
     ensures given_up { OnErr result (GivenUp d.old d.new) }
-    ensures early { IsRefusedEarly 32 d.old d.new result }
+    ensures early { FailsEarly 32 d.old d.new result }
 {
     let mut items = d.try_array()?;
     let declared = d.remaining(&items);
     if d.hint(&items) > MAX_SUBDIVISIONS {
         items.forget();
-        return Err(d.refuse_list());
+        return Err(d.fail_list());
     }
     match try_items(alloc, d, &mut items) {
         Ok(list) => {
             d.end_array(items);
             if declared > MAX_SUBDIVISIONS {
-                return Err(d.refuse_list());
+                return Err(d.fail_list());
             }
             Ok(list)
         }
@@ -64,12 +64,12 @@ pub fn read_few_once<'de, T: TryDecode<'de>>(
     name: &'de [u8],
     met: &mut bool,
     list: &mut Vec<T>,
-) -> Result<(), Refused>
+) -> Result<(), Failed>
     requires { IsSome d.old.budget }
     ensures { FieldTaken false (decoded false (part_once (few_at 32 T.meaning) (met.old, map T.datum list.old.items)) d.old) (met.new, map T.datum list.new.items) d.old d.new result }
 {
     if *met {
-        return Err(d.refuse_repeated(name));
+        return Err(d.fail_repeated(name));
     }
     *list = read_few(alloc, d)?;
     *met = true;

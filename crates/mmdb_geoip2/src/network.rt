@@ -6,9 +6,9 @@ ghost use Rattle.mmdb_geoip2.specs.NetworkTables.{isp_table, connection_type_tab
 
 use crate::fields::fields_by_name;
 use mmdb_decode::decoder::Decoder;
+use mmdb_decode::failed::Failed;
 use mmdb_decode::fields::{EachByItself, Fields, FieldsSeen};
 use mmdb_decode::record::named;
-use mmdb_decode::refused::Refused;
 use mmdb_decode::try_decode::try_once;
 use std::alloc::Global;
 
@@ -52,7 +52,7 @@ impl<'de> Fields<'de> for Isp<'de> {
         alloc: Global,
         name: &'de [u8],
         d: &mut Decoder<'de>,
-    ) -> Result<(), Refused> {
+    ) -> Result<(), Failed> {
         fields_by_name!(alloc, name, d;
             "autonomous_system_number" => try_once(&mut self.autonomous_system_number),
             "autonomous_system_organization" => try_once(&mut self.autonomous_system_organization),
@@ -90,7 +90,7 @@ impl<'de> Fields<'de> for ConnectionType<'de> {
         alloc: Global,
         name: &'de [u8],
         d: &mut Decoder<'de>,
-    ) -> Result<(), Refused> {
+    ) -> Result<(), Failed> {
         fields_by_name!(alloc, name, d;
             "connection_type" => try_once(&mut self.connection_type),
             _ => try_skip_scalar(),
@@ -138,7 +138,7 @@ impl<'de> Fields<'de> for AnonymousIp {
         alloc: Global,
         name: &'de [u8],
         d: &mut Decoder<'de>,
-    ) -> Result<(), Refused> {
+    ) -> Result<(), Failed> {
         fields_by_name!(alloc, name, d;
             "is_anonymous" => try_once(&mut self.is_anonymous),
             "is_anonymous_vpn" => try_once(&mut self.is_anonymous_vpn),
@@ -179,7 +179,7 @@ impl<'de> Fields<'de> for DensityIncome {
         alloc: Global,
         name: &'de [u8],
         d: &mut Decoder<'de>,
-    ) -> Result<(), Refused> {
+    ) -> Result<(), Failed> {
         fields_by_name!(alloc, name, d;
             "average_income" => try_once(&mut self.average_income),
             "population_density" => try_once(&mut self.population_density),
@@ -211,7 +211,7 @@ impl<'de> Fields<'de> for Domain<'de> {
         alloc: Global,
         name: &'de [u8],
         d: &mut Decoder<'de>,
-    ) -> Result<(), Refused> {
+    ) -> Result<(), Failed> {
         fields_by_name!(alloc, name, d;
             "domain" => try_once(&mut self.domain),
             _ => try_skip_scalar(),
@@ -247,7 +247,7 @@ impl<'de> Fields<'de> for Asn<'de> {
         alloc: Global,
         name: &'de [u8],
         d: &mut Decoder<'de>,
-    ) -> Result<(), Refused> {
+    ) -> Result<(), Failed> {
         fields_by_name!(alloc, name, d;
             "autonomous_system_number" => try_once(&mut self.autonomous_system_number),
             "autonomous_system_organization" => try_once(&mut self.autonomous_system_organization),

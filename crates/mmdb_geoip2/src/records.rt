@@ -9,11 +9,11 @@ ghost use Rattle.mmdb_geoip2.specs.RecordTables.{top_country_table, top_city_tab
 use crate::fields::{fields_by_name, read_few_once};
 use crate::{city, country, enterprise};
 use mmdb_decode::decoder::Decoder;
+use mmdb_decode::failed::Failed;
 use mmdb_decode::fields::{Fields, FieldsSeen, TryFields, read_part};
 use mmdb_decode::items::Entries;
 use mmdb_decode::memo::{Memo, Recalls, read_part_or_reuse, read_reusing};
 use mmdb_decode::record::named;
-use mmdb_decode::refused::Refused;
 use std::alloc::Global;
 
 /// The country of an address.
@@ -51,7 +51,7 @@ impl<'de> Fields<'de> for Country<'de> {
         alloc: Global,
         name: &'de [u8],
         d: &mut Decoder<'de>,
-    ) -> Result<(), Refused> {
+    ) -> Result<(), Failed> {
         let mut memo = None;
         self.read_field_or_reuse(met, &mut memo, alloc, name, d)
     }
@@ -66,7 +66,7 @@ impl<'de> Recalls<'de, country::Country<'de>> for Country<'de> {
         alloc: Global,
         name: &'de [u8],
         d: &mut Decoder<'de>,
-    ) -> Result<(), Refused> {
+    ) -> Result<(), Failed> {
         fields_by_name!(alloc, name, d;
             "continent" => read_part(&mut met.0, &mut self.continent),
             "country" => read_part_or_reuse(&mut met.1, &mut self.country, memo),
@@ -86,7 +86,7 @@ impl<'de> TryFields<'de> for Country<'de> {
         alloc: Global,
         d: &mut Decoder<'de>,
         entries: &mut Entries,
-    ) -> Result<(), Refused> {
+    ) -> Result<(), Failed> {
         read_reusing(alloc, d, entries, self, met)
     }
 }
@@ -137,7 +137,7 @@ impl<'de> Fields<'de> for City<'de> {
         alloc: Global,
         name: &'de [u8],
         d: &mut Decoder<'de>,
-    ) -> Result<(), Refused> {
+    ) -> Result<(), Failed> {
         let mut memo = None;
         self.read_field_or_reuse(met, &mut memo, alloc, name, d)
     }
@@ -152,7 +152,7 @@ impl<'de> Recalls<'de, city::Country<'de>> for City<'de> {
         alloc: Global,
         name: &'de [u8],
         d: &mut Decoder<'de>,
-    ) -> Result<(), Refused> {
+    ) -> Result<(), Failed> {
         fields_by_name!(alloc, name, d;
             "city" => read_part(&mut met.0, &mut self.city),
             "continent" => read_part(&mut met.1, &mut self.continent),
@@ -176,7 +176,7 @@ impl<'de> TryFields<'de> for City<'de> {
         alloc: Global,
         d: &mut Decoder<'de>,
         entries: &mut Entries,
-    ) -> Result<(), Refused> {
+    ) -> Result<(), Failed> {
         read_reusing(alloc, d, entries, self, met)
     }
 }
@@ -220,7 +220,7 @@ impl<'de> Fields<'de> for Enterprise<'de> {
         alloc: Global,
         name: &'de [u8],
         d: &mut Decoder<'de>,
-    ) -> Result<(), Refused> {
+    ) -> Result<(), Failed> {
         let mut memo = None;
         self.read_field_or_reuse(met, &mut memo, alloc, name, d)
     }
@@ -235,7 +235,7 @@ impl<'de> Recalls<'de, enterprise::Country<'de>> for Enterprise<'de> {
         alloc: Global,
         name: &'de [u8],
         d: &mut Decoder<'de>,
-    ) -> Result<(), Refused> {
+    ) -> Result<(), Failed> {
         fields_by_name!(alloc, name, d;
             "city" => read_part(&mut met.0, &mut self.city),
             "continent" => read_part(&mut met.1, &mut self.continent),
@@ -259,7 +259,7 @@ impl<'de> TryFields<'de> for Enterprise<'de> {
         alloc: Global,
         d: &mut Decoder<'de>,
         entries: &mut Entries,
-    ) -> Result<(), Refused> {
+    ) -> Result<(), Failed> {
         read_reusing(alloc, d, entries, self, met)
     }
 }

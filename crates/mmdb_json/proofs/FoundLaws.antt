@@ -6,7 +6,7 @@ use Rattle.mmdb_format.specs.Header.{◌>>=◌}
 use Rattle.mmdb_format.specs.Unfolding.{Tree, scalar, array, table, pointer, Trees, no_trees, tree, Pairs, no_pairs, pair, without_pointers, trees_without, pairs_without}
 use Rattle.mmdb_format.proofs.UnfoldingLaws.{one_tree_unfolds}
 use Rattle.mmdb_decode.specs.Reading.{Reading, plus}
-use Rattle.mmdb_decode.specs.Refusal.{answer}
+use Rattle.mmdb_decode.specs.Errors.{answer}
 use Rattle.mmdb_decode.proofs.LimitLaws.{answer_within}
 use Rattle.mmdb_value.specs.AnyValue.{value_at}
 use Rattle.mmdb_value.specs.Values.{value_tree}

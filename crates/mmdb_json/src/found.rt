@@ -2,7 +2,7 @@
 ghost use Rattle.std.specs.Prelude.{◌≡◌, true, false, IfOk, IfErr, IfSome, IfNone};
 ghost use Rattle.mmdb_format.specs.Error.{MemoryApart};
 ghost use Rattle.mmdb_value.specs.AnyValue.{value_at};
-ghost use Rattle.mmdb_reader.specs.Decoding.{RefusesToDecode};
+ghost use Rattle.mmdb_reader.specs.Decoding.{FailsToDecode};
 ghost use Rattle.mmdb_reader.specs.File.{data_section};
 ghost use Rattle.mmdb_reader.specs.Found.{database_asked, offset_found};
 ghost use Rattle.mmdb_reader.specs.Selecting.{answer_along, HasNone};
@@ -27,7 +27,7 @@ pub fn found_json<S: AsSlice<u8> + Drop>(
 ) -> Result<Option<Vec<u8>>, MaxMindDbError>
     ensures json { IfOk result (λ text. IfSome text (λ t. IsJsonAlong path.now (data_section (database_asked found.now)) (offset_found found.now) t.items)) }
     ensures none { IfOk result (λ text. IfNone text (HasNone path.now (data_section (database_asked found.now)) (offset_found found.now))) }
-    ensures refused { IfErr result (λ e. MemoryApart e (RefusesToDecode false e (answer_along path.now true (value_at true) (data_section (database_asked found.now))) (offset_found found.now))) }
+    ensures rejected { IfErr result (λ e. MemoryApart e (FailsToDecode false e (answer_along path.now true (value_at true) (data_section (database_asked found.now))) (offset_found found.now))) }
 {
     let value: Option<Value<'_>> = found.decode_path(alloc, path)?;
     match &value {
@@ -47,7 +47,7 @@ pub fn write_found<S: AsSlice<u8> + Drop, W: TokenSink>(
 ) -> Result<bool, MaxMindDbError>
     ensures written { IfOk result (λ is_found. WritesAlong path.now (data_section (database_asked found.now)) (offset_found found.now) is_found (W.tokens out.old) (W.tokens out.new)) }
     ensures front { W.front out.new ≡ W.front out.old }
-    ensures refused { IfErr result (λ e. MemoryApart e (RefusesToDecode false e (answer_along path.now true (value_at true) (data_section (database_asked found.now))) (offset_found found.now))) }
+    ensures rejected { IfErr result (λ e. MemoryApart e (FailsToDecode false e (answer_along path.now true (value_at true) (data_section (database_asked found.now))) (offset_found found.now))) }
 {
     let value: Option<Value<'_>> = found.decode_path(alloc, path)?;
     match &value {

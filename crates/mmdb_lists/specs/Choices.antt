@@ -13,7 +13,7 @@ use Rattle.mmdb_lists.specs.declared.condition.Condition.{Condition}
 abbrev pub SaysChosen : {S : Type 0} {G : Ghosts S ℕ} → Choice → LookupResult S G → Bool → Type 0
 SaysChosen choice found b = SaysAllMetAt choice.conditions.now (section_of found) (offset_found found) b
 
--- what one of its conditions is on is refused in that record, and those before it are met
+-- what one of its conditions is on can't be read in that record, and those before it are met
 abbrev pub HasUnread : {S : Type 0} {G : Ghosts S ℕ} → Choice → LookupResult S G → Type 0
 HasUnread choice found = HasUnreadAt choice.conditions.now (section_of found) (offset_found found)
 

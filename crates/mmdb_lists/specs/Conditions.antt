@@ -48,7 +48,7 @@ abbrev pub SaysRead : Option Tree → List (List ℕ) → Bool → Type 0
 SaysRead None texts b = b ≡ false
 SaysRead (Some v) texts b = SaysAmong v texts b
 
--- what is read along a path from the offset of a record; nothing where the way or the value is refused
+-- what is read along a path from the offset of a record; nothing where the way or the value can't be read
 abbrev pub read_at : List PathElement → List ℕ → ℕ → Option (Option Tree)
 read_at path s offset = answer_along path true (value_at true) s offset
 
@@ -57,7 +57,7 @@ abbrev pub SaysFoundAt : List PathElement → List (List ℕ) → List ℕ → O
 SaysFoundAt path texts s None b = b ≡ false
 SaysFoundAt path texts s (Some offset) b = (value : Option Tree) × (read_at path s offset ≡ Some value) × SaysRead value texts b
 
--- there is a record, and the way of a path in it or the value at its end is refused
+-- there is a record, and the way of a path in it or the value at its end can't be read
 abbrev pub IsUnreadAt : List PathElement → List ℕ → Option ℕ → Type 0
 IsUnreadAt path s None = ⊥
 IsUnreadAt path s (Some offset) = read_at path s offset ≡ None
@@ -82,7 +82,7 @@ SaysAllMetAt [] s offset b = b ≡ true
 SaysAllMetAt (condition ∷ conditions) s offset b =
     (SaysMetAt condition s offset false × (b ≡ false)) ⊎ (SaysMetAt condition s offset true × SaysAllMetAt conditions s offset b)
 
--- what a condition is on is refused, and those before it are met
+-- what a condition is on can't be read, and those before it are met
 abbrev pub HasUnreadAt : List Condition → List ℕ → Option ℕ → Type 0
 HasUnreadAt [] s offset = ⊥
 HasUnreadAt (condition ∷ conditions) s offset =
@@ -100,6 +100,6 @@ SaysFound condition found b = SaysFoundAt condition.path.items (texts_of conditi
 abbrev pub SaysMet : {S : Type 0} {G : Ghosts S ℕ} → Condition → LookupResult S G → Bool → Type 0
 SaysMet condition found b = SaysMetAt condition (section_of found) (offset_found found) b
 
--- what a condition is on is refused in the record that a lookup found
+-- what a condition is on can't be read in the record that a lookup found
 abbrev pub IsUnread : {S : Type 0} {G : Ghosts S ℕ} → Condition → LookupResult S G → Type 0
 IsUnread condition found = IsUnreadAt condition.path.items (section_of found) (offset_found found)

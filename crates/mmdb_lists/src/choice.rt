@@ -77,7 +77,7 @@ impl<'a> Choice<'a> {
         found: &LookupResult<'_, S>,
     ) -> Result<bool, MaxMindDbError>
         ensures met { IfOk result (SaysChosen self.now found.now) }
-        ensures refused { IfErr result (λ e. MemoryApart e (HasUnread self.now found.now)) }
+        ensures rejected { IfErr result (λ e. MemoryApart e (HasUnread self.now found.now)) }
     {
         for condition in self.conditions {
             if !condition.holds(self.alloc, found)? {
@@ -116,7 +116,7 @@ impl<'a> Choice<'a> {
         found: &LookupResult<'_, S>,
     ) -> Result<bool, MaxMindDbError>
         ensures met { IfOk result (SaysChosen self.old found.now) }
-        ensures refused { IfErr result (λ e. MemoryApart e (HasUnread self.old found.now)) }
+        ensures rejected { IfErr result (λ e. MemoryApart e (HasUnread self.old found.now)) }
         ensures of { IsOf self.old found.now → IsOf self.new found.now }
         ensures conditions { self.new.conditions ≡ self.old.conditions }
     {
@@ -134,13 +134,13 @@ impl<'a> Choice<'a> {
     /// Whether a network is chosen: its record meets all conditions. They are asked in turn up to the first that is not
     /// met. Answers are kept by the record's offset, so one choice is for the networks of one database.
     ///
-    /// Fails, unless out of memory, only where what a condition is on is refused, and those before it are met.
+    /// Fails, unless out of memory, only where what a condition is on can't be read, and those before it are met.
     pub fn chooses<S: AsSlice<u8> + Drop>(
         &mut self,
         found: &LookupResult<'_, S>,
     ) -> Result<bool, MaxMindDbError>
         ensures chosen { IsOf self.old found.now → IfOk result (SaysChosen self.old found.now) }
-        ensures refused { IfErr result (λ e. MemoryApart e (HasUnread self.old found.now)) }
+        ensures rejected { IfErr result (λ e. MemoryApart e (HasUnread self.old found.now)) }
         ensures of { IsOf self.old found.now → IsOf self.new found.now }
         ensures conditions { self.new.conditions ≡ self.old.conditions }
     {

@@ -93,7 +93,7 @@ impl Condition<'_> {
         found: &LookupResult<'_, S>,
     ) -> Result<bool, MaxMindDbError>
         ensures found { IfOk result (SaysFound self.now found.now) }
-        ensures refused { IfErr result (λ e. MemoryApart e (IsUnread self.now found.now)) }
+        ensures rejected { IfErr result (λ e. MemoryApart e (IsUnread self.now found.now)) }
     {
         let value: Option<Value<'_>> = found.decode_path(alloc, self.path.as_slice())?;
         match &value {
@@ -103,14 +103,14 @@ impl Condition<'_> {
     }
 
     /// Whether the condition is met by a record. Fails, unless out of memory, exactly where the way of the path in the
-    /// record, or the value at its end, is refused.
+    /// record, or the value at its end, can't be read.
     pub fn holds<S: AsSlice<u8> + Drop>(
         &self,
         alloc: Global,
         found: &LookupResult<'_, S>,
     ) -> Result<bool, MaxMindDbError>
         ensures met { IfOk result (SaysMet self.now found.now) }
-        ensures refused { IfErr result (λ e. MemoryApart e (IsUnread self.now found.now)) }
+        ensures rejected { IfErr result (λ e. MemoryApart e (IsUnread self.now found.now)) }
     {
         let is_found = self.finds(alloc, found)?;
         Ok(self.wanted.wants(is_found))

@@ -6,5 +6,5 @@ abbrev pub IsCloneSame : {T : Type 0} → (T → T → Type 0) → Type 0
 IsCloneSame {T = T} is_clone = (source clone : T) → is_clone source clone → clone ≡ source
 
 -- no clone fails: it takes no memory
-abbrev pub IsNeverRefused : {T : Type 0} → (T → Type 0) → Type 0
-IsNeverRefused {T = T} is_infallible = (source : T) → is_infallible source
+abbrev pub NeverFails : {T : Type 0} → (T → Type 0) → Type 0
+NeverFails {T = T} is_infallible = (source : T) → is_infallible source

@@ -1,5 +1,5 @@
 //! Laws of networks, each the contract of a function that does nothing.
-ghost use Rattle.mmdb_net.specs.Clones.{IsCloneSame, IsNeverRefused};
+ghost use Rattle.mmdb_net.specs.Clones.{IsCloneSame, NeverFails};
 ghost use Rattle.mmdb_net.specs.Equality.{EqualWhereSame, EqualWhereIdentical};
 ghost use Rattle.mmdb_net.specs.Network.{ipv4_ip_of, ipv4_prefix_of, ipv6_ip_of, ipv6_prefix_of, ip_of, prefix_of};
 
@@ -21,8 +21,8 @@ pub fn network_clones_are_same()
     ensures ipv6 { IsCloneSame ⟦<Ipv6Network as Clone>⟧.is_clone }
     ensures either { IsCloneSame ⟦<IpNetwork as Clone>⟧.is_clone }
     ensures errors { IsCloneSame ⟦<IpNetworkError as Clone>⟧.is_clone }
-    ensures ipv4_given { IsNeverRefused ⟦<Ipv4Network as Clone>⟧.is_infallible }
-    ensures ipv6_given { IsNeverRefused ⟦<Ipv6Network as Clone>⟧.is_infallible }
-    ensures either_given { IsNeverRefused ⟦<IpNetwork as Clone>⟧.is_infallible }
-    ensures errors_given { IsNeverRefused ⟦<IpNetworkError as Clone>⟧.is_infallible }
+    ensures ipv4_given { NeverFails ⟦<Ipv4Network as Clone>⟧.is_infallible }
+    ensures ipv6_given { NeverFails ⟦<Ipv6Network as Clone>⟧.is_infallible }
+    ensures either_given { NeverFails ⟦<IpNetwork as Clone>⟧.is_infallible }
+    ensures errors_given { NeverFails ⟦<IpNetworkError as Clone>⟧.is_infallible }
 {}

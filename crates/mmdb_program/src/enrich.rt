@@ -151,11 +151,11 @@ fn text_of_rows(alloc: Global, counts: Counts) -> Result<String, AllocError> {
         found,
         absent,
         unreadable,
-        refused,
+        rejected,
         ..
     } = counts;
     format!(in alloc;
-        "mmdb: {found} lines with a record, {absent} without, {unreadable} without an address, {refused} with an error\n"
+        "mmdb: {found} lines with a record, {absent} without, {unreadable} without an address, {rejected} with an error\n"
     )
 }
 
@@ -166,10 +166,10 @@ fn text_of_objects(alloc: Global, counts: Counts) -> Result<String, AllocError> 
         absent,
         unreadable,
         malformed,
-        refused,
+        rejected,
     } = counts;
     format!(in alloc;
-        "mmdb: {found} lines with a record, {absent} without, {unreadable} without an address, {refused} with an error, {malformed} not objects of JSON\n"
+        "mmdb: {found} lines with a record, {absent} without, {unreadable} without an address, {rejected} with an error, {malformed} not objects of JSON\n"
     )
 }
 

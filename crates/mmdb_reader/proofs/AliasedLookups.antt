@@ -7,7 +7,7 @@ use Rattle.mmdb_net.specs.Bits.{zero_bits, number_of}
 use Rattle.mmdb_net.proofs.BitLaws.{length-zero_bits}
 use Rattle.mmdb_reader.specs.File.{Database, tree_of, width, has_ipv6, before_ipv4}
 use Rattle.mmdb_reader.specs.Tree.{walk_from, walk}
-use Rattle.mmdb_reader.specs.Lookup.{Offset, NoData, Refused, Outcome, Answers, address_bits, outcome_of}
+use Rattle.mmdb_reader.specs.Lookup.{Offset, NoData, Failed, Outcome, Answers, address_bits, outcome_of}
 use Rattle.mmdb_reader.specs.Shown.{ipv4_start}
 use Rattle.mmdb_reader.specs.Alias.{IsAlias}
 use Rattle.mmdb_reader.specs.Listing.{HasValueAt}
@@ -139,33 +139,33 @@ lookups_walked db good s full =
     ]
 
 -- what a lookup answers then: no data, or the offset of the value of a walked leaf
-abbrev IsTold : Database → Outcome → Type 0
-IsTold db NoData = Unit {0}
-IsTold db (Offset offset) = (t : List Bool) × IsWalked db t × HasValueAt db t offset
-IsTold db Refused = ⊥
+abbrev IsOfWalked : Database → Outcome → Type 0
+IsOfWalked db NoData = Unit {0}
+IsOfWalked db (Offset offset) = (t : List Bool) × IsWalked db t × HasValueAt db t offset
+IsOfWalked db Failed = ⊥
 
-told_leaf : (db : Database) (t : List Bool) → HasNoFault db → IsWalked db t → IsTold db (outcome_of db (walk (tree_of db) t))
-told_leaf db t good walked = elim (kind_of_leaf db t) [
+leaf_of_walked : (db : Database) (t : List Bool) → HasNoFault db → IsWalked db t → IsOfWalked db (outcome_of db (walk (tree_of db) t))
+leaf_of_walked db t good walked = elim (kind_of_leaf db t) [
   | OnNode on ↦ absurd (good t walked (inr (inl on)))
-  | AtEnd is ↦ subst (IsTold db) (sym (outcome-end db (walk (tree_of db) t) (omega (arith, is)))) tt
+  | AtEnd is ↦ subst (IsOfWalked db) (sym (outcome-end db (walk (tree_of db) t) (omega (arith, is)))) tt
   | Nowhere n ↦ absurd (good t walked (inl n))
-  | Value offset v ↦ subst (IsTold db) (sym (outcome-offset db (walk (tree_of db) t) offset v.leads v.inside)) (t, walked, v)
+  | Value offset v ↦ subst (IsOfWalked db) (sym (outcome-offset db (walk (tree_of db) t) offset v.leads v.inside)) (t, walked, v)
 ]
 
-told : (db : Database) → HasNoFault db → (address : IpAddr) (leaf : List Bool) (outcome : Outcome) → Answers db address leaf outcome → IsTold db outcome
-told db good address leaf outcome at =
+of_walked : (db : Database) → HasNoFault db → (address : IpAddr) (leaf : List Bool) (outcome : Outcome) → Answers db address leaf outcome → IsOfWalked db outcome
+of_walked db good address leaf outcome at =
     let number : ℕ = walk (tree_of db) (address_bits db address) in
-    let here : IsTold db (outcome_of db number) = elim (lookups_walked db good (address_bits db address) (length-address_bits db address at.can_ask)) [
-      | inl on ↦ subst (IsTold db) (sym (outcome-end db number (omega (arith, on)))) tt
-      | inr (t, walked, same) ↦ subst (λ (n : ℕ). IsTold db (outcome_of db n)) same (told_leaf db t good walked)
+    let here : IsOfWalked db (outcome_of db number) = elim (lookups_walked db good (address_bits db address) (length-address_bits db address at.can_ask)) [
+      | inl on ↦ subst (IsOfWalked db) (sym (outcome-end db number (omega (arith, on)))) tt
+      | inr (t, walked, same) ↦ subst (λ (n : ℕ). IsOfWalked db (outcome_of db n)) same (leaf_of_walked db t good walked)
     ] in
-    subst (IsTold db) (answer-walk db address leaf outcome at) here
+    subst (IsOfWalked db) (answer-walk db address leaf outcome at) here
 
 pub lookups_succeed : LookupsSucceed
-lookups_succeed db good address can refused = told db good address refused.0 Refused refused.1
+lookups_succeed db good address can rejected = of_walked db good address rejected.0 Failed rejected.1
 
 pub answered_offsets_are_walked : AnsweredOffsetsAreWalked
-answered_offsets_are_walked db good address leaf offset at = (offsets_are_exact db offset).1 (told db good address leaf (Offset offset) at)
+answered_offsets_are_walked db good address leaf offset at = (offsets_are_exact db offset).1 (of_walked db good address leaf (Offset offset) at)
 
 pub whole_files_answer : WholeFilesAnswer
 whole_files_answer db whole = record {

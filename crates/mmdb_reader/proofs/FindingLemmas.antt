@@ -7,7 +7,7 @@ use Rattle.mmdb_format.specs.Pointer.{direct_at}
 use Rattle.mmdb_reader.specs.declared.options.WithinOptions.{WithinOptions}
 use Rattle.mmdb_reader.specs.File.{Database, tree_of, data_length, data_section}
 use Rattle.mmdb_reader.specs.Tree.{walk}
-use Rattle.mmdb_reader.specs.Lookup.{Offset, NoData, Refused, outcome_of}
+use Rattle.mmdb_reader.specs.Lookup.{Offset, NoData, Failed, outcome_of}
 use Rattle.mmdb_format.specs.Header.{◌>>=◌}
 use Rattle.mmdb_decode.specs.Peeking.{is_empty_container, empty_at}
 use Rattle.mmdb_reader.specs.Empty.{IsUnreadable, IsEmptyContainer}
@@ -25,7 +25,7 @@ outcome-offset db number offset is inside =
     let low : nat_lt offset (data_length db) ≡ true = lt-ltb _ _ inside in
     rw (above, far, back, low) refl
 
-pub outcome-nowhere : (db : Database) (number : ℕ) → db.metadata.node_count < number → ((offset : ℕ) → number ≡ db.metadata.node_count + 16 + offset → offset < data_length db → ⊥) → outcome_of db number ≡ Refused
+pub outcome-nowhere : (db : Database) (number : ℕ) → db.metadata.node_count < number → ((offset : ℕ) → number ≡ db.metadata.node_count + 16 + offset → offset < data_length db → ⊥) → outcome_of db number ≡ Failed
 unfolding outcome_of
 outcome-nowhere db number past nowhere =
     let above : nat_le number db.metadata.node_count ≡ false = lt-leb _ _ past in
@@ -82,32 +82,32 @@ either : (x y : Bool) → (x || y) ≡ true → (x ≡ true) ⊎ (y ≡ true)
 either true y e = inl refl
 either false y e = inr e
 
-abbrev AsTold : List ℕ → ℕ → Option Direct → Type 0
-AsTold section place found = (found ≡ direct_at section place 0) × (empty_at section place ≡ option_map (λ direct. is_empty_container direct.header) found)
+abbrev IsHeaderOf : List ℕ → ℕ → Option Direct → Type 0
+IsHeaderOf section place found = (found ≡ direct_at section place 0) × (empty_at section place ≡ option_map (λ direct. is_empty_container direct.header) found)
 
 mapped_bind : (o : Option Direct) → (o >>= λ at. Some (is_empty_container at.header)) ≡ option_map (λ (direct : Direct). is_empty_container direct.header) o
 mapped_bind None = refl
 mapped_bind (Some direct) = refl
 
-told : (section : List ℕ) (place : ℕ) → (found : Option Direct) × AsTold section place found
+header_of : (section : List ℕ) (place : ℕ) → (found : Option Direct) × IsHeaderOf section place found
 unfolding empty_at
-told section place = (direct_at section place 0, (refl, mapped_bind (direct_at section place 0)))
+header_of section place = (direct_at section place 0, (refl, mapped_bind (direct_at section place 0)))
 
 pub unreadable-none : (section : List ℕ) (place : ℕ) → empty_at section place ≡ None → IsUnreadable section place
-unreadable-none section place e = let w = told section place in go w.0 w.1 e
+unreadable-none section place e = let w = header_of section place in go w.0 w.1 e
   where
-    go : (found : Option Direct) → AsTold section place found → empty_at section place ≡ None → IsUnreadable section place
+    go : (found : Option Direct) → IsHeaderOf section place found → empty_at section place ≡ None → IsUnreadable section place
     go None h e = sym h.0
     go (Some direct) h e = let wrong : Some (is_empty_container direct.header) ≡ None = sym h.1 ∙ e in cc
 
 pub none-unreadable : (section : List ℕ) (place : ℕ) → IsUnreadable section place → empty_at section place ≡ None
-none-unreadable section place u = let w = told section place in w.1.1 ∙ ap (option_map (λ direct. is_empty_container direct.header)) (w.1.0 ∙ u)
+none-unreadable section place u = let w = header_of section place in w.1.1 ∙ ap (option_map (λ direct. is_empty_container direct.header)) (w.1.0 ∙ u)
 
 pub full-value : (section : List ℕ) (place : ℕ) → empty_at section place ≡ Some false → (¬ IsUnreadable section place) × (¬ IsEmptyContainer section place)
 full-value section place e = (
   (λ u. let wrong : None ≡ Some false = sym (none-unreadable section place u) ∙ e in cc),
   λ c.
-      let w = told section place in
+      let w = header_of section place in
       let is : empty_at section place ≡ Some (is_empty_container c.direct.header) = w.1.1 ∙ ap (option_map (λ direct. is_empty_container direct.header)) (w.1.0 ∙ c.stands) in
       let wrong : Some true ≡ Some false = sym (is ∙ ap Some (holds c.direct.header c.container c.empty)) ∙ e in
       cc,
@@ -117,7 +117,7 @@ full-value section place e = (
     holds h kind empty = and_from _ _ (elim kind [ inl map ↦ or_left _ _ (eq-eqb _ _ map) | inr array ↦ second_of _ _ (eq-eqb _ _ array) ]) (eq-eqb _ _ empty)
 
 pub value-full : (section : List ℕ) (place : ℕ) → (¬ IsUnreadable section place) → (¬ IsEmptyContainer section place) → empty_at section place ≡ Some false
-value-full section place readable kept = let w = told section place in go w.0 w.1
+value-full section place readable kept = let w = header_of section place in go w.0 w.1
   where
     container : (direct : Direct) → direct_at section place 0 ≡ Some direct → is_empty_container direct.header ≡ true → IsEmptyContainer section place
     container direct stands h =
@@ -129,7 +129,7 @@ value-full section place readable kept = let w = told section place in go w.0 w.
           empty = eqb-true _ _ parts.1;
         }
 
-    go : (found : Option Direct) → AsTold section place found → empty_at section place ≡ Some false
+    go : (found : Option Direct) → IsHeaderOf section place found → empty_at section place ≡ Some false
     go None h = absurd (readable (sym h.0))
     go (Some direct) h = elim (cases_Bool (is_empty_container direct.header)) [
       | inl empty ↦ absurd (kept (container direct (sym h.0) empty))

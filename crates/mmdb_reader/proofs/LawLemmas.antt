@@ -10,7 +10,7 @@ use Rattle.mmdb_net.proofs.AddressLaws.{length-bits_of_address}
 use Rattle.mmdb_reader.specs.File.{Database, tree_of, width, has_ipv6, before_ipv4}
 use Rattle.mmdb_reader.specs.Tree.{walk}
 use Rattle.mmdb_reader.specs.Leaves.{IsLeaf}
-use Rattle.mmdb_reader.specs.Lookup.{Outcome, Refused, CanAsk, Answers, IsRefusedAt, IsLeafAt, address_bits, outcome_of, outcome_at}
+use Rattle.mmdb_reader.specs.Lookup.{Outcome, Failed, CanAsk, Answers, IsInvalidAt, IsLeafAt, address_bits, outcome_of, outcome_at}
 use Rattle.mmdb_reader.specs.Descents.{Descends}
 use Rattle.mmdb_reader.specs.Laws.{LeavesAreDisjoint, EachAddressHasOneLeaf, EachAddressIsAnswered, AnswersAreUnique, SameLeafSameAnswer}
 use Rattle.mmdb_reader.proofs.WalkLemmas.{walk-nil, walk-past}
@@ -88,15 +88,15 @@ same_leaf_same_answer db address other leaf outcome at can on = record {
   outcome_is = at.outcome_is;
 }
 
-refused_at-none : (x : Option ℕ) → outcome_at x ≡ Refused → ⊥
-refused_at-none (Some offset) e = cc
-refused_at-none None e = cc
+rejected_at-none : (x : Option ℕ) → outcome_at x ≡ Failed → ⊥
+rejected_at-none (Some offset) e = cc
+rejected_at-none None e = cc
 
--- the leaf's outcome where it is no refusal is the only one
-pub not_refused : (db : Database) (address : IpAddr) (leaf : List Bool) (number : ℕ) (x : Option ℕ) → IsLeafAt db address leaf number → outcome_of db number ≡ outcome_at x → ¬ IsRefusedAt db address
-not_refused db address leaf number x at is refused =
+-- the leaf's outcome where it is no error is the only one
+pub not_rejected : (db : Database) (address : IpAddr) (leaf : List Bool) (number : ℕ) (x : Option ℕ) → IsLeafAt db address leaf number → outcome_of db number ≡ outcome_at x → ¬ IsInvalidAt db address
+not_rejected db address leaf number x at is rejected =
     let answer : Answers db address leaf (outcome_at x) = record { can_ask = at.can_ask; is_leaf = at.is_leaf; on_address = at.on_address; outcome_is = ap (outcome_of db) at.reached ∙ is } in
-    refused_at-none x ((answers_are_unique db address leaf refused.0 (outcome_at x) Refused answer refused.1).1)
+    rejected_at-none x ((answers_are_unique db address leaf rejected.0 (outcome_at x) Failed answer rejected.1).1)
 
 -- ---- the walk of all bits of an address
 

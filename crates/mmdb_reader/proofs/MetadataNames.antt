@@ -6,7 +6,7 @@ use Rattle.mmdb_decode.specs.Reading.{Reading, Meaning}
 use Rattle.mmdb_decode.specs.Records.{named, field, skipped}
 use Rattle.mmdb_decode.specs.Scalars.{u16_at, u32_at, u64_at, text_at}
 use Rattle.mmdb_decode.specs.TypedReads.{RecordStands, StandsOnce, IsKnown}
-use Rattle.mmdb_decode.proofs.RecordStandingLaws.{known_names_stand_once, field_fills, field_refused, skipped_keeps}
+use Rattle.mmdb_decode.proofs.RecordStandingLaws.{known_names_stand_once, field_fills, field_rejected, skipped_keeps}
 use Rattle.mmdb_reader.specs.MetadataShape.{MetadataFields, no_metadata_fields, metadata_fields, MetadataNamesStandOnce}
 
 -- no field that has stood is emptied
@@ -77,7 +77,7 @@ unfolding metadata_fields named
 binary_format_major_version_known = record {
   stays = λ x other s p d y k h. (keeps s p d x y other h).binary_format_major_version k;
   fills = λ x s p d y h. let f = field_fills (λ v. record x { binary_format_major_version = v }) u16_at x.binary_format_major_version s p d y h in rw f.1 refl;
-  refused = λ x s p d k. field_refused (λ v. record x { binary_format_major_version = v }) u16_at x.binary_format_major_version s p d k;
+  rejected = λ x s p d k. field_rejected (λ v. record x { binary_format_major_version = v }) u16_at x.binary_format_major_version s p d k;
 }
 
 binary_format_minor_version_known : IsKnown metadata_fields (codes "binary_format_minor_version") (λ x. is_some x.binary_format_minor_version)
@@ -85,7 +85,7 @@ unfolding metadata_fields named
 binary_format_minor_version_known = record {
   stays = λ x other s p d y k h. (keeps s p d x y other h).binary_format_minor_version k;
   fills = λ x s p d y h. let f = field_fills (λ v. record x { binary_format_minor_version = v }) u16_at x.binary_format_minor_version s p d y h in rw f.1 refl;
-  refused = λ x s p d k. field_refused (λ v. record x { binary_format_minor_version = v }) u16_at x.binary_format_minor_version s p d k;
+  rejected = λ x s p d k. field_rejected (λ v. record x { binary_format_minor_version = v }) u16_at x.binary_format_minor_version s p d k;
 }
 
 build_epoch_known : IsKnown metadata_fields (codes "build_epoch") (λ x. is_some x.build_epoch)
@@ -93,7 +93,7 @@ unfolding metadata_fields named
 build_epoch_known = record {
   stays = λ x other s p d y k h. (keeps s p d x y other h).build_epoch k;
   fills = λ x s p d y h. let f = field_fills (λ v. record x { build_epoch = v }) u64_at x.build_epoch s p d y h in rw f.1 refl;
-  refused = λ x s p d k. field_refused (λ v. record x { build_epoch = v }) u64_at x.build_epoch s p d k;
+  rejected = λ x s p d k. field_rejected (λ v. record x { build_epoch = v }) u64_at x.build_epoch s p d k;
 }
 
 database_type_known : IsKnown metadata_fields (codes "database_type") (λ x. is_some x.database_type)
@@ -101,7 +101,7 @@ unfolding metadata_fields named
 database_type_known = record {
   stays = λ x other s p d y k h. (keeps s p d x y other h).database_type k;
   fills = λ x s p d y h. let f = field_fills (λ v. record x { database_type = v }) text_at x.database_type s p d y h in rw f.1 refl;
-  refused = λ x s p d k. field_refused (λ v. record x { database_type = v }) text_at x.database_type s p d k;
+  rejected = λ x s p d k. field_rejected (λ v. record x { database_type = v }) text_at x.database_type s p d k;
 }
 
 description_known : IsKnown metadata_fields (codes "description") (λ x. is_some x.description)
@@ -109,7 +109,7 @@ unfolding metadata_fields named
 description_known = record {
   stays = λ x other s p d y k h. (keeps s p d x y other h).description k;
   fills = λ x s p d y h. let f = field_fills (λ v. record x { description = v }) (text_map_at text_at) x.description s p d y h in rw f.1 refl;
-  refused = λ x s p d k. field_refused (λ v. record x { description = v }) (text_map_at text_at) x.description s p d k;
+  rejected = λ x s p d k. field_rejected (λ v. record x { description = v }) (text_map_at text_at) x.description s p d k;
 }
 
 ip_version_known : IsKnown metadata_fields (codes "ip_version") (λ x. is_some x.ip_version)
@@ -117,7 +117,7 @@ unfolding metadata_fields named
 ip_version_known = record {
   stays = λ x other s p d y k h. (keeps s p d x y other h).ip_version k;
   fills = λ x s p d y h. let f = field_fills (λ v. record x { ip_version = v }) u16_at x.ip_version s p d y h in rw f.1 refl;
-  refused = λ x s p d k. field_refused (λ v. record x { ip_version = v }) u16_at x.ip_version s p d k;
+  rejected = λ x s p d k. field_rejected (λ v. record x { ip_version = v }) u16_at x.ip_version s p d k;
 }
 
 languages_known : IsKnown metadata_fields (codes "languages") (λ x. is_some x.languages)
@@ -125,7 +125,7 @@ unfolding metadata_fields named
 languages_known = record {
   stays = λ x other s p d y k h. (keeps s p d x y other h).languages k;
   fills = λ x s p d y h. let f = field_fills (λ v. record x { languages = v }) (list_at text_at) x.languages s p d y h in rw f.1 refl;
-  refused = λ x s p d k. field_refused (λ v. record x { languages = v }) (list_at text_at) x.languages s p d k;
+  rejected = λ x s p d k. field_rejected (λ v. record x { languages = v }) (list_at text_at) x.languages s p d k;
 }
 
 node_count_known : IsKnown metadata_fields (codes "node_count") (λ x. is_some x.node_count)
@@ -133,7 +133,7 @@ unfolding metadata_fields named
 node_count_known = record {
   stays = λ x other s p d y k h. (keeps s p d x y other h).node_count k;
   fills = λ x s p d y h. let f = field_fills (λ v. record x { node_count = v }) u32_at x.node_count s p d y h in rw f.1 refl;
-  refused = λ x s p d k. field_refused (λ v. record x { node_count = v }) u32_at x.node_count s p d k;
+  rejected = λ x s p d k. field_rejected (λ v. record x { node_count = v }) u32_at x.node_count s p d k;
 }
 
 record_size_known : IsKnown metadata_fields (codes "record_size") (λ x. is_some x.record_size)
@@ -141,7 +141,7 @@ unfolding metadata_fields named
 record_size_known = record {
   stays = λ x other s p d y k h. (keeps s p d x y other h).record_size k;
   fills = λ x s p d y h. let f = field_fills (λ v. record x { record_size = v }) u16_at x.record_size s p d y h in rw f.1 refl;
-  refused = λ x s p d k. field_refused (λ v. record x { record_size = v }) u16_at x.record_size s p d k;
+  rejected = λ x s p d k. field_rejected (λ v. record x { record_size = v }) u16_at x.record_size s p d k;
 }
 
 pub metadata_names_stand_once : MetadataNamesStandOnce

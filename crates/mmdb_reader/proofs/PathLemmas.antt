@@ -7,13 +7,13 @@ use Rattle.mmdb_format.specs.Error.{OfMemory, kind_of, IsOfOrMemory}
 use Rattle.mmdb_format.specs.declared.error.MaxMindDbError.{MaxMindDbError}
 use Rattle.mmdb_format.specs.declared.error.MaxMindDbError.TheVariants.{InvalidDatabase, Io, Decoding, ResourceLimit, InvalidNetwork, InvalidInput, Memory}
 use Rattle.mmdb_decode.specs.Reading.{Meaning, given}
-use Rattle.mmdb_decode.specs.Refusal.{Refuses, answer}
+use Rattle.mmdb_decode.specs.Errors.{Fails, answer}
 use Rattle.mmdb_decode.specs.State.{State, begun, decoded, Within}
 use Rattle.mmdb_decode.specs.declared.budget.Charges.{Charges}
 use Rattle.mmdb_decode.proofs.ReadingLaws.{decoded-followed, decoded-mapped, seen}
 use Rattle.mmdb_decode.proofs.SkipLaws.{begins, decoded_begins}
-use Rattle.mmdb_decode.proofs.StepLaws.{read_free, decoded_begun, refuses, kept_decoded, still_begun}
-use Rattle.mmdb_reader.specs.Decoding.{RefusesToDecode}
+use Rattle.mmdb_decode.proofs.StepLaws.{read_free, decoded_begun, fails, kept_decoded, still_begun}
+use Rattle.mmdb_reader.specs.Decoding.{FailsToDecode}
 use Rattle.mmdb_reader.specs.PathText.{step_text, path_text}
 use Rattle.mmdb_reader.specs.Selecting.{at_step, selected, read_there, read_along, answer_along, SelectsTo}
 use Rattle.mmdb_reader.specs.declared.path.PathElement.{PathElement}
@@ -57,8 +57,8 @@ along_read path read starts σ τ ρ π v e h s d = along_whole path read σ τ 
 pub along_unread : {A : Type 0} (path : List PathElement) (read : Meaning A) (starts : Bool) (σ τ ρ : State) → τ ≡ begins σ → decoded false (selected path) τ ≡ Some (true, ρ) → IsSome ρ.budget → decoded starts read ρ ≡ None → decoded true (read_along path read) σ ≡ None
 along_unread path read starts σ τ ρ e h s d = along_whole path read σ τ e ∙ rw h (decoded-mapped false Some read ρ ∙ ap (seen Some) (sym (decoded_begun starts read ρ s) ∙ d))
 
--- an error of the same kind, or for memory, refuses as much
-memory_alone : {A : Type 0} (f : MaxMindDbError) (read : Option A) → IsOfOrMemory OfMemory f → Refuses false f read
+-- an error of the same kind, or for memory, says as much
+memory_alone : {A : Type 0} (f : MaxMindDbError) (read : Option A) → IsOfOrMemory OfMemory f → Fails false f read
 memory_alone Memory read k = tt
 memory_alone (InvalidDatabase m o) read (inl k) = absurd (cc)
 memory_alone (InvalidDatabase m o) read (inr k) = absurd (cc)
@@ -73,15 +73,15 @@ memory_alone (InvalidNetwork e) read (inr k) = absurd (cc)
 memory_alone (InvalidInput m) read (inl k) = absurd (cc)
 memory_alone (InvalidInput m) read (inr k) = absurd (cc)
 
-pub refuses_as_much : {A : Type 0} (free : Bool) (e f : MaxMindDbError) (read : Option A) → IsOfOrMemory (kind_of e) f → Refuses free e read → Refuses free f read
-refuses_as_much true e f read k h = h
-refuses_as_much false Memory f read k h = memory_alone f read k
-refuses_as_much false (InvalidDatabase m o) f read k h = refuses false f read h
-refuses_as_much false (Io e) f read k h = refuses false f read h
-refuses_as_much false (Decoding m o p) f read k h = refuses false f read h
-refuses_as_much false (ResourceLimit m o p) f read k h = refuses false f read h
-refuses_as_much false (InvalidNetwork e) f read k h = refuses false f read h
-refuses_as_much false (InvalidInput m) f read k h = refuses false f read h
+pub fails_as_much : {A : Type 0} (free : Bool) (e f : MaxMindDbError) (read : Option A) → IsOfOrMemory (kind_of e) f → Fails free e read → Fails free f read
+fails_as_much true e f read k h = h
+fails_as_much false Memory f read k h = memory_alone f read k
+fails_as_much false (InvalidDatabase m o) f read k h = fails false f read h
+fails_as_much false (Io e) f read k h = fails false f read h
+fails_as_much false (Decoding m o p) f read k h = fails false f read h
+fails_as_much false (ResourceLimit m o p) f read k h = fails false f read h
+fails_as_much false (InvalidNetwork e) f read k h = fails false f read h
+fails_as_much false (InvalidInput m) f read k h = fails false f read h
 
 -- the text of a path, step by step
 pub no_text : (text : List ℕ) → text ≡ [] → text ≡ path_text []
@@ -124,7 +124,7 @@ with_step (e ∷ path) starts read s p h = refl
 pub selects : {T A : Type 0} (datum : T → A) (path : List PathElement) (starts : Bool) (read : Meaning A) (s section : List ℕ) (o : Option ℕ) (p : ℕ) (value : Option T) → false ≡ (length path == 0) → section ≡ s → o ≡ Some p → answer true (read_along path read) section p ≡ Some (option_map datum value) → SelectsTo datum (answer_along path starts read s) o value
 selects datum path starts read s section o p value h e k d = rw (k, ← e) (with_step path starts read section p h ∙ d)
 
-pub selects_nothing : {A : Type 0} (free : Bool) (e f : MaxMindDbError) (path : List PathElement) (starts : Bool) (read : Meaning A) (s section : List ℕ) (o : Option ℕ) (p : ℕ) → false ≡ (length path == 0) → section ≡ s → o ≡ Some p → kind_of f ≡ kind_of e → Refuses free e (answer true (read_along path read) section p) → RefusesToDecode free f (answer_along path starts read s) o
-selects_nothing free e f path starts read s section o p h same k kind d = rw (k, ← same, with_step path starts read section p h) (refuses_as_much free e f (answer true (read_along path read) section p) (inl kind) d)
+pub selects_nothing : {A : Type 0} (free : Bool) (e f : MaxMindDbError) (path : List PathElement) (starts : Bool) (read : Meaning A) (s section : List ℕ) (o : Option ℕ) (p : ℕ) → false ≡ (length path == 0) → section ≡ s → o ≡ Some p → kind_of f ≡ kind_of e → Fails free e (answer true (read_along path read) section p) → FailsToDecode free f (answer_along path starts read s) o
+selects_nothing free e f path starts read s section o p h same k kind d = rw (k, ← same, with_step path starts read section p h) (fails_as_much free e f (answer true (read_along path read) section p) (inl kind) d)
 
 -- a container that is charged and given up

@@ -4,7 +4,7 @@ use Rattle.std.proofs.lemmas.List.{append-nil}
 use Rattle.std.specs.List.{list_any}
 use Rattle.std.proofs.lemmas.Bool.{cases_Bool, ltb-true, and_parts}
 use Rattle.mmdb_reader.specs.File.{Database, width, separator, data_length}
-use Rattle.mmdb_reader.specs.Lookup.{Outcome, Offset, NoData, Refused, outcome_of}
+use Rattle.mmdb_reader.specs.Lookup.{Outcome, Offset, NoData, Failed, outcome_of}
 use Rattle.mmdb_reader.specs.Stops.{stops, cut, is_fault, offset_of, offsets, most_stops, walk_cost, end_of_outcome, end_of_leaf}
 use Rattle.mmdb_reader.specs.Walked.{half_of, GoesOn, IsStopped, is_alias_of, end_from}
 use Rattle.mmdb_reader.specs.declared.walked.Point.{Point}
@@ -186,9 +186,9 @@ module _ (db : Database) (xs : List Point) (p : Point) (steps counted : ℕ) (ha
       ap (cut_visits (most db)) (w.split ∙ ap (λ (vs : List Visit). w.passed ++ vs) (step-stop db xs p w.lead end is stopped))
       ∙ cut-past (most db) w.passed (visit (w.lead + 1) end ∷ visits_of_stack db xs) w.sound (omega (arith, w.counted_are))
 
-  -- where the walk is refused at a faulty leaf, it has cost what the cut does
-  pub refused-fault : counted ≤ most_stops db → is_fault end ≡ true → (steps + 1 ≡ total (cut_visits (most db) (all_visits db))) × (has_fault (all_visits db) ≡ true)
-  refused-fault few bad =
+  -- where the walk fails at a faulty leaf, it has cost what the cut does
+  pub rejected-fault : counted ≤ most_stops db → is_fault end ≡ true → (steps + 1 ≡ total (cut_visits (most db) (all_visits db))) × (has_fault (all_visits db) ≡ true)
+  rejected-fault few bad =
       let same = cut-stop few ∙ ap (λ (vs : List Visit). w.passed ++ vs) (cut-fault (most db - length w.passed) (w.lead + 1) end (visits_of_stack db xs) (omega (arith, w.counted_are)) bad) in (
         omega (arith, ap total same, total-append w.passed (visit (w.lead + 1) end ∷ []), total-one (w.lead + 1) end [], total-none, w.steps_are),
         ap has_fault (w.split ∙ ap (λ (vs : List Visit). w.passed ++ vs) (step-stop db xs p w.lead end is stopped))
@@ -196,9 +196,9 @@ module _ (db : Database) (xs : List Point) (p : Point) (steps counted : ℕ) (ha
       )
 
 -- a walk that has counted too much has cost what the cut does
-pub refused-many : (db : Database) (stack : List Point) (steps counted : ℕ) (has : ℕ → Bool) → IsProgress db stack steps counted has → counted ≡ most db
+pub rejected-many : (db : Database) (stack : List Point) (steps counted : ℕ) (has : ℕ → Bool) → IsProgress db stack steps counted has → counted ≡ most db
     → (steps ≡ total (cut_visits (most db) (all_visits db))) × (most db ≤ length (all_visits db))
-refused-many db stack steps counted has w many =
+rejected-many db stack steps counted has w many =
     let rest : List Visit = with_lead w.lead (visits_of_stack db stack) in
     let same = ap (cut_visits (most db)) w.split ∙ cut-past (most db) w.passed rest w.sound (omega (arith, w.counted_are)) in
     let none : most db - length w.passed ≡ 0 = omega (arith, w.counted_are) in
@@ -261,7 +261,7 @@ no_fault end is = elim is [ inl e ↦ ap is_fault e | inr e ↦ ap is_fault e ]
 of_outcome : (o : Outcome) (offset : ℕ) → end_of_outcome o ≡ Found offset → o ≡ Offset offset
 of_outcome (Offset n) offset e = ap Offset (let same : n ≡ offset = cc in same)
 of_outcome NoData offset e = absurd (cc)
-of_outcome Refused offset e = absurd (cc)
+of_outcome Failed offset e = absurd (cc)
 
 outcome_inside : (db : Database) (number offset : ℕ) → outcome_of db number ≡ Offset offset → offset < data_length db
 unfolding outcome_of
@@ -273,7 +273,7 @@ outcome_inside db number offset e = elim (cases_Bool (leb number db.metadata.nod
         let is : number - db.metadata.node_count - separator ≡ offset = cc in
         let less = ltb-true (number - db.metadata.node_count - separator) (data_length db) (and_parts (leb (db.metadata.node_count + separator) number) (ltb (number - db.metadata.node_count - separator) (data_length db)) fits).1 in
         omega (arith, less, is)
-    | inr out ↦ absurd (let no : Refused ≡ Offset offset = rw (high, out) at e in cc)
+    | inr out ↦ absurd (let no : Failed ≡ Offset offset = rw (high, out) at e in cc)
   ]
 ]
 

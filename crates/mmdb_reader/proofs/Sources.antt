@@ -3,7 +3,7 @@ use Rattle.std.proofs.Common.{◌≡◌, ℕ, List, false, Option, Some, None, a
 use Rattle.mmdb_format.specs.Error.{MemoryApart}
 use Rattle.mmdb_format.specs.declared.error.MaxMindDbError.{MaxMindDbError}
 use Rattle.mmdb_format.specs.declared.error.MaxMindDbError.TheVariants.{InvalidDatabase, Io, Decoding, ResourceLimit, InvalidNetwork, InvalidInput, Memory}
-use Rattle.mmdb_decode.specs.Refusal.{Refuses}
+use Rattle.mmdb_decode.specs.Errors.{Fails}
 use Rattle.mmdb_reader.specs.Metadata.{MetadataDatum}
 use Rattle.mmdb_reader.specs.File.{Database, database, IsLastMarker, IsSupported, HasRoom, metadata_section}
 use Rattle.mmdb_reader.specs.Source.{metadata_read, IsDatabaseOf, IsNoDatabase, HasNoMarker}
@@ -18,8 +18,8 @@ apart (InvalidNetwork error) P Q f p = f p
 apart (InvalidInput message) P Q f p = f p
 apart Memory P Q f p = p
 
--- what a refusal of a reading says, memory apart
-pub apart_from_reading : {A : Type 0} (e : MaxMindDbError) (read : Option A) (P : Type 0) → (read ≡ None → P) → Refuses false e read → MemoryApart e P
+-- what an error of a reading says, memory apart
+pub apart_from_reading : {A : Type 0} (e : MaxMindDbError) (read : Option A) (P : Type 0) → (read ≡ None → P) → Fails false e read → MemoryApart e P
 apart_from_reading (InvalidDatabase message offset) read P f p = f p
 apart_from_reading (Io error) read P f p = f p
 apart_from_reading (Decoding message offset path) read P f p = f p
@@ -53,7 +53,7 @@ no_metadata file bytes marker section same last cut reads db is =
 -- with metadata that are not supported, or no room, a file is no database
 pub not_accepted : (file bytes : List ℕ) (marker : ℕ) (section : List ℕ) (metadata : MetadataDatum) → bytes ≡ file → IsLastMarker bytes marker → section ≡ metadata_section bytes marker → metadata_read section ≡ Some metadata
     → ¬ (IsSupported metadata × HasRoom (database file marker metadata)) → IsNoDatabase file
-not_accepted file bytes marker section metadata same last cut reads refused db is =
+not_accepted file bytes marker section metadata same last cut reads rejected db is =
     let P : List ℕ → Type 0 = λ b. IsDatabaseOf b db in
     let here = subst P (sym same) is in
     let read = only_metadata bytes marker (Some metadata) db last (ap metadata_read (sym cut) ∙ reads) here in
@@ -62,7 +62,7 @@ not_accepted file bytes marker section metadata same last cut reads refused db i
     let S : MetadataDatum → Type 0 = λ m. IsSupported m in
     let R : ℕ → Type 0 = λ m. HasRoom (database file m db.metadata) in
     let T : MetadataDatum → Type 0 = λ m. HasRoom (database file marker m) in
-    refused (subst S (sym equal) is.metadata.supported, subst T (sym equal) (subst R (sym at) is.room))
+    rejected (subst S (sym equal) is.metadata.supported, subst T (sym equal) (subst R (sym at) is.room))
 
 -- two databases of one file are equal
 pub one_database : (file : List ℕ) (a b : Database) → IsDatabaseOf file a → IsDatabaseOf file b → a ≡ b

@@ -1,7 +1,7 @@
 -- What decoding the value of a lookup's result gives.
 use Rattle.std.specs.Prelude.{◌≡◌, ℕ, Bool, Option, Some, None}
 use Rattle.mmdb_format.specs.declared.error.MaxMindDbError.{MaxMindDbError}
-use Rattle.mmdb_decode.specs.Refusal.{Refuses}
+use Rattle.mmdb_decode.specs.Errors.{Fails}
 
 -- nothing without data, and else what is read at the offset
 abbrev pub DecodesTo : {T A : Type 0} → (T → A) → (ℕ → Option A) → Option ℕ → Option T → Type 0
@@ -11,6 +11,6 @@ DecodesTo datum read (Some offset) None = ⊥
 DecodesTo datum read (Some offset) (Some v) = read offset ≡ Some (datum v)
 
 -- there is data, and nothing readable stands at the offset; or memory ran out, unless a success takes none
-abbrev pub RefusesToDecode : {A : Type 0} → Bool → MaxMindDbError → (ℕ → Option A) → Option ℕ → Type 0
-RefusesToDecode free e read None = ⊥
-RefusesToDecode free e read (Some offset) = Refuses free e (read offset)
+abbrev pub FailsToDecode : {A : Type 0} → Bool → MaxMindDbError → (ℕ → Option A) → Option ℕ → Type 0
+FailsToDecode free e read None = ⊥
+FailsToDecode free e read (Some offset) = Fails free e (read offset)

@@ -7,7 +7,7 @@ use Rattle.mmdb_reader.specs.declared.options.WithinOptions.{WithinOptions}
 use Rattle.mmdb_reader.specs.File.{Database, tree_of, width, separator, data_length, data_section}
 use Rattle.mmdb_reader.specs.Tree.{walk}
 use Rattle.mmdb_reader.specs.Leaves.{IsLeaf}
-use Rattle.mmdb_reader.specs.Lookup.{Outcome, Offset, NoData, Refused, outcome_of}
+use Rattle.mmdb_reader.specs.Lookup.{Outcome, Offset, NoData, Failed, outcome_of}
 use Rattle.mmdb_reader.specs.Alias.{IsAlias, is_alias}
 use Rattle.mmdb_decode.specs.Peeking.{empty_at}
 use Rattle.mmdb_reader.specs.Empty.{IsUnreadable, IsEmptyContainer}
@@ -116,7 +116,7 @@ abbrev pub finding_of_outcome : Database → WithinOptions → Outcome → Optio
 finding_of_outcome db options (Offset offset) =
     if skips_empty options then finding_unless_empty (empty_at (data_section db) offset) offset else Some (Found offset)
 finding_of_outcome db options NoData = if includes_without_data options then Some Absent else None
-finding_of_outcome db options Refused = Some Fault
+finding_of_outcome db options Failed = Some Fault
 
 -- what a leaf is listed with that leads to this number, if it is listed
 unfoldable pub finding_at : Database → WithinOptions → ℕ → Option Finding

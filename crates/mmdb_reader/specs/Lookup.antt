@@ -24,18 +24,18 @@ CanAsk db (V6 a) = db.metadata.ip_version ≡ 6
 pub data Outcome : Type 0 where
   Offset : ℕ → Outcome
   NoData : Outcome
-  Refused : Outcome
+  Failed : Outcome
 
 -- What a number of the tree stands for, where a walk ended on it. The number of nodes is no data, and so
 -- is a node, on which the walk of a full address may still stand. A number above leads past the nodes and
--- the separator into the data section, or is refused.
+-- the separator into the data section, or is invalid.
 unfoldable pub outcome_of : Database → ℕ → Outcome
 outcome_of db number =
     if nat_le number db.metadata.node_count
     then NoData
     else (if nat_le (db.metadata.node_count + separator) number && nat_lt (number - db.metadata.node_count - separator) (data_length db)
     then Offset (number - db.metadata.node_count - separator)
-    else Refused)
+    else Failed)
 
 -- The database may be asked for the address, the leaf is the one on its bits, and it has that outcome.
 pub record Answers (db : Database) (address : IpAddr) (leaf : List Bool) (outcome : Outcome) : Type 0 where
@@ -52,8 +52,8 @@ pub record IsLeafAt (db : Database) (address : IpAddr) (leaf : List Bool) (numbe
   pub reached : walk (tree_of db) leaf ≡ number
 
 -- the leaf on the address's bits has a number that is no place of the data section
-abbrev pub IsRefusedAt : Database → IpAddr → Type 0
-IsRefusedAt db address = (leaf : List Bool) × Answers db address leaf Refused
+abbrev pub IsInvalidAt : Database → IpAddr → Type 0
+IsInvalidAt db address = (leaf : List Bool) × Answers db address leaf Failed
 
 -- the outcome that an optional offset stands for
 abbrev pub outcome_at : Option ℕ → Outcome

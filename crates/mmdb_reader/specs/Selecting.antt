@@ -1,7 +1,7 @@
 -- Where a path leads inside a record, and what is read there.
 use Rattle.std.specs.Prelude.{◌≡◌, ℕ, ◌-◌, ◌^◌, ◌==◌, ℤ, pos, negsuc, List, [], ◌∷◌, Option, Some, None, Bool, true, false, if◌then◌else◌, option_map}
 use Rattle.mmdb_decode.specs.Reading.{Meaning, given, followed, mapped}
-use Rattle.mmdb_decode.specs.Refusal.{answer}
+use Rattle.mmdb_decode.specs.Errors.{answer}
 use Rattle.mmdb_decode.specs.State.{State, begin, decoded}
 use Rattle.mmdb_decode.specs.Selecting.{at_key, at_element, from_front, from_end}
 use Rattle.mmdb_reader.specs.declared.path.PathElement.{PathElement}

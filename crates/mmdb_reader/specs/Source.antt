@@ -1,7 +1,7 @@
 -- Which files a reader opens, and what it then reads ("Overview" and "Database Metadata" of the MaxMind DB
 -- File Format Specification 2.0).
 use Rattle.std.specs.Prelude.{◌≡◌, ℕ, true, List, Option, Some}
-use Rattle.mmdb_decode.specs.Refusal.{answer}
+use Rattle.mmdb_decode.specs.Errors.{answer}
 use Rattle.mmdb_reader.specs.Metadata.{MetadataDatum}
 use Rattle.mmdb_reader.specs.MetadataShape.{metadata_at}
 use Rattle.mmdb_reader.specs.File.{Database, IsMarkerAt, IsLastMarker, IsSupported, HasRoom, metadata_section}

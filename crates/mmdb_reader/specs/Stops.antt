@@ -6,13 +6,13 @@ use Rattle.mmdb_reader.specs.declared.walked.End.TheVariants.{Alias, Fault, Abse
 use Rattle.mmdb_reader.specs.File.{Database, tree_of, width}
 use Rattle.mmdb_reader.specs.Tree.{walk}
 use Rattle.mmdb_reader.specs.Alias.{is_alias}
-use Rattle.mmdb_reader.specs.Lookup.{Outcome, Offset, NoData, Refused, outcome_of}
+use Rattle.mmdb_reader.specs.Lookup.{Outcome, Offset, NoData, Failed, outcome_of}
 
 -- what a leaf has: a value at an offset, no data, or a fault
 abbrev pub end_of_outcome : Outcome → End
 end_of_outcome (Offset offset) = Found offset
 end_of_outcome NoData = Absent
-end_of_outcome Refused = Fault
+end_of_outcome Failed = Fault
 
 -- The same of the number to which a leaf leads. A full address that still stands on a node is a fault.
 unfoldable pub end_of_leaf : Database → ℕ → End
@@ -108,6 +108,6 @@ pub record AreFirst (most : ℕ) (ms taken : List Stop) : Type 0 where
 abbrev pub most_stops : Database → ℕ
 most_stops db = 3 * db.metadata.node_count
 
--- What the walk costs: all stops, or those up to the one at which it is refused.
+-- What the walk costs: all stops, or those up to the one at which it fails.
 abbrev pub walk_cost : Database → ℕ
 walk_cost db = cost (cut (suc (most_stops db)) (stops db))

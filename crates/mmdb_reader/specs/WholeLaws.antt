@@ -9,7 +9,7 @@ use Rattle.mmdb_reader.specs.declared.walked.End.TheVariants.{Alias, Fault, Abse
 use Rattle.mmdb_reader.specs.File.{Database, tree_of, before_ipv4, data_section}
 use Rattle.mmdb_reader.specs.Tree.{walk}
 use Rattle.mmdb_reader.specs.Leaves.{IsLeaf}
-use Rattle.mmdb_reader.specs.Lookup.{CanAsk, Answers, Offset, IsRefusedAt}
+use Rattle.mmdb_reader.specs.Lookup.{CanAsk, Answers, Offset, IsInvalidAt}
 use Rattle.mmdb_reader.specs.Alias.{IsAlias}
 use Rattle.mmdb_reader.specs.Listing.{HasValueAt, IsFaulty, Ascends}
 use Rattle.mmdb_reader.specs.Options.{default_options}
@@ -55,7 +55,7 @@ OffsetsAreExact =
 
 -- Where no walked leaf is faulty, no lookup fails, behind aliases either.
 abbrev pub LookupsSucceed : Type 0
-LookupsSucceed = (db : Database) → HasNoFault db → (address : IpAddr) → CanAsk db address → ¬ IsRefusedAt db address
+LookupsSucceed = (db : Database) → HasNoFault db → (address : IpAddr) → CanAsk db address → ¬ IsInvalidAt db address
 
 -- Each offset that a lookup answers is then one of the stops.
 abbrev pub AnsweredOffsetsAreWalked : Type 0
@@ -64,7 +64,7 @@ AnsweredOffsetsAreWalked =
 
 -- each lookup succeeds, and a tree of valid texts, not too deep, unfolds at each offset that a lookup answers
 pub record AnswersAll (db : Database) : Type 0 where
-  pub lookups : (address : IpAddr) → CanAsk db address → ¬ IsRefusedAt db address
+  pub lookups : (address : IpAddr) → CanAsk db address → ¬ IsInvalidAt db address
   pub values : (address : IpAddr) (leaf : List Bool) (offset : ℕ) → Answers db address leaf (Offset offset) → (t : Tree) × IsGood (data_section db) offset t
 
 -- A whole file does so.

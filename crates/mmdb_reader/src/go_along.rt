@@ -2,7 +2,7 @@
 ghost use Rattle.std.specs.Prelude.{◌≡◌, ◌<◌, Bool, true, false, length, IfErr, IsSome};
 ghost use Rattle.mmdb_format.specs.Error.{IsOfOrMemory, OfDecoding, kind_of};
 ghost use Rattle.mmdb_decode.specs.State.{decoded, GivenUp};
-ghost use Rattle.mmdb_decode.specs.Refusal.{Takes, Kept};
+ghost use Rattle.mmdb_decode.specs.Errors.{Takes, Kept};
 ghost use Rattle.mmdb_reader.specs.Selecting.{at_step, selected};
 
 use crate::path::{PathElement, render_path};
@@ -14,9 +14,9 @@ use mmdb_format::kind::Kind;
 use mmdb_format::message::Message;
 use std::alloc::{AllocError, Global};
 
-/// Why a step of a path was refused, and how many steps came before it.
+/// Why a step of a path failed, and how many steps came before it.
 #[derive(Clone, Copy)]
-pub(crate) struct RefusedStep {
+pub(crate) struct RejectedStep {
     fault: DecodeErrorKind,
     before: usize,
 }
@@ -37,10 +37,10 @@ impl PathElement<'_> {
 
 /// Goes along a path, under a budget that has begun, and says whether it leads to an offset.
 #[inline(always)]
-pub(crate) fn go_along(d: &mut Decoder<'_>, path: &[PathElement<'_>]) -> Result<bool, RefusedStep>
+pub(crate) fn go_along(d: &mut Decoder<'_>, path: &[PathElement<'_>]) -> Result<bool, RejectedStep>
     requires { IsSome d.old.budget }
     ensures taken { Takes (λ b. b) (decoded false (selected path.now) d.old) d.old d.new result }
-    ensures step { IfErr result (λ refused. refused.before < length path.now) }
+    ensures step { IfErr result (λ rejected. rejected.before < length path.now) }
 {
     for before in 0..path.len() {
         match path[before].go(d) {
@@ -49,7 +49,7 @@ pub(crate) fn go_along(d: &mut Decoder<'_>, path: &[PathElement<'_>]) -> Result<
                 values_bounded(d);
                 return Ok(false);
             }
-            Err(fault) => return Err(RefusedStep { fault, before }),
+            Err(fault) => return Err(RejectedStep { fault, before }),
         }
     }
     values_bounded(d);
@@ -97,9 +97,9 @@ fn mismatch(alloc: Global, step: &PathElement<'_>, found: u16, offset: usize) ->
     }
 }
 
-impl RefusedStep {
+impl RejectedStep {
     /// The error of the step, with the path up to it. The decoder stands where it failed.
-    pub(crate) fn refusal(
+    pub(crate) fn to_error(
         self,
         alloc: Global,
         d: &mut Decoder<'_>,
@@ -117,7 +117,7 @@ impl RefusedStep {
                 Ok(()) => mismatch(alloc, &path[self.before], found, offset),
                 Err(error) => error,
             },
-            fault => fault.refusal(alloc, offset),
+            fault => fault.to_error(alloc, offset),
         };
         with_path(alloc, error, &path[..=self.before])
     }

@@ -1,6 +1,6 @@
 //! Laws of leaves, answers and paths, each the contract of a function that does nothing.
 ghost use Rattle.std.specs.Prelude.{◌↔◌, IsTrue};
-ghost use Rattle.mmdb_net.specs.Clones.{IsCloneSame, IsNeverRefused};
+ghost use Rattle.mmdb_net.specs.Clones.{IsCloneSame, NeverFails};
 ghost use Rattle.mmdb_format.specs.Equality.{IsEqualityOf};
 ghost use Rattle.mmdb_reader.specs.Source.{SourceDecides};
 ghost use Rattle.mmdb_reader.specs.Metadata.{metadata_datum};
@@ -135,6 +135,6 @@ pub fn steps_equal_where_same()
 pub fn step_clones_are_same()
     ensures options { IsCloneSame ⟦<WithinOptions as Clone>⟧.is_clone }
     ensures step { IsCloneSame ⟦<PathElement<'static> as Clone>⟧.is_clone }
-    ensures options_given { IsNeverRefused ⟦<WithinOptions as Clone>⟧.is_infallible }
-    ensures step_given { IsNeverRefused ⟦<PathElement<'static> as Clone>⟧.is_infallible }
+    ensures options_given { NeverFails ⟦<WithinOptions as Clone>⟧.is_infallible }
+    ensures step_given { NeverFails ⟦<PathElement<'static> as Clone>⟧.is_infallible }
 {}

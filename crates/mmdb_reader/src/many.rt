@@ -2,7 +2,7 @@
 ghost use Rattle.std.specs.Prelude.{◌≡◌, ℕ, ◌+◌, ◌<◌, ◌≤◌, ◌⊎◌, ◌↔◌, Bool, List, false, IfOk, IfErr, IfSome, MatchOption, get_or, length, slice_index, slice_index_or};
 ghost use Rattle.std.specs.Net.Addr.{is_ipv4};
 ghost use Rattle.std.specs.declared.net.ip_addr.IpAddr.{IpAddr as SpecIpAddr};
-ghost use Rattle.mmdb_format.specs.Error.{OfDatabase, OfInput, kind_of, IsRefusedAs};
+ghost use Rattle.mmdb_format.specs.Error.{OfDatabase, OfInput, kind_of, FailsAs};
 ghost use Rattle.mmdb_net.specs.Address.{bits_of_address};
 ghost use Rattle.mmdb_reader.specs.Many.{AreWordsOf, BeginsWith};
 
@@ -309,7 +309,7 @@ impl<S: AsSlice<u8> + Drop> Reader<S> {
     ghost use Rattle.mmdb_reader.specs.Found.{database_asked, leaf_of, offset_found, shown_as_ipv4};
     ghost use Rattle.mmdb_reader.specs.File.{tree_of};
     ghost use Rattle.mmdb_reader.specs.Descents.{Walks};
-    ghost use Rattle.mmdb_reader.specs.Lookup.{CanAsk, Answers, IsRefusedAt, IsLeafAt, outcome_at, block_at};
+    ghost use Rattle.mmdb_reader.specs.Lookup.{CanAsk, Answers, IsInvalidAt, IsLeafAt, outcome_at, block_at};
     ghost use Rattle.mmdb_reader.specs.Shown.{is_shown_as_ipv4};
     ghost use Rattle.mmdb_reader.specs.Many.{HasWalk, IsFoundFor, first_number};
 
@@ -373,8 +373,8 @@ impl<S: AsSlice<u8> + Drop> Reader<S> {
         ensures answered { IfOk result (λ r. Answers self.now address (leaf_of r) (outcome_at (offset_found r))) }
         ensures shown { IfOk result (λ r. shown_as_ipv4 r ≡ is_shown_as_ipv4 self.now address) }
         ensures database { IfOk result (λ r. database_asked r ≡ self.now) }
-        ensures of_input { IsRefusedAs OfInput result ↔ ¬ (CanAsk self.now address) }
-        ensures of_database { IsRefusedAs OfDatabase result ↔ IsRefusedAt self.now address }
+        ensures of_input { FailsAs OfInput result ↔ ¬ (CanAsk self.now address) }
+        ensures of_database { FailsAs OfDatabase result ↔ IsInvalidAt self.now address }
         ensures no_other { IfErr result (λ e. (kind_of e ≡ OfInput) ⊎ (kind_of e ≡ OfDatabase)) }
     {
         let Some(leaf) = self.leaf_found(address, leaf) else {

@@ -31,7 +31,7 @@ pub struct Metadata {
 }
 
 // An `InvalidDatabase` with this text, or `Memory`.
-fn refusal(alloc: Global, text: String) -> MaxMindDbError
+fn to_error(alloc: Global, text: String) -> MaxMindDbError
     ensures { IsOfOrMemory OfDatabase result }
 {
     match Message::of_text(alloc, text) {
@@ -51,7 +51,7 @@ fn too_late(alloc: Global, epoch: u64) -> MaxMindDbError
         "build_epoch - Unix timestamp is too large to represent as SystemTime: {epoch}"
     );
     match text {
-        Ok(text) => refusal(alloc, text),
+        Ok(text) => to_error(alloc, text),
         Err(_) => MaxMindDbError::Memory,
     }
 }
@@ -83,7 +83,7 @@ impl Metadata {
     /// When the database was built, in seconds since 1970 ("build_epoch").
     ///
     /// It succeeds for the metadata of every reader. A `build_epoch` above 2^63 - 1, which metadata made
-    /// by hand may have, is refused as `InvalidDatabase`, or as `Memory` where the text can't be made.
+    /// by hand may have, is rejected as `InvalidDatabase`, or as `Memory` where the text can't be made.
     pub fn build_time(&self, alloc: Global) -> Result<i64, MaxMindDbError>
         ensures time { IfOk result (λ seconds. seconds ≡ pos self.now.build_epoch) }
         ensures fits { IsOk result ↔ (self.now.build_epoch < 2 ^ 63) }
@@ -95,22 +95,22 @@ impl Metadata {
         }
     }
 
-    /// Refuses what a reader does not read, each field in turn.
+    /// Rejects what a reader does not read, each field in turn.
     pub(crate) fn check_supported(&self, alloc: Global) -> Result<(), MaxMindDbError>
         ensures supported { OnOk result (IsSupported (metadata_datum self.now)) }
-        ensures refused { IfErr result (λ e. MemoryApart e ((kind_of e ≡ OfDatabase) × ¬ IsSupported (metadata_datum self.now))) }
+        ensures rejected { IfErr result (λ e. MemoryApart e ((kind_of e ≡ OfDatabase) × ¬ IsSupported (metadata_datum self.now))) }
     {
         let format = self.binary_format_major_version;
         if format != 2 {
             let text = format!(in alloc;
                 "binary_format_major_version - Expected: 2 Actual: {format}"
             )?;
-            return Err(refusal(alloc, text));
+            return Err(to_error(alloc, text));
         }
         let ip = self.ip_version;
         if ip != 4 && ip != 6 {
             let text = format!(in alloc; "ip_version - Expected: 4 or 6 Actual: {ip}")?;
-            return Err(refusal(alloc, text));
+            return Err(to_error(alloc, text));
         }
         if self.node_count == 0 {
             return Err(MaxMindDbError::InvalidDatabase {
@@ -123,12 +123,12 @@ impl Metadata {
             let text = format!(in alloc;
                 "build_epoch - Unix timestamp is too large to represent as SystemTime: {epoch}"
             )?;
-            return Err(refusal(alloc, text));
+            return Err(to_error(alloc, text));
         }
         let size = self.record_size;
         if size != 24 && size != 28 && size != 32 {
             let text = format!(in alloc; "record_size - Expected: 24, 28, or 32 Actual: {size}")?;
-            return Err(refusal(alloc, text));
+            return Err(to_error(alloc, text));
         }
         Ok(())
     }

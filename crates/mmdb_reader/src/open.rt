@@ -1,7 +1,7 @@
 //! Readers from the bytes of a file.
 ghost use Rattle.std.specs.Prelude.{◌≡◌, ◌⊎◌, false, Some, IfOk, IfErr, IfSome};
 ghost use Rattle.mmdb_format.specs.Error.{OfIo, OfMemory, kind_of, MemoryApart};
-ghost use Rattle.mmdb_decode.specs.Refusal.{Refuses};
+ghost use Rattle.mmdb_decode.specs.Errors.{Fails};
 ghost use Rattle.mmdb_reader.specs.Metadata.{metadata_datum};
 ghost use Rattle.mmdb_reader.specs.Source.{metadata_read, IsDatabaseOf, IsNoDatabase};
 
@@ -22,7 +22,7 @@ use std::rt::Files;
 // What stands at the beginning of a metadata section, which begins at a place of its file.
 fn read_metadata(alloc: Global, section: &[u8], start: usize) -> DecodeResult<Metadata>
     ensures ok { IfOk result (λ m. metadata_read section.now ≡ Some (metadata_datum m)) }
-    ensures err { IfErr result (λ e. Refuses false e (metadata_read section.now)) }
+    ensures err { IfErr result (λ e. Fails false e (metadata_read section.now)) }
 {
     match fuzzing::decode::<Metadata>(alloc, section) {
         Ok(metadata) => Ok(metadata),
@@ -65,7 +65,7 @@ impl<S: AsSlice<u8> + Drop> Reader<S> {
     /// that reading any value gives.
     pub fn from_source(alloc: Global, buf: S) -> Result<Reader<S>, MaxMindDbError>
         ensures accepted { IfOk result (λ reader. IsDatabaseOf (S.items buf) reader) }
-        ensures refused { IfErr result (λ e. MemoryApart e (IsNoDatabase (S.items buf))) }
+        ensures rejected { IfErr result (λ e. MemoryApart e (IsNoDatabase (S.items buf))) }
     {
         let bytes = buf.as_slice();
         let Some(marker) = find_marker(bytes) else {

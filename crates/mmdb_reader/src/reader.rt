@@ -1,7 +1,7 @@
 //! Readers, and lookups of addresses.
 ghost use Rattle.std.specs.Prelude.{◌≡◌, ℕ, ◌+◌, ◌^◌, ◌<◌, ◌≤◌, ◌⊎◌, ◌↔◌, Bool, List, IfOk, IfErr, IfSome, OnOk, MatchOption, MatchResult, length, slice_index};
 ghost use Rattle.std.specs.Net.Addr.{is_ipv4};
-ghost use Rattle.mmdb_format.specs.Error.{OfDatabase, OfInput, kind_of, MemoryApart, IsRefusedAs};
+ghost use Rattle.mmdb_format.specs.Error.{OfDatabase, OfInput, kind_of, MemoryApart, FailsAs};
 ghost use Rattle.mmdb_net.specs.Address.{address_width};
 ghost use Rattle.mmdb_reader.specs.Metadata.{metadata_datum};
 ghost use Rattle.mmdb_reader.specs.File.{database, IsSupported, HasRoom, data_start, data_length, data_section, marker_bytes, metadata_section, separator, tree_len};
@@ -78,7 +78,7 @@ impl<S: AsSlice<u8> + Drop> Reader<S> {
     ghost use Rattle.mmdb_reader.specs.Found.{database_asked, leaf_of, offset_found, shown_as_ipv4};
     ghost use Rattle.mmdb_reader.specs.Counting.{CountsNodes};
     ghost use Rattle.mmdb_reader.specs.Kept.{IsReader};
-    ghost use Rattle.mmdb_reader.specs.Lookup.{CanAsk, Outcome, Answers, IsRefusedAt, IsLeafAt, Refused, outcome_of, outcome_at, block_at};
+    ghost use Rattle.mmdb_reader.specs.Lookup.{CanAsk, Outcome, Answers, IsInvalidAt, IsLeafAt, Failed, outcome_of, outcome_at, block_at};
     ghost use Rattle.mmdb_reader.specs.Shown.{is_shown_as_ipv4, has_ipv4_subtree, ipv4_start};
     ghost use Rattle.mmdb_reader.specs.Tree.{search_tree};
     ghost use Rattle.mmdb_reader.specs.File.{tree_of, width, data_section};
@@ -95,7 +95,7 @@ impl<S: AsSlice<u8> + Drop> Reader<S> {
         ensures reader { IfOk result (λ r. r ≡ database (S.items source) marker (metadata_datum metadata)) }
         ensures supported { OnOk result (IsSupported (metadata_datum metadata)) }
         ensures room { OnOk result (HasRoom (database (S.items source) marker (metadata_datum metadata))) }
-        ensures refused { let db = database (S.items source) marker (metadata_datum metadata) in IfErr result (λ e. MemoryApart e ((kind_of e ≡ OfDatabase) × ¬ (IsSupported db.metadata × HasRoom db))) }
+        ensures rejected { let db = database (S.items source) marker (metadata_datum metadata) in IfErr result (λ e. MemoryApart e ((kind_of e ≡ OfDatabase) × ¬ (IsSupported db.metadata × HasRoom db))) }
     {
         metadata.check_supported(alloc)?;
         let node_count = metadata.node_count as usize;
@@ -290,7 +290,7 @@ impl<S: AsSlice<u8> + Drop> Reader<S> {
     #[inline(always)]
     pub(crate) fn place_of(&self, number: usize) -> Option<Option<usize>>
         ensures { MatchOption result
-            (outcome_of self.now number ≡ Refused)
+            (outcome_of self.now number ≡ Failed)
             (λ offset. outcome_of self.now number ≡ outcome_at offset) }
     {
         let nodes = self.metadata.node_count as usize;
@@ -308,7 +308,7 @@ impl<S: AsSlice<u8> + Drop> Reader<S> {
     pub(crate) fn offset_at(&self, number: usize) -> Result<Option<usize>, MaxMindDbError>
         ensures { MatchResult result
             (λ offset. outcome_of self.now number ≡ outcome_at offset)
-            (λ e. (kind_of e ≡ OfDatabase) × (outcome_of self.now number ≡ Refused)) }
+            (λ e. (kind_of e ≡ OfDatabase) × (outcome_of self.now number ≡ Failed)) }
     {
         match self.place_of(number) {
             Some(offset) => Ok(offset),
@@ -333,8 +333,8 @@ impl<S: AsSlice<u8> + Drop> Reader<S> {
         ensures answered { IfOk result (λ r. Answers self.now address (leaf_of r) (outcome_at (offset_found r))) }
         ensures shown { IfOk result (λ r. shown_as_ipv4 r ≡ is_shown_as_ipv4 self.now address) }
         ensures database { IfOk result (λ r. database_asked r ≡ self.now) }
-        ensures of_input { IsRefusedAs OfInput result ↔ ¬ (CanAsk self.now address) }
-        ensures of_database { IsRefusedAs OfDatabase result ↔ IsRefusedAt self.now address }
+        ensures of_input { FailsAs OfInput result ↔ ¬ (CanAsk self.now address) }
+        ensures of_database { FailsAs OfDatabase result ↔ IsInvalidAt self.now address }
         ensures no_other { IfErr result (λ e. (kind_of e ≡ OfInput) ⊎ (kind_of e ≡ OfDatabase)) }
         ensures counted { (leaf : List Bool) (outcome : Outcome) → Answers self.now address leaf outcome → CountsNodes self.now address leaf steps.old steps.new }
         ensures not_counted { ¬ (CanAsk self.now address) → steps.new ≡ steps.old }
@@ -362,8 +362,8 @@ impl<S: AsSlice<u8> + Drop> Reader<S> {
         ensures answered { IfOk result (λ r. Answers self.now address (leaf_of r) (outcome_at (offset_found r))) }
         ensures shown { IfOk result (λ r. shown_as_ipv4 r ≡ is_shown_as_ipv4 self.now address) }
         ensures database { IfOk result (λ r. database_asked r ≡ self.now) }
-        ensures of_input { IsRefusedAs OfInput result ↔ ¬ (CanAsk self.now address) }
-        ensures of_database { IsRefusedAs OfDatabase result ↔ IsRefusedAt self.now address }
+        ensures of_input { FailsAs OfInput result ↔ ¬ (CanAsk self.now address) }
+        ensures of_database { FailsAs OfDatabase result ↔ IsInvalidAt self.now address }
         ensures no_other { IfErr result (λ e. (kind_of e ≡ OfInput) ⊎ (kind_of e ≡ OfDatabase)) }
     {
         self.lookup_counted(address, &mut Steps::new())

@@ -71,7 +71,7 @@ impl<S: AsSlice<u8> + Drop> Reader<S> {
         ensures err { IfErr result (λ e. MemoryApart e (¬ HasWholeTree self.now)) }
         ensures bound { steps.new ≤ steps.old + (6 * self.now.metadata.node_count + 130) }
         ensures counted { OnOk result ((steps.new ≡ steps.old + walk_cost self.now) × (steps.new + 1 ≡ steps.old + 2 * length (stops self.now))) }
-        ensures refused { IfErr result (λ e. MemoryApart e (steps.new ≡ steps.old + walk_cost self.now)) }
+        ensures rejected { IfErr result (λ e. MemoryApart e (steps.new ≡ steps.old + walk_cost self.now)) }
         ensures most { steps.new ≤ steps.old + walk_cost self.now }
     {
         let mut stack = Vec::with_capacity(alloc, usize::from(self.width()))?;
@@ -128,7 +128,7 @@ impl<S: AsSlice<u8> + Drop> Reader<S> {
     ///
     /// They are at most six for each node and 130 more: each node and each leaf on the way, and each alias, behind
     /// which it does not go. Where the metadata are whole, or `verify` succeeds, they are exactly those up to the
-    /// last leaf or alias, or up to the one at which it is refused. The tree is swept first, over at most three nodes
+    /// last leaf or alias, or up to the one at which it fails. The tree is swept first, over at most three nodes
     /// for each node: where the sweep finds a whole tree, its positions are those that are counted, and no walk comes
     /// after it. Of a tree that is rejected only the positions of the walk in order are counted; with those of the
     /// sweep at most twelve for each node and 130 are looked at.
@@ -136,10 +136,10 @@ impl<S: AsSlice<u8> + Drop> Reader<S> {
         requires { steps.old + (6 * self.now.metadata.node_count + 130) < 2 ^ 64 }
         ensures whole { OnOk result (IsWhole self.now) }
         ensures answers { OnOk result (AnswersAll self.now) }
-        ensures refused { IfErr result (λ e. MemoryApart e (¬ IsWhole self.now)) }
+        ensures rejected { IfErr result (λ e. MemoryApart e (¬ IsWhole self.now)) }
         ensures bound { steps.new ≤ steps.old + (6 * self.now.metadata.node_count + 130) }
         ensures counted { OnOk result ((steps.new ≡ steps.old + walk_cost self.now) × (steps.new + 1 ≡ steps.old + 2 * length (stops self.now))) }
-        ensures counted_refused { IfErr result (λ e. MemoryApart e (HasWholeMetadata self.now → steps.new ≡ steps.old + walk_cost self.now)) }
+        ensures counted_rejected { IfErr result (λ e. MemoryApart e (HasWholeMetadata self.now → steps.new ≡ steps.old + walk_cost self.now)) }
         ensures most { steps.new ≤ steps.old + walk_cost self.now }
     {
         self.verify_metadata(alloc)?;
@@ -155,11 +155,11 @@ impl<S: AsSlice<u8> + Drop> Reader<S> {
     /// too, and at each offset that it answers a finite tree of valid texts unfolds. Rejected are, as
     /// `InvalidDatabase`, metadata without a database type or a description, a tree with a leaf that leads nowhere
     /// or with more than three leaves and aliases for each node, a separator that is not zero, and the values that
-    /// `check_value` refuses so; as `ResourceLimit` values that cost more than `check_value` allows.
+    /// `check_value` rejects so; as `ResourceLimit` values that cost more than `check_value` allows.
     pub fn verify(&self, alloc: Global) -> Result<(), MaxMindDbError>
         ensures whole { OnOk result (IsWhole self.now) }
         ensures answers { OnOk result (AnswersAll self.now) }
-        ensures refused { IfErr result (λ e. MemoryApart e (¬ IsWhole self.now)) }
+        ensures rejected { IfErr result (λ e. MemoryApart e (¬ IsWhole self.now)) }
     {
         let mut steps = Steps::new();
         // So it is known that there are few enough nodes for the room that is asked for.

@@ -30,7 +30,7 @@ pub(crate) struct Point {
     pub(crate) high: bool,
 }
 
-/// How a walk ended: it has stopped everywhere, or is refused at a faulty leaf that leads to a number, or
+/// How a walk ended: it has stopped everywhere, or failed at a faulty leaf that leads to a number, or
 /// since it has stopped too often.
 #[derive(Clone, Copy)]
 pub(crate) enum WalkEnd {

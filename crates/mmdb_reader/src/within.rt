@@ -2,7 +2,7 @@
 ghost use Rattle.std.specs.Prelude.{◌≡◌, ◌+◌, ◌≤◌, ◌<◌, ◌⊎◌, ◌↔◌, [], ◌∷◌, ◌++◌, IfOk, IfErr, MatchOption, Some, option_map, take};
 ghost use Rattle.std.specs.Result.{result_ok};
 ghost use Rattle.std.specs.Vec.{vec_capacity};
-ghost use Rattle.mmdb_format.specs.Error.{OfDatabase, OfInput, OfMemory, kind_of, IsRefusedAs};
+ghost use Rattle.mmdb_format.specs.Error.{OfDatabase, OfInput, OfMemory, kind_of, FailsAs};
 ghost use Rattle.mmdb_net.specs.Bits.{bits_of, bit_of};
 ghost use Rattle.mmdb_net.specs.Network.{ip_of, prefix_of};
 ghost use Rattle.mmdb_reader.specs.File.{width};
@@ -212,7 +212,7 @@ impl<S: AsSlice<u8> + Drop> Reader<S> {
         ensures listed { IfOk result (λ w. items_to_come w ≡ items_of self.now (listed self.now options (block_in self.now network))) }
         ensures database { IfOk result (λ w. database_walked w ≡ self.now) }
         ensures reserved { IfOk result (λ w. positions_reserved w ≡ positions_for network) }
-        ensures of_input { IsRefusedAs OfInput result ↔ ¬ CanAsk self.now (ip_of network) }
+        ensures of_input { FailsAs OfInput result ↔ ¬ CanAsk self.now (ip_of network) }
         ensures no_other { IfErr result (λ e. (kind_of e ≡ OfInput) ⊎ (kind_of e ≡ OfMemory)) }
     {
         let Some(range) = self.range_of(network) else {

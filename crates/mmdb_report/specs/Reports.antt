@@ -1,4 +1,4 @@
--- What a report says of the list of a range, and what refuses one.
+-- What a report says of the list of a range, and what makes one fail.
 use Rattle.std.specs.Prelude.{◌≡◌, ◌⊎◌, ℕ, ◌<◌, ◌≤◌, List, length, Result, Ok, Err}
 use Rattle.mmdb_format.specs.Error.{OfInput, OfMemory, kind_of}
 use Rattle.mmdb_net.specs.declared.network.IpNetwork.{IpNetwork}
@@ -29,7 +29,7 @@ pub record HasTooMany (db : Database) (options : WithinOptions) (range : IpNetwo
   pub is_listing : IsListing db options (block_in db range) list
   pub exceeds : most_items < length list
 
--- what refuses a report: its range, memory, or too many items
+-- what makes a report fail: its range, memory, or too many items
 abbrev pub IsOfRange : {T : Type 0} → Result T ReportError → Type 0
 IsOfRange (Ok _) = ⊥
 IsOfRange (Err (database_error error)) = kind_of error ≡ OfInput

@@ -28,7 +28,7 @@ pub struct Report {
 /// Why there is no report.
 #[derive(Debug, Drop, Error)]
 pub enum ReportError {
-    /// The database refused, or there was no memory.
+    /// The database failed, or memory ran out.
     #[error("{0}")]
     Database(MaxMindDbError),
     /// There are more than 4,294,967,295 networks and faults.
@@ -50,8 +50,8 @@ impl From<MaxMindDbError> for ReportError {
 /// those without data, the faults, and the distinct offsets.
 ///
 /// Takes memory for the walk, and for each distinct offset. `Database` is `InvalidInput` exactly where
-/// `within` refuses the range so; else it is `Memory`. `TooMany` is answered where a 4,294,967,296th item
-/// comes, if no memory was refused before.
+/// `within` fails so; else it is `Memory`. `TooMany` is answered where a 4,294,967,296th item
+/// comes, if memory did not run out before.
 pub fn report_on<S: AsSlice<u8> + Drop>(
     alloc: Global,
     reader: &Reader<S>,

@@ -87,7 +87,7 @@ pub listing_of : (walked db : Database) (options : WithinOptions) (range : IpNet
 listing_of walked db options range list same is =
     let P : Database → Type 0 = λ d. IsListing d options (block_in db range) list in subst P same is
 
--- what holds of a refusal holds under a premise too
+-- what holds of an error holds under a premise too
 pub on_err_given : {T E : Type 0} (r : Result T E) (C P : Type 0) → P → OnErr r (C → P)
 on_err_given (Ok x) C P p = tt
 on_err_given (Err e) C P p = λ _. p

@@ -11,7 +11,7 @@ use Rattle.mmdb_reader.specs.declared.options.WithinOptions.{WithinOptions}
 use Rattle.mmdb_tool.specs.Lines.{lines_of}
 use Rattle.mmdb_tool.specs.Putting.{AppendsFront}
 use Rattle.mmdb_tool.specs.declared.sink.Fault.{Fault}
-use Rattle.mmdb_tool.specs.declared.sink.Fault.TheVariants.{Free, Refused, Stalled}
+use Rattle.mmdb_tool.specs.declared.sink.Fault.TheVariants.{Free, Failed, Stalled}
 use Rattle.mmdb_tool.specs.declared.list.ListError.{ListError}
 use Rattle.mmdb_tool.specs.declared.list.ListError.TheVariants.{Database as database_error, Write, Stopped}
 
@@ -27,7 +27,7 @@ pub record BeginsList (db : Database) (options : WithinOptions) (range : IpNetwo
   pub is_listing : IsListing db options (block_in db range) list
   pub written : AppendsFront old new (lines_of db (items_of db list))
 
--- what refuses a list: its range, memory, or the sink
+-- what makes a list fail: its range, memory, or the sink
 abbrev pub IsOfRange : {T : Type 0} → Result T ListError → Type 0
 IsOfRange (Ok _) = ⊥
 IsOfRange (Err (database_error error)) = kind_of error ≡ OfInput
@@ -45,5 +45,5 @@ NamesRangeOrMemory (Err Stopped) = Unit {0}
 abbrev pub TellsListFault : {T : Type 0} → Fault → Fault → Result T ListError → Type 0
 TellsListFault old new (Ok _) = old ≡ Free → new ≡ Free
 TellsListFault old new (Err (database_error _)) = old ≡ Free → new ≡ Free
-TellsListFault old new (Err (Write _)) = old ≡ Free → new ≡ Refused
+TellsListFault old new (Err (Write _)) = old ≡ Free → new ≡ Failed
 TellsListFault old new (Err Stopped) = old ≡ Free → new ≡ Stalled

@@ -2,7 +2,7 @@
 use Rattle.std.specs.Prelude.{◌≡◌, ℕ, List, ◌++◌, Option, Result, Ok, Err}
 use Rattle.std.specs.Io.KnownBytes.{Appends}
 use Rattle.mmdb_tool.specs.declared.sink.Fault.{Fault}
-use Rattle.mmdb_tool.specs.declared.sink.Fault.TheVariants.{Free, Refused, Stalled}
+use Rattle.mmdb_tool.specs.declared.sink.Fault.TheVariants.{Free, Failed, Stalled}
 use Rattle.mmdb_tool.specs.declared.sink.PutError.{PutError}
 use Rattle.mmdb_tool.specs.declared.sink.PutError.TheVariants.{Write, Stopped}
 
@@ -22,5 +22,5 @@ pub record PutsFront (old new : Option (List ℕ)) (text left : List ℕ) : Type
 -- a sink that came without a fault has the one that the answer names
 abbrev pub TellsFault : {T : Type 0} → Fault → Fault → Result T PutError → Type 0
 TellsFault old new (Ok _) = old ≡ Free → new ≡ Free
-TellsFault old new (Err (Write _)) = old ≡ Free → new ≡ Refused
+TellsFault old new (Err (Write _)) = old ≡ Free → new ≡ Failed
 TellsFault old new (Err Stopped) = old ≡ Free → new ≡ Stalled

@@ -1,5 +1,5 @@
 //! Laws of lines and sinks, each the contract of a function that does nothing.
-ghost use Rattle.mmdb_net.specs.Clones.{IsCloneSame, IsNeverRefused};
+ghost use Rattle.mmdb_net.specs.Clones.{IsCloneSame, NeverFails};
 ghost use Rattle.mmdb_format.specs.Equality.{IsEqualityOf};
 ghost use Rattle.mmdb_tool.specs.Lines.{LeafTextsShowNetworks};
 
@@ -18,5 +18,5 @@ pub fn faults_equal_where_same()
 /// A clone of a sink's fault is its source, and never fails.
 pub fn fault_clones_are_same()
     ensures same { IsCloneSame ⟦<Fault as Clone>⟧.is_clone }
-    ensures given { IsNeverRefused ⟦<Fault as Clone>⟧.is_infallible }
+    ensures given { NeverFails ⟦<Fault as Clone>⟧.is_infallible }
 {}

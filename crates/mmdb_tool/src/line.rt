@@ -1,7 +1,7 @@
 //! The lines of networks.
 ghost use Rattle.std.specs.Prelude.{◌≡◌, ◌⊎◌, ◌↔◌, ◌++◌, Some, IfOk, IfErr, OnOk, string_bytes};
-ghost use Rattle.mmdb_format.specs.Error.{OfInput, OfDatabase, OfMemory, kind_of, IsRefusedAs};
-ghost use Rattle.mmdb_reader.specs.Lookup.{CanAsk, IsRefusedAt};
+ghost use Rattle.mmdb_format.specs.Error.{OfInput, OfDatabase, OfMemory, kind_of, FailsAs};
+ghost use Rattle.mmdb_reader.specs.Lookup.{CanAsk, IsInvalidAt};
 ghost use Rattle.mmdb_reader.specs.File.{Database};
 ghost use Rattle.mmdb_reader.specs.Items.{item_view, IsItemOf};
 ghost use Rattle.mmdb_tool.specs.Lines.{network_line, line_of, IsLookupLine};
@@ -36,8 +36,8 @@ pub fn lookup_line<S: AsSlice<u8> + Drop>(
     address: IpAddr,
 ) -> Result<String, MaxMindDbError>
     ensures line { IfOk result (λ text. IsLookupLine reader.now address (string_bytes text)) }
-    ensures of_input { IsRefusedAs OfInput result ↔ ¬ (CanAsk reader.now address) }
-    ensures of_database { IsRefusedAs OfDatabase result ↔ IsRefusedAt reader.now address }
+    ensures of_input { FailsAs OfInput result ↔ ¬ (CanAsk reader.now address) }
+    ensures of_database { FailsAs OfDatabase result ↔ IsInvalidAt reader.now address }
     ensures no_other { IfErr result (λ e. (kind_of e ≡ OfInput) ⊎ ((kind_of e ≡ OfDatabase) ⊎ (kind_of e ≡ OfMemory))) }
 {
     let found = reader.lookup(address)?;

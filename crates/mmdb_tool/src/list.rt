@@ -22,10 +22,10 @@ const ROOM: usize = 1 << 16;
 /// Why the lines of a database were not written whole.
 #[derive(Debug, Drop, Error)]
 pub enum ListError {
-    /// The database refused, or there was no memory.
+    /// The database failed, or memory ran out.
     #[error("{0}")]
     Database(MaxMindDbError),
-    /// The sink refused a put.
+    /// The sink failed at a put.
     #[error("write error: {0}")]
     Write(io::Error),
     /// The sink took no byte of some.
@@ -84,9 +84,9 @@ fn make_room<W: Sink>(sink: &mut W, lines: &mut Vec<u8>) -> Result<(), PutError>
 
 /// Writes a line for each network of a range that `within` hands out, and `fault` for an error item.
 ///
-/// `Database` is `InvalidInput` exactly where `within` refuses the range so, and then nothing is written;
-/// else it is `Memory`. `Write` is a put that the sink refused, an interrupted one too, and `Stopped` one
-/// that took no byte. On any refusal what was written is a beginning of the text.
+/// `Database` is `InvalidInput` exactly where `within` fails so, and then nothing is written;
+/// else it is `Memory`. `Write` is a put at which the sink failed, an interrupted one too, and `Stopped` one
+/// that took no byte. On any error what was written is a beginning of the text.
 pub fn list_to<S: AsSlice<u8> + Drop, W: Sink>(
     alloc: Global,
     reader: &Reader<S>,

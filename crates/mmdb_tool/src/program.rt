@@ -14,7 +14,7 @@ use std::rt::Files;
 use thiserror::Error;
 
 /// The status of an error.
-const REFUSED: u8 = 1;
+const REJECTED: u8 = 1;
 
 /// The status of arguments that are no command.
 const BAD_WORDS: u8 = 2;
@@ -27,8 +27,8 @@ const NO_MEMORY: &str = "out of memory\n";
 
 /// Why a command was not done.
 #[derive(Debug, Drop, Error)]
-enum Refusal {
-    /// The database refused, or there was no memory.
+enum RunError {
+    /// The database failed, or memory ran out.
     #[error("{0}")]
     Database(#[from] MaxMindDbError),
     /// A list was not written whole, or another text.
@@ -45,7 +45,7 @@ fn put_text<O: Sink>(out: &mut O, text: &str) -> Result<(), ListError> {
 }
 
 // The status of what was done. The text of an error goes to `err`, whose own faults change nothing.
-fn status_of<E: Sink>(alloc: Global, done: Result<(), Refusal>, err: &mut E) -> u8
+fn status_of<E: Sink>(alloc: Global, done: Result<(), RunError>, err: &mut E) -> u8
     ensures { result ≤ 1 }
 {
     let Err(error) = done else {
@@ -56,7 +56,7 @@ fn status_of<E: Sink>(alloc: Global, done: Result<(), Refusal>, err: &mut E) -> 
         Ok(text) => put_all(err, text.as_bytes()),
         Err(_) => put_all(err, NO_MEMORY.as_bytes()),
     };
-    REFUSED
+    REJECTED
 }
 
 // The command that the arguments give, or the status where they give none: without arguments the usage line
@@ -70,7 +70,7 @@ fn command_or_status<'a, O: Sink, E: Sink>(
     ensures { IfErr result (λ status. status ≤ 2) }
 {
     if words.is_empty() {
-        let done = put_text(out, USAGE).map_err(Refusal::from);
+        let done = put_text(out, USAGE).map_err(RunError::from);
         return Err(status_of(alloc, done, err));
     }
     match command_of(words) {
@@ -88,7 +88,7 @@ fn answer<S: AsSlice<u8> + Drop, O: Sink>(
     opened: Result<Reader<S>, MaxMindDbError>,
     command: Command<'_>,
     out: &mut O,
-) -> Result<(), Refusal> {
+) -> Result<(), RunError> {
     let reader = opened?;
     match command {
         Command::Lookup { file: _, address } => {

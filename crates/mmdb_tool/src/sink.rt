@@ -14,8 +14,8 @@ use std::io::{self, Write};
 pub enum Fault {
     /// None.
     Free,
-    /// A put was refused.
-    Refused,
+    /// A put failed.
+    Failed,
     /// A put of at least one byte took none.
     Stalled,
 }
@@ -29,7 +29,7 @@ pub trait Sink {
     ghost fault: { Self → Fault };
 
     /// Takes the first bytes, and answers how many; an `Err` took none. It is handed no allocator: a
-    /// growth that is refused inside is an `Err`.
+    /// growth that fails inside is an `Err`.
     fn put(&mut self, bytes: &[u8]) -> io::Result<usize>
         ensures bound { WritesAtMost result bytes.now }
         ensures bytes { WriteAppends (held self.old) (held self.new) result bytes.now }
@@ -73,7 +73,7 @@ impl<W: Write + Drop> Sink for Out<W> {
     fn put(&mut self, bytes: &[u8]) -> io::Result<usize> {
         let taken = self.inner.write(bytes);
         match (self.fault, &taken) {
-            (Fault::Free, Err(_)) => self.fault = Fault::Refused,
+            (Fault::Free, Err(_)) => self.fault = Fault::Failed,
             (Fault::Free, Ok(0)) if !bytes.is_empty() => self.fault = Fault::Stalled,
             _ => {}
         }

@@ -5,7 +5,7 @@ use Rattle.mmdb_decode.specs.Arrays.{elements}
 use Rattle.mmdb_decode.specs.Levels.{entered_pointer, entered_parts, content_of}
 use Rattle.mmdb_decode.specs.Maps.{raw_key_at}
 use Rattle.mmdb_decode.specs.Reading.{Meaning, mapped, checked}
-use Rattle.mmdb_decode.specs.Refusal.{Kept, Refuses}
+use Rattle.mmdb_decode.specs.Errors.{Kept, Fails}
 use Rattle.mmdb_decode.specs.State.{State, spent_of, decoded, Within, NoneBack, GivenUp}
 use Rattle.mmdb_format.specs.Contents.{Scalar}
 use Rattle.mmdb_format.specs.Header.{◌>>=◌, header_at}
@@ -16,19 +16,19 @@ use Rattle.mmdb_decode.specs.declared.budget.Charges.{Charges}
 use Rattle.mmdb_format.specs.declared.header.Header.{Header}
 use Rattle.mmdb_format.specs.declared.header.Pointer.{Pointer}
 use Rattle.mmdb_format.specs.declared.error.MaxMindDbError.{MaxMindDbError}
-use Rattle.mmdb_decode.proofs.StepLaws.{state, none_back, refuses, refuses_more, back_trans, some_back, kept_trans, kept_decoded}
+use Rattle.mmdb_decode.proofs.StepLaws.{state, none_back, fails, fails_more, back_trans, some_back, kept_trans, kept_decoded}
 use Rattle.mmdb_decode.proofs.ReadingLaws.{seen, decoded-followed, decoded-mapped}
 use Rattle.mmdb_value.proofs.AnyLaws.{any_pointer, any_array, any_table, within_spent, decoded-checked}
 
--- a refusal here, and one further down
-pub not_here : {A : Type 0} (σ : State) (e : MaxMindDbError) (read : Option A) → read ≡ None → GivenUp σ σ × Refuses false e read
-not_here σ e read h = (record { section = refl; charges = none_back σ.budget }, refuses false e read h)
+-- an error here, and one further down
+pub not_here : {A : Type 0} (σ : State) (e : MaxMindDbError) (read : Option A) → read ≡ None → GivenUp σ σ × Fails false e read
+not_here σ e read h = (record { section = refl; charges = none_back σ.budget }, fails false e read h)
 
 pub given_up_after : (ρ σ τ : State) → GivenUp ρ σ → GivenUp σ τ → GivenUp ρ τ
 given_up_after ρ σ τ h k = record { section = k.section ∙ h.section; charges = back_trans ρ.budget σ.budget τ.budget h.charges k.charges }
 
-pub not_below : {A B : Type 0} (σ τ ρ : State) (e : MaxMindDbError) (r : Option A) (q : Option B) → GivenUp σ τ → (r ≡ None → q ≡ None) → GivenUp τ ρ × Refuses false e r → GivenUp σ ρ × Refuses false e q
-not_below σ τ ρ e r q g k h = (given_up_after σ τ ρ g h.0, refuses_more false e r q k h.1)
+pub not_below : {A B : Type 0} (σ τ ρ : State) (e : MaxMindDbError) (r : Option A) (q : Option B) → GivenUp σ τ → (r ≡ None → q ≡ None) → GivenUp τ ρ × Fails false e r → GivenUp σ ρ × Fails false e q
+not_below σ τ ρ e r q g k h = (given_up_after σ τ ρ g h.0, fails_more false e r q k h.1)
 
 pub same_given_up : (σ τ : State) → Kept σ τ → GivenUp σ τ
 same_given_up σ τ h = record { section = h.section; charges = h.charges }

@@ -46,11 +46,11 @@ abbrev Decided : Type 0
 Decided = Known same raw_tree
 
 -- one level of such values, as values
-abbrev told : RawValue-F Decided → RawValue-F RawValue
-told = map-RawValue Decided RawValue (λ e. e.0)
+abbrev values : RawValue-F Decided → RawValue-F RawValue
+values = map-RawValue Decided RawValue (λ e. e.0)
 
 -- one level, where the test decides the values inside
-layers : (x : RawValue-F Decided) (y : RawValue-F RawValue) → Decides (layer (told x) y) (seen (told x) ≡ seen y)
+layers : (x : RawValue-F Decided) (y : RawValue-F RawValue) → Decides (layer (values x) y) (seen (values x) ≡ seen y)
 layers (RawValue-F.String x) (RawValue-F.String y) = texts (λ t. scalar (text t)) (λ x y e. cc) x.now y.now
 layers (RawValue-F.Bytes x) (RawValue-F.Bytes y) = texts (λ t. scalar (bytes t)) (λ x y e. cc) x.now y.now
 layers (RawValue-F.Bool x) (RawValue-F.Bool y) = let h = booleans_Decides x y in (λ e. let p = h.0 e in cc, λ e. h.1 (cc))
@@ -66,10 +66,10 @@ layers (RawValue-F.Map x) (RawValue-F.Map y) = let h = tables same raw_tree x.it
 layers _ _ = apart _ _ _ refl refl
 
 -- so of a value made of them
-made : (x : RawValue-F Decided) → IsDecided same raw_tree (roll-RawValue (told x))
+made : (x : RawValue-F Decided) → IsDecided same raw_tree (roll-RawValue (values x))
 made x b =
-    let test : same (roll-RawValue (told x)) b ≡ layer (told x) (out-RawValue b) = same_is (roll-RawValue (told x)) b ∙ ap (λ y. layer y (out-RawValue b)) (out-roll-RawValue (told x)) in
-    let left : raw_tree (roll-RawValue (told x)) ≡ seen (told x) = fold-roll-RawValue Tree tree_step (told x) in
+    let test : same (roll-RawValue (values x)) b ≡ layer (values x) (out-RawValue b) = same_is (roll-RawValue (values x)) b ∙ ap (λ y. layer y (out-RawValue b)) (out-roll-RawValue (values x)) in
+    let left : raw_tree (roll-RawValue (values x)) ≡ seen (values x) = fold-roll-RawValue Tree tree_step (values x) in
     let right : raw_tree b ≡ seen (out-RawValue b) = fold_out-RawValue Tree tree_step b in
     let h = layers x (out-RawValue b) in
     (λ e. left ∙ h.0 (sym test ∙ e) ∙ sym right, λ e. test ∙ h.1 (sym left ∙ e ∙ right))

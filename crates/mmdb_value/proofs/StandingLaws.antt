@@ -5,7 +5,7 @@ use Rattle.mmdb_format.specs.declared.error.MaxMindDbError.{MaxMindDbError}
 use Rattle.mmdb_format.specs.declared.error.MaxMindDbError.TheVariants.{InvalidDatabase, Io, Decoding, ResourceLimit, InvalidNetwork, InvalidInput, Memory}
 use Rattle.std.proofs.Common.{◌≡◌, Result, Ok, Err, ℕ, suc, ◌-◌, ◌≤◌, List, Option, Some, None, Bool, true, false, refl, sym, ap, ◌∙◌, arith}
 use Rattle.mmdb_decode.specs.Reading.{Reading}
-use Rattle.mmdb_decode.specs.Refusal.{answer, Refuses}
+use Rattle.mmdb_decode.specs.Errors.{answer, Fails}
 use Rattle.mmdb_format.specs.Pointer.{most_levels}
 use Rattle.mmdb_format.specs.Unfolding.{Tree, value_count, payload}
 use Rattle.mmdb_value.specs.AnyValue.{value_at}
@@ -58,15 +58,15 @@ one_value_stands tested s p d v w q r c e b f l h k =
     let same : at v q c b ≡ at w r e f = cc in
     (ap (λ (x : Reading Tree). x.value) same, ap (λ (x : Reading Tree). x.next) same, ap (λ (x : Reading Tree). x.values) same, ap (λ (x : Reading Tree). x.bytes) same)
 
--- a refusal that is not for memory
-refused : {A : Type 0} (e : MaxMindDbError) (read : Option A) (P : Type 0) → (read ≡ None → P) → Refuses false e read → MemoryApart e P
-refused Memory read P k h = tt
-refused (InvalidDatabase m o) read P k h = k h
-refused (Io e) read P k h = k h
-refused (Decoding m o p) read P k h = k h
-refused (ResourceLimit m o p) read P k h = k h
-refused (InvalidNetwork m) read P k h = k h
-refused (InvalidInput m) read P k h = k h
+-- an error that is not for memory
+rejected : {A : Type 0} (e : MaxMindDbError) (read : Option A) (P : Type 0) → (read ≡ None → P) → Fails false e read → MemoryApart e P
+rejected Memory read P k h = tt
+rejected (InvalidDatabase m o) read P k h = k h
+rejected (Io e) read P k h = k h
+rejected (Decoding m o p) read P k h = k h
+rejected (ResourceLimit m o p) read P k h = k h
+rejected (InvalidNetwork m) read P k h = k h
+rejected (InvalidInput m) read P k h = k h
 
 nothing_whole : (tested : Bool) (s : List ℕ) → answer true (value_at tested) s 0 ≡ None → (v : Tree) → WholeValue tested s 0 v → ⊥
 nothing_whole tested s none v w = let some = whole_answer tested s 0 v w in absurd (cc)
@@ -75,6 +75,6 @@ pub decoded_whole : {X : Type 0} (tested : Bool) (view : X → Tree) (s : List �
 decoded_whole tested view s (Ok v) h = answer_whole tested s 0 (view v) (h refl)
 decoded_whole tested view s (Err e) h = tt
 
-pub refused_whole : {X : Type 0} (tested : Bool) (s : List ℕ) (r : Result X MaxMindDbError) → IfErr r (λ e. true ≡ true → Refuses false e (answer true (value_at tested) s 0)) → IfErr r (λ e. MemoryApart e ((v : Tree) → WholeValue tested s 0 v → ⊥))
-refused_whole tested s (Ok v) h = tt
-refused_whole tested s (Err e) h = refused e (answer true (value_at tested) s 0) ((v : Tree) → WholeValue tested s 0 v → ⊥) (nothing_whole tested s) (h refl)
+pub rejected_whole : {X : Type 0} (tested : Bool) (s : List ℕ) (r : Result X MaxMindDbError) → IfErr r (λ e. true ≡ true → Fails false e (answer true (value_at tested) s 0)) → IfErr r (λ e. MemoryApart e ((v : Tree) → WholeValue tested s 0 v → ⊥))
+rejected_whole tested s (Ok v) h = tt
+rejected_whole tested s (Err e) h = rejected e (answer true (value_at tested) s 0) ((v : Tree) → WholeValue tested s 0 v → ⊥) (nothing_whole tested s) (h refl)

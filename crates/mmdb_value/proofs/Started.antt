@@ -4,9 +4,9 @@ use Rattle.std.specs.Result.{OnOk, OnErr, IfOk, IfErr}
 use Rattle.mmdb_decode.specs.declared.budget.Charges.{Charges}
 use Rattle.mmdb_format.specs.declared.error.MaxMindDbError.{MaxMindDbError}
 use Rattle.mmdb_decode.specs.Reading.{Meaning}
-use Rattle.mmdb_decode.specs.Refusal.{Kept, Refuses, Reads}
+use Rattle.mmdb_decode.specs.Errors.{Kept, Fails, Reads}
 use Rattle.mmdb_decode.specs.State.{State, begun, decoded, NoneBack, GivenUp}
-use Rattle.mmdb_decode.proofs.StepLaws.{refuses_more, back_trans, kept_decoded}
+use Rattle.mmdb_decode.proofs.StepLaws.{fails_more, back_trans, kept_decoded}
 
 abbrev pub started : State → State
 started σ = record σ { budget = begun true σ.budget }
@@ -27,9 +27,9 @@ pub started_kept : {X A : Type 0} (view : X → A) (free : Bool) (read : Meaning
 started_kept view free read σ ρ τ (Ok v) e h = kept_decoded true read σ τ (view v) (decoded-started read σ ∙ ap (decoded false read) (sym e) ∙ h)
 started_kept view free read σ ρ τ (Err x) e h = tt
 
-pub started_err : {X A : Type 0} (view : X → A) (free exact : Bool) (read : Meaning A) (σ ρ τ : State) (r : Result X MaxMindDbError) → ρ ≡ started σ → Reads view free (decoded false read ρ) ρ τ r → IfErr r (λ x. exact ≡ true → Refuses free x (decoded true read σ))
+pub started_err : {X A : Type 0} (view : X → A) (free exact : Bool) (read : Meaning A) (σ ρ τ : State) (r : Result X MaxMindDbError) → ρ ≡ started σ → Reads view free (decoded false read ρ) ρ τ r → IfErr r (λ x. exact ≡ true → Fails free x (decoded true read σ))
 started_err view free exact read σ ρ τ (Ok v) e h = tt
-started_err view free exact read σ ρ τ (Err x) e h = λ y. refuses_more free x (decoded false read ρ) (decoded true read σ) (λ n. decoded-started read σ ∙ ap (decoded false read) (sym e) ∙ n) h.1
+started_err view free exact read σ ρ τ (Err x) e h = λ y. fails_more free x (decoded false read ρ) (decoded true read σ) (λ n. decoded-started read σ ∙ ap (decoded false read) (sym e) ∙ n) h.1
 
 pub started_given_up : {X A : Type 0} (view : X → A) (free : Bool) (read : Meaning A) (σ ρ τ : State) (r : Result X MaxMindDbError) → ρ ≡ started σ → Reads view free (decoded false read ρ) ρ τ r → OnErr r (GivenUp σ τ)
 started_given_up view free read σ ρ τ (Ok v) e h = tt

@@ -46,11 +46,11 @@ abbrev Decided : Type 0
 Decided = Known same value_tree
 
 -- one level of such values, as values
-abbrev told : Value-F Decided → Value-F Value
-told = map-Value Decided Value (λ e. e.0)
+abbrev values : Value-F Decided → Value-F Value
+values = map-Value Decided Value (λ e. e.0)
 
 -- one level, where the test decides the values inside
-layers : (x : Value-F Decided) (y : Value-F Value) → Decides (layer (told x) y) (seen (told x) ≡ seen y)
+layers : (x : Value-F Decided) (y : Value-F Value) → Decides (layer (values x) y) (seen (values x) ≡ seen y)
 layers (Value-F.String x) (Value-F.String y) = texts (λ t. scalar (text t)) (λ x y e. cc) x.now y.now
 layers (Value-F.Bytes x) (Value-F.Bytes y) = texts (λ t. scalar (bytes t)) (λ x y e. cc) x.now y.now
 layers (Value-F.Bool x) (Value-F.Bool y) = let h = booleans_Decides x y in (λ e. let p = h.0 e in cc, λ e. h.1 (cc))
@@ -66,10 +66,10 @@ layers (Value-F.Map x) (Value-F.Map y) = let h = tables same value_tree x.items 
 layers _ _ = apart _ _ _ refl refl
 
 -- so of a value made of them
-made : (x : Value-F Decided) → IsDecided same value_tree (roll-Value (told x))
+made : (x : Value-F Decided) → IsDecided same value_tree (roll-Value (values x))
 made x b =
-    let test : same (roll-Value (told x)) b ≡ layer (told x) (out-Value b) = same_is (roll-Value (told x)) b ∙ ap (λ y. layer y (out-Value b)) (out-roll-Value (told x)) in
-    let left : value_tree (roll-Value (told x)) ≡ seen (told x) = fold-roll-Value Tree tree_step (told x) in
+    let test : same (roll-Value (values x)) b ≡ layer (values x) (out-Value b) = same_is (roll-Value (values x)) b ∙ ap (λ y. layer y (out-Value b)) (out-roll-Value (values x)) in
+    let left : value_tree (roll-Value (values x)) ≡ seen (values x) = fold-roll-Value Tree tree_step (values x) in
     let right : value_tree b ≡ seen (out-Value b) = fold_out-Value Tree tree_step b in
     let h = layers x (out-Value b) in
     (λ e. left ∙ h.0 (sym test ∙ e) ∙ sym right, λ e. test ∙ h.1 (sym left ∙ e ∙ right))

@@ -1,6 +1,6 @@
 pub use Rattle.mmdb_decode.specs.Reading
 pub use Rattle.mmdb_decode.specs.State
-pub use Rattle.mmdb_decode.specs.Refusal
+pub use Rattle.mmdb_decode.specs.Errors
 pub use Rattle.mmdb_decode.specs.Scalars
 pub use Rattle.mmdb_decode.specs.SmallNumbers
 pub use Rattle.mmdb_decode.specs.Peeking

@@ -3,7 +3,7 @@ use Rattle.std.specs.Prelude.{◌≡◌, ◌↔◌, ℕ, suc, ◌+◌, ◌≤◌
 use Rattle.mmdb_format.specs.Pointer.{most_levels}
 use Rattle.mmdb_format.specs.Unfolding.{Tree, Unfolds, levels_without_key_pointers, value_count, payload, has_texts, is_keyed, without_pointers}
 use Rattle.mmdb_decode.specs.State.{most_values, most_bytes}
-use Rattle.mmdb_decode.specs.Refusal.{answer}
+use Rattle.mmdb_decode.specs.Errors.{answer}
 use Rattle.mmdb_value.specs.AnyValue.{value_at}
 
 -- below d levels: the tree unfolds, its keys are texts, its texts are UTF-8 if they are tested

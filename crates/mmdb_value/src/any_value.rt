@@ -4,7 +4,7 @@ ghost use Rattle.std.specs.Result.{result_ok};
 ghost use Rattle.mmdb_format.specs.Unfolding.{Tree, scalar as scalar_tree};
 ghost use Rattle.mmdb_format.specs.Views.{content_view};
 ghost use Rattle.mmdb_decode.specs.State.{decoded};
-ghost use Rattle.mmdb_decode.specs.Refusal.{Reads};
+ghost use Rattle.mmdb_decode.specs.Errors.{Reads};
 ghost use Rattle.mmdb_value.specs.AnyValue.{value_at, key_at as spec_key_at, scalar_of, if_scalar_text, array_of, table_of};
 ghost use Rattle.mmdb_value.specs.Values.{value_tree};
 
@@ -67,7 +67,7 @@ fn scalar_at<'de>(alloc: Global, d: &mut Decoder<'de>, header: Header) -> Decode
     let content = d.read_content(alloc, header)?;
     match of_content(content) {
         Ok(value) => Ok(value),
-        Err(fault) => Err(fault.refusal(alloc, d.offset())),
+        Err(fault) => Err(fault.to_error(alloc, d.offset())),
     }
 }
 
@@ -78,7 +78,7 @@ fn key_at<'de>(alloc: Global, d: &mut Decoder<'de>) -> DecodeResult<&'de str>
     let bytes = d.read_key(alloc)?;
     match text_of(bytes) {
         Ok(text) => Ok(text),
-        Err(fault) => Err(fault.refusal(alloc, d.offset())),
+        Err(fault) => Err(fault.to_error(alloc, d.offset())),
     }
 }
 
@@ -91,7 +91,7 @@ impl<'de> Source<Tested> for Decoder<'de> {
 
     ghost tree = { value_tree };
 
-    ghost told = { λ x. x.now };
+    ghost text_bytes = { λ x. x.now };
 
     fn scalar(&mut self, alloc: Global, header: Header) -> DecodeResult<Value<'de>> {
         scalar_at(alloc, self, header)

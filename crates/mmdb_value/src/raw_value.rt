@@ -3,7 +3,7 @@ ghost use Rattle.std.specs.Prelude.{◌≡◌, ◌<◌, ◌^◌, true, false, ma
 ghost use Rattle.mmdb_format.specs.Unfolding.{Tree, scalar as scalar_tree};
 ghost use Rattle.mmdb_format.specs.Views.{content_view};
 ghost use Rattle.mmdb_decode.specs.State.{decoded};
-ghost use Rattle.mmdb_decode.specs.Refusal.{Reads};
+ghost use Rattle.mmdb_decode.specs.Errors.{Reads};
 ghost use Rattle.mmdb_value.specs.AnyValue.{value_at, key_at as spec_key_at, scalar_of, array_of, table_of};
 ghost use Rattle.mmdb_value.specs.RawValues.{raw_tree};
 
@@ -83,7 +83,7 @@ impl<'de> Source<Untested> for Decoder<'de> {
 
     ghost tree = { raw_tree };
 
-    ghost told = { λ x. x.now };
+    ghost text_bytes = { λ x. x.now };
 
     fn scalar(&mut self, alloc: Global, header: Header) -> DecodeResult<RawValue<'de>> {
         scalar_at(alloc, self, header)

@@ -4,7 +4,7 @@ ghost use Rattle.mmdb_format.specs.Header.{header_at};
 ghost use Rattle.mmdb_format.specs.Unfolding.{Tree};
 ghost use Rattle.mmdb_decode.specs.State.{decoded, Within};
 ghost use Rattle.mmdb_decode.specs.Arrays.{elements};
-ghost use Rattle.mmdb_decode.specs.Refusal.{Reads};
+ghost use Rattle.mmdb_decode.specs.Errors.{Reads};
 ghost use Rattle.mmdb_value.specs.AnyValue.{value_at as spec_value_at, key_at, pair_at as spec_pair_at, scalar_of, array_of, table_of};
 
 use mmdb_decode::steps::Steps;
@@ -24,7 +24,7 @@ pub trait Source<K>: Steps {
 
     ghost tree: { Self.Value → Tree };
 
-    ghost told: { Self.Text → List ℕ };
+    ghost text_bytes: { Self.Text → List ℕ };
 
     /// The value behind a header, which holds no others.
     fn scalar(&mut self, alloc: Global, header: Header) -> DecodeResult<Self::Value>
@@ -33,13 +33,13 @@ pub trait Source<K>: Steps {
 
     /// The key at the offset.
     fn key(&mut self, alloc: Global) -> DecodeResult<Self::Text>
-        ensures { Reads told false (decoded false (key_at tested) (Self.state self.old)) (Self.state self.old) (Self.state self.new) result };
+        ensures { Reads text_bytes false (decoded false (key_at tested) (Self.state self.old)) (Self.state self.old) (Self.state self.new) result };
 
     fn array(all: Vec<Self::Value>) -> Self::Value
         ensures { tree result ≡ array_of (map tree all.items) };
 
     fn table(all: Vec<(Self::Text, Self::Value)>) -> Self::Value
-        ensures { tree result ≡ table_of (map (λ x. (told x.0, tree x.1)) all.items) };
+        ensures { tree result ≡ table_of (map (λ x. (text_bytes x.0, tree x.1)) all.items) };
 }
 
 /// Any value.
@@ -125,7 +125,7 @@ fn pairs_at<K, D: Source<K>>(
     count: usize,
 ) -> DecodeResult<Vec<(D::Text, D::Value)>>
     requires { Within (D.state d.old).budget }
-    ensures { Reads (λ vs. map (λ x. (D.told x.0, D.tree x.1)) vs.items) false (decoded false (elements (spec_pair_at D.tested (spec_value_at D.tested)) count) (D.state d.old)) (D.state d.old) (D.state d.new) result }
+    ensures { Reads (λ vs. map (λ x. (D.text_bytes x.0, D.tree x.1)) vs.items) false (decoded false (elements (spec_pair_at D.tested (spec_value_at D.tested)) count) (D.state d.old)) (D.state d.old) (D.state d.new) result }
 {
     let mut all = Vec::new(alloc);
     for _ in 0..count {
@@ -138,7 +138,7 @@ fn pairs_at<K, D: Source<K>>(
 #[cycle(shared)]
 fn pair_at<K, D: Source<K>>(alloc: Global, d: &mut D) -> DecodeResult<(D::Text, D::Value)>
     requires { Within (D.state d.old).budget }
-    ensures { Reads (λ x. (D.told x.0, D.tree x.1)) false (decoded false (spec_pair_at D.tested (spec_value_at D.tested)) (D.state d.old)) (D.state d.old) (D.state d.new) result }
+    ensures { Reads (λ x. (D.text_bytes x.0, D.tree x.1)) false (decoded false (spec_pair_at D.tested (spec_value_at D.tested)) (D.state d.old)) (D.state d.old) (D.state d.new) result }
 {
     let key = d.key(alloc)?;
     let value = value_at::<K, D>(alloc, d)?;

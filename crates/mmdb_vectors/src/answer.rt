@@ -6,7 +6,7 @@ use std::fmt::{Debug, Display};
 pub const OK: &str = "ok";
 
 /// The text of an error, or `ok`.
-pub fn told<T: Drop, E: Display + Drop>(
+pub fn reported<T: Drop, E: Display + Drop>(
     alloc: Global,
     answer: Result<T, E>,
 ) -> Result<String, AllocError> {

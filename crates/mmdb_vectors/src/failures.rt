@@ -11,8 +11,8 @@ pub struct Failures {
 }
 
 // The text that was reported, where memory for it was not lacking.
-fn text_of(told: &Result<String, AllocError>) -> Option<&str> {
-    match told {
+fn text_of(reported: &Result<String, AllocError>) -> Option<&str> {
+    match reported {
         Ok(text) => Some(text.as_str()),
         Err(_) => None,
     }
@@ -28,9 +28,9 @@ impl Failures {
     }
 
     /// Notes what became of a row that came out wrong. It counts even where memory for its line is lacking.
-    pub fn note(&mut self, row: &impl Debug, told: &impl Display) {
+    pub fn note(&mut self, row: &impl Debug, reported: &impl Display) {
         self.count = self.count.saturating_add(1);
-        let line = format!(in self.alloc; "{row:?}: {told}\n");
+        let line = format!(in self.alloc; "{row:?}: {reported}\n");
         if let Ok(line) = line {
             let _ = self.lines.push_str(line.as_str());
         }
@@ -47,33 +47,33 @@ impl Failures {
     pub fn expect_text(
         &mut self,
         row: &impl Debug,
-        told: Result<String, AllocError>,
+        reported: Result<String, AllocError>,
         wanted: &str,
     ) {
-        let is_wanted = text_of(&told) == Some(wanted);
-        self.expect_told(row, &told, is_wanted);
+        let is_wanted = text_of(&reported) == Some(wanted);
+        self.expect_reported(row, &reported, is_wanted);
     }
 
     /// Notes a row whose answer is a text with another ending than the one that is wanted.
     pub fn expect_ending(
         &mut self,
         row: &impl Debug,
-        told: Result<String, AllocError>,
+        reported: Result<String, AllocError>,
         ending: &str,
     ) {
-        let is_wanted = text_of(&told).unwrap_or("").ends_with(ending);
-        self.expect_told(row, &told, is_wanted);
+        let is_wanted = text_of(&reported).unwrap_or("").ends_with(ending);
+        self.expect_reported(row, &reported, is_wanted);
     }
 
     // Notes what a row was given, where that is not what is wanted.
-    fn expect_told(
+    fn expect_reported(
         &mut self,
         row: &impl Debug,
-        told: &Result<String, AllocError>,
+        reported: &Result<String, AllocError>,
         is_wanted: bool,
     ) {
         if !is_wanted {
-            self.note(row, &text_of(told).unwrap_or("out of memory"));
+            self.note(row, &text_of(reported).unwrap_or("out of memory"));
         }
     }
 

@@ -1,7 +1,7 @@
 //! What no clause says: that a joiner is made where there is memory, and what Python's `ipaddress.collapse_addresses`
 //! gives of the same blocks, which the rows have as data. Each public call runs once.
 use mmdb_blocks::laws::{joined_form_is_fewest, joined_form_is_unique};
-use mmdb_blocks::{Block, Joiner, Refusal};
+use mmdb_blocks::{Block, JoinError, Joiner};
 use mmdb_vectors::failures::Failures;
 use std::alloc::{AllocError, Global};
 use std::net::IpAddr;
@@ -179,11 +179,11 @@ fn joined_by(
     joiner: &mut Joiner,
     alloc: Global,
     blocks: &[Block],
-) -> Result<(Vec<Block>, Option<Refusal>), AllocError> {
+) -> Result<(Vec<Block>, Option<JoinError>), AllocError> {
     let mut joined = Vec::new(alloc);
     for block in blocks {
-        if let Err(refusal) = joiner.push(*block) {
-            return Ok((joined, Some(refusal)));
+        if let Err(to_error) = joiner.push(*block) {
+            return Ok((joined, Some(to_error)));
         }
         hand_out(joiner, &mut joined)?;
     }
@@ -194,8 +194,8 @@ fn joined_by(
 
 fn is_joined(joiner: &mut Joiner, alloc: Global, row: &Row) -> Result<bool, AllocError> {
     let (blocks, wanted) = (blocks_of(alloc, row.blocks)?, blocks_of(alloc, row.joined)?);
-    let (joined, refusal) = joined_by(joiner, alloc, &blocks)?;
-    Ok(refusal.is_none() && joined == wanted)
+    let (joined, to_error) = joined_by(joiner, alloc, &blocks)?;
+    Ok(to_error.is_none() && joined == wanted)
 }
 
 #[test]
@@ -214,40 +214,40 @@ fn joined_as_python_does(rt: HostRuntime) -> Result<(), Failures> {
 }
 
 // The first error of blocks that are pushed.
-fn refusal_of(alloc: Global, texts: &str) -> Result<Option<Refusal>, AllocError> {
+fn error_of(alloc: Global, texts: &str) -> Result<Option<JoinError>, AllocError> {
     let mut joiner = Joiner::new(alloc)?;
     let blocks = blocks_of(alloc, texts)?;
-    let (_, told) = joined_by(&mut joiner, alloc, &blocks)?;
-    Ok(told)
+    let (_, reported) = joined_by(&mut joiner, alloc, &blocks)?;
+    Ok(reported)
 }
 
 /// Blocks the last of which is rejected.
-const REFUSED: &[(&str, Refusal)] = &[
-    ("10.0.0.0/25 10.0.0.0/25", Refusal::OutOfOrder),
-    ("10.0.0.0/24 10.0.0.255/32", Refusal::OutOfOrder),
-    ("10.0.1.0/24 10.0.0.0/24", Refusal::OutOfOrder),
+const REJECTED: &[(&str, JoinError)] = &[
+    ("10.0.0.0/25 10.0.0.0/25", JoinError::OutOfOrder),
+    ("10.0.0.0/24 10.0.0.255/32", JoinError::OutOfOrder),
+    ("10.0.1.0/24 10.0.0.0/24", JoinError::OutOfOrder),
     (
         "10.0.0.0/25 10.0.0.128/25 10.0.0.255/32",
-        Refusal::OutOfOrder,
+        JoinError::OutOfOrder,
     ),
-    ("10.0.1.0/24 10.0.0.0/16", Refusal::OutOfOrder),
+    ("10.0.1.0/24 10.0.0.0/16", JoinError::OutOfOrder),
     (
         "::/0 ffff:ffff:ffff:ffff:ffff:ffff:ffff:ffff/128",
-        Refusal::OutOfOrder,
+        JoinError::OutOfOrder,
     ),
-    ("10.0.0.1/24", Refusal::NotABlock),
-    ("10.0.0.0/24 10.0.1.64/25", Refusal::NotABlock),
-    ("::/129", Refusal::NotABlock),
-    ("8000::/0", Refusal::NotABlock),
-    ("::/255", Refusal::NotABlock),
+    ("10.0.0.1/24", JoinError::NotABlock),
+    ("10.0.0.0/24 10.0.1.64/25", JoinError::NotABlock),
+    ("::/129", JoinError::NotABlock),
+    ("8000::/0", JoinError::NotABlock),
+    ("::/255", JoinError::NotABlock),
 ];
 
 #[test]
-fn refused_blocks(rt: HostRuntime) -> Result<(), Failures> {
+fn rejected_blocks(rt: HostRuntime) -> Result<(), Failures> {
     let (alloc, mut failures) = (rt.alloc(), Failures::new(rt.alloc()));
-    for (texts, refusal) in REFUSED {
-        let told = refusal_of(alloc, texts);
-        failures.expect(texts, told == Ok(Some(*refusal)));
+    for (texts, to_error) in REJECTED {
+        let reported = error_of(alloc, texts);
+        failures.expect(texts, reported == Ok(Some(*to_error)));
     }
     failures.verdict()
 }

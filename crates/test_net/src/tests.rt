@@ -94,7 +94,7 @@ struct Told {
 }
 
 // What is reported of a text that is read as a network of either kind.
-fn network_told(alloc: Global, text: &str) -> Option<Told> {
+fn network_reported(alloc: Global, text: &str) -> Option<Told> {
     let network: IpNetwork = text.parse().ok()?;
     let mut pushed = Vec::new(alloc);
     let is_pushed = network.push_full_text(&mut pushed).is_ok();
@@ -110,7 +110,7 @@ fn network_told(alloc: Global, text: &str) -> Option<Told> {
 }
 
 // The same of a network of IPv4.
-fn ipv4_told(alloc: Global, text: &str) -> Option<Told> {
+fn ipv4_reported(alloc: Global, text: &str) -> Option<Told> {
     let network: Ipv4Network = text.parse().ok()?;
     let mut pushed = Vec::new(alloc);
     let is_pushed = network.push_full_text(&mut pushed).is_ok();
@@ -126,7 +126,7 @@ fn ipv4_told(alloc: Global, text: &str) -> Option<Told> {
 }
 
 // The same of a network of IPv6.
-fn ipv6_told(alloc: Global, text: &str) -> Option<Told> {
+fn ipv6_reported(alloc: Global, text: &str) -> Option<Told> {
     let network: Ipv6Network = text.parse().ok()?;
     let mut pushed = Vec::new(alloc);
     let is_pushed = network.push_full_text(&mut pushed).is_ok();
@@ -147,23 +147,23 @@ fn is_text_of(text: &str, address: IpAddr) -> bool {
 }
 
 // Whether what is reported without a text is what a row wants.
-fn is_wanted(told: &Told, row: &Row) -> bool {
-    let (pushed, is_pushed) = &told.pushed;
-    is_text_of(row.ip, told.ip)
-        && told.prefix == row.prefix
-        && is_text_of(row.first, told.first)
+fn is_wanted(reported: &Told, row: &Row) -> bool {
+    let (pushed, is_pushed) = &reported.pushed;
+    is_text_of(row.ip, reported.ip)
+        && reported.prefix == row.prefix
+        && is_text_of(row.first, reported.first)
         && *is_pushed
         && pushed.as_slice() == row.full.as_bytes()
-        && told.is_made_again
+        && reported.is_made_again
 }
 
 // Notes what is reported otherwise than a row wants.
-fn expect_told(failures: &mut Failures, row: &Row, told: Option<Told>) {
-    match told {
-        Some(told) => {
-            failures.expect(&row.text, is_wanted(&told, row));
-            failures.expect_text(&row.text, told.displayed, row.displayed);
-            failures.expect_text(&row.text, told.full, row.full);
+fn expect_reported(failures: &mut Failures, row: &Row, reported: Option<Told>) {
+    match reported {
+        Some(reported) => {
+            failures.expect(&row.text, is_wanted(&reported, row));
+            failures.expect_text(&row.text, reported.displayed, row.displayed);
+            failures.expect_text(&row.text, reported.full, row.full);
         }
         None => failures.expect(&row.text, false),
     }
@@ -173,7 +173,7 @@ fn expect_told(failures: &mut Failures, row: &Row, told: Option<Told>) {
 fn network_texts(rt: HostRuntime) -> Result<(), Failures> {
     let mut failures = Failures::new(rt.alloc());
     for row in IPV4.iter().chain(IPV6) {
-        expect_told(&mut failures, row, network_told(rt.alloc(), row.text));
+        expect_reported(&mut failures, row, network_reported(rt.alloc(), row.text));
     }
     failures.verdict()
 }
@@ -182,15 +182,15 @@ fn network_texts(rt: HostRuntime) -> Result<(), Failures> {
 fn networks_of_one_kind(rt: HostRuntime) -> Result<(), Failures> {
     let mut failures = Failures::new(rt.alloc());
     for row in IPV4 {
-        expect_told(&mut failures, row, ipv4_told(rt.alloc(), row.text));
+        expect_reported(&mut failures, row, ipv4_reported(rt.alloc(), row.text));
     }
     for row in IPV6 {
-        expect_told(&mut failures, row, ipv6_told(rt.alloc(), row.text));
+        expect_reported(&mut failures, row, ipv6_reported(rt.alloc(), row.text));
     }
     failures.verdict()
 }
 
-const REFUSED: &[(&str, IpNetworkError)] = &[
+const REJECTED: &[(&str, IpNetworkError)] = &[
     ("10.0.0.0/33", IpNetworkError::InvalidPrefix),
     ("10.0.0.0/", IpNetworkError::InvalidPrefix),
     ("10.0.0.0/0008", IpNetworkError::InvalidPrefix),
@@ -206,9 +206,9 @@ const REFUSED: &[(&str, IpNetworkError)] = &[
 ];
 
 #[test]
-fn refused_texts(rt: HostRuntime) -> Result<(), Failures> {
+fn rejected_texts(rt: HostRuntime) -> Result<(), Failures> {
     let mut failures = Failures::new(rt.alloc());
-    for (text, error) in REFUSED {
+    for (text, error) in REJECTED {
         failures.expect(text, text.parse::<IpNetwork>() == Err(*error));
     }
     let other_kind = IpNetworkError::InvalidAddr;
@@ -261,8 +261,11 @@ fn holds(network: &str, address: &str) -> Option<(bool, bool)> {
 fn addresses_held(rt: HostRuntime) -> Result<(), Failures> {
     let mut failures = Failures::new(rt.alloc());
     for (network, address, is_held) in HELD {
-        let told = holds(network, address);
-        failures.expect(&[*network, *address], told == Some((*is_held, *is_held)));
+        let reported = holds(network, address);
+        failures.expect(
+            &[*network, *address],
+            reported == Some((*is_held, *is_held)),
+        );
     }
     failures.verdict()
 }
@@ -280,21 +283,21 @@ const PAIRS: &[(&str, &str, bool)] = &[
 ];
 
 // What equality says of two networks, as such of one kind and as such of either kind, where both agree.
-fn equality_told(a: &str, b: &str) -> Option<bool> {
+fn equality_reported(a: &str, b: &str) -> Option<bool> {
     let (left, right): (IpNetwork, IpNetwork) = (a.parse().ok()?, b.parse().ok()?);
     let of_one_kind = match (left, right) {
         (IpNetwork::V4(left), IpNetwork::V4(right)) => equality(&left, &right),
         (IpNetwork::V6(left), IpNetwork::V6(right)) => equality(&left, &right),
         _ => Some(false),
     };
-    equality(&left, &right).filter(|told| of_one_kind == Some(*told))
+    equality(&left, &right).filter(|reported| of_one_kind == Some(*reported))
 }
 
 #[test]
 fn networks_that_are_equal(rt: HostRuntime) -> Result<(), Failures> {
     let mut failures = Failures::new(rt.alloc());
     for (a, b, is_equal) in PAIRS {
-        failures.expect(&[*a, *b], equality_told(a, b) == Some(*is_equal));
+        failures.expect(&[*a, *b], equality_reported(a, b) == Some(*is_equal));
     }
     failures.verdict()
 }
@@ -322,11 +325,11 @@ const MASKED: &[(&str, u8, &str)] = &[
 fn masked_addresses(rt: HostRuntime) -> Result<(), Failures> {
     let mut failures = Failures::new(rt.alloc());
     for (address, prefix, masked) in MASKED {
-        let told = match address.parse::<IpAddr>() {
+        let reported = match address.parse::<IpAddr>() {
             Ok(address) => is_text_of(masked, mask_ip(address, *prefix)),
             Err(_) => false,
         };
-        failures.expect(masked, told);
+        failures.expect(masked, reported);
     }
     failures.verdict()
 }

@@ -1,6 +1,6 @@
 //! A record written by hand, from outside the crates that read.
 ghost use Rattle.std.specs.Prelude.{◌≡◌, Some, true, IfOk, IfErr, option_map};
-ghost use Rattle.mmdb_decode.specs.Refusal.{Refuses, answer};
+ghost use Rattle.mmdb_decode.specs.Errors.{Fails, answer};
 ghost use Rattle.test_value.specs.Probe.{Probe as SpecProbe, no_probe, probe_fields, probe_at};
 
 use mmdb_decode::decode::Decode;
@@ -80,7 +80,7 @@ impl<'de> Decode<'de> for Probe<'de> {
 /// The probe at the beginning of a section.
 pub fn read_probe<'de>(alloc: Global, section: &'de [u8]) -> DecodeResult<Probe<'de>>
     ensures ok { IfOk result (λ v. answer true probe_at section.now 0 ≡ Some (record { a = v.a; k = option_map (λ s. s.now) v.k })) }
-    ensures err { IfErr result (λ e. Refuses true e (answer true probe_at section.now 0)) }
+    ensures err { IfErr result (λ e. Fails true e (answer true probe_at section.now 0)) }
 {
     fuzzing::decode::<Probe<'de>>(alloc, section)
 }

@@ -3,7 +3,7 @@ ghost use Rattle.std.specs.Prelude.{◌≡◌, ◌+◌, ◌-◌, true, MatchBool
 ghost use Rattle.mmdb_decode.specs.State.{Within};
 ghost use Rattle.mmdb_decode.specs.Arrays.{entered_array, entered_array_of, left_array, items_left, with_items_left, levels_before_array};
 ghost use Rattle.mmdb_decode.specs.Maps.{entered_map, left_map, pairs_left, levels_before_map};
-ghost use Rattle.mmdb_decode.specs.Refusal.{Reads, Takes};
+ghost use Rattle.mmdb_decode.specs.Errors.{Reads, Takes};
 
 use super::Decoder;
 use crate::budget::{begun, spent};
@@ -38,7 +38,7 @@ impl<'de> Decoder<'de> {
     {
         match self.enter_array() {
             Ok(items) => Ok(items),
-            Err(fault) => Err(fault.refusal(alloc, self.offset)),
+            Err(fault) => Err(fault.to_error(alloc, self.offset)),
         }
     }
 
@@ -50,7 +50,7 @@ impl<'de> Decoder<'de> {
         if items.remaining != len {
             let fault = DecodeErrorKind::WrongLength(len, items.remaining);
             items.give_up(self);
-            return Err(fault.refusal(alloc, self.offset));
+            return Err(fault.to_error(alloc, self.offset));
         }
         Ok(items)
     }
@@ -135,7 +135,7 @@ impl<'de> Decoder<'de> {
     {
         match self.enter_map() {
             Ok(entries) => Ok(entries),
-            Err(fault) => Err(fault.refusal(alloc, self.offset)),
+            Err(fault) => Err(fault.to_error(alloc, self.offset)),
         }
     }
 

@@ -2,7 +2,7 @@
 ghost use Rattle.std.specs.Prelude.{◌≡◌, true, false};
 ghost use Rattle.mmdb_decode.specs.State.{decoded};
 ghost use Rattle.mmdb_decode.specs.Maps.{key_past, name_at, raw_key_at, key_at, NextKey, pairs_left, with_pairs_left};
-ghost use Rattle.mmdb_decode.specs.Refusal.{Reads, Takes};
+ghost use Rattle.mmdb_decode.specs.Errors.{Reads, Takes};
 
 use super::Decoder;
 use crate::budget::spent_past;
@@ -84,7 +84,7 @@ impl<'de> Decoder<'de> {
     {
         match self.step_key(entries, FREE_NAME) {
             Ok(key) => Ok(key),
-            Err(fault) => Err(fault.refusal(alloc, self.offset)),
+            Err(fault) => Err(fault.to_error(alloc, self.offset)),
         }
     }
 
@@ -100,7 +100,7 @@ impl<'de> Decoder<'de> {
     {
         match self.step_key(entries, 0) {
             Ok(key) => Ok(key),
-            Err(fault) => Err(fault.refusal(alloc, self.offset)),
+            Err(fault) => Err(fault.to_error(alloc, self.offset)),
         }
     }
 
@@ -116,7 +116,7 @@ impl<'de> Decoder<'de> {
     {
         match self.step_text_key(entries) {
             Ok(key) => Ok(key),
-            Err(fault) => Err(fault.refusal(alloc, self.offset)),
+            Err(fault) => Err(fault.to_error(alloc, self.offset)),
         }
     }
 
@@ -126,7 +126,7 @@ impl<'de> Decoder<'de> {
     {
         match self.take_key(0) {
             Ok(key) => Ok(key),
-            Err(fault) => Err(fault.refusal(alloc, self.offset)),
+            Err(fault) => Err(fault.to_error(alloc, self.offset)),
         }
     }
 }

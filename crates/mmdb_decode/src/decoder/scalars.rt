@@ -3,7 +3,7 @@ ghost use Rattle.std.specs.Prelude.{◌<◌, ◌≤◌, ◌^◌, true, false, If
 ghost use Rattle.mmdb_decode.specs.State.{decoded};
 ghost use Rattle.mmdb_decode.specs.Scalars.{number_of, bits_of, bytes_of, u16_at, u32_at, u64_at, u128_at, i32_at, bool_at as spec_bool_at, double_at, float_at, text_at, byte_string_at};
 ghost use Rattle.mmdb_decode.specs.SmallNumbers.{whole_at as spec_whole_at};
-ghost use Rattle.mmdb_decode.specs.Refusal.{Reads, Takes};
+ghost use Rattle.mmdb_decode.specs.Errors.{Reads, Takes};
 
 use super::Decoder;
 use crate::budget::{begun, spent_bytes};
@@ -96,7 +96,7 @@ impl<'de> Decoder<'de> {
     {
         match self.take_number(U16, 2) {
             Ok(n) => Ok(n as u16),
-            Err(fault) => Err(fault.refusal(alloc, self.offset)),
+            Err(fault) => Err(fault.to_error(alloc, self.offset)),
         }
     }
 
@@ -107,7 +107,7 @@ impl<'de> Decoder<'de> {
     {
         match self.take_number(U32, 4) {
             Ok(n) => Ok(n as u32),
-            Err(fault) => Err(fault.refusal(alloc, self.offset)),
+            Err(fault) => Err(fault.to_error(alloc, self.offset)),
         }
     }
 
@@ -118,7 +118,7 @@ impl<'de> Decoder<'de> {
     {
         match self.take_number(U64, 8) {
             Ok(n) => Ok(n as u64),
-            Err(fault) => Err(fault.refusal(alloc, self.offset)),
+            Err(fault) => Err(fault.to_error(alloc, self.offset)),
         }
     }
 
@@ -129,7 +129,7 @@ impl<'de> Decoder<'de> {
     {
         match self.take_number(U128, 16) {
             Ok(n) => Ok(n),
-            Err(fault) => Err(fault.refusal(alloc, self.offset)),
+            Err(fault) => Err(fault.to_error(alloc, self.offset)),
         }
     }
 
@@ -139,7 +139,7 @@ impl<'de> Decoder<'de> {
     {
         match self.take_signed() {
             Ok(n) => Ok(n),
-            Err(fault) => Err(fault.refusal(alloc, self.offset)),
+            Err(fault) => Err(fault.to_error(alloc, self.offset)),
         }
     }
 
@@ -150,7 +150,7 @@ impl<'de> Decoder<'de> {
     {
         match self.take_whole() {
             Ok(number) => Ok(number),
-            Err(fault) => Err(fault.refusal(alloc, self.offset)),
+            Err(fault) => Err(fault.to_error(alloc, self.offset)),
         }
     }
 
@@ -160,7 +160,7 @@ impl<'de> Decoder<'de> {
     {
         match self.take_bool() {
             Ok(b) => Ok(b),
-            Err(fault) => Err(fault.refusal(alloc, self.offset)),
+            Err(fault) => Err(fault.to_error(alloc, self.offset)),
         }
     }
 
@@ -170,7 +170,7 @@ impl<'de> Decoder<'de> {
     {
         match self.take_bits(DOUBLE, 8) {
             Ok(bits) => Ok(Double { bits: bits as u64 }),
-            Err(fault) => Err(fault.refusal(alloc, self.offset)),
+            Err(fault) => Err(fault.to_error(alloc, self.offset)),
         }
     }
 
@@ -180,7 +180,7 @@ impl<'de> Decoder<'de> {
     {
         match self.take_bits(FLOAT, 4) {
             Ok(bits) => Ok(Float { bits: bits as u32 }),
-            Err(fault) => Err(fault.refusal(alloc, self.offset)),
+            Err(fault) => Err(fault.to_error(alloc, self.offset)),
         }
     }
 
@@ -190,7 +190,7 @@ impl<'de> Decoder<'de> {
     {
         match self.take_bytes(BYTES) {
             Ok(bytes) => Ok(bytes),
-            Err(fault) => Err(fault.refusal(alloc, self.offset)),
+            Err(fault) => Err(fault.to_error(alloc, self.offset)),
         }
     }
 
@@ -201,7 +201,7 @@ impl<'de> Decoder<'de> {
     {
         match self.take_text() {
             Ok(text) => Ok(text),
-            Err(fault) => Err(fault.refusal(alloc, self.offset)),
+            Err(fault) => Err(fault.to_error(alloc, self.offset)),
         }
     }
 }

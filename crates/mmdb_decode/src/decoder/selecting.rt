@@ -1,7 +1,7 @@
 //! Steps of a path: from a map or an array to one of its values.
 ghost use Rattle.std.specs.Prelude.{◌≡◌, Option, Some, None, Bool, true, false};
 ghost use Rattle.mmdb_decode.specs.Maps.{pairs_left, with_pairs_left};
-ghost use Rattle.mmdb_decode.specs.Refusal.{Takes};
+ghost use Rattle.mmdb_decode.specs.Errors.{Takes};
 ghost use Rattle.mmdb_decode.specs.Selecting.{to_key as spec_to_key, to_element as spec_to_element, from_front, from_end, at_key, at_element};
 ghost use Rattle.mmdb_decode.specs.Skipping.{passes, skip_at};
 ghost use Rattle.mmdb_decode.specs.State.{decoded};
@@ -31,7 +31,7 @@ impl<'de> Decoder<'de> {
     /// Goes to an element of the array at the offset, counted from its front, on the same level, and says
     /// whether there is one. Takes no memory.
     ///
-    /// The array's elements are charged; those before that one are skipped, where it is there. Refused
+    /// The array's elements are charged; those before that one are skipped, where it is there. Rejected
     /// where no array stands there, directly or behind one pointer.
     #[inline(always)]
     pub fn go_to_index(&mut self, index: usize) -> Result<bool, DecodeErrorKind>

@@ -2,7 +2,7 @@
 ghost use Rattle.std.specs.Prelude.{◌≡◌, ◌<◌, ◌^◌, true, false, IfSome};
 ghost use Rattle.mmdb_decode.specs.State.{decoded};
 ghost use Rattle.mmdb_decode.specs.Skipping.{skip_within, skip_at, parts_of as spec_parts_of, scalar_passed, entered_inline};
-ghost use Rattle.mmdb_decode.specs.Refusal.{Reads, Takes};
+ghost use Rattle.mmdb_decode.specs.Errors.{Reads, Takes};
 
 use super::Decoder;
 use crate::budget::spent;
@@ -24,7 +24,7 @@ impl<'de> Decoder<'de> {
     {
         self.start();
         if let Err(fault) = self.pass(MAX_NESTED) {
-            return Err(fault.refusal(alloc, self.offset));
+            return Err(fault.to_error(alloc, self.offset));
         }
         Ok(())
     }

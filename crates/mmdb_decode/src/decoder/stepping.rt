@@ -3,7 +3,7 @@ ghost use Rattle.std.specs.Prelude.{◌≡◌, ◌<◌, ◌^◌, true, false, On
 ghost use Rattle.mmdb_decode.specs.State.{decoded};
 ghost use Rattle.mmdb_format.specs.Views.{content_view};
 ghost use Rattle.mmdb_decode.specs.Levels.{content_of, entered_pointer, entered_parts};
-ghost use Rattle.mmdb_decode.specs.Refusal.{Reads, Takes};
+ghost use Rattle.mmdb_decode.specs.Errors.{Reads, Takes};
 
 use super::Decoder;
 use crate::budget::{spent, spent_bytes};
@@ -34,7 +34,7 @@ impl<'de> Decoder<'de> {
     {
         match self.take_content(header) {
             Ok(content) => Ok(content),
-            Err(fault) => Err(fault.refusal(alloc, self.offset)),
+            Err(fault) => Err(fault.to_error(alloc, self.offset)),
         }
     }
 
@@ -79,20 +79,20 @@ impl<'de> Steps for Decoder<'de> {
     fn header(&self, alloc: Global) -> DecodeResult<Header> {
         match self.header_here() {
             Ok(header) => Ok(header),
-            Err(fault) => Err(fault.refusal(alloc, self.offset)),
+            Err(fault) => Err(fault.to_error(alloc, self.offset)),
         }
     }
 
     fn enter_pointer(&mut self, alloc: Global, header: Header) -> DecodeResult<usize> {
         match self.follow(header) {
             Ok(next) => Ok(next),
-            Err(fault) => Err(fault.refusal(alloc, self.offset)),
+            Err(fault) => Err(fault.to_error(alloc, self.offset)),
         }
     }
 
     fn enter_parts(&mut self, alloc: Global, header: Header, count: usize) -> DecodeResult<()> {
         if let Err(fault) = self.descend(header, count) {
-            return Err(fault.refusal(alloc, self.offset));
+            return Err(fault.to_error(alloc, self.offset));
         }
         Ok(())
     }

@@ -1,6 +1,6 @@
 //! Readings that keep aside why they fail, so that a loop over many values holds no memory for an error.
 ghost use Rattle.std.specs.Prelude.{◌≡◌, ℕ, true, false, Some, IfSome, IsSome, IfOk, ◌≤ℤ◌};
-ghost use Rattle.mmdb_decode.specs.Refusal.{Takes};
+ghost use Rattle.mmdb_decode.specs.Errors.{Takes};
 ghost use Rattle.mmdb_decode.specs.State.{decoded};
 ghost use Rattle.mmdb_decode.specs.Scalars.{u16_at, u32_at, bool_at, double_at, text_at, free_of_charge};
 ghost use Rattle.mmdb_decode.specs.Maps.{name_at, entered_map, NextKey, pairs_left, with_pairs_left};
@@ -13,8 +13,8 @@ use super::Decoder;
 use super::keys::FREE_NAME;
 use super::skipping::{MAX_NESTED, parts_of};
 use crate::budget::{Charges, spent};
+use crate::failed::{Failed, Step};
 use crate::items::{Entries, Items};
-use crate::refused::{Refused, Step};
 use mmdb_format::content::{Double, passed_end};
 use mmdb_format::decode_error_kind::DecodeErrorKind;
 use mmdb_format::header::header_at;
@@ -76,83 +76,83 @@ impl<'de> Decoder<'de> {
 
     // The number of 16 bits that is read.
     #[inline(always)]
-    pub(crate) fn try_u16(&mut self) -> Result<u16, Refused>
+    pub(crate) fn try_u16(&mut self) -> Result<u16, Failed>
         ensures { Takes (λ n. n) (decoded false u16_at self.old) self.old self.new result }
     {
         match self.take_number(U16, 2) {
             Ok(n) => Ok(n as u16),
-            Err(_) => Err(self.refuse(Step::U16)),
+            Err(_) => Err(self.fail(Step::U16)),
         }
     }
 
     // The number of 32 bits that is read.
     #[inline(always)]
-    pub(crate) fn try_u32(&mut self) -> Result<u32, Refused>
+    pub(crate) fn try_u32(&mut self) -> Result<u32, Failed>
         ensures { Takes (λ n. n) (decoded false u32_at self.old) self.old self.new result }
     {
         match self.take_number(U32, 4) {
             Ok(n) => Ok(n as u32),
-            Err(_) => Err(self.refuse(Step::U32)),
+            Err(_) => Err(self.fail(Step::U32)),
         }
     }
 
     // The truth value that is read.
     #[inline(always)]
-    pub(crate) fn try_bool(&mut self) -> Result<bool, Refused>
+    pub(crate) fn try_bool(&mut self) -> Result<bool, Failed>
         ensures { Takes (λ b. b) (decoded false bool_at self.old) self.old self.new result }
     {
         match self.take_bool() {
             Ok(b) => Ok(b),
-            Err(_) => Err(self.refuse(Step::Bool)),
+            Err(_) => Err(self.fail(Step::Bool)),
         }
     }
 
     // The number of double precision that is read.
     #[inline(always)]
-    pub(crate) fn try_double(&mut self) -> Result<Double, Refused>
+    pub(crate) fn try_double(&mut self) -> Result<Double, Failed>
         ensures { Takes (λ x. x.bits) (decoded false double_at self.old) self.old self.new result }
     {
         match self.take_bits(DOUBLE, 8) {
             Ok(bits) => Ok(Double { bits: bits as u64 }),
-            Err(_) => Err(self.refuse(Step::Double)),
+            Err(_) => Err(self.fail(Step::Double)),
         }
     }
 
     // The text that is read.
     #[inline(always)]
-    pub(crate) fn try_str(&mut self) -> Result<&'de str, Refused>
+    pub(crate) fn try_str(&mut self) -> Result<&'de str, Failed>
         ensures { Takes (λ x. x.now) (decoded false text_at self.old) self.old self.new result }
     {
         match self.take_text() {
             Ok(text) => Ok(text),
-            Err(fault) => Err(self.refuse(step_of(Step::Text, fault))),
+            Err(fault) => Err(self.fail(step_of(Step::Text, fault))),
         }
     }
 
     // The name of the next field, where one is left.
     #[inline(always)]
-    pub(crate) fn try_next(&mut self, entries: &mut Entries) -> Result<Option<&'de [u8]>, Refused>
+    pub(crate) fn try_next(&mut self, entries: &mut Entries) -> Result<Option<&'de [u8]>, Failed>
         ensures key { NextKey name_at self.old self.new entries.old entries.new result }
         ensures rest { entries.new ≡ with_pairs_left (pairs_left entries.new) entries.old }
     {
         match self.step_key(entries, FREE_NAME) {
             Ok(key) => Ok(key),
-            Err(_) => Err(self.refuse(Step::Name)),
+            Err(_) => Err(self.fail(Step::Name)),
         }
     }
 
     // An integer of whatever type.
-    fn try_whole(&mut self) -> Result<i128, Refused>
+    fn try_whole(&mut self) -> Result<i128, Failed>
         ensures { Takes (λ z. z) (decoded true whole_at self.old) self.old self.new result }
     {
         match self.take_whole() {
             Ok(number) => Ok(number),
-            Err(_) => Err(self.refuse(Step::Whole)),
+            Err(_) => Err(self.fail(Step::Whole)),
         }
     }
 
     // An integer of whatever type from low to high.
-    pub(crate) fn try_between(&mut self, low: i128, high: i128) -> Result<i128, Refused>
+    pub(crate) fn try_between(&mut self, low: i128, high: i128) -> Result<i128, Failed>
         ensures read { Takes (λ z. z) (decoded true (small_at low high) self.old) self.old self.new result }
         ensures low { IfOk result (λ z. low ≤ℤ z) }
         ensures high { IfOk result (λ z. z ≤ℤ high) }
@@ -161,45 +161,45 @@ impl<'de> Decoder<'de> {
         if low <= number && number <= high {
             return Ok(number);
         }
-        Err(self.refuse(Step::Range))
+        Err(self.fail(Step::Range))
     }
 
     /// Enters an array, and charges its elements.
-    pub fn try_array(&mut self) -> Result<Items, Refused>
+    pub fn try_array(&mut self) -> Result<Items, Failed>
         ensures { Takes (λ items. items) (entered_array self.old) self.old self.new result }
     {
         match self.enter_array() {
             Ok(items) => Ok(items),
-            Err(_) => Err(self.refuse(Step::Array)),
+            Err(_) => Err(self.fail(Step::Array)),
         }
     }
 
     // The map that is entered.
     #[inline(always)]
-    pub(crate) fn try_map(&mut self) -> Result<Entries, Refused>
+    pub(crate) fn try_map(&mut self) -> Result<Entries, Failed>
         ensures { Takes (λ entries. entries) (entered_map self.old) self.old self.new result }
     {
         match self.enter_map() {
             Ok(entries) => Ok(entries),
-            Err(_) => Err(self.refuse(Step::Map)),
+            Err(_) => Err(self.fail(Step::Map)),
         }
     }
 
     /// Passes one inline value as `skip_value` does.
     #[inline(never)]
-    pub fn try_skip(&mut self) -> Result<(), Refused>
+    pub fn try_skip(&mut self) -> Result<(), Failed>
         ensures { Takes (λ x. tt) (decoded true skip_at self.old) self.old self.new result }
     {
         self.start();
         match self.pass(MAX_NESTED) {
             Ok(()) => Ok(()),
-            Err(fault) => Err(self.refuse(step_of(Step::Skip, fault))),
+            Err(fault) => Err(self.fail(step_of(Step::Skip, fault))),
         }
     }
 
     /// The same, for a reader that mostly meets values that hold no others: its decoder can stay in registers.
     #[inline(always)]
-    pub fn try_skip_scalar(&mut self) -> Result<(), Refused>
+    pub fn try_skip_scalar(&mut self) -> Result<(), Failed>
         requires { IsSome self.old.budget }
         ensures { Takes (λ x. tt) (decoded true skip_at self.old) self.old self.new result }
     {
@@ -226,7 +226,7 @@ impl<'de> Decoder<'de> {
     }
 }
 
-// The step that is refused for a fault: one that is found behind the offset where the step began is reported by itself.
+// The step that fails for a fault: one that is found behind the offset where the step began is reported by itself.
 fn step_of(step: Step, fault: DecodeErrorKind) -> Step {
     match fault {
         DecodeErrorKind::InvalidUtf8 => Step::Encoding,

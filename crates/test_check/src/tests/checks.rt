@@ -3,7 +3,7 @@ use super::sections::{deep, fan, overlap};
 use mmdb_value::fuzzing::verify;
 use mmdb_value::laws::{no_place_is_met_again, order_is_free};
 use mmdb_value::{Checked, check_value};
-use mmdb_vectors::answer::{OK, told};
+use mmdb_vectors::answer::{OK, reported};
 use mmdb_vectors::failures::Failures;
 use mmdb_vectors::section::section_of;
 use std::alloc::Global;
@@ -44,7 +44,7 @@ const FIRST_VALUES: &[(&[u8], &str)] = &[
 fn first_values(rt: HostRuntime) -> Result<(), Failures> {
     let (alloc, mut failures) = (rt.alloc(), Failures::new(rt.alloc()));
     for (section, text) in FIRST_VALUES {
-        failures.expect_text(section, told(alloc, verify(alloc, section)), text);
+        failures.expect_text(section, reported(alloc, verify(alloc, section)), text);
     }
     failures.verdict()
 }
@@ -63,7 +63,7 @@ fn levels_at_the_limit(rt: HostRuntime) -> Result<(), Failures> {
         let section = section_of(alloc, &[(b"\x01\x04", arrays), (b"\x00\x07", 1)]);
         failures.expect_text(
             &arrays,
-            told(alloc, verify(alloc, section.as_slice())),
+            reported(alloc, verify(alloc, section.as_slice())),
             text,
         );
     }
@@ -73,7 +73,7 @@ fn levels_at_the_limit(rt: HostRuntime) -> Result<(), Failures> {
 // Notes where a section is not of this length, or the check of its first value says something else.
 fn expect_verdict(failures: &mut Failures, alloc: Global, section: &[u8], len: usize, text: &str) {
     failures.expect(&section, section.len() == len);
-    failures.expect_text(&section, told(alloc, verify(alloc, section)), text);
+    failures.expect_text(&section, reported(alloc, verify(alloc, section)), text);
 }
 
 #[test]
@@ -82,9 +82,9 @@ fn work_at_the_limit(rt: HostRuntime) -> Result<(), Failures> {
     let good = overlap(alloc, 41);
     expect_verdict(&mut failures, alloc, good.as_slice(), 154, OK);
     // An array, 42 pointers and 42 texts of 28 bytes cost 1261, and 8 times 157 is 1256: rejected at the last text.
-    let refused = overlap(alloc, 42);
+    let rejected = overlap(alloc, 42);
     let text = "resource limit exceeded at offset 128: exceeded maximum verification work";
-    expect_verdict(&mut failures, alloc, refused.as_slice(), 157, text);
+    expect_verdict(&mut failures, alloc, rejected.as_slice(), 157, text);
     // What is shared costs once.
     let shared = fan(alloc, 16);
     expect_verdict(&mut failures, alloc, shared.as_slice(), 98, OK);
@@ -99,7 +99,7 @@ fn expect_checks(failures: &mut Failures, alloc: Global, section: &[u8], places:
         return;
     };
     for (place, text) in places {
-        let verdict = told(alloc, check_value(alloc, &mut checked, *place));
+        let verdict = reported(alloc, check_value(alloc, &mut checked, *place));
         if *text == TOO_DEEP {
             failures.expect_ending(&(*place, places), verdict, text);
         } else {
@@ -117,16 +117,16 @@ fn exact_checks(rt: HostRuntime) -> Result<(), Failures> {
         let rows = places.map(|place| (place, OK));
         expect_checks(&mut failures, alloc, good.as_slice(), &rows);
     }
-    let refused = deep(alloc, 28);
+    let rejected = deep(alloc, 28);
     let rows = [(0, OK), (202, TOO_DEEP)];
-    expect_checks(&mut failures, alloc, refused.as_slice(), &rows);
+    expect_checks(&mut failures, alloc, rejected.as_slice(), &rows);
     let rows = [(202, TOO_DEEP), (0, FAILED)];
-    expect_checks(&mut failures, alloc, refused.as_slice(), &rows);
+    expect_checks(&mut failures, alloc, rejected.as_slice(), &rows);
     failures.verdict()
 }
 
 #[test]
-fn check_after_a_refusal(rt: HostRuntime) -> Result<(), Failures> {
+fn check_after_an_error(rt: HostRuntime) -> Result<(), Failures> {
     let (alloc, mut failures) = (rt.alloc(), Failures::new(rt.alloc()));
     let rows = [
         (

@@ -2,7 +2,7 @@
 use super::sections::{fan, overlap};
 use mmdb_value::fuzzing::{decode, verify};
 use mmdb_value::{RawValue, Value};
-use mmdb_vectors::answer::{OK, told};
+use mmdb_vectors::answer::{OK, reported};
 use mmdb_vectors::failures::Failures;
 use std::alloc::Global;
 
@@ -12,11 +12,11 @@ const TOO_DEEP: &str = "exceeded maximum data structure depth; database is likel
 // and checked.
 fn expect_verdicts(failures: &mut Failures, alloc: Global, section: &[u8], endings: [&str; 3]) {
     let [value, raw_value, check] = endings;
-    let told_value = told(alloc, decode::<Value<'_>>(alloc, section));
-    failures.expect_ending(&section, told_value, value);
-    let told_raw_value = told(alloc, decode::<RawValue<'_>>(alloc, section));
-    failures.expect_ending(&section, told_raw_value, raw_value);
-    failures.expect_ending(&section, told(alloc, verify(alloc, section)), check);
+    let reported_value = reported(alloc, decode::<Value<'_>>(alloc, section));
+    failures.expect_ending(&section, reported_value, value);
+    let reported_raw_value = reported(alloc, decode::<RawValue<'_>>(alloc, section));
+    failures.expect_ending(&section, reported_raw_value, raw_value);
+    failures.expect_ending(&section, reported(alloc, verify(alloc, section)), check);
 }
 
 #[test]
@@ -69,7 +69,7 @@ const WHOLE: &[&[u8]] = &[
 ];
 
 // Whether the value at the beginning of a section is rejected by each reading and by the check.
-fn is_refused(alloc: Global, section: &[u8]) -> bool {
+fn is_rejected(alloc: Global, section: &[u8]) -> bool {
     decode::<Value<'_>>(alloc, section).is_err()
         && decode::<RawValue<'_>>(alloc, section).is_err()
         && verify(alloc, section).is_err()
@@ -81,7 +81,7 @@ fn proper_beginnings(rt: HostRuntime) -> Result<(), Failures> {
     for section in WHOLE {
         failures.expect(section, decode::<RawValue<'_>>(alloc, section).is_ok());
         for len in 0..section.len() {
-            failures.expect(&(*section, len), is_refused(alloc, &section[..len]));
+            failures.expect(&(*section, len), is_rejected(alloc, &section[..len]));
         }
     }
     failures.verdict()

@@ -1,9 +1,9 @@
 //! Checks where memory runs out.
 use mmdb_value::fuzzing::verify;
 use mmdb_value::{Checked, MaxMindDbError, check_value};
-use mmdb_vectors::answer::told;
+use mmdb_vectors::answer::reported;
 use mmdb_vectors::failures::Failures;
-use mmdb_vectors::hoard::{Hoard, Outcome, refused_in_turn};
+use mmdb_vectors::hoard::{Hoard, Outcome, fail_in_turn};
 use std::alloc::{AllocError, Global};
 
 /// A pointer to a pointer to a text.
@@ -16,16 +16,16 @@ fn outcome(answer: Result<(), MaxMindDbError>) -> Outcome {
     match answer {
         Ok(()) => Outcome::Value,
         Err(MaxMindDbError::Memory) => Outcome::Memory,
-        Err(_) => Outcome::Refusal,
+        Err(_) => Outcome::Error,
     }
 }
 
 #[test]
-fn growths_refused_in_turn(rt: HostRuntime) -> Result<(), Failures> {
+fn growths_fail_in_turn(rt: HostRuntime) -> Result<(), Failures> {
     let (alloc, mut failures) = (rt.alloc(), Failures::new(rt.alloc()));
-    for (section, last) in [(POINTERS, Outcome::Value), (OF_NO_TYPE, Outcome::Refusal)] {
-        let (refused, then) = refused_in_turn(alloc, 16, || outcome(verify(alloc, section)));
-        failures.expect(&(section, refused, then), then == last && refused > 0);
+    for (section, last) in [(POINTERS, Outcome::Value), (OF_NO_TYPE, Outcome::Error)] {
+        let (rejected, then) = fail_in_turn(alloc, 16, || outcome(verify(alloc, section)));
+        failures.expect(&(section, rejected, then), then == last && rejected > 0);
     }
     failures.verdict()
 }
@@ -34,14 +34,14 @@ fn growths_refused_in_turn(rt: HostRuntime) -> Result<(), Failures> {
 // check once more.
 fn checked_twice(alloc: Global, section: &[u8]) -> (Outcome, Result<String, AllocError>) {
     let Ok(mut checked) = Checked::new(alloc, section) else {
-        return (Outcome::Refusal, Err(AllocError));
+        return (Outcome::Error, Err(AllocError));
     };
     let large = Hoard::of_large_blocks(alloc);
     let small = Hoard::of_all_left(alloc);
     let met = outcome(check_value(alloc, &mut checked, 0));
     drop(small);
     drop(large);
-    (met, told(alloc, check_value(alloc, &mut checked, 0)))
+    (met, reported(alloc, check_value(alloc, &mut checked, 0)))
 }
 
 #[test]

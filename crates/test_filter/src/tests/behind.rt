@@ -1,5 +1,5 @@
 //! Additions before the last bytes of a text.
-use super::streams::{Marks, Told, assert_at};
+use super::streams::{Marks, Seen, assert_at};
 use mmdb_filter::{Rows, filter_rows};
 use mmdb_vectors::section::section_of;
 use std::alloc::Global;
@@ -18,7 +18,7 @@ const ROWS: &[Row] = &[
 fn is_marked(alloc: Global, behind: usize, input: &[u8], want: &[u8]) -> bool {
     let mut input = input;
     let mut out: Vec<u8> = Vec::new(alloc);
-    let (marks, mut told) = (Marks(behind), Told(0));
+    let (marks, mut seen) = (Marks(behind), Seen(0));
     let done = filter_rows(
         alloc,
         Rows::Lines,
@@ -26,7 +26,7 @@ fn is_marked(alloc: Global, behind: usize, input: &[u8], want: &[u8]) -> bool {
         &mut (),
         &mut input,
         &mut out,
-        &mut told,
+        &mut seen,
     );
     done.is_ok() && out.as_slice() == want
 }

@@ -1,5 +1,5 @@
 //! Columns, addresses in them, and cells of CSV.
-use super::streams::{Told, assert_at};
+use super::streams::{Seen, assert_at};
 use mmdb_enrich::{Cache, Enrichment, put_csv_cell};
 use mmdb_filter::{Rows, filter_rows};
 use mmdb_reader::{PathElement, Reader};
@@ -82,7 +82,7 @@ fn is_enriched(
         &mut cache,
         &mut input,
         &mut out,
-        &mut Told(0),
+        &mut Seen(0),
     )
     .is_ok();
     is_done && out.as_slice() == want

@@ -61,13 +61,13 @@ fn fails_at_read(rt: &impl Abort, alloc: Global, input: &[u8], want: &[u8], read
 fn reads_that_fail(rt: HostRuntime) {
     let input = section_of(rt.alloc(), ROWS);
     let want = section_of(rt.alloc(), WRITTEN);
-    let mut refused = 0usize;
+    let mut rejected = 0usize;
     for read in 0..40u32 {
         if fails_at_read(&rt, rt.alloc(), input.as_slice(), want.as_slice(), read) {
-            refused = refused.saturating_add(1);
+            rejected = rejected.saturating_add(1);
         }
     }
-    assert_at(&rt, refused > 20 && refused < 40, refused);
+    assert_at(&rt, rejected > 20 && rejected < 40, rejected);
 }
 
 #[rattlefmt::skip]
@@ -149,12 +149,12 @@ fn fails_with(rt: &impl Abort, alloc: Global, input: &[u8], want: &[u8], budget:
 fn rows_without_memory(rt: HostRuntime) {
     let input = section_of(rt.alloc(), ROWS);
     let want = section_of(rt.alloc(), WRITTEN);
-    let mut refused = 0usize;
+    let mut rejected = 0usize;
     for step in 0..30usize {
         let budget = step * 32_768;
         if fails_with(&rt, rt.alloc(), input.as_slice(), want.as_slice(), budget) {
-            refused = refused.saturating_add(1);
+            rejected = rejected.saturating_add(1);
         }
     }
-    assert_at(&rt, refused > 0 && refused < 30, refused);
+    assert_at(&rt, rejected > 0 && rejected < 30, rejected);
 }

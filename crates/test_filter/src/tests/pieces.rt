@@ -1,5 +1,5 @@
 //! Rows around the length of a piece.
-use super::streams::{Chopped, Lengths, Told, assert_holds, filtered};
+use super::streams::{Chopped, Lengths, Seen, assert_holds, filtered};
 use mmdb_filter::laws::{count_clones_are_same, counts_equal_where_same};
 use mmdb_filter::{Counts, Rows, filter_rows};
 use mmdb_vectors::section::section_of;
@@ -149,7 +149,7 @@ impl Write for Counting {
 // What the filter counts, how many bytes it writes, and the number of rows that was reported last.
 fn counted<R: BufRead + Drop>(rt: &impl Abort, alloc: Global, mut input: R) -> (Counts, u64, u64) {
     let mut out = Counting { bytes: 0 };
-    let mut told = Told(0);
+    let mut seen = Seen(0);
     let counts = filter_rows(
         alloc,
         Rows::Lines,
@@ -157,9 +157,9 @@ fn counted<R: BufRead + Drop>(rt: &impl Abort, alloc: Global, mut input: R) -> (
         &mut (),
         &mut input,
         &mut out,
-        &mut told,
+        &mut seen,
     );
-    (counts.expect(rt, "counts"), out.bytes, told.0)
+    (counts.expect(rt, "counts"), out.bytes, seen.0)
 }
 
 #[test]
@@ -171,19 +171,19 @@ fn a_row_of_a_hundred_million_bytes(rt: HostRuntime) {
         absent: 0,
         unreadable: 0,
         malformed: 0,
-        refused: 1,
+        rejected: 1,
     };
     assert!(rt; counts == one, "{counts:?}");
     assert!(rt; bytes == 100_000_007, "{bytes}");
 }
 
 #[test]
-fn many_rows_are_told(rt: HostRuntime) {
+fn many_rows_are_reported(rt: HostRuntime) {
     let mut lines = Vec::new(rt.alloc());
     lines.resize(131_073, b'\n').expect(&rt, "lines");
-    let (counts, bytes, told) = counted(&rt, rt.alloc(), lines.as_slice());
+    let (counts, bytes, seen) = counted(&rt, rt.alloc(), lines.as_slice());
     assert_holds(&rt, counts.found == 131_073, "what is found");
-    assert_holds(&rt, told == 131_072, "what is told");
+    assert_holds(&rt, seen == 131_072, "what is seen");
     assert_holds(&rt, bytes == 131_073 * 7, "what is written");
 }
 

@@ -98,7 +98,7 @@ impl Additions for Lengths {
         mark[4] = b'0' + (len / 10 % 10) as u8;
         mark[5] = b'0' + (len % 10) as u8;
         let (count, outcome) = if is_long {
-            (7, Outcome::Refused)
+            (7, Outcome::Failed)
         } else {
             (6, Outcome::Found)
         };
@@ -141,9 +141,9 @@ impl Additions for Marks {
 
 /// The last number of rows that was reported.
 #[derive(Drop)]
-pub(crate) struct Told(pub(crate) u64);
+pub(crate) struct Seen(pub(crate) u64);
 
-impl Progress for Told {
+impl Progress for Seen {
     fn passed(&mut self, rows: u64) {
         self.0 = rows;
     }
@@ -165,6 +165,6 @@ pub(crate) fn filtered<W: Write>(
         &mut (),
         &mut reader,
         out,
-        &mut Told(0),
+        &mut Seen(0),
     )
 }

@@ -1,5 +1,5 @@
 //! Each record that owns memory is cloned, once with enough memory.
-use super::parts::refused;
+use super::parts::rejected;
 use mmdb_decode::decode::Decode;
 use mmdb_decode::fuzzing::decode;
 use mmdb_geoip2::{City, Enterprise};
@@ -10,7 +10,7 @@ use std::alloc::Global;
 fn is_cloned<'de, T: Decode<'de> + Clone>(alloc: Global) -> bool {
     match decode::<T>(alloc, b"\xE0") {
         Ok(record) => is_ok(record.clone()),
-        Err(error) => refused(error),
+        Err(error) => rejected(error),
     }
 }
 

@@ -1,5 +1,5 @@
 //! Which records are equal, and which say nothing.
-use super::parts::{Empty, Parts, refused};
+use super::parts::{Empty, Parts, rejected};
 use mmdb_decode::decode::Decode;
 use mmdb_decode::fuzzing::decode;
 use mmdb_geoip2::{City, Country, Enterprise, city, country};
@@ -22,7 +22,7 @@ const COUNTRIES: &[(&[u8], &[u8], bool)] = &[
 ];
 
 // What equality says of a value and of what a section is read as.
-fn told_beside<'de, T: Decode<'de> + PartialEq>(
+fn reported_beside<'de, T: Decode<'de> + PartialEq>(
     alloc: Global,
     left: &T,
     section: &'de [u8],
@@ -38,13 +38,13 @@ fn no_answer<E: Drop>(_error: E) -> Option<bool> {
 }
 
 // What equality says of two values.
-fn told_of_two<'de, T: Decode<'de> + PartialEq>(
+fn reported_of_two<'de, T: Decode<'de> + PartialEq>(
     alloc: Global,
     a: &'de [u8],
     b: &'de [u8],
 ) -> Option<bool> {
     match decode::<T>(alloc, a) {
-        Ok(left) => told_beside(alloc, &left, b),
+        Ok(left) => reported_beside(alloc, &left, b),
         Err(error) => no_answer(error),
     }
 }
@@ -67,7 +67,7 @@ fn is_sound<'de, T: Decode<'de> + Default + PartialEq + Clone + Empty>(
             let is_default = value == T::default();
             value.says_nothing() == is_default && is_same(&value, value.clone())
         }
-        Err(error) => refused(error),
+        Err(error) => rejected(error),
     }
 }
 
@@ -75,8 +75,8 @@ fn is_sound<'de, T: Decode<'de> + Default + PartialEq + Clone + Empty>(
 fn countries_equal(rt: HostRuntime) -> Result<(), Failures> {
     let (alloc, mut failures) = (rt.alloc(), Failures::new(rt.alloc()));
     for (a, b, is_equal) in COUNTRIES {
-        let told = told_of_two::<country::Country<'_>>(alloc, a, b);
-        failures.expect(&[*a, *b], told == Some(*is_equal));
+        let reported = reported_of_two::<country::Country<'_>>(alloc, a, b);
+        failures.expect(&[*a, *b], reported == Some(*is_equal));
         failures.expect(a, is_sound::<country::Country<'_>>(alloc, a));
         failures.expect(b, is_sound::<country::Country<'_>>(alloc, b));
     }
@@ -87,7 +87,7 @@ fn countries_equal(rt: HostRuntime) -> Result<(), Failures> {
 fn stands<'de, T: Decode<'de> + Empty>(alloc: Global, section: &'de [u8]) -> bool {
     match decode::<T>(alloc, section) {
         Ok(value) => !value.says_nothing(),
-        Err(error) => refused(error),
+        Err(error) => rejected(error),
     }
 }
 
@@ -97,10 +97,10 @@ fn zeros_differ(rt: HostRuntime) {
     let zero = b"\xE1\x48latitude\x68\0\0\0\0\0\0\0\0";
     let minus = b"\xE1\x48latitude\x68\x80\0\0\0\0\0\0\0";
     let alloc = rt.alloc();
-    let told = told_of_two::<city::Location<'_>>(alloc, zero, minus);
+    let reported = reported_of_two::<city::Location<'_>>(alloc, zero, minus);
     let both_stand = stands::<city::Location<'_>>(alloc, zero)
         && stands::<city::Location<'_>>(alloc, minus);
-    assert!(rt; both_stand && told == Some(false));
+    assert!(rt; both_stand && reported == Some(false));
 }
 
 // Whether the record that says nothing has only empty parts.
@@ -112,7 +112,7 @@ fn is_nothing<T: Parts + Drop>(alloc: Global) -> bool {
 fn reads_nothing<'de, T: Decode<'de> + Parts>(alloc: Global) -> bool {
     match decode::<T>(alloc, b"\xE0") {
         Ok(record) => record.says_nothing(),
-        Err(error) => refused(error),
+        Err(error) => rejected(error),
     }
 }
 

@@ -1,7 +1,7 @@
 //! Each record over a section that has all its fields, in another order than the struct, with unknown
 //! fields of every type between them.
 use super::memory::{expect_empty, expect_no_record, expect_none};
-use super::parts::{Parts, parts_told};
+use super::parts::{Parts, parts_reported};
 use super::reads::Reads;
 use super::section::{Row, with_unknown};
 use mmdb_decode::decode::Decode;
@@ -35,7 +35,7 @@ impl Reads {
         self.room = with_unknown(self.alloc, row);
         let (failures, alloc) = (&mut self.failures, self.alloc);
         expect_empty::<T>(failures, alloc);
-        let text = parts_told::<T>(alloc, self.room.as_slice());
+        let text = parts_reported::<T>(alloc, self.room.as_slice());
         failures.expect_text(&row.before, text, row.shown);
     }
 }

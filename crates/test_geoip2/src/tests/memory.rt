@@ -7,16 +7,16 @@ use mmdb_decode::decode::Decode;
 use mmdb_decode::fuzzing::decode;
 use mmdb_format::error::MaxMindDbError;
 use mmdb_geoip2::{City, Country, Domain, Enterprise};
-use mmdb_vectors::answer::told;
+use mmdb_vectors::answer::reported;
 use mmdb_vectors::failures::Failures;
-use mmdb_vectors::hoard::{Hoard, Outcome, refused_in_turn};
+use mmdb_vectors::hoard::{Hoard, Outcome, fail_in_turn};
 use std::alloc::{AllocError, Global};
 
 // What an error says of a call.
 fn kind_met(error: &MaxMindDbError) -> Outcome {
     match error {
         MaxMindDbError::Memory => Outcome::Memory,
-        _ => Outcome::Refusal,
+        _ => Outcome::Error,
     }
 }
 
@@ -41,8 +41,8 @@ fn expect_turns<'de, T: Decode<'de>>(
     section: &'de [u8],
     last: Outcome,
 ) {
-    let (refused, then) = refused_in_turn(alloc, 64, || outcome(decode::<T>(alloc, section)));
-    failures.expect(&(section, refused, then), then == last && refused > 0);
+    let (rejected, then) = fail_in_turn(alloc, 64, || outcome(decode::<T>(alloc, section)));
+    failures.expect(&(section, rejected, then), then == last && rejected > 0);
 }
 
 /// A map without a pair is read as a record.
@@ -68,7 +68,7 @@ pub fn expect_none<'de, T: Decode<'de>>(
 /// A text is read as no record: where every allocation fails there is none for what is reported of it, and then
 /// the text is rejected.
 pub fn expect_no_record<'de, T: Decode<'de>>(failures: &mut Failures, alloc: Global) {
-    expect_turns::<T>(failures, alloc, b"\x41x", Outcome::Refusal);
+    expect_turns::<T>(failures, alloc, b"\x41x", Outcome::Error);
 }
 
 #[test]
@@ -79,7 +79,7 @@ fn records_without_a_list(rt: HostRuntime) -> Result<(), Failures> {
     expect_no_record::<Country<'_>>(&mut failures, alloc);
     // An error that names a field takes memory for its text.
     let twice = b"\xE2\x46domain\x41x\x46domain\x41y";
-    expect_turns::<Domain<'_>>(&mut failures, alloc, twice, Outcome::Refusal);
+    expect_turns::<Domain<'_>>(&mut failures, alloc, twice, Outcome::Error);
     failures.verdict()
 }
 
@@ -89,10 +89,10 @@ impl Reads {
         self.room = with_unknown(self.alloc, row);
         let (failures, alloc, section) = (&mut self.failures, self.alloc, self.room.as_slice());
         expect_turns::<T>(failures, alloc, section, Outcome::Value);
-        let (refused, then) = read_and_cloned_in_turn::<T>(alloc, section);
+        let (rejected, then) = read_and_cloned_in_turn::<T>(alloc, section);
         failures.expect(
-            &("a clone", section, refused, then),
-            refused > 0 && then == Outcome::Value,
+            &("a clone", section, rejected, then),
+            rejected > 0 && then == Outcome::Value,
         );
         failures.expect_text(&section, cloned_text::<T>(alloc, section), row.shown);
     }
@@ -100,13 +100,13 @@ impl Reads {
     // What comes of a field that is a text, and of a record without a list: where no list stands, none is made.
     fn expect_without<'de, T: Decode<'de>>(&mut self) {
         let (failures, alloc) = (&mut self.failures, self.alloc);
-        expect_turns::<T>(failures, alloc, b"\xE1\x44city\x41x", Outcome::Refusal);
+        expect_turns::<T>(failures, alloc, b"\xE1\x44city\x41x", Outcome::Error);
         expect_none::<T>(failures, alloc, b"\xE1\x44city\xE0");
     }
 }
 
 #[test]
-fn lists_refused_in_turn(rt: HostRuntime) -> Result<(), Failures> {
+fn lists_fail_in_turn(rt: HostRuntime) -> Result<(), Failures> {
     let mut reads = Reads::new(rt.alloc());
     reads.expect_list::<City<'_>>(&TOP_CITY);
     reads.expect_list::<Enterprise<'_>>(&TOP_ENTERPRISE);
@@ -117,7 +117,7 @@ fn lists_refused_in_turn(rt: HostRuntime) -> Result<(), Failures> {
 
 // How often a clone fails for memory, with more of it each time, and what it meets then.
 fn cloned_in_turn<T: Clone + Drop>(alloc: Global, record: &T) -> (u32, Outcome) {
-    refused_in_turn(
+    fail_in_turn(
         alloc,
         64,
         || outcome(record.clone().map_err(MaxMindDbError::from)),
@@ -142,7 +142,7 @@ fn cloned_text<'de, T: Decode<'de> + Clone + Parts>(
 ) -> Result<String, AllocError> {
     match decode::<T>(alloc, section) {
         Ok(record) => text_of(alloc, record.clone()),
-        Err(error) => told(alloc, Err::<(), _>(error)),
+        Err(error) => reported(alloc, Err::<(), _>(error)),
     }
 }
 

@@ -2,7 +2,7 @@
 use mmdb_decode::decode::Decode;
 use mmdb_decode::fuzzing::decode;
 use mmdb_geoip2::{City, Country, Enterprise, city, country, enterprise};
-use mmdb_vectors::answer::told;
+use mmdb_vectors::answer::reported;
 use std::alloc::{AllocError, Global};
 
 /// A record that has parts.
@@ -45,8 +45,8 @@ impl Parts for Country<'_> {
             self.registered_country.iso_code,
             self.represented_country.representation_type,
         ];
-        let told = (texts, self.traits.is_anycast);
-        format!(in alloc; "{told:?}")
+        let reported = (texts, self.traits.is_anycast);
+        format!(in alloc; "{reported:?}")
     }
 }
 
@@ -102,8 +102,8 @@ impl Parts for City<'_> {
         ];
         let subdivisions = self.subdivisions.as_slice();
         let codes = (subdivisions.len(), codes_of_two(subdivisions));
-        let told = (city, texts, codes, self.traits.is_anycast);
-        format!(in alloc; "{told:?}")
+        let reported = (city, texts, codes, self.traits.is_anycast);
+        format!(in alloc; "{reported:?}")
     }
 }
 
@@ -147,28 +147,28 @@ impl Parts for Enterprise<'_> {
             self.represented_country.representation_type,
             self.traits.user_type,
         ];
-        let told = (
+        let reported = (
             confidences,
             texts,
             confidences_of_two(self.subdivisions.as_slice()),
         );
-        format!(in alloc; "{told:?}")
+        format!(in alloc; "{reported:?}")
     }
 }
 
 /// A field of each part of the record that a section is read as, or the text of the error.
-pub fn parts_told<'de, T: Decode<'de> + Parts>(
+pub fn parts_reported<'de, T: Decode<'de> + Parts>(
     alloc: Global,
     section: &'de [u8],
 ) -> Result<String, AllocError> {
     match decode::<T>(alloc, section) {
         Ok(record) => record.text(alloc),
-        Err(error) => told(alloc, Err::<(), _>(error)),
+        Err(error) => reported(alloc, Err::<(), _>(error)),
     }
 }
 
 /// What holds of a record that was rejected.
-pub fn refused<E: Drop>(_error: E) -> bool {
+pub fn rejected<E: Drop>(_error: E) -> bool {
     false
 }
 

@@ -1,9 +1,9 @@
 //! Worked rows: bytes, and what is read of them or reported.
-use super::parts::{Parts, parts_told, refused};
+use super::parts::{Parts, parts_reported, rejected};
 use mmdb_decode::decode::Decode;
 use mmdb_decode::fuzzing::decode;
 use mmdb_geoip2::{City, Country, Domain, Enterprise, MAX_SUBDIVISIONS};
-use mmdb_vectors::answer::{OK, told};
+use mmdb_vectors::answer::{OK, reported};
 use mmdb_vectors::failures::Failures;
 use mmdb_vectors::section::section_of;
 use std::alloc::{AllocError, Global};
@@ -18,21 +18,21 @@ enum Kind {
 }
 
 // What is reported of a section that is read as a record.
-fn told_as(alloc: Global, kind: Kind, section: &[u8]) -> Result<String, AllocError> {
+fn reported_as(alloc: Global, kind: Kind, section: &[u8]) -> Result<String, AllocError> {
     match kind {
-        Kind::Country => told(alloc, decode::<Country<'_>>(alloc, section)),
-        Kind::City => told(alloc, decode::<City<'_>>(alloc, section)),
-        Kind::Enterprise => told(alloc, decode::<Enterprise<'_>>(alloc, section)),
-        Kind::Domain => told(alloc, decode::<Domain<'_>>(alloc, section)),
+        Kind::Country => reported(alloc, decode::<Country<'_>>(alloc, section)),
+        Kind::City => reported(alloc, decode::<City<'_>>(alloc, section)),
+        Kind::Enterprise => reported(alloc, decode::<Enterprise<'_>>(alloc, section)),
+        Kind::Domain => reported(alloc, decode::<Domain<'_>>(alloc, section)),
     }
 }
 
 // A field of each part of the record that a section is read as.
 fn parts_as(alloc: Global, kind: Kind, section: &[u8]) -> Result<String, AllocError> {
     match kind {
-        Kind::Country => parts_told::<Country<'_>>(alloc, section),
-        Kind::City => parts_told::<City<'_>>(alloc, section),
-        Kind::Enterprise => parts_told::<Enterprise<'_>>(alloc, section),
+        Kind::Country => parts_reported::<Country<'_>>(alloc, section),
+        Kind::City => parts_reported::<City<'_>>(alloc, section),
+        Kind::Enterprise => parts_reported::<Enterprise<'_>>(alloc, section),
         Kind::Domain => String::from_str(alloc, "no parts"),
     }
 }
@@ -97,7 +97,7 @@ fn has_codes<'de, T: Decode<'de> + Parts>(
 ) -> bool {
     match decode::<T>(alloc, section) {
         Ok(record) => record.codes() == codes,
-        Err(error) => refused(error),
+        Err(error) => rejected(error),
     }
 }
 
@@ -163,11 +163,11 @@ const TOLD: &[Rows] = &[
 ];
 
 #[test]
-fn records_told(rt: HostRuntime) -> Result<(), Failures> {
+fn records_reported(rt: HostRuntime) -> Result<(), Failures> {
     let (alloc, mut failures) = (rt.alloc(), Failures::new(rt.alloc()));
     for (kind, rows) in TOLD {
         for (section, text) in *rows {
-            failures.expect_text(section, told_as(alloc, *kind, section), text);
+            failures.expect_text(section, reported_as(alloc, *kind, section), text);
         }
     }
     failures.verdict()
@@ -212,9 +212,9 @@ const AT_LIMITS: &[(Kind, &[Long])] = &[
 ];
 
 // What is reported of a row's section.
-fn long_told(alloc: Global, kind: Kind, row: &Long) -> Result<String, AllocError> {
+fn long_reported(alloc: Global, kind: Kind, row: &Long) -> Result<String, AllocError> {
     let section = section_of(alloc, &[(row.0, 1), (row.1, row.2)]);
-    told_as(alloc, kind, section.as_slice())
+    reported_as(alloc, kind, section.as_slice())
 }
 
 #[test]
@@ -222,7 +222,11 @@ fn records_at_limits(rt: HostRuntime) -> Result<(), Failures> {
     let (alloc, mut failures) = (rt.alloc(), Failures::new(rt.alloc()));
     for (kind, rows) in AT_LIMITS {
         for row in *rows {
-            failures.expect_text(&(*kind, row.0, row.2), long_told(alloc, *kind, row), row.3);
+            failures.expect_text(
+                &(*kind, row.0, row.2),
+                long_reported(alloc, *kind, row),
+                row.3,
+            );
         }
     }
     failures.verdict()

@@ -229,7 +229,7 @@ struct TwoFiles<'a> {
     new: OneFile<'a>,
 }
 
-fn refused() -> io::Error {
+fn rejected() -> io::Error {
     io::Error::from(io::ErrorKind::Unsupported)
 }
 
@@ -249,39 +249,39 @@ impl<'a> Files for TwoFiles<'a> {
     }
 
     fn open_dir(&self, _path: &str) -> io::Result<TestFile<'a>> {
-        Err(refused())
+        Err(rejected())
     }
 
     fn metadata(&self, _path: &str) -> io::Result<Metadata> {
-        Err(refused())
+        Err(rejected())
     }
 
     fn symlink_metadata(&self, _path: &str) -> io::Result<Metadata> {
-        Err(refused())
+        Err(rejected())
     }
 
     fn copy(&self, _from: &str, _to: &str) -> io::Result<u64> {
-        Err(refused())
+        Err(rejected())
     }
 
     fn rename(&self, _from: &str, _to: &str) -> io::Result<()> {
-        Err(refused())
+        Err(rejected())
     }
 
     fn remove_file(&self, _path: &str) -> io::Result<()> {
-        Err(refused())
+        Err(rejected())
     }
 
     fn create_dir(&self, _path: &str) -> io::Result<()> {
-        Err(refused())
+        Err(rejected())
     }
 
     fn remove_dir(&self, _path: &str) -> io::Result<()> {
-        Err(refused())
+        Err(rejected())
     }
 
     fn remove_dir_all<B: Allocator>(&self, _alloc: B, _path: &str) -> io::Result<()> {
-        Err(refused())
+        Err(rejected())
     }
 }
 
@@ -327,11 +327,11 @@ fn diff_of(alloc: Global, old: &[u8], new: &[u8], texts: &[&str]) -> Run {
 }
 
 fn assert_row(rt: &impl Abort, alloc: Global, row: &Row<'_>) {
-    let (old, new, texts, written, told, status) = row;
+    let (old, new, texts, written, message, status) = row;
     let old = bytes_of(rt, alloc, *old);
     let new = bytes_of(rt, alloc, *new);
     let run = diff_of(alloc, old.as_slice(), new.as_slice(), texts);
-    let holds = run.out() == *written && run.status == *status && lines_hold(run.err(), told);
+    let holds = run.out() == *written && run.status == *status && lines_hold(run.err(), message);
     assert_of(rt, texts, &run, holds);
 }
 
@@ -379,12 +379,12 @@ fn files_that_are_not_there(rt: HostRuntime) {
     for name in ["old.mmdb", "gone.mmdb"] {
         let texts = ["diff", name, "gone.mmdb"];
         let run = run_with(rt.alloc(), &files, &texts);
-        let is_told = run.err().contains("gone.mmdb: i/o error: ");
+        let is_reported = run.err().contains("gone.mmdb: i/o error: ");
         assert_of(
             &rt,
             &texts,
             &run,
-            is_told && run.status == 1 && run.out().is_empty(),
+            is_reported && run.status == 1 && run.out().is_empty(),
         );
     }
 }

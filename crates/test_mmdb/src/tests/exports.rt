@@ -105,17 +105,17 @@ pub(crate) fn lines_hold(text: &str, parts: &[&str]) -> bool {
 }
 
 // Whether a run wrote a text, and reported lines that hold some parts.
-pub(crate) fn is_as_wanted(run: &Run, written: &str, told: &[&str]) -> bool {
-    let status = u8::from(!told.is_empty());
-    run.out() == written && run.status == status && lines_hold(run.err(), told)
+pub(crate) fn is_as_wanted(run: &Run, written: &str, message: &[&str]) -> bool {
+    let status = u8::from(!message.is_empty());
+    run.out() == written && run.status == status && lines_hold(run.err(), message)
 }
 
 #[test]
 fn networks_with_fields(rt: HostRuntime) {
     let bytes = file_of_nodes(&rt, rt.alloc(), NODES, b"\xC1\x07", DATA);
-    for (texts, written, told) in ROWS {
+    for (texts, written, message) in ROWS {
         let run = run_of(rt.alloc(), bytes.as_slice(), texts, "");
-        assert_of(&rt, texts, &run, is_as_wanted(&run, written, told));
+        assert_of(&rt, texts, &run, is_as_wanted(&run, written, message));
     }
 }
 

@@ -43,9 +43,9 @@ fn with_a_failed_read(alloc: Global, texts: &[&str], fails_at: u32) -> Run {
 fn is_of_failed_read(texts: &[&str], run: &Run) -> bool {
     // what verify finds is its output
     let is_verify = texts.first() == Some(&"verify");
-    let told = if is_verify { run.out() } else { run.err() };
+    let message = if is_verify { run.out() } else { run.err() };
     run.status == 1
-        && told.contains("here.mmdb: i/o error: ")
+        && message.contains("here.mmdb: i/o error: ")
         && (run.out().is_empty() || run.err().is_empty())
 }
 
@@ -60,13 +60,13 @@ fn reads_that_fail(rt: HostRuntime) {
 }
 
 // A run over the base file and a writer with so much room.
-fn with_room(alloc: Global, texts: &[&str], room: usize, refusal: ErrorKind) -> Run {
+fn with_room(alloc: Global, texts: &[&str], room: usize, to_error: ErrorKind) -> Run {
     let words = words_with(alloc, texts);
     let mut input: &[u8] = b"";
     let mut out = Narrow {
         bytes: Vec::new(alloc),
         room,
-        refusal,
+        to_error,
     };
     let mut reported: Vec<u8> = Vec::new(alloc);
     let status = run(
@@ -87,8 +87,8 @@ fn with_room(alloc: Global, texts: &[&str], room: usize, refusal: ErrorKind) -> 
 
 // Whether a run wrote the beginning of a text that there was room for, and reported why not more. Of an output that
 // was closed nothing is reported.
-fn is_cut(cut: &Run, whole: &str, room: usize, refusal: ErrorKind) -> bool {
-    let is_full = refusal == ErrorKind::StorageFull;
+fn is_cut(cut: &Run, whole: &str, room: usize, to_error: ErrorKind) -> bool {
+    let is_full = to_error == ErrorKind::StorageFull;
     cut.status == 1
         && cut.written.as_slice() == &whole.as_bytes()[..room.min(whole.len())]
         && cut.err().contains("write error") == is_full
@@ -106,7 +106,7 @@ fn assert_cuts(rt: &impl Abort, alloc: Global, texts: &[&str], room: usize, whol
 }
 
 #[test]
-fn writers_that_refuse(rt: HostRuntime) {
+fn writers_that_fail(rt: HostRuntime) {
     for texts in COMMANDS {
         let run = run_of(rt.alloc(), BASE_FILE, texts, "");
         let whole = run.out();

@@ -116,12 +116,12 @@ const OF_DAMAGED: &[Row<'static>] = &[
 
 // Asserts what the rows say of exports from a file.
 fn assert_rows(rt: &impl Abort, alloc: Global, bytes: &[u8], rows: &[Row<'_>]) {
-    for (texts, written, told) in rows {
+    for (texts, written, message) in rows {
         let mut words = Vec::new(alloc);
         let _ = words.extend_from_slice(&["export", "here.mmdb"]);
         let _ = words.extend_from_slice(texts);
         let run = run_of(alloc, bytes, words.as_slice(), "");
-        assert_of(rt, texts, &run, is_as_wanted(&run, written, told));
+        assert_of(rt, texts, &run, is_as_wanted(&run, written, message));
     }
 }
 

@@ -22,7 +22,7 @@ fn narrow(alloc: Global) -> Narrow {
     Narrow {
         bytes: Vec::with_capacity(alloc, ROOM).unwrap_or(Vec::new(alloc)),
         room: ROOM,
-        refusal: ErrorKind::StorageFull,
+        to_error: ErrorKind::StorageFull,
     }
 }
 

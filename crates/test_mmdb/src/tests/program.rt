@@ -34,14 +34,14 @@ impl Run {
 pub(crate) struct Narrow {
     pub(crate) bytes: Vec<u8>,
     pub(crate) room: usize,
-    pub(crate) refusal: io::ErrorKind,
+    pub(crate) to_error: io::ErrorKind,
 }
 
 impl Write for Narrow {
     fn write(&mut self, bytes: &[u8]) -> io::Result<usize> {
         let count = bytes.len().min(self.room.saturating_sub(self.bytes.len()));
         if count == 0 && !bytes.is_empty() {
-            return Err(io::Error::from(self.refusal));
+            return Err(io::Error::from(self.to_error));
         }
         self.bytes.extend_from_slice(&bytes[..count])?;
         Ok(count)

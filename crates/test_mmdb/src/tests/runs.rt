@@ -238,9 +238,9 @@ const NO_JSON: &[Row<'static>] = &[
 
 // Asserts what the program writes of lines over a file.
 fn assert_lines(rt: &impl Abort, alloc: Global, bytes: &[u8], rows: &[Lines<'_>]) {
-    for (words, lines, written, told) in rows {
+    for (words, lines, written, message) in rows {
         let run = run_of(alloc, bytes, words, lines);
-        let holds = run.status == 0 && run.out() == *written && run.err().contains(told);
+        let holds = run.status == 0 && run.out() == *written && run.err().contains(message);
         assert_of(rt, words, &run, holds);
     }
 }
@@ -253,12 +253,12 @@ fn lines_with_fields(rt: HostRuntime) {
 
 #[test]
 fn objects_with_fields(rt: HostRuntime) {
-    for (lines, written, told) in OBJECTS {
+    for (lines, written, message) in OBJECTS {
         assert_lines(
             &rt,
             rt.alloc(),
             BASE_FILE,
-            &[(IN_JSON, *lines, *written, *told)],
+            &[(IN_JSON, *lines, *written, *message)],
         );
     }
     assert_lines(&rt, rt.alloc(), BASE_FILE, JSON_LINES);
@@ -287,18 +287,18 @@ fn has_member(object: &str, written: &str) -> bool {
 }
 
 // Whether a run added a member to an object that is seen whole, and else left it as it was.
-fn is_of_object(run: &Run, object: &str, told: &str) -> bool {
+fn is_of_object(run: &Run, object: &str, message: &str) -> bool {
     let is_written = if object.len() > 65_536 {
         run.out() == object
     } else {
         has_member(object, run.out())
     };
-    is_written && run.err().contains(told)
+    is_written && run.err().contains(message)
 }
 
 #[test]
 fn long_objects(rt: HostRuntime) {
-    for (length, told) in [
+    for (length, message) in [
         (65_536, "1 lines with"),
         (
             65_537,
@@ -311,23 +311,28 @@ fn long_objects(rt: HostRuntime) {
     ] {
         let text = object_of_length(rt.alloc(), length).expect(&rt, "a text");
         let run = run_of(rt.alloc(), BASE_FILE, IN_JSON, text.as_str());
-        assert_of(&rt, IN_JSON, &run, is_of_object(&run, text.as_str(), told));
+        assert_of(
+            &rt,
+            IN_JSON,
+            &run,
+            is_of_object(&run, text.as_str(), message),
+        );
     }
 }
 
 // Whether a run ended with a status, wrote a text, and reported one or nothing.
-fn is_as_wanted(run: &Run, status: u8, written: &str, told: &str) -> bool {
+fn is_as_wanted(run: &Run, status: u8, written: &str, message: &str) -> bool {
     run.status == status
         && run.out() == written
-        && run.err().contains(told)
-        && run.err().is_empty() == told.is_empty()
+        && run.err().contains(message)
+        && run.err().is_empty() == message.is_empty()
 }
 
 // Asserts what the program does with its arguments over a file.
 fn assert_runs(rt: &impl Abort, alloc: Global, bytes: &[u8], rows: &[Row<'_>]) {
-    for (words, status, written, told) in rows {
+    for (words, status, written, message) in rows {
         let run = run_of(alloc, bytes, words, "");
-        let holds = is_as_wanted(&run, *status, written, told);
+        let holds = is_as_wanted(&run, *status, written, message);
         assert_of(rt, words, &run, holds);
     }
 }

@@ -1,5 +1,5 @@
 //! What paths into small records find, and how they fail.
-use super::vectors::{RECORD, Wanted, file_of, high, low, told_at};
+use super::vectors::{RECORD, Wanted, file_of, high, low, reported_at};
 use maxminddb::PathElement::{Index, IndexFromEnd, Key};
 use maxminddb::{LookupResult, PathElement, Reader, Value, path};
 use mmdb_vectors::failures::Failures;
@@ -114,7 +114,11 @@ const ROWS: &[(&[u8], &[PathElement<'static>], Wanted, &str)] = &[
 fn paths(rt: HostRuntime) -> Result<(), Failures> {
     let (alloc, mut failures) = (rt.alloc(), Failures::new(rt.alloc()));
     for (data, path, wanted, text) in ROWS {
-        failures.expect_text(&(*data, *path), told_at(alloc, data, path, *wanted), text);
+        failures.expect_text(
+            &(*data, *path),
+            reported_at(alloc, data, path, *wanted),
+            text,
+        );
     }
     failures.verdict()
 }

@@ -1,5 +1,5 @@
 //! Paths at the limits of values and bytes.
-use super::vectors::{Wanted, told_at};
+use super::vectors::{Wanted, reported_at};
 use maxminddb::PathElement;
 use maxminddb::PathElement::{Index, Key};
 use mmdb_vectors::failures::Failures;
@@ -53,8 +53,8 @@ fn values_on_the_way_and_at_its_end(rt: HostRuntime) -> Result<(), Failures> {
     let (alloc, mut failures) = (rt.alloc(), Failures::new(rt.alloc()));
     for (head, count, path, wanted, text) in ARRAYS {
         let data = section_of(alloc, &[(*head, 1), (b"\x00\x07", *count)]);
-        let told = told_at(alloc, data.as_slice(), path, *wanted);
-        failures.expect_text(&(*head, *path), told, text);
+        let reported = reported_at(alloc, data.as_slice(), path, *wanted);
+        failures.expect_text(&(*head, *path), reported, text);
     }
     failures.verdict()
 }
@@ -84,8 +84,8 @@ fn bytes_of_keys(rt: HostRuntime) -> Result<(), Failures> {
             (b"a", 65_536),
         ];
         let data = section_of(alloc, &parts);
-        let told = told_at(alloc, data.as_slice(), &[Key("k")], Wanted::Bool);
-        failures.expect_text(pairs, told, text);
+        let reported = reported_at(alloc, data.as_slice(), &[Key("k")], Wanted::Bool);
+        failures.expect_text(pairs, reported, text);
     }
     failures.verdict()
 }

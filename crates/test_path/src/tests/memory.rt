@@ -3,7 +3,7 @@ use super::vectors::{RECORD, file_of, high, low};
 use maxminddb::PathElement::{Index, IndexFromEnd, Key};
 use maxminddb::{LookupResult, MaxMindDbError, PathElement, Reader, Value, render_path};
 use mmdb_vectors::failures::Failures;
-use mmdb_vectors::hoard::{Hoard, Outcome, refused_in_turn};
+use mmdb_vectors::hoard::{Hoard, Outcome, fail_in_turn};
 use std::alloc::Global;
 
 /// A call that takes memory.
@@ -12,9 +12,9 @@ enum Call {
     /// A list at the end of a path.
     ReadList,
     /// A step that fails at a value of another type.
-    RefusedStep,
+    RejectedStep,
     /// A value at the end of a path that is of another type.
-    RefusedValue,
+    RejectedValue,
     RenderPath,
 }
 
@@ -22,7 +22,7 @@ enum Call {
 fn kind_met(error: &MaxMindDbError) -> Outcome {
     match error {
         MaxMindDbError::Memory => Outcome::Memory,
-        MaxMindDbError::Decoding { path: Some(_), .. } => Outcome::Refusal,
+        MaxMindDbError::Decoding { path: Some(_), .. } => Outcome::Error,
         _ => Outcome::Other,
     }
 }
@@ -33,8 +33,8 @@ fn error_met(error: MaxMindDbError) -> Outcome {
     met
 }
 
-fn outcome<T: Drop>(told: Result<T, MaxMindDbError>) -> Outcome {
-    match told {
+fn outcome<T: Drop>(reported: Result<T, MaxMindDbError>) -> Outcome {
+    match reported {
         Ok(_) => Outcome::Value,
         Err(error) => error_met(error),
     }
@@ -43,8 +43,8 @@ fn outcome<T: Drop>(told: Result<T, MaxMindDbError>) -> Outcome {
 fn call_met(alloc: Global, call: Call, found: LookupResult<'_, &[u8]>) -> Outcome {
     match call {
         Call::ReadList => outcome(found.decode_path::<Vec<u16>>(alloc, &[Key("a")])),
-        Call::RefusedStep => outcome(found.decode_path::<u16>(alloc, &[Key("a"), Key("x")])),
-        Call::RefusedValue => outcome(found.decode_path::<&str>(alloc, &[Key("a"), Index(0)])),
+        Call::RejectedStep => outcome(found.decode_path::<u16>(alloc, &[Key("a"), Key("x")])),
+        Call::RejectedValue => outcome(found.decode_path::<&str>(alloc, &[Key("a"), Index(0)])),
         Call::RenderPath => outcome(render_path(alloc, &[Key("a"), IndexFromEnd(1)])),
     }
 }
@@ -52,16 +52,16 @@ fn call_met(alloc: Global, call: Call, found: LookupResult<'_, &[u8]>) -> Outcom
 /// A call, what it meets once no allocation fails, and how many growths it has at least.
 const CALLS: [(Call, Outcome, u32); 4] = [
     (Call::ReadList, Outcome::Value, 1),
-    (Call::RefusedStep, Outcome::Refusal, 2),
-    (Call::RefusedValue, Outcome::Refusal, 2),
+    (Call::RejectedStep, Outcome::Error, 2),
+    (Call::RejectedValue, Outcome::Error, 2),
     (Call::RenderPath, Outcome::Value, 1),
 ];
 
 // Notes the calls on a record that meet something else in turn.
 fn expect_calls(failures: &mut Failures, alloc: Global, found: LookupResult<'_, &[u8]>) {
     for (call, last, least) in CALLS {
-        let (refused, met) = refused_in_turn(alloc, 16, || call_met(alloc, call, found));
-        failures.expect(&(call, refused, met), met == last && refused >= least);
+        let (rejected, met) = fail_in_turn(alloc, 16, || call_met(alloc, call, found));
+        failures.expect(&(call, rejected, met), met == last && rejected >= least);
     }
 }
 
@@ -90,7 +90,7 @@ fn expect_turns(
 }
 
 #[test]
-fn growths_refused_in_turn(rt: HostRuntime) -> Result<(), Failures> {
+fn growths_fail_in_turn(rt: HostRuntime) -> Result<(), Failures> {
     let (alloc, mut failures) = (rt.alloc(), Failures::new(rt.alloc()));
     let file = file_of(alloc, RECORD);
     expect_turns(
@@ -107,11 +107,11 @@ enum Wanted {
     Number(Option<u16>),
     Text(&'static str),
     /// A number, whose read runs out of memory.
-    RefusedNumber,
+    RejectedNumber,
     /// Any value, whose read runs out of memory.
-    RefusedValue,
+    RejectedValue,
     /// The path itself as a text, which runs out of memory.
-    RefusedPath,
+    RejectedPath,
 }
 
 fn is_wanted(
@@ -123,10 +123,10 @@ fn is_wanted(
     match wanted {
         Wanted::Number(number) => { found.decode_path::<u16>(alloc, path).ok() == Some(number) }
         Wanted::Text(text) => { found.decode_path::<&str>(alloc, path).ok() == Some(Some(text)) }
-        Wanted::RefusedNumber => outcome(found.decode_path::<u16>(alloc, path)) == Outcome::Memory,
-        Wanted::RefusedValue => outcome(found.decode_path::<Value<'_>>(alloc, path))
+        Wanted::RejectedNumber => outcome(found.decode_path::<u16>(alloc, path)) == Outcome::Memory,
+        Wanted::RejectedValue => outcome(found.decode_path::<Value<'_>>(alloc, path))
             == Outcome::Memory,
-        Wanted::RefusedPath => outcome(render_path(alloc, path)) == Outcome::Memory,
+        Wanted::RejectedPath => outcome(render_path(alloc, path)) == Outcome::Memory,
     }
 }
 
@@ -163,10 +163,10 @@ const ROWS: &[Row] = &[
     (true, &[Key("b"), Key("c")], Wanted::Text("x")),
     (true, &[Key("a"), Index(2)], Wanted::Number(None)),
     (false, &[Key("a")], Wanted::Number(None)),
-    (true, &[Key("b"), Index(0)], Wanted::RefusedNumber),
-    (true, &[Key("b"), Key("c")], Wanted::RefusedNumber),
-    (true, &[Key("b")], Wanted::RefusedValue),
-    (true, &[Key("a")], Wanted::RefusedPath),
+    (true, &[Key("b"), Index(0)], Wanted::RejectedNumber),
+    (true, &[Key("b"), Key("c")], Wanted::RejectedNumber),
+    (true, &[Key("b")], Wanted::RejectedValue),
+    (true, &[Key("a")], Wanted::RejectedPath),
 ];
 
 // Notes the rows that have another answer where every allocation fails, or the error of the file.
@@ -186,7 +186,7 @@ fn expect_rows(
 }
 
 #[test]
-fn every_growth_refused(rt: HostRuntime) -> Result<(), Failures> {
+fn every_growth_fails(rt: HostRuntime) -> Result<(), Failures> {
     let (alloc, mut failures) = (rt.alloc(), Failures::new(rt.alloc()));
     let file = file_of(alloc, RECORD);
     expect_rows(

@@ -2,7 +2,7 @@
 use maxminddb::PathElement::{Index, IndexFromEnd, Key};
 use maxminddb::laws::{path_selects, steps_equal_where_same};
 use maxminddb::{PathElement, path, render_path};
-use mmdb_vectors::answer::told;
+use mmdb_vectors::answer::reported;
 use mmdb_vectors::equality::equality;
 use mmdb_vectors::failures::Failures;
 use std::alloc::{AllocError, Global};
@@ -49,7 +49,7 @@ const TEXTS: &[(&[PathElement<'static>], &str)] = &[
 fn text_of(alloc: Global, path: &[PathElement<'_>]) -> Result<String, AllocError> {
     match render_path(alloc, path) {
         Ok(text) => Ok(text),
-        Err(error) => told(alloc, Err::<(), _>(error)),
+        Err(error) => reported(alloc, Err::<(), _>(error)),
     }
 }
 

@@ -1,6 +1,6 @@
 //! What the tests of paths share.
 use maxminddb::{LookupResult, MaxMindDbError, PathElement, Reader};
-use mmdb_vectors::answer::{shown, told};
+use mmdb_vectors::answer::{reported, shown};
 use mmdb_vectors::builder::{BASE, BASE_NODE, file};
 use std::alloc::{AllocError, Global};
 use std::net::{IpAddr, Ipv4Addr};
@@ -50,7 +50,7 @@ fn answer(
     }
 }
 
-fn told_by(
+fn reported_by(
     alloc: Global,
     found: Result<LookupResult<'_, &[u8]>, MaxMindDbError>,
     path: &[PathElement<'_>],
@@ -58,31 +58,31 @@ fn told_by(
 ) -> Result<String, AllocError> {
     match found {
         Ok(found) => answer(alloc, found, path, wanted),
-        Err(error) => told(alloc, Err::<(), _>(error)),
+        Err(error) => reported(alloc, Err::<(), _>(error)),
     }
 }
 
-fn told_of(
+fn reported_of(
     alloc: Global,
     opened: Result<Reader<&[u8]>, MaxMindDbError>,
     path: &[PathElement<'_>],
     wanted: Wanted,
 ) -> Result<String, AllocError> {
     match opened {
-        Ok(reader) => told_by(alloc, reader.lookup(high()), path, wanted),
-        Err(error) => told(alloc, Err::<(), _>(error)),
+        Ok(reader) => reported_by(alloc, reader.lookup(high()), path, wanted),
+        Err(error) => reported(alloc, Err::<(), _>(error)),
     }
 }
 
 /// What is reported of a path into these data.
-pub fn told_at(
+pub fn reported_at(
     alloc: Global,
     data: &[u8],
     path: &[PathElement<'_>],
     wanted: Wanted,
 ) -> Result<String, AllocError> {
     let file = file_of(alloc, data);
-    told_of(
+    reported_of(
         alloc,
         Reader::from_source(alloc, file.as_slice()),
         path,

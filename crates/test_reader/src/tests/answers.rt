@@ -1,6 +1,6 @@
 //! The files of these tests, and what they answer, as text.
 use mmdb_reader::{LookupResult, MaxMindDbError, Reader};
-use mmdb_vectors::answer::{shown, told};
+use mmdb_vectors::answer::{reported, shown};
 use mmdb_vectors::base::{high, low};
 use mmdb_vectors::builder::{
     BASE_DATA, BASE_NODE, Changes, changed_file, file_of_shared_nodes, file_of_twenty_nodes,
@@ -74,7 +74,7 @@ fn text_of<S: AsSlice<u8> + Drop>(
     let (has_data, offset) = (found.has_data(), found.offset());
     match found.network() {
         Ok(network) => line_of(alloc, network.full_text(alloc), has_data, offset),
-        Err(error) => told(alloc, Err::<(), _>(error)),
+        Err(error) => reported(alloc, Err::<(), _>(error)),
     }
 }
 
@@ -85,7 +85,7 @@ pub fn found_text<S: AsSlice<u8> + Drop>(
 ) -> Result<String, AllocError> {
     match found {
         Ok(found) => text_of(alloc, found),
-        Err(error) => told(alloc, Err::<(), _>(error)),
+        Err(error) => reported(alloc, Err::<(), _>(error)),
     }
 }
 
@@ -96,7 +96,7 @@ fn value_text<S: AsSlice<u8> + Drop>(
 ) -> Result<String, AllocError> {
     match found {
         Ok(found) => shown(alloc, found.decode::<&str>(alloc)),
-        Err(error) => told(alloc, Err::<(), _>(error)),
+        Err(error) => reported(alloc, Err::<(), _>(error)),
     }
 }
 
@@ -107,7 +107,7 @@ pub fn value_by(
 ) -> Result<String, AllocError> {
     match opened {
         Ok(reader) => value_text(alloc, reader.lookup(high())),
-        Err(error) => told(alloc, Err::<(), _>(error)),
+        Err(error) => reported(alloc, Err::<(), _>(error)),
     }
 }
 
@@ -119,7 +119,7 @@ pub fn answer_by(
 ) -> Result<String, AllocError> {
     match opened {
         Ok(reader) => found_text(alloc, reader.lookup(address(text))),
-        Err(error) => told(alloc, Err::<(), _>(error)),
+        Err(error) => reported(alloc, Err::<(), _>(error)),
     }
 }
 

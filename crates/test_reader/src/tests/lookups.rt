@@ -7,7 +7,7 @@ use mmdb_reader::laws::{
     source_decides, step_clones_are_same, whole_walk,
 };
 use mmdb_reader::{LookupResult, MaxMindDbError, Reader, read_node};
-use mmdb_vectors::answer::{OK, shown, told};
+use mmdb_vectors::answer::{OK, reported, shown};
 use mmdb_vectors::base::BASE_FILE;
 use mmdb_vectors::builder::{BASE_DATA, Field, base_file as make_base_file};
 use mmdb_vectors::failures::Failures;
@@ -106,7 +106,7 @@ fn expect_answer(
 ) {
     match answer {
         Ok(found) => expect_found(failures, alloc, found, row),
-        Err(error) => failures.expect_text(row, told(alloc, Err::<(), _>(error)), row.1),
+        Err(error) => failures.expect_text(row, reported(alloc, Err::<(), _>(error)), row.1),
     }
 }
 
@@ -139,7 +139,7 @@ fn expect_base(
 ) {
     match opened {
         Ok(reader) => expect_rows(failures, alloc, &reader),
-        Err(error) => failures.expect_text(&"a reader", told(alloc, Err::<(), _>(error)), OK),
+        Err(error) => failures.expect_text(&"a reader", reported(alloc, Err::<(), _>(error)), OK),
     }
 }
 

@@ -1,7 +1,7 @@
 //! Lookups of several addresses at once.
 use super::answers::{BASE, File, address, found_text, reader_of};
 use mmdb_reader::{LookupResult, MaxMindDbError, Reader};
-use mmdb_vectors::answer::{OK, told};
+use mmdb_vectors::answer::{OK, reported};
 use mmdb_vectors::base::low;
 use mmdb_vectors::builder::BASE_DATA;
 use mmdb_vectors::failures::Failures;
@@ -111,7 +111,7 @@ fn expect_group(
 ) {
     match opened {
         Ok(reader) => expect_counts(failures, alloc, &reader, rows),
-        Err(error) => failures.expect_text(&rows, told(alloc, Err::<(), _>(error)), OK),
+        Err(error) => failures.expect_text(&rows, reported(alloc, Err::<(), _>(error)), OK),
     }
 }
 

@@ -1,7 +1,7 @@
 //! Which files are accepted, and what their metadata say.
 use super::answers::{BASE, File, answer, reader_of};
 use mmdb_reader::{MaxMindDbError, Metadata, Reader};
-use mmdb_vectors::answer::{shown, told};
+use mmdb_vectors::answer::{reported, shown};
 use mmdb_vectors::base::BASE_FILE;
 use mmdb_vectors::builder::{BASE_DATA, BASE_NODE, Changes, Field, changed_file};
 use mmdb_vectors::failures::Failures;
@@ -19,7 +19,7 @@ const NO_LOCATION: &str =
     "invalid database: the MaxMind DB file's data pointer resolves to an invalid location";
 
 /// Changes of metadata, and the error.
-type Refusals = &'static [(Changes<'static>, &'static str)];
+type Rejections = &'static [(Changes<'static>, &'static str)];
 
 const WITHOUT: &str = "0.0.0.0/1 false None";
 
@@ -88,27 +88,27 @@ const BEGINNINGS: &[(usize, &str)] = &[
 ];
 
 // What is reported of the first bytes of the base file.
-fn told_of_first(alloc: Global, len: usize) -> Result<String, AllocError> {
+fn reported_of_first(alloc: Global, len: usize) -> Result<String, AllocError> {
     let beginning = BASE_FILE.get(..len).unwrap_or(BASE_FILE);
-    told(alloc, Reader::from_source(alloc, beginning))
+    reported(alloc, Reader::from_source(alloc, beginning))
 }
 
 // Whether an error names the format.
-fn is_of_database(refusal: Result<String, AllocError>) -> bool {
-    match refusal {
-        Ok(refusal) => refusal.starts_with("invalid database"),
+fn is_of_database(to_error: Result<String, AllocError>) -> bool {
+    match to_error {
+        Ok(to_error) => to_error.starts_with("invalid database"),
         Err(_) => false,
     }
 }
 
 #[test]
-fn beginnings_refused(rt: HostRuntime) -> Result<(), Failures> {
+fn beginnings_rejected(rt: HostRuntime) -> Result<(), Failures> {
     let (alloc, mut failures) = (rt.alloc(), Failures::new(rt.alloc()));
     for len in 0..BASE_FILE.len() {
-        failures.expect(&len, is_of_database(told_of_first(alloc, len)));
+        failures.expect(&len, is_of_database(reported_of_first(alloc, len)));
     }
     for (len, text) in BEGINNINGS {
-        failures.expect_text(len, told_of_first(alloc, *len), text);
+        failures.expect_text(len, reported_of_first(alloc, *len), text);
     }
     failures.verdict()
 }
@@ -138,7 +138,7 @@ const WRONG_MAJOR: &str = "invalid database: binary_format_major_version - Expec
 /// Files with one fault and with all that are named later, where the fault of the node count stands in the
 /// place of that of room. A longer `build_epoch` moves the fields after it by 7 bytes.
 #[rattlefmt::skip]
-const FAULTS: Refusals = &[
+const FAULTS: Rejections = &[
     (&[ROOM], NO_ROOM),
     (&[SIZE], WRONG_SIZE),
     (&[SIZE, ROOM], WRONG_SIZE),
@@ -160,7 +160,7 @@ const FAULTS: Refusals = &[
 /// Metadata whose values are not read, and the error. `InvalidDatabase` counts from the start of the
 /// file, the others from that of the metadata: these begin at 36 and the length of the data.
 #[rattlefmt::skip]
-const UNREAD: Refusals = &[
+const UNREAD: Rejections = &[
     (
         &[(Field::RecordSize, b"\xA2\x18")],
         "invalid database at offset 197: u16 of size 2",
@@ -189,7 +189,7 @@ const UNREAD: Refusals = &[
 
 /// The same behind seven bytes of data more.
 #[rattlefmt::skip]
-const UNREAD_LATER: Refusals = &[
+const UNREAD_LATER: Rejections = &[
     (
         &[(Field::RecordSize, b"\xA2\x18")],
         "invalid database at offset 204: u16 of size 2",
@@ -201,24 +201,24 @@ const UNREAD_LATER: Refusals = &[
 ];
 
 // The error of a file of these data and changed metadata, or `ok`.
-fn refusal(alloc: Global, data: &[u8], changes: Changes<'_>) -> Result<String, AllocError> {
+fn to_error(alloc: Global, data: &[u8], changes: Changes<'_>) -> Result<String, AllocError> {
     let file = changed_file(alloc, BASE_NODE, data, changes)?;
-    told(alloc, Reader::from_source(alloc, file))
+    reported(alloc, Reader::from_source(alloc, file))
 }
 
 // Notes what is reported otherwise of files of these data.
-fn expect_refusals(failures: &mut Failures, alloc: Global, data: &[u8], rows: Refusals) {
+fn expect_rejections(failures: &mut Failures, alloc: Global, data: &[u8], rows: Rejections) {
     for (changes, text) in rows {
-        failures.expect_text(text, refusal(alloc, data, changes), text);
+        failures.expect_text(text, to_error(alloc, data, changes), text);
     }
 }
 
 #[test]
-fn metadata_refused(rt: HostRuntime) -> Result<(), Failures> {
+fn metadata_rejected(rt: HostRuntime) -> Result<(), Failures> {
     let (alloc, mut failures) = (rt.alloc(), Failures::new(rt.alloc()));
-    expect_refusals(&mut failures, alloc, BASE_DATA, FAULTS);
-    expect_refusals(&mut failures, alloc, BASE_DATA, UNREAD);
-    expect_refusals(&mut failures, alloc, b"\x48abcdefgh", UNREAD_LATER);
+    expect_rejections(&mut failures, alloc, BASE_DATA, FAULTS);
+    expect_rejections(&mut failures, alloc, BASE_DATA, UNREAD);
+    expect_rejections(&mut failures, alloc, b"\x48abcdefgh", UNREAD_LATER);
     failures.verdict()
 }
 
@@ -295,7 +295,7 @@ fn expect_read(
 ) {
     match opened {
         Ok(reader) => expect_clone(failures, alloc, reader.metadata().clone(), wanted, time),
-        Err(error) => failures.expect_text(&time, told(alloc, Err::<(), _>(error)), wanted),
+        Err(error) => failures.expect_text(&time, reported(alloc, Err::<(), _>(error)), wanted),
     }
 }
 

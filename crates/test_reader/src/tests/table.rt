@@ -1,7 +1,7 @@
 //! Lookups that begin from a table, and the nodes that they read.
 use super::answers::{File, address, found_text, reader_of};
 use mmdb_reader::{MaxMindDbError, Reader, Steps};
-use mmdb_vectors::answer::{OK, is_ok, told};
+use mmdb_vectors::answer::{OK, is_ok, reported};
 use mmdb_vectors::builder::{BASE_DATA, Field};
 use mmdb_vectors::failures::Failures;
 use std::alloc::Global;
@@ -75,7 +75,7 @@ fn expect_opened(
 ) {
     match opened {
         Ok(reader) => expect_count(failures, alloc, &reader, row),
-        Err(error) => failures.expect_text(&row.1, told(alloc, Err::<(), _>(error)), OK),
+        Err(error) => failures.expect_text(&row.1, reported(alloc, Err::<(), _>(error)), OK),
     }
 }
 
@@ -116,7 +116,7 @@ fn expect_at_most(
 ) {
     match opened {
         Ok(reader) => failures.expect(&row.1, is_at_most(&reader, row)),
-        Err(error) => failures.expect_text(&row.1, told(alloc, Err::<(), _>(error)), OK),
+        Err(error) => failures.expect_text(&row.1, reported(alloc, Err::<(), _>(error)), OK),
     }
 }
 

@@ -38,7 +38,7 @@ fn of_errors(rt: &impl Abort, alloc: Global) {
     for (name, constructor) in CONSTRUCTORS {
         // An error, and not one of memory.
         let met = error_met(made(alloc, constructor));
-        assert_holds(rt, met == Outcome::Refusal, name);
+        assert_holds(rt, met == Outcome::Error, name);
     }
 }
 

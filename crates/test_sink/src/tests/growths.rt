@@ -32,7 +32,7 @@ pub(crate) enum Call {
     Report,
     ReportOfIpv6,
     /// A file whose error names a number.
-    RefusedSource,
+    RejectedSource,
     FullText,
     NewChecked,
     Made(&'static Constructor),
@@ -43,14 +43,14 @@ pub(crate) enum Call {
 pub(crate) enum Outcome {
     Memory,
     Answer,
-    Refusal,
+    Error,
     Wrong,
 }
 
 fn kind_met(error: &MaxMindDbError) -> Outcome {
     match error {
         MaxMindDbError::Memory => Outcome::Memory,
-        _ => Outcome::Refusal,
+        _ => Outcome::Error,
     }
 }
 
@@ -80,7 +80,7 @@ pub(crate) fn outcome_of<T: Drop>(answer: Result<T, MaxMindDbError>) -> Outcome 
 struct Given {
     base: Reader<&'static [u8]>,
     offsets: Reader<Vec<u8>>,
-    refused: Vec<u8>,
+    rejected: Vec<u8>,
     ipv4: IpNetwork,
     ipv6: IpNetwork,
 }
@@ -101,7 +101,7 @@ fn file_of_twenty_offsets(alloc: Global) -> Result<Vec<u8>, AllocError> {
 }
 
 // A file with records of 16 bits.
-fn refused_file(alloc: Global) -> Result<Vec<u8>, AllocError> {
+fn rejected_file(alloc: Global) -> Result<Vec<u8>, AllocError> {
     let record_size = [(Field::RecordSize, b"\xA1\x10".as_slice())];
     changed_file(alloc, BASE_NODE, BASE_DATA, &record_size)
 }
@@ -118,7 +118,7 @@ impl Given {
         Given {
             base: opened(rt, alloc, BASE_FILE),
             offsets: reader_of_twenty_offsets(rt, alloc),
-            refused: refused_file(alloc).expect(rt, "a file"),
+            rejected: rejected_file(alloc).expect(rt, "a file"),
             ipv4: "0.0.0.0/0".parse().expect(rt, "a range"),
             ipv6: "::/0".parse().expect(rt, "a range"),
         }
@@ -180,7 +180,7 @@ fn met_by(alloc: Global, call: &Call, given: &Given, sink: &mut OneByte) -> Outc
         Call::ListOfIpv6 => list_met(alloc, given, given.ipv6, sink),
         Call::Report => report_met(alloc, given, given.ipv4),
         Call::ReportOfIpv6 => report_met(alloc, given, given.ipv6),
-        Call::RefusedSource => outcome_of(Reader::from_source(alloc, given.refused.as_slice())),
+        Call::RejectedSource => outcome_of(Reader::from_source(alloc, given.rejected.as_slice())),
         Call::FullText => text_met(alloc, given.ipv4),
         Call::NewChecked => outcome_of(Checked::new(alloc, BASE_DATA)),
         Call::Made(constructor) => error_met(made(alloc, constructor)),
@@ -203,7 +203,7 @@ fn budget_of(call: &Call, step: usize) -> usize
 fn met_within(rt: &impl Abort, alloc: Global, call: &Call, given: &Given, budget: usize) -> Outcome
     requires { budget < 1000000 }
 {
-    let mut sink = one_byte(rt, alloc, 100, End::Refuses);
+    let mut sink = one_byte(rt, alloc, 100, End::Fails);
     let small = Hoard::of_all_but(alloc, budget);
     let met = met_by(alloc, call, given, &mut sink);
     drop(small);
@@ -216,19 +216,19 @@ fn met_within(rt: &impl Abort, alloc: Global, call: &Call, given: &Given, budget
 }
 
 // How often a call fails for lack of memory, and what comes of it then.
-fn refusals(rt: &impl Abort, alloc: Global, call: &Call, given: &Given) -> (u32, Outcome) {
+fn rejections(rt: &impl Abort, alloc: Global, call: &Call, given: &Given) -> (u32, Outcome) {
     let large = Hoard::of_large_blocks(alloc);
-    let mut refused = 0u32;
+    let mut rejected = 0u32;
     let mut met = Outcome::Memory;
     for step in 0..512usize {
         met = met_within(rt, alloc, call, given, budget_of(call, step));
         if met != Outcome::Memory {
             break;
         }
-        refused = refused.saturating_add(1);
+        rejected = rejected.saturating_add(1);
     }
     drop(large);
-    (refused, met)
+    (rejected, met)
 }
 
 /// A call by name, what it meets with enough memory, and how often it fails for it before, at least and at
@@ -238,9 +238,9 @@ pub(crate) type Row = (&'static str, Call, Outcome, u32, u32);
 // Asserts what a call meets.
 fn assert_met(rt: &impl Abort, alloc: Global, given: &Given, row: &Row) {
     let (name, call, last, least, most) = row;
-    let (refused, met) = refusals(rt, alloc, call, given);
-    let is_right = met == *last && refused >= *least && refused <= *most;
-    assert!(rt; is_right, "{name}: {refused} refusals");
+    let (rejected, met) = rejections(rt, alloc, call, given);
+    let is_right = met == *last && rejected >= *least && rejected <= *most;
+    assert!(rt; is_right, "{name}: {rejected} rejections");
 }
 
 /// Asserts what calls meet.
@@ -255,24 +255,24 @@ pub(crate) fn assert_all_met(rt: &impl Abort, alloc: Global, rows: &[Row]) {
 #[rattlefmt::skip]
 const CALLS: &[Row] = &[
     ("within", Call::Within, Outcome::Answer, 1, 511),
-    ("within of IPv6", Call::WithinOfIpv6, Outcome::Refusal, 0, 0),
+    ("within of IPv6", Call::WithinOfIpv6, Outcome::Error, 0, 0),
     ("networks", Call::Networks, Outcome::Answer, 1, 511),
-    ("lookup_line of IPv6", Call::LineOfIpv6, Outcome::Refusal, 0, 0),
-    ("list_to of IPv6", Call::ListOfIpv6, Outcome::Refusal, 0, 0),
-    ("report_on of IPv6", Call::ReportOfIpv6, Outcome::Refusal, 0, 0),
-    ("from_source", Call::RefusedSource, Outcome::Refusal, 1, 511),
+    ("lookup_line of IPv6", Call::LineOfIpv6, Outcome::Error, 0, 0),
+    ("list_to of IPv6", Call::ListOfIpv6, Outcome::Error, 0, 0),
+    ("report_on of IPv6", Call::ReportOfIpv6, Outcome::Error, 0, 0),
+    ("from_source", Call::RejectedSource, Outcome::Error, 1, 511),
     ("full_text", Call::FullText, Outcome::Answer, 1, 511),
     ("Checked::new", Call::NewChecked, Outcome::Answer, 1, 511),
-    ("invalid_database", Call::Made(&Constructor::InvalidDatabase), Outcome::Refusal, 1, 511),
-    ("invalid_database_at", Call::Made(&Constructor::InvalidDatabaseAt), Outcome::Refusal, 1, 511),
-    ("decoding", Call::Made(&Constructor::Decoding), Outcome::Refusal, 1, 511),
-    ("decoding_at", Call::Made(&Constructor::DecodingAt), Outcome::Refusal, 1, 511),
-    ("decoding_at_path", Call::Made(&Constructor::DecodingAtPath), Outcome::Refusal, 1, 511),
-    ("resource_limit_at", Call::Made(&Constructor::ResourceLimitAt), Outcome::Refusal, 1, 511),
-    ("invalid_input", Call::Made(&Constructor::InvalidInput), Outcome::Refusal, 1, 511),
+    ("invalid_database", Call::Made(&Constructor::InvalidDatabase), Outcome::Error, 1, 511),
+    ("invalid_database_at", Call::Made(&Constructor::InvalidDatabaseAt), Outcome::Error, 1, 511),
+    ("decoding", Call::Made(&Constructor::Decoding), Outcome::Error, 1, 511),
+    ("decoding_at", Call::Made(&Constructor::DecodingAt), Outcome::Error, 1, 511),
+    ("decoding_at_path", Call::Made(&Constructor::DecodingAtPath), Outcome::Error, 1, 511),
+    ("resource_limit_at", Call::Made(&Constructor::ResourceLimitAt), Outcome::Error, 1, 511),
+    ("invalid_input", Call::Made(&Constructor::InvalidInput), Outcome::Error, 1, 511),
 ];
 
 #[test]
-fn growths_refused_in_turn(rt: HostRuntime) {
+fn growths_fail_in_turn(rt: HostRuntime) {
     assert_all_met(&rt, rt.alloc(), CALLS);
 }

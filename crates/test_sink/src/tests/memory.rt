@@ -15,17 +15,17 @@ const LINE: &[Row] = &[("lookup_line", Call::Line, Outcome::Answer, 2, 255)];
 const REPORT: &[Row] = &[("report_on", Call::Report, Outcome::Answer, 2, 511)];
 
 #[test]
-fn growths_of_lists_refused_in_turn(rt: HostRuntime) {
+fn growths_of_lists_fail_in_turn(rt: HostRuntime) {
     assert_all_met(&rt, rt.alloc(), LIST);
 }
 
 #[test]
-fn growths_of_lines_refused_in_turn(rt: HostRuntime) {
+fn growths_of_lines_fail_in_turn(rt: HostRuntime) {
     assert_all_met(&rt, rt.alloc(), LINE);
 }
 
 #[test]
-fn growths_of_reports_refused_in_turn(rt: HostRuntime) {
+fn growths_of_reports_fail_in_turn(rt: HostRuntime) {
     assert_all_met(&rt, rt.alloc(), REPORT);
 }
 
@@ -52,5 +52,5 @@ fn report_of_a_range_of_another_kind(rt: HostRuntime) {
     let reader = opened(&rt, alloc, BASE_FILE);
     let range: IpNetwork = "::/0".parse().expect(&rt, "a range");
     let done = report_on(alloc, &reader, range, WithinOptions::default());
-    assert_printed(&rt, alloc, done.expect_err(&rt, "a refusal"), OF_RANGE);
+    assert_printed(&rt, alloc, done.expect_err(&rt, "a to_error"), OF_RANGE);
 }

@@ -11,7 +11,7 @@ use std::process::Abort;
 /// What a sink does at the call that it ends at.
 #[derive(Clone, Copy)]
 pub enum End {
-    Refuses,
+    Fails,
     TakesNone,
 }
 
@@ -55,7 +55,7 @@ impl OneByte {
         };
         if self.calls == self.ends_at {
             return match self.end {
-                End::Refuses => Err(io::Error::from(io::ErrorKind::InvalidData)),
+                End::Fails => Err(io::Error::from(io::ErrorKind::InvalidData)),
                 End::TakesNone => Ok(0),
             };
         }
@@ -75,7 +75,7 @@ impl Sink for OneByte {
         let fault = self.fault;
         let taken = self.taken(bytes);
         self.fault = match (fault, &taken) {
-            (Fault::Free, Err(_)) => Fault::Refused,
+            (Fault::Free, Err(_)) => Fault::Failed,
             (Fault::Free, Ok(0)) if !bytes.is_empty() => Fault::Stalled,
             _ => fault,
         };

@@ -18,15 +18,15 @@ type Run = (&'static [&'static str], u32, End, &'static str, Fault, u8);
 
 #[rattlefmt::skip]
 const RUNS: &[Run] = &[
-    (&FOUND, 100, End::Refuses, "128.0.0.0/1 0\n", Fault::Free, 0),
-    (&FOUND, 6, End::Refuses, "128.0", Fault::Refused, 1),
+    (&FOUND, 100, End::Fails, "128.0.0.0/1 0\n", Fault::Free, 0),
+    (&FOUND, 6, End::Fails, "128.0", Fault::Failed, 1),
     (&FOUND, 6, End::TakesNone, "128.0", Fault::Stalled, 1),
-    (&[], 7, End::Refuses, "usage:", Fault::Refused, 1),
+    (&[], 7, End::Fails, "usage:", Fault::Failed, 1),
     (&[], 7, End::TakesNone, "usage:", Fault::Stalled, 1),
 ];
 
 // Asserts what a run writes, and what it reports of a sink that fails.
-fn assert_run(rt: &impl Abort, alloc: Global, run: &Run, refused: &str) {
+fn assert_run(rt: &impl Abort, alloc: Global, run: &Run, rejected: &str) {
     let (texts, ends_at, end, wrote, fault, status) = run;
     let mut out = one_byte(rt, alloc, *ends_at, *end);
     let mut err = Out::new(Vec::new(alloc));
@@ -34,7 +34,7 @@ fn assert_run(rt: &impl Abort, alloc: Global, run: &Run, refused: &str) {
     assert_taken(rt, &out, wrote, *fault);
     let text = match fault {
         Fault::Free => "",
-        Fault::Refused => refused,
+        Fault::Failed => rejected,
         Fault::Stalled => "write stopped\n",
     };
     assert_written(rt, err, text, texts);
@@ -43,10 +43,10 @@ fn assert_run(rt: &impl Abort, alloc: Global, run: &Run, refused: &str) {
 #[test]
 fn sinks_that_fail(rt: HostRuntime) {
     let alloc = rt.alloc();
-    let refused = io::Error::from(io::ErrorKind::InvalidData);
-    let refused = format!(in alloc; "write error: {refused}\n").expect(&rt, "a text");
+    let rejected = io::Error::from(io::ErrorKind::InvalidData);
+    let rejected = format!(in alloc; "write error: {rejected}\n").expect(&rt, "a text");
     for run in RUNS {
-        assert_run(&rt, alloc, run, refused.as_str());
+        assert_run(&rt, alloc, run, rejected.as_str());
     }
 }
 
@@ -74,12 +74,12 @@ fn assert_fault_of_err(rt: &impl Abort, alloc: Global, row: &FaultOfErr, end: En
 #[test]
 fn faults_of_err(rt: HostRuntime) {
     for row in FAULTS_OF_ERR {
-        assert_fault_of_err(&rt, rt.alloc(), row, End::Refuses, Fault::Refused);
+        assert_fault_of_err(&rt, rt.alloc(), row, End::Fails, Fault::Failed);
         assert_fault_of_err(&rt, rt.alloc(), row, End::TakesNone, Fault::Stalled);
     }
 }
 
-const FAULTS: [Fault; 3] = [Fault::Free, Fault::Refused, Fault::Stalled];
+const FAULTS: [Fault; 3] = [Fault::Free, Fault::Failed, Fault::Stalled];
 
 #[test]
 fn faults_that_are_equal(rt: HostRuntime) {
@@ -93,7 +93,7 @@ fn faults_that_are_equal(rt: HostRuntime) {
 // The fault for which a list failed; none where the database failed.
 fn fault_of(error: ListError) -> Option<Fault> {
     match error {
-        ListError::Write(_) => Some(Fault::Refused),
+        ListError::Write(_) => Some(Fault::Failed),
         ListError::Stopped => Some(Fault::Stalled),
         ListError::Database(_) => None,
     }
@@ -120,15 +120,8 @@ fn assert_list(rt: &impl Abort, alloc: Global, ends_at: u32, end: End, wrote: &s
 #[test]
 fn lists_to_sinks_that_end(rt: HostRuntime) {
     let alloc = rt.alloc();
-    assert_list(
-        &rt,
-        alloc,
-        100,
-        End::Refuses,
-        "128.0.0.0/1 0\n",
-        Fault::Free,
-    );
-    assert_list(&rt, alloc, 6, End::Refuses, "128.0", Fault::Refused);
+    assert_list(&rt, alloc, 100, End::Fails, "128.0.0.0/1 0\n", Fault::Free);
+    assert_list(&rt, alloc, 6, End::Fails, "128.0", Fault::Failed);
     assert_list(&rt, alloc, 6, End::TakesNone, "128.0", Fault::Stalled);
 }
 
@@ -137,8 +130,8 @@ fn list_of_a_range_of_another_kind(rt: HostRuntime) {
     let alloc = rt.alloc();
     let reader = opened(&rt, alloc, BASE_FILE);
     let range: IpNetwork = "::/0".parse().expect(&rt, "a range");
-    let mut sink = one_byte(&rt, alloc, 100, End::Refuses);
+    let mut sink = one_byte(&rt, alloc, 100, End::Fails);
     let done = list_to(alloc, &reader, range, WithinOptions::default(), &mut sink);
-    assert_printed(&rt, alloc, done.expect_err(&rt, "a refusal"), OF_RANGE);
+    assert_printed(&rt, alloc, done.expect_err(&rt, "a to_error"), OF_RANGE);
     assert_taken(&rt, &sink, "", Fault::Free);
 }

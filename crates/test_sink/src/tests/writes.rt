@@ -9,7 +9,7 @@ enum Takes {
     All,
     One,
     None,
-    Refuses,
+    Fails,
     Interrupted,
 }
 
@@ -30,7 +30,7 @@ impl Write for Counting {
             Takes::All => Ok(bytes.len()),
             Takes::One => Ok(bytes.len().min(1)),
             Takes::None => Ok(0),
-            Takes::Refuses => Err(io::Error::from(ErrorKind::InvalidData)),
+            Takes::Fails => Err(io::Error::from(ErrorKind::InvalidData)),
             Takes::Interrupted => Err(io::Error::from(ErrorKind::Interrupted)),
         }
     }
@@ -51,7 +51,7 @@ const ROWS: &[Row] = &[
     (Takes::All, 70_000, Some(70_000)),
     (Takes::One, 70_000, Some(1)),
     (Takes::None, 3, Some(0)),
-    (Takes::Refuses, 3, None),
+    (Takes::Fails, 3, None),
     (Takes::Interrupted, 3, None),
 ];
 

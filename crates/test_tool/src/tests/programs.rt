@@ -122,7 +122,7 @@ fn bad_words(rt: HostRuntime) {
 }
 
 // Asserts that a file which can't be opened, or is no database, is reported by `lookup` and by `verify`.
-fn assert_refused(rt: &impl Abort, alloc: Global, files: &OneFile<'_>, path: &str, text: &str) {
+fn assert_rejected(rt: &impl Abort, alloc: Global, files: &OneFile<'_>, path: &str, text: &str) {
     let lookup = ["lookup", path, "1.1.1.1"];
     assert_done(rt, alloc, files, &lookup, (1, "", text));
     assert_done(rt, alloc, files, &["verify", path], (1, "", text));
@@ -136,9 +136,9 @@ const EMPTY: OneFile<'static> = OneFile {
 };
 
 #[test]
-fn refused_files(rt: HostRuntime) {
+fn rejected_files(rt: HostRuntime) {
     let no_marker = "invalid database: could not find MaxMind DB metadata in file\n";
-    assert_refused(&rt, rt.alloc(), &EMPTY, "here.mmdb", no_marker);
+    assert_rejected(&rt, rt.alloc(), &EMPTY, "here.mmdb", no_marker);
     assert_done_with(&rt, rt.alloc(), b"", &FOUND, (1, "", no_marker));
 }
 
@@ -156,7 +156,7 @@ fn assert_unread(rt: &impl Abort, alloc: Global, path: &str, fails_at: u32, kind
         step: 64,
         fails_at,
     };
-    assert_refused(rt, alloc, &files, path, text.as_str());
+    assert_rejected(rt, alloc, &files, path, text.as_str());
 }
 
 #[test]

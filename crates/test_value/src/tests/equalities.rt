@@ -7,7 +7,7 @@ use std::alloc::Global;
 type Pairs = &'static [(&'static [u8], &'static [u8], bool)];
 
 // What equality says of the values of two sections.
-fn told<'de, T: Decode<'de> + PartialEq>(
+fn reported<'de, T: Decode<'de> + PartialEq>(
     alloc: Global,
     a: &'de [u8],
     b: &'de [u8],
@@ -24,7 +24,7 @@ fn expect_equalities<'de, T: Decode<'de> + PartialEq>(
     pairs: &[(&'de [u8], &'de [u8], bool)],
 ) {
     for (a, b, is_equal) in pairs {
-        failures.expect(&[*a, *b], told::<T>(alloc, a, b) == Some(*is_equal));
+        failures.expect(&[*a, *b], reported::<T>(alloc, a, b) == Some(*is_equal));
     }
 }
 

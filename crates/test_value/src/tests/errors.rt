@@ -4,14 +4,14 @@ use mmdb_value::{
     MaxMindDbError, decoding, decoding_at, decoding_at_path, invalid_database, invalid_database_at,
     invalid_input, resource_limit_at,
 };
-use mmdb_vectors::answer::told;
+use mmdb_vectors::answer::reported;
 use mmdb_vectors::failures::Failures;
 use std::alloc::Global;
 use std::io;
 
 // Notes where an error prints another text.
 fn expect_printed(failures: &mut Failures, alloc: Global, error: MaxMindDbError, text: &str) {
-    failures.expect_text(&text, told(alloc, Err::<(), _>(error)), text);
+    failures.expect_text(&text, reported(alloc, Err::<(), _>(error)), text);
 }
 
 #[test]

@@ -1,7 +1,7 @@
 //! Values at the limits of what is read, and just past them.
 use crate::probe::read_probe;
 use mmdb_value::{Value, fuzzing};
-use mmdb_vectors::answer::{shown, told};
+use mmdb_vectors::answer::{reported, shown};
 use mmdb_vectors::failures::Failures;
 use mmdb_vectors::section::section_of;
 use std::alloc::{AllocError, Global};
@@ -124,9 +124,9 @@ const ROWS: &[Row] = &[
 ];
 
 // What is reported of a section.
-fn told_as(alloc: Global, section: &[u8], wanted: Wanted) -> Result<String, AllocError> {
+fn reported_as(alloc: Global, section: &[u8], wanted: Wanted) -> Result<String, AllocError> {
     match wanted {
-        Wanted::Any => told(alloc, fuzzing::decode::<Value<'_>>(alloc, section)),
+        Wanted::Any => reported(alloc, fuzzing::decode::<Value<'_>>(alloc, section)),
         Wanted::Value => shown(alloc, fuzzing::decode::<Value<'_>>(alloc, section)),
         Wanted::Bools => shown(alloc, fuzzing::decode::<Vec<bool>>(alloc, section)),
         Wanted::Text => shown(alloc, fuzzing::decode::<&str>(alloc, section)),
@@ -147,12 +147,12 @@ fn is_text(text: &Result<String, AllocError>, bytes: &[u8]) -> bool {
 }
 
 // Whether a row's section is reported as the row wants.
-fn is_told(alloc: Global, row: &Row) -> bool {
+fn is_reported(alloc: Global, row: &Row) -> bool {
     let (_, section, wanted, text) = row;
     let section = section_of(alloc, section);
     let text = section_of(alloc, text);
     is_text(
-        &told_as(alloc, section.as_slice(), *wanted),
+        &reported_as(alloc, section.as_slice(), *wanted),
         text.as_slice(),
     )
 }
@@ -161,7 +161,7 @@ fn is_told(alloc: Global, row: &Row) -> bool {
 fn sections_at_the_limits(rt: HostRuntime) -> Result<(), Failures> {
     let mut failures = Failures::new(rt.alloc());
     for row in ROWS {
-        failures.expect(&row.0, is_told(rt.alloc(), row));
+        failures.expect(&row.0, is_reported(rt.alloc(), row));
     }
     failures.verdict()
 }

@@ -2,7 +2,7 @@
 use crate::probe::Probe;
 use mmdb_value::{Decode, DecodeResult, MaxMindDbError, OwnedBytes, RawValue, Value, fuzzing};
 use mmdb_vectors::failures::Failures;
-use mmdb_vectors::hoard::{Outcome, refused_in_turn};
+use mmdb_vectors::hoard::{Outcome, fail_in_turn};
 use std::alloc::Global;
 use std::collections::BTreeMap;
 
@@ -12,7 +12,7 @@ const PAIR: &[u8] = b"\xE1\x41k\x02\x04\xA1\x05\xA1\x06";
 fn kind_met(error: &MaxMindDbError) -> Outcome {
     match error {
         MaxMindDbError::Memory => Outcome::Memory,
-        _ => Outcome::Refusal,
+        _ => Outcome::Error,
     }
 }
 
@@ -40,9 +40,9 @@ fn expect_turns<'de, T: Decode<'de>>(
     takes_memory: bool,
     last: Outcome,
 ) {
-    let (refused, then) = refused_in_turn(alloc, 16, || read_met::<T>(alloc, section));
-    let is_met = then == last && (refused > 0) == takes_memory;
-    failures.expect(&(section, refused, then), is_met);
+    let (rejected, then) = fail_in_turn(alloc, 16, || read_met::<T>(alloc, section));
+    let is_met = then == last && (rejected > 0) == takes_memory;
+    failures.expect(&(section, rejected, then), is_met);
 }
 
 #[test]
@@ -54,13 +54,13 @@ fn reads_that_take_no_memory(rt: HostRuntime) -> Result<(), Failures> {
     expect_turns::<&str>(it, alloc, b"\x41x", false, Outcome::Value);
     expect_turns::<Option<&[u8]>>(it, alloc, b"\x81x", false, Outcome::Value);
     // An error with a fixed text takes none either; one that names a number does.
-    expect_turns::<u16>(it, alloc, b"", false, Outcome::Refusal);
-    expect_turns::<u16>(it, alloc, b"\x41x", true, Outcome::Refusal);
+    expect_turns::<u16>(it, alloc, b"", false, Outcome::Error);
+    expect_turns::<u16>(it, alloc, b"\x41x", true, Outcome::Error);
     failures.verdict()
 }
 
 #[test]
-fn reads_refused_in_turn(rt: HostRuntime) -> Result<(), Failures> {
+fn reads_fail_in_turn(rt: HostRuntime) -> Result<(), Failures> {
     let (alloc, mut failures) = (rt.alloc(), Failures::new(rt.alloc()));
     let it = &mut failures;
     expect_turns::<String>(it, alloc, b"\x41x", true, Outcome::Value);
@@ -69,12 +69,12 @@ fn reads_refused_in_turn(rt: HostRuntime) -> Result<(), Failures> {
     expect_turns::<BTreeMap<String, u16>>(it, alloc, b"\xE1\x41k\xA1\x05", true, Outcome::Value);
     expect_turns::<Value<'_>>(it, alloc, PAIR, true, Outcome::Value);
     expect_turns::<RawValue<'_>>(it, alloc, PAIR, true, Outcome::Value);
-    expect_turns::<String>(it, alloc, b"\xA1\x07", true, Outcome::Refusal);
-    expect_turns::<OwnedBytes>(it, alloc, b"\xA1\x07", true, Outcome::Refusal);
-    expect_turns::<Vec<u16>>(it, alloc, b"\xA1\x07", true, Outcome::Refusal);
-    expect_turns::<BTreeMap<String, u16>>(it, alloc, b"\xA1\x07", true, Outcome::Refusal);
-    expect_turns::<Value<'_>>(it, alloc, b"\x00\x06", true, Outcome::Refusal);
-    expect_turns::<RawValue<'_>>(it, alloc, b"\x00\x06", true, Outcome::Refusal);
-    expect_turns::<Probe<'_>>(it, alloc, b"\xE1\x41a\x41x", true, Outcome::Refusal);
+    expect_turns::<String>(it, alloc, b"\xA1\x07", true, Outcome::Error);
+    expect_turns::<OwnedBytes>(it, alloc, b"\xA1\x07", true, Outcome::Error);
+    expect_turns::<Vec<u16>>(it, alloc, b"\xA1\x07", true, Outcome::Error);
+    expect_turns::<BTreeMap<String, u16>>(it, alloc, b"\xA1\x07", true, Outcome::Error);
+    expect_turns::<Value<'_>>(it, alloc, b"\x00\x06", true, Outcome::Error);
+    expect_turns::<RawValue<'_>>(it, alloc, b"\x00\x06", true, Outcome::Error);
+    expect_turns::<Probe<'_>>(it, alloc, b"\xE1\x41a\x41x", true, Outcome::Error);
     failures.verdict()
 }

@@ -9,7 +9,7 @@ use mmdb_value::laws::{
     text_map_is_what_stands, value_is_what_stands, values_bounded, values_equal_where_same,
 };
 use mmdb_value::{DecodeResult, Decoder, Entries, Items, Kind, Value, empty_container};
-use mmdb_vectors::answer::{OK, told};
+use mmdb_vectors::answer::{OK, reported};
 use mmdb_vectors::failures::Failures;
 use std::alloc::Global;
 use std::process::Abort;
@@ -93,11 +93,11 @@ const SKIPPED: &[(&[u8], &str)] = &[
 fn arrays_entered_and_values_skipped(rt: HostRuntime) -> Result<(), Failures> {
     let (alloc, mut failures) = (rt.alloc(), Failures::new(rt.alloc()));
     for (section, place, len, text) in ENTERED {
-        let answer = told(alloc, enter_array(alloc, section, *place, *len));
+        let answer = reported(alloc, enter_array(alloc, section, *place, *len));
         failures.expect_text(&[*place, *len], answer, text);
     }
     for (section, text) in SKIPPED {
-        let answer = told(alloc, Decoder::new(section, 0).skip_value(alloc));
+        let answer = reported(alloc, Decoder::new(section, 0).skip_value(alloc));
         failures.expect_text(section, answer, text);
     }
     failures.verdict()

@@ -55,7 +55,7 @@ const RAW: Rows = &[
 
 /// Sections at whose beginning no value stands, and the error.
 #[rattlefmt::skip]
-const REFUSED: Rows = &[
+const REJECTED: Rows = &[
     (b"\xA1", "invalid database at offset 0: u16 of size 1"),
     (b"\xA3\x00\x00\x00", "invalid database at offset 0: u16 of size 3"),
     (b"\xC5\0\0\0\0\0", "invalid database at offset 0: u32 of size 5"),
@@ -137,7 +137,7 @@ fn any_value(rt: HostRuntime) -> Result<(), Failures> {
     let (alloc, mut failures) = (rt.alloc(), Failures::new(rt.alloc()));
     expect_values(&mut failures, alloc, SCALARS);
     expect_values(&mut failures, alloc, CONTAINERS);
-    expect_values(&mut failures, alloc, REFUSED);
+    expect_values(&mut failures, alloc, REJECTED);
     expect_raw_values(&mut failures, alloc, RAW);
     failures.verdict()
 }

@@ -13,13 +13,13 @@ use std::process::Abort;
 enum Outcome {
     Memory,
     Whole,
-    Refusal,
+    Error,
 }
 
 fn kind_met(error: &MaxMindDbError) -> Outcome {
     match error {
         MaxMindDbError::Memory => Outcome::Memory,
-        _ => Outcome::Refusal,
+        _ => Outcome::Error,
     }
 }
 
@@ -41,19 +41,19 @@ fn met_within(alloc: Global, reader: &Reader<Vec<u8>>, budget: usize) -> Outcome
 }
 
 // How often a verification fails for lack of memory, and what comes of it then.
-fn refused_in_turn(alloc: Global, reader: &Reader<Vec<u8>>) -> (u32, Outcome) {
+fn fail_in_turn(alloc: Global, reader: &Reader<Vec<u8>>) -> (u32, Outcome) {
     let large = Hoard::of_large_blocks(alloc);
-    let mut refused = 0u32;
+    let mut rejected = 0u32;
     let mut met = Outcome::Memory;
     for step in 0..256usize {
         met = met_within(alloc, reader, step * 16);
         if met != Outcome::Memory {
             break;
         }
-        refused = refused.saturating_add(1);
+        rejected = rejected.saturating_add(1);
     }
     drop(large);
-    (refused, met)
+    (rejected, met)
 }
 
 // Asserts that the verification of a file runs out of memory at first, and what comes of it then.
@@ -65,12 +65,12 @@ fn assert_in_turn(
     case: &str,
 ) {
     let reader = opened(rt, alloc, file);
-    let (refused, met) = refused_in_turn(alloc, &reader);
-    assert!(rt; met == last && refused > 2, "{case}: {refused}");
+    let (rejected, met) = fail_in_turn(alloc, &reader);
+    assert!(rt; met == last && rejected > 2, "{case}: {rejected}");
 }
 
 #[test]
-fn growths_refused_in_turn(rt: HostRuntime) {
+fn growths_fail_in_turn(rt: HostRuntime) {
     let alloc = rt.alloc();
     // The base file takes the marks of the metadata, the points and the offsets of the walk, and the marks of the
     // data; the other is rejected with a text that takes memory.
@@ -81,5 +81,5 @@ fn growths_refused_in_turn(rt: HostRuntime) {
         Outcome::Whole,
         "the base file",
     );
-    assert_in_turn(&rt, alloc, ladder(alloc, 4), Outcome::Refusal, "a ladder");
+    assert_in_turn(&rt, alloc, ladder(alloc, 4), Outcome::Error, "a ladder");
 }

@@ -126,7 +126,7 @@ fn whole_files(rt: HostRuntime) {
 
 /// Data, and the error of their file.
 #[rattlefmt::skip]
-const REFUSED_DATA: &[(&[u8], &str)] = &[
+const REJECTED_DATA: &[(&[u8], &str)] = &[
     (
         b"\x20\x02\x20\x00",
         "invalid database at offset 22: cyclic data pointer references offset 0",
@@ -139,7 +139,7 @@ const REFUSED_DATA: &[(&[u8], &str)] = &[
 /// Changes of metadata, and the error. The unknown field's pointer leads outside the metadata, which have 165
 /// bytes: reading skips it.
 #[rattlefmt::skip]
-const REFUSED_METADATA: &[(Changes<'static>, &str)] = &[
+const REJECTED_METADATA: &[(Changes<'static>, &str)] = &[
     (
         &[(Field::Map, b"\xEA"), (Field::More, b"\x41z\x20\xFF")],
         "invalid database at offset 293: unexpected end of buffer",
@@ -159,10 +159,10 @@ fn overlapping(rt: &impl Abort, alloc: Global) -> Result<Vec<u8>, AllocError> {
 #[test]
 fn refusal_kinds(rt: HostRuntime) {
     let alloc = rt.alloc();
-    for (data, text) in REFUSED_DATA {
+    for (data, text) in REJECTED_DATA {
         assert_verdict(&rt, alloc, with_data(alloc, data), text);
     }
-    for (changes, text) in REFUSED_METADATA {
+    for (changes, text) in REJECTED_METADATA {
         let file = changed_file(alloc, BASE_NODE, BASE_DATA, changes);
         assert_verdict(&rt, alloc, file, text);
     }

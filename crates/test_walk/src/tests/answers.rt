@@ -21,7 +21,7 @@ pub(crate) fn assert_text(rt: &impl Abort, text: Result<String, AllocError>, wan
 }
 
 /// The text of an error, or what is said of an answer.
-pub(crate) fn told<T: Drop>(
+pub(crate) fn reported<T: Drop>(
     alloc: Global,
     answer: Result<T, MaxMindDbError>,
     of_answer: &str,
@@ -33,7 +33,7 @@ pub(crate) fn told<T: Drop>(
 }
 
 /// What is reported of an error.
-pub(crate) fn refusal(alloc: Global, error: MaxMindDbError) -> Result<String, AllocError> {
+pub(crate) fn to_error(alloc: Global, error: MaxMindDbError) -> Result<String, AllocError> {
     format!(in alloc; "{error}")
 }
 

@@ -1,5 +1,5 @@
 //! What stands behind a lookup that is not read as it is asked for.
-use super::answers::{assert_holds, assert_text, opened, reader_of, refusal, told};
+use super::answers::{assert_holds, assert_text, opened, reader_of, reported, to_error};
 use maxminddb::geoip2::City;
 use maxminddb::{
     Decode, Double, Float, LookupResult, MaxMindDbError, Metadata, OwnedBytes, RawValue, Reader,
@@ -131,26 +131,26 @@ const SECOND_ROWS: &[Row] = &[
 ];
 
 // The error of what a lookup leads to, or `read`.
-fn lookup_told(
+fn lookup_reported(
     alloc: Global,
     found: Result<LookupResult<'_, Vec<u8>>, MaxMindDbError>,
     wanted: &Wanted,
 ) -> Result<String, AllocError> {
     match found {
-        Ok(found) => told(alloc, decoded_as(alloc, found, wanted), "read"),
-        Err(error) => refusal(alloc, error),
+        Ok(found) => reported(alloc, decoded_as(alloc, found, wanted), "read"),
+        Err(error) => to_error(alloc, error),
     }
 }
 
 // The same of the upper half of a file.
-fn file_told(
+fn file_reported(
     alloc: Global,
     opened: Result<Reader<Vec<u8>>, MaxMindDbError>,
     wanted: &Wanted,
 ) -> Result<String, AllocError> {
     match opened {
-        Ok(reader) => lookup_told(alloc, reader.lookup(high()), wanted),
-        Err(error) => refusal(alloc, error),
+        Ok(reader) => lookup_reported(alloc, reader.lookup(high()), wanted),
+        Err(error) => to_error(alloc, error),
     }
 }
 
@@ -158,11 +158,11 @@ fn file_told(
 fn assert_decoded(rt: &impl Abort, alloc: Global, node: &[u8], row: &Row) {
     let (data, wanted, text) = row;
     let opened = reader_of(alloc, file(alloc, node, data, BASE));
-    assert_text(rt, file_told(alloc, opened, wanted), text);
+    assert_text(rt, file_reported(alloc, opened, wanted), text);
 }
 
 #[test]
-fn values_refused(rt: HostRuntime) {
+fn values_rejected(rt: HostRuntime) {
     for row in ROWS {
         assert_decoded(&rt, rt.alloc(), BASE_NODE, row);
     }
@@ -183,7 +183,7 @@ impl Named for City<'_> {
     }
 }
 
-fn refused<E: Drop>(_error: E) -> bool {
+fn rejected<E: Drop>(_error: E) -> bool {
     false
 }
 
@@ -196,7 +196,7 @@ fn is_named<'a, T: Decode<'a> + Named>(
     match found.decode::<T>(alloc) {
         Ok(Some(record)) => name.is_some() && record.english() == name,
         Ok(None) => name.is_none(),
-        Err(error) => refused(error),
+        Err(error) => rejected(error),
     }
 }
 
@@ -208,7 +208,7 @@ fn is_city(
 ) -> bool {
     match found {
         Ok(found) => is_named::<City<'_>>(alloc, found, name),
-        Err(error) => refused(error),
+        Err(error) => rejected(error),
     }
 }
 

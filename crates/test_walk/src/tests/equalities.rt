@@ -26,8 +26,8 @@ fn options_of(bits: u8) -> WithinOptions {
 fn options(rt: HostRuntime) {
     for a in 0..8u8 {
         for b in 0..8u8 {
-            let told = equality(&options_of(a), &options_of(b));
-            assert_row(&rt, told == Some(a == b), &(a, b));
+            let reported = equality(&options_of(a), &options_of(b));
+            assert_row(&rt, reported == Some(a == b), &(a, b));
         }
     }
 }
@@ -56,8 +56,8 @@ fn assert_equal_to_base(
 ) {
     let base = opened(rt, alloc, base_file(alloc));
     let other = opened(rt, alloc, file);
-    let told = equality(base.metadata(), other.metadata());
-    assert_holds(rt, told == Some(is_equal), case);
+    let reported = equality(base.metadata(), other.metadata());
+    assert_holds(rt, reported == Some(is_equal), case);
 }
 
 #[test]

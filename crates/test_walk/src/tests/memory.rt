@@ -1,7 +1,7 @@
 //! Calls where memory runs out.
 ghost use Rattle.std.specs.Prelude.{◌<◌};
 
-use super::answers::{assert_row, assert_text, opened, refusal, told};
+use super::answers::{assert_row, assert_text, opened, reported, to_error};
 use maxminddb::{IpNetwork, LookupResult, MaxMindDbError, Metadata, Reader, fuzzing};
 use mmdb_vectors::base::BASE_FILE;
 use mmdb_vectors::builder::{BASE_DATA, BASE_NODE, Field, base_file, changed_file};
@@ -21,13 +21,13 @@ enum Call {
     ReadMetadata,
     CloneOfMetadata,
     /// A read of metadata that lack a field, whose error names the field.
-    RefusedMetadata,
+    RejectedMetadata,
 }
 
 /// What came of a call.
 #[derive(Clone, Copy, PartialEq, Eq)]
 enum Outcome {
-    Refusal,
+    Error,
     Answer,
     Wrong,
 }
@@ -43,7 +43,7 @@ fn answer_met(is_right: bool) -> Outcome {
 // What an error says, where one of decoding is this.
 fn kind_met(error: &MaxMindDbError, of_decoding: Outcome) -> Outcome {
     match error {
-        MaxMindDbError::Memory => Outcome::Refusal,
+        MaxMindDbError::Memory => Outcome::Error,
         MaxMindDbError::Decoding { .. } => of_decoding,
         _ => Outcome::Wrong,
     }
@@ -68,11 +68,11 @@ fn metadata_met(alloc: Global) -> Outcome {
 fn clone_met(metadata: &Metadata) -> Outcome {
     match metadata.clone() {
         Ok(cloned) => answer_met(cloned == *metadata),
-        Err(_error) => Outcome::Refusal,
+        Err(_error) => Outcome::Error,
     }
 }
 
-fn refused_met(alloc: Global) -> Outcome {
+fn rejected_met(alloc: Global) -> Outcome {
     match fuzzing::decode::<Metadata>(alloc, b"\xE0") {
         Ok(_) => Outcome::Wrong,
         Err(error) => error_met(error, Outcome::Answer),
@@ -87,26 +87,26 @@ fn met_within(alloc: Global, call: &Call, metadata: &Metadata, budget: usize) ->
     let met = match call {
         Call::ReadMetadata => metadata_met(alloc),
         Call::CloneOfMetadata => clone_met(metadata),
-        Call::RefusedMetadata => refused_met(alloc),
+        Call::RejectedMetadata => rejected_met(alloc),
     };
     drop(small);
     met
 }
 
 // How many runs met an error before the first that met none, and what that one met.
-fn refused_in_turn(alloc: Global, call: &Call, metadata: &Metadata) -> (u32, Outcome) {
+fn fail_in_turn(alloc: Global, call: &Call, metadata: &Metadata) -> (u32, Outcome) {
     let large = Hoard::of_large_blocks(alloc);
-    let mut refused = 0u32;
-    let mut met = Outcome::Refusal;
+    let mut rejected = 0u32;
+    let mut met = Outcome::Error;
     for step in 0..256usize {
         met = met_within(alloc, call, metadata, step * 16);
-        if met != Outcome::Refusal {
+        if met != Outcome::Error {
             break;
         }
-        refused = refused.saturating_add(1);
+        rejected = rejected.saturating_add(1);
     }
     drop(large);
-    (refused, met)
+    (rejected, met)
 }
 
 /// The calls by name, and how many runs of each meet an error at least.
@@ -114,16 +114,16 @@ fn refused_in_turn(alloc: Global, call: &Call, metadata: &Metadata) -> (u32, Out
 const CALLS: &[(&str, Call, u32)] = &[
     ("reading metadata", Call::ReadMetadata, 4),
     ("a clone of metadata", Call::CloneOfMetadata, 4),
-    ("metadata that are refused", Call::RefusedMetadata, 1),
+    ("metadata that are rejected", Call::RejectedMetadata, 1),
 ];
 
 #[test]
-fn growths_refused_in_turn(rt: HostRuntime) {
+fn growths_fail_in_turn(rt: HostRuntime) {
     let base = opened(&rt, rt.alloc(), base_file(rt.alloc()));
     for (name, call, least) in CALLS {
-        let (refused, met) = refused_in_turn(rt.alloc(), call, base.metadata());
-        let is_right = met == Outcome::Answer && refused >= *least;
-        assert_row(&rt, is_right, &(name, refused));
+        let (rejected, met) = fail_in_turn(rt.alloc(), call, base.metadata());
+        let is_right = met == Outcome::Answer && rejected >= *least;
+        assert_row(&rt, is_right, &(name, rejected));
     }
 }
 
@@ -160,7 +160,7 @@ fn address_of(rt: &impl Abort, text: &str) -> IpAddr {
 fn found_text(alloc: Global, found: Result<Parts, MaxMindDbError>) -> Result<String, AllocError> {
     match found {
         Ok((has_data, offset, network)) => format!(in alloc; "{has_data} {offset:?} {network}"),
-        Err(error) => refusal(alloc, error),
+        Err(error) => to_error(alloc, error),
     }
 }
 
@@ -204,7 +204,7 @@ fn text_read(text: Option<&str>) -> Read {
 
 fn error_read(error: MaxMindDbError) -> Read {
     match error_met(error, Outcome::Wrong) {
-        Outcome::Refusal => Read::Memory,
+        Outcome::Error => Read::Memory,
         _ => Read::Wrong,
     }
 }
@@ -232,7 +232,7 @@ fn read_of(alloc: Global, found: LookupResult<'_, Vec<u8>>, is_number: bool) -> 
 }
 
 // The same of an answer that may be an error.
-fn read_or_refused(
+fn read_or_rejected(
     alloc: Global,
     found: Result<LookupResult<'_, Vec<u8>>, MaxMindDbError>,
     is_number: bool,
@@ -255,7 +255,7 @@ fn read_without_memory(
 ) -> Read {
     let large = Hoard::of_large_blocks(alloc);
     let small = Hoard::of_all_left(alloc);
-    let read = read_or_refused(alloc, reader.lookup(address), is_number);
+    let read = read_or_rejected(alloc, reader.lookup(address), is_number);
     drop(small);
     drop(large);
     read
@@ -288,7 +288,7 @@ fn verdict_within(alloc: Global, file: &[u8], budget: usize) -> Result<String, A
     let opened = Reader::from_source(alloc, file);
     drop(small);
     drop(large);
-    told(alloc, opened, "accepted")
+    reported(alloc, opened, "accepted")
 }
 
 // Asserts the same of the base file with this record size.
@@ -301,7 +301,7 @@ fn assert_verdict(rt: &impl Abort, alloc: Global, size: &[u8], budget: usize, te
 }
 
 #[test]
-fn table_refused(rt: HostRuntime) {
+fn table_fails(rt: HostRuntime) {
     let alloc = rt.alloc();
     let wrong_size = "invalid database: record_size - Expected: 24, 28, or 32 Actual: 16";
     // What else rejects a file does so before the table is reserved.
@@ -320,7 +320,7 @@ fn verdict_without_memory(alloc: Global, file: &[u8]) -> Result<String, AllocErr
     let opened = Reader::from_source(alloc, file);
     drop(small);
     drop(large);
-    told(alloc, opened, "accepted")
+    reported(alloc, opened, "accepted")
 }
 
 #[test]
@@ -332,5 +332,5 @@ fn files_without_memory(rt: HostRuntime) {
         "out of memory",
     );
     let opened = Reader::from_source(alloc, BASE_FILE);
-    assert_text(&rt, told(alloc, opened, "accepted"), "accepted");
+    assert_text(&rt, reported(alloc, opened, "accepted"), "accepted");
 }

@@ -1,5 +1,5 @@
 //! Walks over networks, one by one.
-use super::answers::{assert_row, assert_text, opened, range_of, refusal, told};
+use super::answers::{assert_row, assert_text, opened, range_of, reported, to_error};
 use maxminddb::{IpNetwork, LookupResult, MaxMindDbError, Within, WithinOptions};
 use mmdb_vectors::builder::{BASE, BASE_NODE, base_file, base_with_node, file};
 use mmdb_vectors::hoard::Hoard;
@@ -14,7 +14,7 @@ fn network_text(
 ) -> Result<String, AllocError> {
     match network {
         Ok(network) => format!(in alloc; "{network} {offset:?}"),
-        Err(error) => refusal(alloc, error),
+        Err(error) => to_error(alloc, error),
     }
 }
 
@@ -56,7 +56,7 @@ fn assert_walk(
                 assert_text(rt, call_text(alloc, walk.next()), text);
             }
         }
-        Err(error) => assert_text(rt, refusal(alloc, error), "a walk"),
+        Err(error) => assert_text(rt, to_error(alloc, error), "a walk"),
     }
 }
 
@@ -77,7 +77,7 @@ fn ipv6_range_in_ipv4_database(rt: HostRuntime) {
     let range = range_of(&rt, "::/0");
     let walk = reader.within(alloc, range, WithinOptions::default());
     let text = "invalid input: cannot iterate IPv6 network in IPv4-only database";
-    assert_text(&rt, told(alloc, walk, "walked"), text);
+    assert_text(&rt, reported(alloc, walk, "walked"), text);
 }
 
 /// Nodes, data, and the first item of a walk that skips empty values.
@@ -114,22 +114,22 @@ const FIRST_ITEMS: &[FirstItem] = &[
 ];
 
 // What the first item of a walk says.
-fn first_told(
+fn first_reported(
     alloc: Global,
     walk: Result<Within<'_, Vec<u8>>, MaxMindDbError>,
 ) -> Result<String, AllocError> {
     match walk {
-        Ok(mut walk) => next_told(alloc, walk.next()),
-        Err(error) => refusal(alloc, error),
+        Ok(mut walk) => next_reported(alloc, walk.next()),
+        Err(error) => to_error(alloc, error),
     }
 }
 
-fn next_told(
+fn next_reported(
     alloc: Global,
     next: Option<Result<LookupResult<'_, Vec<u8>>, MaxMindDbError>>,
 ) -> Result<String, AllocError> {
     match next {
-        Some(item) => told(alloc, item, "found"),
+        Some(item) => reported(alloc, item, "found"),
         None => String::from_str(alloc, "no item"),
     }
 }
@@ -139,8 +139,8 @@ fn assert_first_item(rt: &impl Abort, alloc: Global, row: &FirstItem) {
     let (nodes, data, text) = row;
     let reader = opened(rt, alloc, file(alloc, nodes, data, BASE));
     let options = WithinOptions::default().skip_empty_values();
-    let told = first_told(alloc, reader.networks(alloc, options));
-    assert_text(rt, told, text);
+    let reported = first_reported(alloc, reader.networks(alloc, options));
+    assert_text(rt, reported, text);
 }
 
 #[test]

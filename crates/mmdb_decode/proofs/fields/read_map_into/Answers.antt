@@ -39,6 +39,6 @@ returns-in-Err g c =
     let unread = rw none at c.in-Err.ensures.err in
     record {
       ok = tt;
-      err = record_declined g.R.Fields.free c.in-Err.refused t c.args.d.now (declines_more g.R.Fields.free c.in-Err.refused (decoded false (pairs_from name_at (fields_of t) (no_parts t) c.in_ok-entries.entries.remaining) c.try_map.new.self) _ (map_not_read (pairs_from name_at (fields_of t) (no_parts t)) c.args.d.now c.try_map.new.self c.in_ok-entries.entries c.in_ok-entries.ensures) unread);
+      err = record_declined g.R.Fields.free c.in-Err.rejected t c.args.d.now (declines_more g.R.Fields.free c.in-Err.rejected (decoded false (pairs_from name_at (fields_of t) (no_parts t) c.in_ok-entries.entries.remaining) c.try_map.new.self) _ (map_not_read (pairs_from name_at (fields_of t) (no_parts t)) c.args.d.now c.try_map.new.self c.in_ok-entries.entries c.in_ok-entries.ensures) unread);
       given_up = given_up_in_map c.args.d.now c.try_map.new.self c.read_rest.new.d c.in_ok-entries.entries (enters_map c.args.d.now c.try_map.new.self c.in_ok-entries.entries c.in_ok-entries.ensures) c.in-Err.ensures.given_up;
     }

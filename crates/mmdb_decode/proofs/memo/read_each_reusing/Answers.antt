@@ -1,7 +1,7 @@
 use Rattle.std.proofs.Common.{◌-◌, refl, sym, false, ◌∙◌, subst}
 use Rattle.std.proofs.lemmas.Result.{err_from_is_err_and}
 use Rattle.mmdb_decode.specs.Maps.{name_at, pairs_from}
-use Rattle.mmdb_decode.specs.Refusal.{Kept}
+use Rattle.mmdb_decode.specs.Errors.{Kept}
 use Rattle.mmdb_decode.specs.Memos.{IsMemoOf}
 use Rattle.mmdb_decode.specs.State.{decoded}
 use Rattle.mmdb_decode.specs.Tables.{fields_of, parts_met, flags}
@@ -15,7 +15,7 @@ returns-in_err-name g c =
     let t = g.R.Fields.table in
     rw (p.1, p.2) (record {
       ok = tt;
-      err = declines g.R.Fields.free c.in_err-name.field-0.0 _ (pairs_nameless name_at (fields_of t) (decoded false (pairs_from name_at (fields_of t) (parts_met t (flags c.args.met.now) c.args.fields.now) c.args.entries.now.remaining) c.args.d.now) (parts_met t (flags c.loop-name.met) c.loop-name.fields) c.loop-name.entries.remaining (c.loop-name.entries.remaining - 1) c.loop-name.d c.loop-name.invariant.rest (some_left_to_read c.loop-name.entries.remaining c.in_err-name.ensures.key.some) c.in_err-name.ensures.key.refuses);
+      err = declines g.R.Fields.free c.in_err-name.field-0.0 _ (pairs_nameless name_at (fields_of t) (decoded false (pairs_from name_at (fields_of t) (parts_met t (flags c.args.met.now) c.args.fields.now) c.args.entries.now.remaining) c.args.d.now) (parts_met t (flags c.loop-name.met) c.loop-name.fields) c.loop-name.entries.remaining (c.loop-name.entries.remaining - 1) c.loop-name.d c.loop-name.invariant.rest (some_left_to_read c.loop-name.entries.remaining c.in_err-name.ensures.key.some) c.in_err-name.ensures.key.fails);
       given_up = given_up_trans c.args.d.now c.loop-name.d c.try_next.new.self c.loop-name.invariant.kept c.in_err-name.ensures.key.given_up;
       rest = same_entries c.args.entries.now c.loop-name.entries c.try_next.new.entries c.loop-name.invariant.same c.in_err-name.ensures.rest;
       spent = tt;

@@ -1,6 +1,6 @@
 use Rattle.std.proofs.Common.{◌≡◌, false, IsSome}
 use Rattle.mmdb_decode.specs.Maps.{pairs_from, name_at}
-use Rattle.mmdb_decode.specs.Refusal.{Kept}
+use Rattle.mmdb_decode.specs.Errors.{Kept}
 use Rattle.mmdb_decode.specs.Memos.{IsMemoOf}
 use Rattle.mmdb_decode.specs.State.{decoded}
 use Rattle.mmdb_decode.specs.Tables.{fields_of, parts_met, flags}

@@ -7,7 +7,7 @@ use Rattle.mmdb_decode.proofs.TableLaws.{part_taken, part_first, part_missing}
 use Rattle.mmdb_decode.proofs.memo.read_part_or_reuse.Goals as goal
 
 pub returns-then-met-clause-read : goal.returns-then-met-clause-read
-returns-then-met-clause-read g c = record { ok = tt; err = declines g.R.Fields.free c.refuse_repeated.result _ (part_taken (record_of g.R.Fields.table) c.args.met.now (data_of g.R.Fields.table c.args.part.now) c.args.d.now (search rules)); given_up = given_up_kept c.args.d.now c.refuse_repeated.new.self (rw c.refuse_repeated.ensures.same (kept_same c.args.d.now)) }
+returns-then-met-clause-read g c = record { ok = tt; err = declines g.R.Fields.free c.fail_repeated.result _ (part_taken (record_of g.R.Fields.table) c.args.met.now (data_of g.R.Fields.table c.args.part.now) c.args.d.now (search rules)); given_up = given_up_kept c.args.d.now c.fail_repeated.new.self (rw c.fail_repeated.ensures.same (kept_same c.args.d.now)) }
 
 pub returns-in_err-read_into_or_reuse-clause-read : goal.returns-in_err-read_into_or_reuse-clause-read
 returns-in_err-read_into_or_reuse-clause-read g c =

@@ -8,5 +8,5 @@ pub returns-clause-ok : goal.returns-clause-ok
 returns-clause-ok g c =
     let t = g.R.Fields.table in
     let known = c.in-Some.known in
-    let told = rw c.in-Some.is at c.requires in
-    λ _. rw (← c.if-known-entries.false) (repeats_read (pairs_from name_at (fields_of t) (no_parts t) known.count) (parts_met t (flags known.met) known.record) known.before known.behind c.args.d.now c.repeat.new.self told.0 (c.if-not-repeat.ensures.ok refl) told.1)
+    let same = rw c.in-Some.is at c.requires in
+    λ _. rw (← c.if-known-entries.false) (repeats_read (pairs_from name_at (fields_of t) (no_parts t) known.count) (parts_met t (flags known.met) known.record) known.before known.behind c.args.d.now c.repeat.new.self same.0 (c.if-not-repeat.ensures.ok refl) same.1)

@@ -1,14 +1,14 @@
 use Rattle.std.proofs.Common.{◌-◌, refl, false}
 use Rattle.std.proofs.lemmas.Result.{err_from_is_err_and}
 use Rattle.mmdb_decode.specs.Maps.{name_at}
-use Rattle.mmdb_decode.specs.Refusal.{Kept}
+use Rattle.mmdb_decode.specs.Errors.{Kept}
 use Rattle.mmdb_decode.specs.State.{decoded}
 use Rattle.mmdb_decode.proofs.MapLaws.{pairs_done, pairs_go_on, pairs_stop, pairs_nameless, some_left_to_read, same_entries}
-use Rattle.mmdb_decode.proofs.StepLaws.{refuses, refuses_more, kept_decoded, kept_trans, given_up_trans, still_begun}
+use Rattle.mmdb_decode.proofs.StepLaws.{fails, fails_more, kept_decoded, kept_trans, given_up_trans, still_begun}
 use Rattle.mmdb_decode.proofs.record.read_fields.Goals as goal
 
 pub returns-in_err-name-clause-err : goal.returns-in_err-name-clause-err
-returns-in_err-name-clause-err g c = let p = err_from_is_err_and c.from_residual.result c.from_residual.ensures.1 in rw (p.1, p.2) (refuses g.R.Record.free c.in_err-name.field-0.0 _ (pairs_nameless name_at g.R.Record.fields _ (g.R.Record.datum c.loop-record.record) c.loop-record.entries.remaining (c.loop-record.entries.remaining - 1) c.loop-record.d c.loop-record.invariant.rest (some_left_to_read c.loop-record.entries.remaining c.in_err-name.ensures.key.some) c.in_err-name.ensures.key.refuses))
+returns-in_err-name-clause-err g c = let p = err_from_is_err_and c.from_residual.result c.from_residual.ensures.1 in rw (p.1, p.2) (fails g.R.Record.free c.in_err-name.field-0.0 _ (pairs_nameless name_at g.R.Record.fields _ (g.R.Record.datum c.loop-record.record) c.loop-record.entries.remaining (c.loop-record.entries.remaining - 1) c.loop-record.d c.loop-record.invariant.rest (some_left_to_read c.loop-record.entries.remaining c.in_err-name.ensures.key.some) c.in_err-name.ensures.key.fails))
 
 pub read_field-requires : goal.read_field-requires
 read_field-requires g c κs = let k = rw c.in-Some.is at c.in_ok-name.ensures.key in ((refl, tt), still_begun c.loop-record.d.budget c.next_field.new.self.budget (kept_decoded false name_at c.loop-record.d c.next_field.new.self c.in-Some.name.now k.step).charges c.loop-record.invariant.started)
@@ -30,7 +30,7 @@ pub returns-in_err-read_field-clause-err : goal.returns-in_err-read_field-clause
 returns-in_err-read_field-clause-err g c =
     let k = rw c.in-Some.is at c.in_ok-name.ensures.key in
     let p = err_from_is_err_and c.from_residual-in_err-read_field.result c.from_residual-in_err-read_field.ensures.1 in
-    rw (p.1, p.2) (refuses_more g.R.Record.free c.in_err-read_field.field-0.0 (decoded false (g.R.Record.fields (g.R.Record.datum c.loop-record.record) c.in-Some.name.now) c.next_field.new.self) _ (pairs_stop name_at g.R.Record.fields _ (g.R.Record.datum c.loop-record.record) c.in-Some.name.now c.loop-record.entries.remaining c.next_field.new.entries.remaining c.loop-record.d c.next_field.new.self c.loop-record.invariant.rest k.one k.step) c.in_err-read_field.ensures.err)
+    rw (p.1, p.2) (fails_more g.R.Record.free c.in_err-read_field.field-0.0 (decoded false (g.R.Record.fields (g.R.Record.datum c.loop-record.record) c.in-Some.name.now) c.next_field.new.self) _ (pairs_stop name_at g.R.Record.fields _ (g.R.Record.datum c.loop-record.record) c.in-Some.name.now c.loop-record.entries.remaining c.next_field.new.entries.remaining c.loop-record.d c.next_field.new.self c.loop-record.invariant.rest k.one k.step) c.in_err-read_field.ensures.err)
 
 pub returns-in_err-read_field-clause-given_up : goal.returns-in_err-read_field-clause-given_up
 returns-in_err-read_field-clause-given_up g c =

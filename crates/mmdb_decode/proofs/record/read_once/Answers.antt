@@ -3,16 +3,16 @@ use Rattle.std.proofs.lemmas.Result.{err_from_is_err_and}
 use Rattle.mmdb_decode.specs.Records.{once}
 use Rattle.mmdb_decode.specs.State.{decoded}
 use Rattle.mmdb_decode.proofs.RecordLaws.{once_taken, once_first, once_missing}
-use Rattle.mmdb_decode.proofs.StepLaws.{refuses, refuses_more, given_up_kept, kept_same}
+use Rattle.mmdb_decode.proofs.StepLaws.{fails, fails_more, given_up_kept, kept_same}
 use Rattle.mmdb_decode.proofs.record.read_once.Goals as goal
 
 pub returns-then-is_some : goal.returns-then-is_some
-returns-then-is_some g c = record { ok = tt; err = refuses g.T.Decode.free c.duplicate_field.result _ (once_taken g.T.Decode.datum g.T.Decode.meaning c.args.slot.now c.args.d.now (search rules)); given_up = given_up_kept c.args.d.now c.args.d.now (kept_same c.args.d.now) }
+returns-then-is_some g c = record { ok = tt; err = fails g.T.Decode.free c.duplicate_field.result _ (once_taken g.T.Decode.datum g.T.Decode.meaning c.args.slot.now c.args.d.now (search rules)); given_up = given_up_kept c.args.d.now c.args.d.now (kept_same c.args.d.now) }
 
 pub returns-in_err-decode : goal.returns-in_err-decode
 returns-in_err-decode g c =
     let p = err_from_is_err_and c.from_residual.result c.from_residual.ensures.1 in
-    let missing = refuses_more g.T.Decode.free c.in_err-decode.field-0.0 (decoded g.T.Decode.starts g.T.Decode.meaning c.args.d.now) (decoded false (once g.T.Decode.meaning _) c.args.d.now) (once_missing g.T.Decode.datum g.T.Decode.meaning g.T.Decode.starts c.args.slot.now c.args.d.now (search rules) c.requires.started) (c.in_err-decode.ensures.err c.requires.exact) in
+    let missing = fails_more g.T.Decode.free c.in_err-decode.field-0.0 (decoded g.T.Decode.starts g.T.Decode.meaning c.args.d.now) (decoded false (once g.T.Decode.meaning _) c.args.d.now) (once_missing g.T.Decode.datum g.T.Decode.meaning g.T.Decode.starts c.args.slot.now c.args.d.now (search rules) c.requires.started) (c.in_err-decode.ensures.err c.requires.exact) in
     rw (p.1, p.2) (record { ok = tt; err = missing; given_up = c.in_err-decode.ensures.given_up })
 
 pub returns : goal.returns

@@ -2,22 +2,22 @@ use Rattle.std.proofs.Common.{◌-◌, refl, false, map}
 use Rattle.std.proofs.lemmas.Result.{err_from_is_err_and}
 use Rattle.std.specs.String.{string_bytes, string_cmp}
 use Rattle.mmdb_decode.specs.Maps.{key_at, pair_of}
-use Rattle.mmdb_decode.specs.Refusal.{Kept}
+use Rattle.mmdb_decode.specs.Errors.{Kept}
 use Rattle.mmdb_decode.specs.State.{decoded}
 use Rattle.mmdb_decode.proofs.MapLaws.{same_entries, some_left_to_read, pairs_done, pairs_go_on, pairs_stop, pairs_nameless}
 use Rattle.mmdb_decode.proofs.PairLaws.{pair_ok, pair_none, put_is}
-use Rattle.mmdb_decode.proofs.StepLaws.{refuses, refuses_weaker, kept_decoded, kept_trans, given_up_trans, given_up_kept, still_begun}
+use Rattle.mmdb_decode.proofs.StepLaws.{fails, fails_weaker, kept_decoded, kept_trans, given_up_trans, given_up_kept, still_begun}
 use Rattle.mmdb_decode.proofs.text_map.read_pairs.Goals as goal
 
 pub returns-in_err-key-clause-err : goal.returns-in_err-key-clause-err
-returns-in_err-key-clause-err g c = let p = err_from_is_err_and c.from_residual.result c.from_residual.ensures.1 in rw (p.1, p.2) (λ x. refuses false c.in_err-key.field-0.0 _ (pairs_nameless key_at (pair_of g.T.Decode.meaning) _ (map (λ e. (string_bytes e.0, g.T.Decode.datum e.1)) c.loop-pairs.pairs.entries) c.loop-pairs.entries.remaining (c.loop-pairs.entries.remaining - 1) c.loop-pairs.d (c.loop-pairs.invariant.rest x) (some_left_to_read c.loop-pairs.entries.remaining c.in_err-key.ensures.key.some) c.in_err-key.ensures.key.refuses))
+returns-in_err-key-clause-err g c = let p = err_from_is_err_and c.from_residual.result c.from_residual.ensures.1 in rw (p.1, p.2) (λ x. fails false c.in_err-key.field-0.0 _ (pairs_nameless key_at (pair_of g.T.Decode.meaning) _ (map (λ e. (string_bytes e.0, g.T.Decode.datum e.1)) c.loop-pairs.pairs.entries) c.loop-pairs.entries.remaining (c.loop-pairs.entries.remaining - 1) c.loop-pairs.d (c.loop-pairs.invariant.rest x) (some_left_to_read c.loop-pairs.entries.remaining c.in_err-key.ensures.key.some) c.in_err-key.ensures.key.fails))
 
 pub returns-in_err-value-clause-err : goal.returns-in_err-value-clause-err
 returns-in_err-value-clause-err g c =
     let k = rw c.in-Some.is at c.in_ok-key.ensures.key in
     let named : Kept c.loop-pairs.d c.next_key.new.self = kept_decoded false key_at c.loop-pairs.d c.next_key.new.self c.in-Some.key.now k.step in
     let p = err_from_is_err_and c.from_residual-in_err-value.result c.from_residual-in_err-value.ensures.1 in
-    rw (p.1, p.2) (λ x. refuses_weaker g.T.Decode.free c.in_err-value.field-0.0 (decoded g.T.Decode.starts g.T.Decode.meaning c.next_key.new.self) _ (λ h. pairs_stop key_at (pair_of g.T.Decode.meaning) _ (map (λ e. (string_bytes e.0, g.T.Decode.datum e.1)) c.loop-pairs.pairs.entries) c.in-Some.key.now c.loop-pairs.entries.remaining c.next_key.new.entries.remaining c.loop-pairs.d c.next_key.new.self (c.loop-pairs.invariant.rest x) k.one k.step (pair_none g.T.Decode.starts g.T.Decode.meaning (map (λ e. (string_bytes e.0, g.T.Decode.datum e.1)) c.loop-pairs.pairs.entries) c.in-Some.key.now c.next_key.new.self (still_begun c.loop-pairs.d.budget c.next_key.new.self.budget named.charges c.loop-pairs.invariant.started) h)) (c.in_err-value.ensures.err x))
+    rw (p.1, p.2) (λ x. fails_weaker g.T.Decode.free c.in_err-value.field-0.0 (decoded g.T.Decode.starts g.T.Decode.meaning c.next_key.new.self) _ (λ h. pairs_stop key_at (pair_of g.T.Decode.meaning) _ (map (λ e. (string_bytes e.0, g.T.Decode.datum e.1)) c.loop-pairs.pairs.entries) c.in-Some.key.now c.loop-pairs.entries.remaining c.next_key.new.entries.remaining c.loop-pairs.d c.next_key.new.self (c.loop-pairs.invariant.rest x) k.one k.step (pair_none g.T.Decode.starts g.T.Decode.meaning (map (λ e. (string_bytes e.0, g.T.Decode.datum e.1)) c.loop-pairs.pairs.entries) c.in-Some.key.now c.next_key.new.self (still_begun c.loop-pairs.d.budget c.next_key.new.self.budget named.charges c.loop-pairs.invariant.started) h)) (c.in_err-value.ensures.err x))
 
 pub returns-in_err-value-clause-given_up : goal.returns-in_err-value-clause-given_up
 returns-in_err-value-clause-given_up g c =

@@ -1,7 +1,7 @@
 use Rattle.std.proofs.Common.{◌≡◌, [], map, true, false, IsSome}
 use Rattle.std.specs.String.{string_bytes}
 use Rattle.mmdb_decode.specs.Maps.{pairs_from, key_at, pair_of}
-use Rattle.mmdb_decode.specs.Refusal.{Kept}
+use Rattle.mmdb_decode.specs.Errors.{Kept}
 use Rattle.mmdb_decode.specs.State.{decoded}
 use Rattle.mmdb_decode.proofs.text_map.read_pairs.Given as goal
 

@@ -1,6 +1,6 @@
 use Rattle.std.proofs.Common.{map, ◌-◌}
 use Rattle.std.proofs.lemmas.Result.{err_from_is_err_and}
-use Rattle.mmdb_decode.specs.Refusal.{Kept}
+use Rattle.mmdb_decode.specs.Errors.{Kept}
 use Rattle.mmdb_decode.specs.State.{decoded}
 use Rattle.mmdb_decode.proofs.Lists.{list_done, list_goes_on, list_stops, same_items}
 use Rattle.mmdb_decode.proofs.StepLaws.{declines_weaker, kept_decoded, kept_trans, given_up_kept, still_begun}

@@ -1,6 +1,6 @@
 use Rattle.std.proofs.Common.{◌≡◌, ◌++◌, map, false, IsSome}
 use Rattle.mmdb_decode.specs.Arrays.{elements}
-use Rattle.mmdb_decode.specs.Refusal.{Kept}
+use Rattle.mmdb_decode.specs.Errors.{Kept}
 use Rattle.mmdb_decode.specs.State.{decoded}
 use Rattle.mmdb_decode.proofs.ReadingLaws.{seen}
 use Rattle.mmdb_decode.proofs.try_decode.try_items.Given as goal

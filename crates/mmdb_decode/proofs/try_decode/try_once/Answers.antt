@@ -7,7 +7,7 @@ use Rattle.mmdb_decode.proofs.StepLaws.{declines, declines_more, given_up_kept, 
 use Rattle.mmdb_decode.proofs.try_decode.try_once.Goals as goal
 
 pub returns-then-is_some : goal.returns-then-is_some
-returns-then-is_some g c = record { ok = tt; err = declines g.T.Decode.free c.refuse_repeated.result _ (once_taken g.T.Decode.datum g.T.Decode.meaning c.args.slot.now c.args.d.now (search rules)); given_up = given_up_kept c.args.d.now c.refuse_repeated.new.self (rw c.refuse_repeated.ensures.same (kept_same c.args.d.now)) }
+returns-then-is_some g c = record { ok = tt; err = declines g.T.Decode.free c.fail_repeated.result _ (once_taken g.T.Decode.datum g.T.Decode.meaning c.args.slot.now c.args.d.now (search rules)); given_up = given_up_kept c.args.d.now c.fail_repeated.new.self (rw c.fail_repeated.ensures.same (kept_same c.args.d.now)) }
 
 pub returns-in_err-try_decode : goal.returns-in_err-try_decode
 returns-in_err-try_decode g c =

@@ -1,5 +1,5 @@
 use Rattle.std.proofs.Common.{◌≡◌, ◌+◌, drop, true, false, Some}
-use Rattle.mmdb_decode.specs.Refusal.{Kept}
+use Rattle.mmdb_decode.specs.Errors.{Kept}
 use Rattle.mmdb_decode.specs.State.{decoded}
 use Rattle.mmdb_decode.proofs.StepLaws.{kept_decoded, kept_trans, given_up_trans, still_begun}
 use Rattle.mmdb_reader.specs.Selecting.{at_step}

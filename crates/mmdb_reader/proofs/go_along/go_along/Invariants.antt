@@ -1,6 +1,6 @@
 use Rattle.std.proofs.Common.{◌≡◌, drop, false, IsSome}
 use Rattle.mmdb_decode.specs.State.{decoded}
-use Rattle.mmdb_decode.specs.Refusal.{Kept}
+use Rattle.mmdb_decode.specs.Errors.{Kept}
 use Rattle.mmdb_reader.specs.Selecting.{selected}
 use Rattle.mmdb_reader.proofs.go_along.go_along.Given as goal
 

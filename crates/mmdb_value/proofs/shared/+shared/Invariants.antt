@@ -1,6 +1,6 @@
 use Rattle.std.proofs.Common.{◌≡◌, ◌++◌, ◌+◌, ◌-◌, ◌*◌, map, false}
 use Rattle.mmdb_decode.specs.Arrays.{elements}
-use Rattle.mmdb_decode.specs.Refusal.{Kept}
+use Rattle.mmdb_decode.specs.Errors.{Kept}
 use Rattle.mmdb_decode.specs.State.{decoded, Within}
 use Rattle.mmdb_value.specs.AnyValue.{value_at, pair_at}
 use Rattle.mmdb_decode.proofs.ReadingLaws.{seen}
@@ -41,7 +41,7 @@ abbrev pub invariant-pairs_at-loop : goal.invariant-pairs_at-loop
 invariant-pairs_at-loop g l =
     let read = pair_at g.D.Source.tested (value_at g.D.Source.tested) in
     record {
-      values : decoded false (elements read l.fn.count) (g.D.Steps.state l.fn.d) ≡ seen (λ vs. map (λ x. (g.D.Source.told x.0, g.D.Source.tree x.1)) l.all.items ++ vs) (decoded false (elements read (l.count - l.counter)) (g.D.Steps.state l.d));
+      values : decoded false (elements read l.fn.count) (g.D.Steps.state l.fn.d) ≡ seen (λ vs. map (λ x. (g.D.Source.text_bytes x.0, g.D.Source.tree x.1)) l.all.items ++ vs) (decoded false (elements read (l.count - l.counter)) (g.D.Steps.state l.d));
       kept : Kept (g.D.Steps.state l.fn.d) (g.D.Steps.state l.d);
       within : Within (g.D.Steps.state l.d).budget;
     }

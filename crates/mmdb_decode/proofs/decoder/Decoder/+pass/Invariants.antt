@@ -1,7 +1,7 @@
 use Rattle.std.proofs.Common.{◌≡◌, ◌-◌, false}
 use Rattle.mmdb_decode.specs.State.{decoded}
 use Rattle.mmdb_decode.specs.Skipping.{skip_within, passes}
-use Rattle.mmdb_decode.specs.Refusal.{Kept}
+use Rattle.mmdb_decode.specs.Errors.{Kept}
 use Rattle.mmdb_decode.proofs.decoder.Decoder.+pass.Given as goal
 
 abbrev pub decreases-pass : goal.decreases-pass

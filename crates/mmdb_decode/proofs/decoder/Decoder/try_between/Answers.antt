@@ -23,8 +23,8 @@ returns-clause-read c =
     elim c.else-low-number.branch [
       | else-low-number-via-then-low-number+else-number-high w ↦
           let above : c.args.high <ℤ c.in_ok-number.number = omega (arith, ints, w.if-number-high.false) in
-          rw c.refuse.ensures.same (small_past c.args.low c.args.high c.in_ok-number.number c.args.self.now c.try_whole.new.self c.in_ok-number.ensures (above_high c.args.low c.args.high c.in_ok-number.number above))
+          rw c.fail.ensures.same (small_past c.args.low c.args.high c.in_ok-number.number c.args.self.now c.try_whole.new.self c.in_ok-number.ensures (above_high c.args.low c.args.high c.in_ok-number.number above))
       | else-low-number-via-else-low-number w ↦
           let below : c.in_ok-number.number <ℤ c.args.low = omega (arith, ints, w.if-low-number.false) in
-          rw c.refuse.ensures.same (small_past c.args.low c.args.high c.in_ok-number.number c.args.self.now c.try_whole.new.self c.in_ok-number.ensures (below_low c.args.low c.args.high c.in_ok-number.number below))
+          rw c.fail.ensures.same (small_past c.args.low c.args.high c.in_ok-number.number c.args.self.now c.try_whole.new.self c.in_ok-number.ensures (below_low c.args.low c.args.high c.in_ok-number.number below))
     ]

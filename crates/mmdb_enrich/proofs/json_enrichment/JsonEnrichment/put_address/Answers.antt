@@ -2,7 +2,7 @@ use Rattle.std.proofs.Common.{rules, ◌≡◌, Some, None}
 use Rattle.std.proofs.lemmas.Result.{IfOk-weaker}
 use Rattle.mmdb_reader.specs.Found.{leaf_of, offset_found}
 use Rattle.mmdb_enrich.specs.Wanted.{member}
-use Rattle.mmdb_enrich.proofs.MemberLaws.{address_refused, refused_put, absent_put, member_put}
+use Rattle.mmdb_enrich.proofs.MemberLaws.{address_rejected, rejected_put, absent_put, member_put}
 use Rattle.mmdb_enrich.proofs.json_enrichment.JsonEnrichment.put_address.Goals as goal
 
 pub returns-in_default-clause-added : goal.returns-in_default-clause-added
@@ -11,7 +11,7 @@ returns-in_default-clause-added g c =
     let fields = c.args.self.now.fields.items in
     let line = c.args.line.now in
     let why = c.in_default.ensures in
-    refused_put db c.args.self.now.name.now fields line c.nothing.result c.args.out.now.items (address_refused db fields line.address c.in_default.field-0 why.no_other why.of_input.0 why.of_database.0) c.nothing.ensures.0
+    rejected_put db c.args.self.now.name.now fields line c.nothing.result c.args.out.now.items (address_rejected db fields line.address c.in_default.field-0 why.no_other why.of_input.0 why.of_database.0) c.nothing.ensures.0
 
 pub returns-in_default-offset-clause-added : goal.returns-in_default-offset-clause-added
 returns-in_default-offset-clause-added g c =

@@ -1,7 +1,7 @@
 use Rattle.std.proofs.Common.{◌≡◌, ℕ, List, Some, IfSome, IfNone, subst}
 use Rattle.mmdb_reader.specs.File.{data_section}
 use Rattle.mmdb_reader.specs.Found.{database_asked, offset_found}
-use Rattle.mmdb_enrich.specs.Fields.{IsMember, HasRefused}
+use Rattle.mmdb_enrich.specs.Fields.{IsMember, HasUnreadField}
 use Rattle.mmdb_enrich.specs.Wanted.{member}
 use Rattle.mmdb_enrich.specs.declared.members.Field.{Field}
 use Rattle.mmdb_enrich.proofs.MemberLaws.{member_kept}
@@ -17,5 +17,5 @@ returns-clause-kept g c =
     let addition = c.in_ok-member.member in
     let kept = c.kept_of-kept.result in
     let some = subst (λ (fs : List Field). IfSome addition (λ text. (here : ℕ) → found ≡ Some here → IsMember asked name fs here text.items)) c.as_slice.ensures.value c.in_ok-member.ensures.some in
-    let none = subst (λ (fs : List Field). IfNone addition ((here : ℕ) → found ≡ Some here → HasRefused fs (data_section asked) here)) c.as_slice.ensures.value c.in_ok-member.ensures.none in
+    let none = subst (λ (fs : List Field). IfNone addition ((here : ℕ) → found ≡ Some here → HasUnreadField fs (data_section asked) here)) c.as_slice.ensures.value c.in_ok-member.ensures.none in
     c.keep.ensures (member db name fields) c.requires.kept (member_kept db asked name fields found c.args.offset addition kept.cells.now kept.outcome c.requires.asked c.requires.at some none c.kept_of-kept.ensures)

@@ -21,8 +21,8 @@ whole g c values = record {
   values = values;
 }
 
-pub returns-in_err-set-clause-refused : goal.returns-in_err-set-clause-refused
-returns-in_err-set-clause-refused g c =
+pub returns-in_err-set-clause-rejected : goal.returns-in_err-set-clause-rejected
+returns-in_err-set-clause-rejected g c =
     let p = err_from_is_err_and c.from_residual-in_err-set.result c.from_residual-in_err-set.ensures.1 in
     rw (p.1, p.2) (apart c.in_err-set.field-0.0 _ _ (λ no is. no is.tree) c.in_err-set.ensures.err)
 

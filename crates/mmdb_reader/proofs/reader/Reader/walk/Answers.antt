@@ -9,7 +9,7 @@ use Rattle.mmdb_reader.specs.Walked.{IsStack, IsStopped, Keeps, half_of, end_fro
 use Rattle.mmdb_reader.specs.declared.walked.Point.{Point}
 use Rattle.mmdb_reader.proofs.PositionLemmas.{width-le}
 use Rattle.mmdb_reader.proofs.Points.{IsStack-front, IsStack-push, IsStack-halves, below-room, below-width}
-use Rattle.mmdb_reader.proofs.Progress.{IsProgress, progress-start, progress-node, progress-stop, refused-fault, refused-many, walked-all, cost-is, length-is, fault-is, offsets-are}
+use Rattle.mmdb_reader.proofs.Progress.{IsProgress, progress-start, progress-node, progress-stop, rejected-fault, rejected-many, walked-all, cost-is, length-is, fault-is, offsets-are}
 use Rattle.mmdb_reader.proofs.WholeLemmas.{tree_of_clean, clean_of_tree}
 use Rattle.mmdb_reader.proofs.reader.Reader.walk.Goals as goal
 
@@ -82,16 +82,16 @@ returns-then-not-keep-clause-verdict g c = λ whole.
     let db = c.args.self.now in
     let clean = clean_of_tree db whole in
     let p = c.loop-stack.point in
-    let refused = refused-fault db c.loop-stack.stack.items p c.loop-stack.taken c.loop-stack.stops (holds c.loop-stack.set) c.loop-stack.invariant.progress (end_from db p.number p.high) refl c.if-goes_on.ensures c.loop-stack.invariant.stops (fault_of g c) in
-    let wrong : true ≡ false = sym refused.1 ∙ fault-is db ∙ clean.faultless in
+    let rejected = rejected-fault db c.loop-stack.stack.items p c.loop-stack.taken c.loop-stack.stops (holds c.loop-stack.set) c.loop-stack.invariant.progress (end_from db p.number p.high) refl c.if-goes_on.ensures c.loop-stack.invariant.stops (fault_of g c) in
+    let wrong : true ≡ false = sym rejected.1 ∙ fault-is db ∙ clean.faultless in
     cc
 
 pub returns-then-not-keep-clause-counted : goal.returns-then-not-keep-clause-counted
 returns-then-not-keep-clause-counted g c =
     let db = c.args.self.now in
     let p = c.loop-stack.point in
-    let refused = refused-fault db c.loop-stack.stack.items p c.loop-stack.taken c.loop-stack.stops (holds c.loop-stack.set) c.loop-stack.invariant.progress (end_from db p.number p.high) refl c.if-goes_on.ensures c.loop-stack.invariant.stops (fault_of g c) in
-    refused.0 ∙ cost-is db
+    let rejected = rejected-fault db c.loop-stack.stack.items p c.loop-stack.taken c.loop-stack.stops (holds c.loop-stack.set) c.loop-stack.invariant.progress (end_from db p.number p.high) refl c.if-goes_on.ensures c.loop-stack.invariant.stops (fault_of g c) in
+    rejected.0 ∙ cost-is db
 
 pub returns-then-not-keep-clause-bound : goal.returns-then-not-keep-clause-bound
 returns-then-not-keep-clause-bound g c =
@@ -111,15 +111,15 @@ returns-then-stops-most-clause-verdict g c = λ whole.
     let clean = clean_of_tree db whole in
     let w = stopped db c.loop-stack.stack.items c.loop-stack.point c.loop-stack.taken c.loop-stack.stops c.loop-stack.set c.keep.new.set c.loop-stack.invariant.progress c.if-goes_on.ensures (sym c.if-not-keep.false ∙ c.keep.ensures.kept) c.keep.ensures.set in
     let many : c.loop-stack.stops + 1 ≡ suc (most_stops db) = omega (arith, c.if-stops-most.true, c.loop-stack.invariant.stops, c.nodes.ensures.count) in
-    let refused = refused-many db c.loop-stack.stack.items (c.loop-stack.taken + 1) (c.loop-stack.stops + 1) (holds c.keep.new.set) w many in
-    omega (arith, refused.1, length-is db, clean.few)
+    let rejected = rejected-many db c.loop-stack.stack.items (c.loop-stack.taken + 1) (c.loop-stack.stops + 1) (holds c.keep.new.set) w many in
+    omega (arith, rejected.1, length-is db, clean.few)
 
 pub returns-then-stops-most-clause-counted : goal.returns-then-stops-most-clause-counted
 returns-then-stops-most-clause-counted g c =
     let db = c.args.self.now in
     let w = stopped db c.loop-stack.stack.items c.loop-stack.point c.loop-stack.taken c.loop-stack.stops c.loop-stack.set c.keep.new.set c.loop-stack.invariant.progress c.if-goes_on.ensures (sym c.if-not-keep.false ∙ c.keep.ensures.kept) c.keep.ensures.set in
     let many : c.loop-stack.stops + 1 ≡ suc (most_stops db) = omega (arith, c.if-stops-most.true, c.loop-stack.invariant.stops, c.nodes.ensures.count) in
-    (refused-many db c.loop-stack.stack.items (c.loop-stack.taken + 1) (c.loop-stack.stops + 1) (holds c.keep.new.set) w many).0 ∙ cost-is db
+    (rejected-many db c.loop-stack.stack.items (c.loop-stack.taken + 1) (c.loop-stack.stops + 1) (holds c.keep.new.set) w many).0 ∙ cost-is db
 
 pub returns-then-stops-most-clause-bound : goal.returns-then-stops-most-clause-bound
 returns-then-stops-most-clause-bound g c =

@@ -1,15 +1,15 @@
 //! Errors: the step is kept aside, and taken once more where the error is wanted.
 ghost use Rattle.std.specs.Prelude.{◌≡◌};
 ghost use Rattle.mmdb_format.specs.declared.error.MaxMindDbError.TheVariants.{Memory};
-ghost use Rattle.mmdb_decode.specs.declared.refused.Refused.TheVariants.{OutOfMemory, Unreadable};
+ghost use Rattle.mmdb_decode.specs.declared.failed.Failed.TheVariants.{OutOfMemory, Unreadable};
 
 use super::Decoder;
 use super::keys::FREE_NAME;
 use super::skipping::MAX_NESTED;
 use crate::budget::{begun, spent};
 use crate::direct::container_at;
+use crate::failed::{Failed, Step};
 use crate::record::duplicate_field;
-use crate::refused::{Refused, Step};
 use mmdb_format::decode_error_kind::DecodeErrorKind;
 use mmdb_format::error::MaxMindDbError;
 use mmdb_format::kind::{ARRAY, DOUBLE, MAP, U16, U32};
@@ -17,48 +17,48 @@ use mmdb_format::message::{Message, Text};
 use std::alloc::Global;
 
 impl<'de> Decoder<'de> {
-    // Refuses a step.
+    // Fails at a step.
     #[inline(always)]
-    pub(super) fn refuse(&mut self, step: Step) -> Refused
-        ensures told { result ≡ Unreadable }
+    pub(super) fn fail(&mut self, step: Step) -> Failed
+        ensures unreadable { result ≡ Unreadable }
         ensures same { self.new ≡ self.old }
     {
         self.step = step;
-        Refused::Unreadable
+        Failed::Unreadable
     }
 
-    /// Refuses the value of a field that stands a second time.
+    /// Fails at the value of a field that stands a second time.
     #[inline(always)]
-    pub fn refuse_repeated(&mut self, name: &'de [u8]) -> Refused
-        ensures told { result ≡ Unreadable }
+    pub fn fail_repeated(&mut self, name: &'de [u8]) -> Failed
+        ensures unreadable { result ≡ Unreadable }
         ensures same { self.new ≡ self.old }
     {
         self.step = Step::Repeated;
         self.repeated = name;
-        Refused::Unreadable
+        Failed::Unreadable
     }
 
-    /// Refuses a list that has more elements than are allowed.
-    pub fn refuse_list(&mut self) -> Refused
-        ensures told { result ≡ Unreadable }
+    /// Fails at a list that has more elements than are allowed.
+    pub fn fail_list(&mut self) -> Failed
+        ensures unreadable { result ≡ Unreadable }
         ensures same { self.new ≡ self.old }
     {
-        self.refuse(Step::List)
+        self.fail(Step::List)
     }
 
-    // The error of a reading that was refused.
+    // The error of a reading that failed.
     #[cold]
     #[inline(never)]
-    pub(crate) fn refusal(&self, alloc: Global, refused: Refused) -> MaxMindDbError
-        ensures { refused ≡ OutOfMemory → result ≡ Memory }
+    pub(crate) fn error_of(&self, alloc: Global, rejected: Failed) -> MaxMindDbError
+        ensures { rejected ≡ OutOfMemory → result ≡ Memory }
     {
-        match refused {
-            Refused::OutOfMemory => MaxMindDbError::Memory,
-            Refused::Unreadable => self.error_here(alloc),
+        match rejected {
+            Failed::OutOfMemory => MaxMindDbError::Memory,
+            Failed::Unreadable => self.error_here(alloc),
         }
     }
 
-    // The error of the step that was refused.
+    // The error of the step that failed.
     fn error_here(&self, alloc: Global) -> MaxMindDbError {
         match self.step {
             Step::Repeated => {
@@ -74,7 +74,7 @@ impl<'de> Decoder<'de> {
             }
             step => {
                 let fault = self.fault_of(step).unwrap_or(DecodeErrorKind::EndOfBuffer);
-                fault.refusal(alloc, self.offset)
+                fault.to_error(alloc, self.offset)
             }
         }
     }

@@ -4,8 +4,8 @@ use Rattle.mmdb_decode.specs.State.{State, GivenUp, NoneBack, decoded}
 use Rattle.mmdb_decode.specs.Reading.{Meaning}
 use Rattle.mmdb_format.specs.declared.error.MaxMindDbError.{MaxMindDbError}
 use Rattle.mmdb_format.specs.declared.error.MaxMindDbError.TheVariants.{Memory}
-use Rattle.mmdb_decode.specs.declared.refused.Refused.{Refused}
-use Rattle.mmdb_decode.specs.declared.refused.Refused.TheVariants.{OutOfMemory, Unreadable}
+use Rattle.mmdb_decode.specs.declared.failed.Failed.{Failed}
+use Rattle.mmdb_decode.specs.declared.failed.Failed.TheVariants.{OutOfMemory, Unreadable}
 
 -- what every success keeps: the section, the levels and the charges, of which none is given back
 pub record Kept (old new : State) : Type 0 where
@@ -14,13 +14,13 @@ pub record Kept (old new : State) : Type 0 where
   pub charges : NoneBack old.budget new.budget
 
 -- nothing readable stands there; or memory ran out, unless a success takes none (the flag)
-abbrev pub Refuses : {A : Type 0} → Bool → MaxMindDbError → Option A → Type 0
-Refuses true e read = read ≡ None
-Refuses false Memory read = Unit {0}
-Refuses false e read = read ≡ None
+abbrev pub Fails : {A : Type 0} → Bool → MaxMindDbError → Option A → Type 0
+Fails true e read = read ≡ None
+Fails false Memory read = Unit {0}
+Fails false e read = read ≡ None
 
 -- the same of a reading that keeps aside why
-abbrev pub Declines : {A : Type 0} → Bool → Refused → Option A → Type 0
+abbrev pub Declines : {A : Type 0} → Bool → Failed → Option A → Type 0
 Declines true r read = read ≡ None
 Declines false OutOfMemory read = Unit {0}
 Declines false Unreadable read = read ≡ None
@@ -34,7 +34,7 @@ Takes view read old new (Err e) = GivenUp old new × (read ≡ None)
 -- to the datum.
 abbrev pub Reads : {X A : Type 0} → (X → A) → Bool → Option (A × State) → State → State → Result X MaxMindDbError → Type 0
 Reads view free read old new (Ok x) = read ≡ Some (view x, new)
-Reads view free read old new (Err e) = GivenUp old new × Refuses free e read
+Reads view free read old new (Err e) = GivenUp old new × Fails free e read
 
 -- What is read at an offset of a section from the start: the value that stands there below no level, if
 -- it is within the limits.

@@ -5,7 +5,7 @@ use std::alloc::AllocFailed;
 
 /// A reading failed. The decoder stands where it was.
 #[derive(Clone, Copy, Debug)]
-pub enum Refused {
+pub enum Failed {
     /// There was no memory.
     OutOfMemory,
     /// What stands there cannot be read.
@@ -47,12 +47,12 @@ pub(crate) enum Step {
     List,
 }
 
-impl<T: Drop> From<AllocFailed<T>> for Refused {
-    ghost use Rattle.mmdb_decode.specs.declared.refused.Refused.TheVariants.{OutOfMemory};
+impl<T: Drop> From<AllocFailed<T>> for Failed {
+    ghost use Rattle.mmdb_decode.specs.declared.failed.Failed.TheVariants.{OutOfMemory};
 
     ghost from_gives = { λ _ e. e ≡ OutOfMemory };
 
-    fn from(_error: AllocFailed<T>) -> Refused {
-        Refused::OutOfMemory
+    fn from(_error: AllocFailed<T>) -> Failed {
+        Failed::OutOfMemory
     }
 }
