@@ -139,27 +139,27 @@ lookups_walked db good s full =
     ]
 
 -- what a lookup answers then: no data, or the offset of the value of a walked leaf
-abbrev IsOfWalked : Database → Outcome → Type 0
-IsOfWalked db NoData = Unit {0}
-IsOfWalked db (Offset offset) = (t : List Bool) × IsWalked db t × HasValueAt db t offset
-IsOfWalked db Failed = ⊥
+abbrev IsAnswerOfWalked : Database → Outcome → Type 0
+IsAnswerOfWalked db NoData = Unit {0}
+IsAnswerOfWalked db (Offset offset) = (t : List Bool) × IsWalked db t × HasValueAt db t offset
+IsAnswerOfWalked db Failed = ⊥
 
-leaf_of_walked : (db : Database) (t : List Bool) → HasNoFault db → IsWalked db t → IsOfWalked db (outcome_of db (walk (tree_of db) t))
+leaf_of_walked : (db : Database) (t : List Bool) → HasNoFault db → IsWalked db t → IsAnswerOfWalked db (outcome_of db (walk (tree_of db) t))
 leaf_of_walked db t good walked = elim (kind_of_leaf db t) [
   | OnNode on ↦ absurd (good t walked (inr (inl on)))
-  | AtEnd is ↦ subst (IsOfWalked db) (sym (outcome-end db (walk (tree_of db) t) (omega (arith, is)))) tt
+  | AtEnd is ↦ subst (IsAnswerOfWalked db) (sym (outcome-end db (walk (tree_of db) t) (omega (arith, is)))) tt
   | Nowhere n ↦ absurd (good t walked (inl n))
-  | Value offset v ↦ subst (IsOfWalked db) (sym (outcome-offset db (walk (tree_of db) t) offset v.leads v.inside)) (t, walked, v)
+  | Value offset v ↦ subst (IsAnswerOfWalked db) (sym (outcome-offset db (walk (tree_of db) t) offset v.leads v.inside)) (t, walked, v)
 ]
 
-of_walked : (db : Database) → HasNoFault db → (address : IpAddr) (leaf : List Bool) (outcome : Outcome) → Answers db address leaf outcome → IsOfWalked db outcome
+of_walked : (db : Database) → HasNoFault db → (address : IpAddr) (leaf : List Bool) (outcome : Outcome) → Answers db address leaf outcome → IsAnswerOfWalked db outcome
 of_walked db good address leaf outcome at =
     let number : ℕ = walk (tree_of db) (address_bits db address) in
-    let here : IsOfWalked db (outcome_of db number) = elim (lookups_walked db good (address_bits db address) (length-address_bits db address at.can_ask)) [
-      | inl on ↦ subst (IsOfWalked db) (sym (outcome-end db number (omega (arith, on)))) tt
-      | inr (t, walked, same) ↦ subst (λ (n : ℕ). IsOfWalked db (outcome_of db n)) same (leaf_of_walked db t good walked)
+    let here : IsAnswerOfWalked db (outcome_of db number) = elim (lookups_walked db good (address_bits db address) (length-address_bits db address at.can_ask)) [
+      | inl on ↦ subst (IsAnswerOfWalked db) (sym (outcome-end db number (omega (arith, on)))) tt
+      | inr (t, walked, same) ↦ subst (λ (n : ℕ). IsAnswerOfWalked db (outcome_of db n)) same (leaf_of_walked db t good walked)
     ] in
-    subst (IsOfWalked db) (answer-walk db address leaf outcome at) here
+    subst (IsAnswerOfWalked db) (answer-walk db address leaf outcome at) here
 
 pub lookups_succeed : LookupsSucceed
 lookups_succeed db good address can rejected = of_walked db good address rejected.0 Failed rejected.1
