@@ -31,7 +31,8 @@ impl Block {
     // Whether it is the left half of a block.
     fn is_left(&self) -> bool
         requires { IsBlock self.now }
-        ensures { IsTrue result ↔ ((0 < self.now.prefix) × (self.now.first % size (whole self.now) ≡ 0)) }
+        ensures { IsTrue result
+            ↔ ((0 < self.now.prefix) × (self.now.first % size (whole self.now) ≡ 0)) }
     {
         self.prefix > 0 && self.first & bits_after(self.prefix - 1) == 0
     }

@@ -36,7 +36,8 @@ impl Model for Joiner {
 
     ghost view = { λ j. (j.waiting.items, j.settled.items) };
 
-    ghost invariant = { λ j. IsReady j.waiting.items × (vec_capacity j.waiting ≡ most_waiting) × (vec_capacity j.settled ≡ most_waiting) };
+    ghost invariant = { λ j. IsReady j.waiting.items × (vec_capacity j.waiting ≡ most_waiting)
+        × (vec_capacity j.settled ≡ most_waiting) };
 }
 
 impl Joiner {
@@ -55,9 +56,12 @@ impl Joiner {
     /// An error changes nothing.
     pub fn push(&mut self, block: Block) -> Result<(), JoinError>
         // Whatever was pushed and handed out before: what is handed out now and what waits completes the joined form.
-        ensures ok { OnOk result ((pushed handed : List SpecBlock) → IsJoining pushed handed (waiting_of self.old)
-            → IsJoining (pushed ++ block ∷ []) (handed ++ settled_of self.new) (waiting_of self.new)) }
-        ensures taken { (pushed handed : List SpecBlock) → IsJoining pushed handed (waiting_of self.old)
+        ensures ok { OnOk result ((pushed handed : List SpecBlock)
+            → IsJoining pushed handed (waiting_of self.old)
+            → IsJoining (pushed ++ block ∷ []) (handed ++ settled_of self.new)
+            (waiting_of self.new)) }
+        ensures taken { (pushed handed : List SpecBlock)
+            → IsJoining pushed handed (waiting_of self.old)
             → IsOk result ↔ (IsBlock block × IsAfter pushed block) }
         ensures err { OnErr result (self.new ≡ self.old) }
     {
@@ -73,7 +77,8 @@ impl Joiner {
 
     /// Hands out what waits, by `settled`: the blocks are all pushed. What is pushed next begins a list of its own.
     pub fn finish(&mut self)
-        ensures all { (pushed handed : List SpecBlock) → IsJoining pushed handed (waiting_of self.old)
+        ensures all { (pushed handed : List SpecBlock)
+            → IsJoining pushed handed (waiting_of self.old)
             → IsJoined pushed (handed ++ settled_of self.new) }
         ensures joining { IsJoining [] [] (waiting_of self.new) }
     {

@@ -13,7 +13,8 @@ use mmdb_net::{IpNetwork, Ipv4Network, Ipv6Network};
 fn of_ipv4(network: Ipv4Network) -> Block
     ensures block { IsBlock result }
     ensures prefix { result.prefix ≡ 96 + prefix_of (IpNetwork.V4 network) }
-    ensures bits { take result.prefix (bits_of 128 result.first) ≡ network_bits (IpNetwork.V4 network) }
+    ensures bits { take result.prefix (bits_of 128 result.first)
+        ≡ network_bits (IpNetwork.V4 network) }
 {
     Block {
         first: u128::from(network.network().to_bits()),
@@ -26,7 +27,8 @@ fn of_ipv4(network: Ipv4Network) -> Block
 fn of_ipv6(network: Ipv6Network) -> Block
     ensures block { IsBlock result }
     ensures prefix { result.prefix ≡ prefix_of (IpNetwork.V6 network) }
-    ensures bits { take result.prefix (bits_of 128 result.first) ≡ network_bits (IpNetwork.V6 network) }
+    ensures bits { take result.prefix (bits_of 128 result.first)
+        ≡ network_bits (IpNetwork.V6 network) }
 {
     Block {
         first: network.network().to_bits(),

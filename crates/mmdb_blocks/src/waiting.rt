@@ -39,8 +39,10 @@ fn is_smaller(waiting: &[Block], block: Block) -> bool
 // Takes out the last waiting block, if this is its other half: the block that they are together.
 fn take_half(waiting: &mut Vec<Block>, right: Block) -> Option<Block>
     requires { IsReady waiting.old.items }
-    ensures none { MatchOption result (waiting.new.items ≡ waiting.old.items) (λ larger. TakesHalf waiting.old.items waiting.new.items right larger) }
-    ensures apart { MatchOption result (AtLast (λ left. IsNoHalf left right) waiting.old.items) (λ _. Unit) }
+    ensures none { MatchOption result (waiting.new.items ≡ waiting.old.items)
+        (λ larger. TakesHalf waiting.old.items waiting.new.items right larger) }
+    ensures apart { MatchOption result (AtLast (λ left. IsNoHalf left right) waiting.old.items)
+        (λ _. Unit) }
     ensures capacity { vec_capacity waiting.new ≡ vec_capacity waiting.old }
 {
     let left = last_of(waiting)?;
@@ -58,7 +60,8 @@ fn join_halves(waiting: &mut Vec<Block>, block: Block) -> Block
     ensures block { IsBlock result }
     ensures ready { IsReady waiting.new.items }
     ensures apart { AtLast (λ left. IsNoHalf left result) waiting.new.items }
-    ensures pending { (pushed handed : List SpecBlock) → IsPending pushed handed waiting.old.items block
+    ensures pending { (pushed handed : List SpecBlock)
+        → IsPending pushed handed waiting.old.items block
         → IsPending pushed handed waiting.new.items result }
     ensures capacity { vec_capacity waiting.new ≡ vec_capacity waiting.old }
 {
@@ -73,11 +76,14 @@ fn join_halves(waiting: &mut Vec<Block>, block: Block) -> Block
 pub(crate) fn add(waiting: &mut Vec<Block>, settled: &mut Vec<Block>, block: Block)
     requires block { IsBlock block }
     requires ready { IsReady waiting.old.items }
-    requires room { (vec_capacity waiting.old ≡ most_waiting) × (vec_capacity settled.old ≡ most_waiting) }
+    requires room { (vec_capacity waiting.old ≡ most_waiting)
+        × (vec_capacity settled.old ≡ most_waiting) }
     ensures ready { IsReady waiting.new.items }
-    ensures joining { (pushed handed : List SpecBlock) → IsPending pushed handed waiting.old.items block
+    ensures joining { (pushed handed : List SpecBlock)
+        → IsPending pushed handed waiting.old.items block
         → IsJoining pushed (handed ++ settled.new.items) waiting.new.items }
-    ensures room { (vec_capacity waiting.new ≡ most_waiting) × (vec_capacity settled.new ≡ most_waiting) }
+    ensures room { (vec_capacity waiting.new ≡ most_waiting)
+        × (vec_capacity settled.new ≡ most_waiting) }
 {
     settled.clear();
     let joined = join_halves(waiting, block);

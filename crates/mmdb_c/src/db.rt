@@ -60,7 +60,8 @@ impl Db<'_> {
     #[inline(always)]
     fn nodes(&self) -> Nodes<'_>
         ensures tree { let nodes = result in
-            search_tree nodes.bytes.now nodes.node_count nodes.record_size ≡ tree self.now.file.now self.now.facts }
+            search_tree nodes.bytes.now nodes.node_count nodes.record_size
+            ≡ tree self.now.file.now self.now.facts }
         ensures count { result.node_count ≡ self.now.facts.node_count }
     {
         Nodes {
@@ -75,7 +76,8 @@ impl Db<'_> {
     fn leaf_ipv4(&self, bits: u32) -> Leaf
         requires { self.now.facts.ipv4_start < self.now.facts.node_count }
         ensures reached { let facts = self.now.facts in
-            Descends (tree self.now.file.now facts) facts.ipv4_start (bits_of 32 bits) result.taken result.number }
+            Descends (tree self.now.file.now facts) facts.ipv4_start (bits_of 32 bits)
+            result.taken result.number }
         ensures few { result.taken ≤ 32 }
     {
         let descent = self.nodes().descend_ipv4(self.ipv4_table, bits);
@@ -89,7 +91,8 @@ impl Db<'_> {
     fn leaf_ipv6(&self, bits: u128) -> Leaf
         requires { self.now.facts.ip_version ≡ 6 }
         ensures reached { let facts = self.now.facts in
-            Descends (tree self.now.file.now facts) 0 (bits_of 128 bits) result.taken result.number }
+            Descends (tree self.now.file.now facts) 0 (bits_of 128 bits)
+            result.taken result.number }
         ensures few { result.taken ≤ 128 }
     {
         let descent = self.nodes().descend_ipv6(self.ipv6_table, bits);

@@ -27,9 +27,15 @@ pub struct Checked<'s> {
 impl<'s> Model for Checked<'s> {
     ghost Value = { Seen };
 
-    ghost view = { λ c. record { section = c.work.section.now; good = map (leb 2) c.work.marks.items; charged = 8 * length c.work.section.now - c.work.left; failed = c.failed } };
+    ghost view = { λ c. record {
+      section = c.work.section.now;
+      good = map (leb 2) c.work.marks.items;
+      charged = 8 * length c.work.section.now - c.work.left;
+      failed = c.failed;
+    } };
 
-    ghost invariant = { λ c. c.failed ≡ false → Ready c.work.section.now c.work.marks.items c.work.left };
+    ghost invariant = { λ c. c.failed ≡ false
+        → Ready c.work.section.now c.work.marks.items c.work.left };
 }
 
 impl<'s> Checked<'s> {
@@ -69,12 +75,14 @@ impl<'s> Checked<'s> {
 /// error. `Memory` takes the place of an error whose text finds none. Offsets count from the section's start.
 pub fn check_value(alloc: Global, c: &mut Checked, offset: usize) -> Result<(), MaxMindDbError>
     ensures section { c.new.section ≡ c.old.section }
-    ensures exact { IsOk result ↔ ((c.old.failed ≡ false) × CanAdd c.old.section (holds c.old.good) offset) }
+    ensures exact { IsOk result
+        ↔ ((c.old.failed ≡ false) × CanAdd c.old.section (holds c.old.good) offset) }
     ensures ok { OnOk result (Added c.old.section (holds c.old.good) (holds c.new.good) offset) }
     ensures charged { OnOk result (Costs c.new.section (holds c.new.good) c.new.charged) }
     ensures going { OnOk result (c.new.failed ≡ false) }
     ensures err { OnErr result (c.new.failed ≡ true) }
-    ensures halted { OnErr result (c.old.failed ≡ false → IsHalted c.new.section (holds c.new.good) offset c.new.charged) }
+    ensures halted { OnErr result (c.old.failed ≡ false
+        → IsHalted c.new.section (holds c.new.good) offset c.new.charged) }
     ensures after_err { FailsAs OfInput result ↔ (c.old.failed ≡ true) }
 {
     if c.failed {

@@ -67,7 +67,8 @@ impl OffsetSet {
     // The first offset of the set from this one on.
     fn next_from(&self, first: usize) -> Option<usize>
         ensures next { MatchOption result (HasNoneFrom self.now first) (IsNext self.now first) }
-        ensures within { IfSome result (λ offset. (offset < length self.now) × (offset + 1 < 2 ^ 64)) }
+        ensures within { IfSome result (λ offset. (offset < length self.now)
+            × (offset + 1 < 2 ^ 64)) }
     {
         if first >= self.len {
             return None;
@@ -85,7 +86,8 @@ impl OffsetSet {
 
     // An offset, if it is one of the section.
     fn within(&self, offset: usize) -> Option<usize>
-        ensures offset { MatchOption result (length self.now ≤ offset) (λ same. (same ≡ offset) × (offset < length self.now)) }
+        ensures offset { MatchOption result (length self.now ≤ offset)
+            (λ same. (same ≡ offset) × (offset < length self.now)) }
         ensures within { IfSome result (λ same. (same < length self.now) × (same + 1 < 2 ^ 64)) }
     {
         if offset < self.len {

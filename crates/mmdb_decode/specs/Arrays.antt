@@ -46,6 +46,10 @@ items_left items = items.remaining
 abbrev pub with_items_left : ℕ → Items → Items
 with_items_left n items = record items { remaining = n }
 
+-- the elements that are left
+abbrev pub elements_left : {A : Type 0} → Meaning A → Items → Meaning (List A)
+elements_left read items = elements read (items_left items)
+
 abbrev pub levels_before_array : Items → ℕ
 levels_before_array items = items.levels
 

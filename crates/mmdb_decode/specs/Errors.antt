@@ -36,6 +36,35 @@ abbrev pub Reads : {X A : Type 0} → (X → A) → Bool → Option (A × State)
 Reads view free read old new (Ok x) = read ≡ Some (view x, new)
 Reads view free read old new (Err e) = GivenUp old new × Fails free e read
 
+-- A meaning gives this value where a decoder stands, and the decoder behind it. The flag says whether the
+-- reading begins a budget where none has begun.
+abbrev pub IsRead : {A : Type 0} → Bool → Meaning A → State → A → State → Type 0
+IsRead starts read old v new = decoded starts read old ≡ Some (v, new)
+
+-- no value can be read where a decoder stands; or memory ran out, unless a success takes none
+abbrev pub FailsToRead : {A : Type 0} → Bool → MaxMindDbError → Bool → Meaning A → State → Type 0
+FailsToRead free e starts read old = Fails free e (decoded starts read old)
+
+-- One step took the value that stands where a decoder stands, or none can be read there. It begins no
+-- budget.
+abbrev pub TakesValue : {X A E : Type 0} → (X → A) → Meaning A → State → State → Result X E → Type 0
+TakesValue view read old new r = Takes view (decoded false read old) old new r
+
+-- the same of a step that begins a budget where none has begun
+abbrev pub TakesUnderBudget : {X A E : Type 0} → (X → A) → Meaning A → State → State →
+    Result X E → Type 0
+TakesUnderBudget view read old new r = Takes view (decoded true read old) old new r
+
+-- A typed read gave the value that stands where a decoder stands, or an error. It begins no budget.
+abbrev pub ReadsValue : {X A : Type 0} → (X → A) → Bool → Meaning A → State → State →
+    Result X MaxMindDbError → Type 0
+ReadsValue view free read old new r = Reads view free (decoded false read old) old new r
+
+-- the same of a read that begins a budget where none has begun
+abbrev pub ReadsUnderBudget : {X A : Type 0} → (X → A) → Bool → Meaning A → State → State →
+    Result X MaxMindDbError → Type 0
+ReadsUnderBudget view free read old new r = Reads view free (decoded true read old) old new r
+
 -- What is read at an offset of a section from the start: the value that stands there below no level, if
 -- it is within the limits.
 unfoldable pub answer : {A : Type 0} → Bool → Meaning A → List ℕ → ℕ → Option A

@@ -12,6 +12,7 @@ pub mod Selecting
 pub mod Levels
 pub mod FieldShapes
 pub mod Tables
+pub mod TableReads
 pub mod Memos
 pub mod Limits
 pub mod Shapes

@@ -2,11 +2,11 @@
 ghost use Rattle.std.specs.Prelude.{◌≡◌, ◌≤ℤ◌, ℕ, ℤ, pos, neg_ℤ, List, Option, Some, Bool, true, false, IfOk, IfErr, OnOk, OnErr, IsSome, map, option_map};
 ghost use Rattle.std.specs.String.{string_bytes};
 ghost use Rattle.mmdb_decode.specs.Reading.{Meaning, mapped};
-ghost use Rattle.mmdb_decode.specs.State.{State, decoded, GivenUp};
+ghost use Rattle.mmdb_decode.specs.State.{State, GivenUp};
 ghost use Rattle.mmdb_decode.specs.Scalars.{u16_at, u32_at, u64_at, u128_at, i32_at, bool_at, double_at, float_at, text_at, byte_string_at};
 ghost use Rattle.mmdb_decode.specs.SmallNumbers.{small_at};
-ghost use Rattle.mmdb_decode.specs.Arrays.{list_at, elements, items_left, with_items_left};
-ghost use Rattle.mmdb_decode.specs.Errors.{Reads, Fails, Kept};
+ghost use Rattle.mmdb_decode.specs.Arrays.{list_at, elements_left, with_items_left};
+ghost use Rattle.mmdb_decode.specs.Errors.{IsRead, FailsToRead, Kept, ReadsUnderBudget};
 
 use crate::decoder::Decoder;
 use crate::items::Items;
@@ -55,10 +55,10 @@ pub trait Decode<'de>: Sized + Drop {
     ghost also: { State → Self → State → Type 0 } = { λ _ _ _. Unit {0} };
 
     fn decode(alloc: Global, d: &mut Decoder<'de>) -> DecodeResult<Self>
-        ensures ok { IfOk result (λ v. exact ≡ true → decoded starts meaning d.old ≡ Some (datum v, d.new)) }
+        ensures ok { IfOk result (λ v. exact ≡ true → IsRead starts meaning d.old (datum v) d.new) }
         ensures also { IfOk result (λ v. also d.old v d.new) }
         ensures kept { OnOk result (Kept d.old d.new) }
-        ensures err { IfErr result (λ e. exact ≡ true → Fails free e (decoded starts meaning d.old)) }
+        ensures err { IfErr result (λ e. exact ≡ true → FailsToRead free e starts meaning d.old) }
         ensures given_up { OnErr result (GivenUp d.old d.new) };
 }
 
@@ -205,7 +205,7 @@ fn read_between<'de>(
     low: i128,
     high: i128,
 ) -> DecodeResult<i128>
-    ensures read { Reads (λ z. z) true (decoded true (small_at low high) d.old) d.old d.new result }
+    ensures read { ReadsUnderBudget (λ z. z) true (small_at low high) d.old d.new result }
     ensures low { IfOk result (λ z. low ≤ℤ z) }
     ensures high { IfOk result (λ z. z ≤ℤ high) }
 {
@@ -381,10 +381,12 @@ pub fn read_items<'de, T: Decode<'de>>(
     items: &mut Items,
 ) -> DecodeResult<Vec<T>>
     requires { IsSome d.old.budget }
-    ensures ok { IfOk result (λ v. T.exact ≡ true → decoded false (elements T.meaning (items_left items.old)) d.old ≡ Some (map T.datum v.items, d.new)) }
+    ensures ok { IfOk result (λ v. T.exact ≡ true
+        → IsRead false (elements_left T.meaning items.old) d.old (map T.datum v.items) d.new) }
     ensures spent { OnOk result (items.new ≡ with_items_left 0 items.old) }
     ensures kept { OnOk result (Kept d.old d.new) }
-    ensures err { IfErr result (λ e. T.exact ≡ true → Fails false e (decoded false (elements T.meaning (items_left items.old)) d.old)) }
+    ensures err { IfErr result (λ e. T.exact ≡ true
+        → FailsToRead false e false (elements_left T.meaning items.old) d.old) }
     ensures given_up { OnErr result (GivenUp d.old d.new) }
 {
     let mut out = Vec::new(alloc);

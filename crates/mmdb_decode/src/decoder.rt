@@ -2,7 +2,7 @@
 ghost use Rattle.std.specs.Prelude.{◌≡◌, ◌<◌, ◌^◌, true, IfOk, None};
 ghost use Rattle.std.specs.Result.{result_ok};
 ghost use Rattle.mmdb_format.specs.Header.{header_at as spec_header_at};
-ghost use Rattle.mmdb_decode.specs.State.{State, begun as spec_begun, Within};
+ghost use Rattle.mmdb_decode.specs.State.{State, begin, begun as spec_begun, Within};
 ghost use Rattle.mmdb_decode.specs.Peeking.{kind_at};
 
 mod containers;
@@ -44,7 +44,12 @@ impl<'de> Model for Decoder<'de> {
 
     ghost Value = { State };
 
-    ghost view = { λ d. record { section = d.section.now; offset = d.offset; levels = d.levels; budget = d.budget } };
+    ghost view = { λ d. record {
+      section = d.section.now;
+      offset = d.offset;
+      levels = d.levels;
+      budget = d.budget;
+    } };
 
     ghost invariant = { λ d. Within d.budget };
 }
@@ -52,7 +57,7 @@ impl<'de> Model for Decoder<'de> {
 impl<'de> Decoder<'de> {
     /// A decoder that reads a section from an offset on, at no level and under no budget.
     pub fn new(section: &'de [u8], offset: usize) -> Decoder<'de>
-        ensures { result ≡ record { section = section.now; offset = offset; levels = 0; budget = None } }
+        ensures { result ≡ begin section.now offset }
     {
         Decoder {
             section,

@@ -53,7 +53,8 @@ pub(crate) fn number_at(
     most: usize,
 ) -> Result<(u128, usize), DecodeErrorKind>
     requires { most ≤ 16 }
-    ensures value { option_map free_of_charge (result_ok result) ≡ number_of wanted most section.now offset levels }
+    ensures value { option_map free_of_charge (result_ok result)
+        ≡ number_of wanted most section.now offset levels }
     ensures bound { IfOk result (λ x. x.0 < 256 ^ most) }
 {
     let at = direct_of(section, offset, levels, wanted)?;
@@ -72,7 +73,8 @@ pub(crate) fn bits_at(
     size: usize,
 ) -> Result<(u128, usize), DecodeErrorKind>
     requires { size ≤ 16 }
-    ensures value { option_map free_of_charge (result_ok result) ≡ bits_of wanted size section.now offset levels }
+    ensures value { option_map free_of_charge (result_ok result)
+        ≡ bits_of wanted size section.now offset levels }
     ensures bound { IfOk result (λ x. x.0 < 256 ^ size) }
 {
     let at = direct_of(section, offset, levels, wanted)?;
@@ -88,7 +90,8 @@ pub(crate) fn bool_at(
     offset: usize,
     levels: u16,
 ) -> Result<(bool, usize), DecodeErrorKind>
-    ensures { option_map free_of_charge (result_ok result) ≡ spec_bool_at section.now offset levels }
+    ensures { option_map free_of_charge (result_ok result)
+        ≡ spec_bool_at section.now offset levels }
 {
     let at = direct_of(section, offset, levels, BOOL)?;
     if at.header.size > 1 {
@@ -106,7 +109,8 @@ pub(crate) fn content_bytes_at(
     levels: u16,
     wanted: u16,
 ) -> Result<(&[u8], usize), DecodeErrorKind>
-    ensures value { option_map (λ x. costs_its_length (x.0.now, x.1)) (result_ok result) ≡ bytes_of wanted section.now offset levels }
+    ensures value { option_map (λ x. costs_its_length (x.0.now, x.1)) (result_ok result)
+        ≡ bytes_of wanted section.now offset levels }
     ensures bound { IfOk result (λ x. length x.0.now < 2 ^ 25) }
 {
     let at = direct_of(section, offset, levels, wanted)?;

@@ -1,9 +1,7 @@
 //! Records that are read in place, field by field, as a table of their fields says.
 ghost use Rattle.std.specs.Prelude.{◌≡◌, Bool, true, false, Some, IsSome};
-ghost use Rattle.mmdb_decode.specs.Maps.{pairs_from, name_at, pairs_left};
-ghost use Rattle.mmdb_decode.specs.State.{decoded};
-ghost use Rattle.mmdb_decode.specs.Records.{FieldTaken, RestTaken};
-ghost use Rattle.mmdb_decode.specs.Tables.{Table, Data, data_of, no_data, parts_met, flags, fields_of, record_of, part_once};
+ghost use Rattle.mmdb_decode.specs.Tables.{Table, Data, data_of, no_data, parts_met, flags, record_of};
+ghost use Rattle.mmdb_decode.specs.TableReads.{TakesField, TakesRest, TakesRecord, TakesPart};
 
 use crate::decode::Decode;
 use crate::decoder::Decoder;
@@ -48,7 +46,8 @@ pub trait Fields<'de>: Sized + Drop {
         d: &mut Decoder<'de>,
     ) -> Result<(), Failed>
         requires { IsSome d.old.budget }
-        ensures { FieldTaken free (decoded false (fields_of table (parts_met table (flags met.old) self.old) name.now) d.old) (parts_met table (flags met.new) self.new) d.old d.new result };
+        ensures { TakesField free table name.now (parts_met table (flags met.old) self.old)
+            (parts_met table (flags met.new) self.new) d.old d.new result };
 }
 
 /// A record that reads its fields one after the other.
@@ -62,7 +61,9 @@ pub trait TryFields<'de>: Fields<'de> {
         entries: &mut Entries,
     ) -> Result<(), Failed>
         requires { IsSome d.old.budget }
-        ensures { RestTaken Self.free (decoded false (pairs_from name_at (fields_of Self.table) (parts_met Self.table (flags met.old) self.old) (pairs_left entries.old)) d.old) (parts_met Self.table (flags met.new) self.new) d.old d.new entries.old entries.new result };
+        ensures { TakesRest Self.free Self.table (parts_met Self.table (flags met.old) self.old)
+            (parts_met Self.table (flags met.new) self.new)
+            d.old d.new entries.old entries.new result };
 }
 
 // Reads the fields that are left of a map, each by itself.
@@ -75,7 +76,8 @@ fn read_each<'de, R: Fields<'de>>(
     met: &mut FieldsSeen,
 ) -> Result<(), Failed>
     requires { IsSome d.old.budget }
-    ensures { RestTaken R.free (decoded false (pairs_from name_at (fields_of R.table) (parts_met R.table (flags met.old) fields.old) (pairs_left entries.old)) d.old) (parts_met R.table (flags met.new) fields.new) d.old d.new entries.old entries.new result }
+    ensures { TakesRest R.free R.table (parts_met R.table (flags met.old) fields.old)
+        (parts_met R.table (flags met.new) fields.new) d.old d.new entries.old entries.new result }
 {
     while let Some(name) = d.try_next(entries)? {
         fields.read_field(met, alloc, name, d)?;
@@ -107,7 +109,7 @@ fn read_map_into<'de, R: TryFields<'de>>(
     fields: &mut R,
 ) -> Result<(), Failed>
     requires { data_of R.table fields.old ≡ no_data R.table }
-    ensures { FieldTaken R.free (decoded true (record_of R.table) d.old) (data_of R.table fields.new) d.old d.new result }
+    ensures { TakesRecord R.free R.table fields.new d.old d.new result }
 {
     let mut met = FieldsSeen(
         false, false, false, false, false, false, false, false, false,
@@ -132,7 +134,7 @@ pub(crate) fn read_into<'de, R: TryFields<'de>>(
     fields: &mut R,
 ) -> Result<(), Failed>
     requires { data_of R.table fields.old ≡ no_data R.table }
-    ensures { FieldTaken R.free (decoded true (record_of R.table) d.old) (data_of R.table fields.new) d.old d.new result }
+    ensures { TakesRecord R.free R.table fields.new d.old d.new result }
 {
     let mut here = d.again();
     match read_map_into(alloc, &mut here, fields) {
@@ -176,7 +178,8 @@ pub fn read_part<'de, R: TryFields<'de>>(
     part: &mut R,
 ) -> Result<(), Failed>
     requires { IsSome d.old.budget }
-    ensures { FieldTaken R.free (decoded false (part_once (record_of R.table) (met.old, data_of R.table part.old)) d.old) (met.new, data_of R.table part.new) d.old d.new result }
+    ensures { TakesPart R.free (record_of R.table) (met.old, data_of R.table part.old)
+        (met.new, data_of R.table part.new) d.old d.new result }
 {
     if *met {
         return Err(d.fail_repeated(name));

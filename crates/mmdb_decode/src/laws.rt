@@ -9,7 +9,7 @@ ghost use Rattle.mmdb_decode.specs.Scalars.{u16_at, u32_at, u64_at, u128_at, i32
 ghost use Rattle.mmdb_decode.specs.SmallNumbers.{small_at};
 ghost use Rattle.mmdb_decode.specs.State.{Within};
 ghost use Rattle.mmdb_decode.specs.Limits.{AnswerIsWithinLimits, OneReading};
-ghost use Rattle.mmdb_decode.specs.Shapes.{IsShape, IsScalarShape, IsSmallShape, IsOwnedShape, IsContainerShape};
+ghost use Rattle.mmdb_decode.specs.Shapes.{decoding, IsShape, IsScalarShape, IsSmallShape, IsOwnedShape, IsContainerShape};
 ghost use Rattle.mmdb_format.specs.Contents.{text, bytes, boolean, signed32, number16, number32, number64, number128, double_bits, float_bits};
 ghost use Rattle.mmdb_decode.specs.TypedReads.{ReadsScalars, ScalarsUnfold, ReadsSmallNumbers, ReadsLists, ListsUnfold, ReadsTextMaps, TextMapsUnfold, LastPairStays, KeysAscend, ReadsRecords, ReadsWholeRecords, ReadsTables, KnownNamesStandOnce, FieldNamesStandOnce};
 ghost use Rattle.mmdb_decode.specs.Tables.{fields_of, no_parts};
@@ -51,41 +51,52 @@ pub fn values_bounded(d: &Decoder<'_>)
 /// Scalars, and texts and byte strings that are lent, say themselves and are read as the one type of the
 /// format, exactly, under no budget at the start, and without memory.
 pub fn how_scalars_are_read()
-    ensures boolean { let t = ⟦<bool as Decode<'static>>⟧ in IsScalarShape t.datum t.meaning t.exact t.starts t.free (λ v. v) bool_at }
-    ensures u16 { let t = ⟦<u16 as Decode<'static>>⟧ in IsScalarShape t.datum t.meaning t.exact t.starts t.free (λ v. v) u16_at }
-    ensures u32 { let t = ⟦<u32 as Decode<'static>>⟧ in IsScalarShape t.datum t.meaning t.exact t.starts t.free (λ v. v) u32_at }
-    ensures u64 { let t = ⟦<u64 as Decode<'static>>⟧ in IsScalarShape t.datum t.meaning t.exact t.starts t.free (λ v. v) u64_at }
-    ensures u128 { let t = ⟦<u128 as Decode<'static>>⟧ in IsScalarShape t.datum t.meaning t.exact t.starts t.free (λ v. v) u128_at }
-    ensures i32 { let t = ⟦<i32 as Decode<'static>>⟧ in IsScalarShape t.datum t.meaning t.exact t.starts t.free (λ v. v) i32_at }
-    ensures text { let t = ⟦<&'static str as Decode<'static>>⟧ in IsScalarShape t.datum t.meaning t.exact t.starts t.free (λ v. v.now) text_at }
-    ensures bytes { let t = ⟦<&'static [u8] as Decode<'static>>⟧ in IsScalarShape t.datum t.meaning t.exact t.starts t.free (λ v. v.now) byte_string_at }
-    ensures double { let t = ⟦<Double as Decode<'static>>⟧ in IsScalarShape t.datum t.meaning t.exact t.starts t.free (λ v. v.bits) double_at }
-    ensures float { let t = ⟦<Float as Decode<'static>>⟧ in IsScalarShape t.datum t.meaning t.exact t.starts t.free (λ v. v.bits) float_at }
+    ensures boolean { IsScalarShape (decoding ⟦<bool as Decode<'static>>⟧) (λ v. v) bool_at }
+    ensures u16 { IsScalarShape (decoding ⟦<u16 as Decode<'static>>⟧) (λ v. v) u16_at }
+    ensures u32 { IsScalarShape (decoding ⟦<u32 as Decode<'static>>⟧) (λ v. v) u32_at }
+    ensures u64 { IsScalarShape (decoding ⟦<u64 as Decode<'static>>⟧) (λ v. v) u64_at }
+    ensures u128 { IsScalarShape (decoding ⟦<u128 as Decode<'static>>⟧) (λ v. v) u128_at }
+    ensures i32 { IsScalarShape (decoding ⟦<i32 as Decode<'static>>⟧) (λ v. v) i32_at }
+    ensures text { IsScalarShape (decoding ⟦<&'static str as Decode<'static>>⟧)
+        (λ v. v.now) text_at }
+    ensures bytes { IsScalarShape (decoding ⟦<&'static [u8] as Decode<'static>>⟧)
+        (λ v. v.now) byte_string_at }
+    ensures double { IsScalarShape (decoding ⟦<Double as Decode<'static>>⟧)
+        (λ v. v.bits) double_at }
+    ensures float { IsScalarShape (decoding ⟦<Float as Decode<'static>>⟧) (λ v. v.bits) float_at }
 {}
 
 /// Small numbers say themselves and are read as an integer of any type that fits them, exactly and
 /// without memory, and begin a budget.
 pub fn how_small_numbers_are_read()
-    ensures u8 { let t = ⟦<u8 as Decode<'static>>⟧ in IsSmallShape t.datum t.meaning t.exact t.starts t.free pos (small_at (pos 0) (pos 255)) }
-    ensures i8 { let t = ⟦<i8 as Decode<'static>>⟧ in IsSmallShape t.datum t.meaning t.exact t.starts t.free (λ v. v) (small_at (neg_ℤ (pos 128)) (pos 127)) }
-    ensures i16 { let t = ⟦<i16 as Decode<'static>>⟧ in IsSmallShape t.datum t.meaning t.exact t.starts t.free (λ v. v) (small_at (neg_ℤ (pos 32768)) (pos 32767)) }
-    ensures i64 { let t = ⟦<i64 as Decode<'static>>⟧ in IsSmallShape t.datum t.meaning t.exact t.starts t.free (λ v. v) (small_at (neg_ℤ (pos 9223372036854775808)) (pos 9223372036854775807)) }
+    ensures u8 { IsSmallShape (decoding ⟦<u8 as Decode<'static>>⟧)
+        pos (small_at (pos 0) (pos 255)) }
+    ensures i8 { IsSmallShape (decoding ⟦<i8 as Decode<'static>>⟧)
+        (λ v. v) (small_at (neg_ℤ (pos 128)) (pos 127)) }
+    ensures i16 { IsSmallShape (decoding ⟦<i16 as Decode<'static>>⟧)
+        (λ v. v) (small_at (neg_ℤ (pos 32768)) (pos 32767)) }
+    ensures i64 { IsSmallShape (decoding ⟦<i64 as Decode<'static>>⟧)
+        (λ v. v) (small_at (neg_ℤ (pos 9223372036854775808)) (pos 9223372036854775807)) }
 {}
 
 /// Texts and byte strings of one's own say their bytes, and are read as those that are lent, but take
 /// memory.
 pub fn how_owned_bytes_are_read()
-    ensures string { let t = ⟦<String as Decode<'static>>⟧ in IsOwnedShape t.datum t.meaning t.exact t.starts t.free string_bytes text_at }
-    ensures owned_bytes { let t = ⟦<OwnedBytes as Decode<'static>>⟧ in IsOwnedShape t.datum t.meaning t.exact t.starts t.free (λ v. v.0.items) byte_string_at }
+    ensures string { IsOwnedShape (decoding ⟦<String as Decode<'static>>⟧) string_bytes text_at }
+    ensures owned_bytes { IsOwnedShape (decoding ⟦<OwnedBytes as Decode<'static>>⟧)
+        (λ v. v.0.items) byte_string_at }
 {}
 
 /// Containers of a type that is read exactly are too: a list of what its elements say, and a map of what
 /// its values say by the bytes of their keys. An optional value is read as its type.
 pub fn how_containers_are_read<'de, T: Decode<'de>>()
     requires { T.exact ≡ true }
-    ensures optional { let t = ⟦<Option<T> as Decode<'de>>⟧ in IsShape t.datum t.meaning t.exact t.starts t.free (option_map T.datum) (mapped Some T.meaning) T.starts T.free }
-    ensures list { let t = ⟦<Vec<T> as Decode<'de>>⟧ in IsContainerShape t.datum t.meaning t.exact t.starts t.free (λ v. map T.datum v.items) (list_at T.meaning) }
-    ensures text_map { let t = ⟦<BTreeMap<String, T> as Decode<'de>>⟧ in IsContainerShape t.datum t.meaning t.exact t.starts t.free (λ m. map (λ e. (string_bytes e.0, T.datum e.1)) m.entries) (text_map_at T.meaning) }
+    ensures optional { IsShape (decoding ⟦<Option<T> as Decode<'de>>⟧)
+        (option_map T.datum) (mapped Some T.meaning) T.starts T.free }
+    ensures list { IsContainerShape (decoding ⟦<Vec<T> as Decode<'de>>⟧)
+        (λ v. map T.datum v.items) (list_at T.meaning) }
+    ensures text_map { IsContainerShape (decoding ⟦<BTreeMap<String, T> as Decode<'de>>⟧)
+        (λ m. map (λ e. (string_bytes e.0, T.datum e.1)) m.entries) (text_map_at T.meaning) }
 {}
 
 /// `==` of byte strings of one's own is equality of their bytes.

@@ -1,11 +1,11 @@
 //! Parts of a record that stand at one offset: such a part is read once. Writers of files keep equal maps once, so
 //! that the country of an address and the country that its network is registered in are mostly one map.
 ghost use Rattle.std.specs.Prelude.{◌≡◌, true, false, Some, IsSome, OnOk};
-ghost use Rattle.mmdb_decode.specs.Maps.{pairs_from, name_at, pairs_left, with_pairs_left};
-ghost use Rattle.mmdb_decode.specs.State.{decoded};
-ghost use Rattle.mmdb_decode.specs.Records.{FieldTaken, RestTaken};
+ghost use Rattle.mmdb_decode.specs.Maps.{pairs_left, with_pairs_left};
+ghost use Rattle.mmdb_decode.specs.Errors.{IsRead};
 ghost use Rattle.mmdb_decode.specs.Memos.{IsMemoOf};
-ghost use Rattle.mmdb_decode.specs.Tables.{data_of, no_data, no_parts, parts_met, flags, fields_of, record_of, part_once};
+ghost use Rattle.mmdb_decode.specs.Tables.{data_of, no_data, no_parts, parts_met, flags, record_of};
+ghost use Rattle.mmdb_decode.specs.TableReads.{fields_left, TakesField, TakesRest, TakesRecord, TakesPart};
 
 use crate::decoder::Decoder;
 use crate::failed::Failed;
@@ -33,10 +33,12 @@ fn reuse<'de, R: Fields<'de> + Copy>(
     memo: &Option<Memo<'de, R>>,
 ) -> bool
     requires { IsMemoOf R.table memo.now d.old.section }
-    ensures ok { result ≡ true → decoded false (pairs_from name_at (fields_of R.table) (no_parts R.table) (pairs_left entries.old)) d.old ≡ Some (parts_met R.table (flags met.new) fields.new, d.new) }
+    ensures ok { result ≡ true → IsRead false (fields_left R.table (no_parts R.table) entries.old)
+        d.old (parts_met R.table (flags met.new) fields.new) d.new }
     ensures rest { entries.new ≡ with_pairs_left (pairs_left entries.new) entries.old }
     ensures spent { result ≡ true → pairs_left entries.new ≡ 0 }
-    ensures same { result ≡ false → (d.new ≡ d.old) × (entries.new ≡ entries.old) × (fields.new ≡ fields.old) × (met.new ≡ met.old) }
+    ensures same { result ≡ false → (d.new ≡ d.old) × (entries.new ≡ entries.old)
+        × (fields.new ≡ fields.old) × (met.new ≡ met.old) }
 {
     let Some(known) = memo else {
         return false;
@@ -63,7 +65,8 @@ fn read_or_reuse<'de, R: TryFields<'de> + Copy>(
     requires none { parts_met R.table (flags met.old) fields.old ≡ no_parts R.table }
     requires started { IsSome d.old.budget }
     requires memo { IsMemoOf R.table memo.old d.old.section }
-    ensures read { RestTaken R.free (decoded false (pairs_from name_at (fields_of R.table) (no_parts R.table) (pairs_left entries.old)) d.old) (parts_met R.table (flags met.new) fields.new) d.old d.new entries.old entries.new result }
+    ensures read { TakesRest R.free R.table (no_parts R.table)
+        (parts_met R.table (flags met.new) fields.new) d.old d.new entries.old entries.new result }
     ensures memo { OnOk result (IsMemoOf R.table memo.new d.old.section) }
 {
     if reuse(d, entries, fields, met, memo) {
@@ -92,7 +95,7 @@ fn read_map_or_reuse<'de, R: TryFields<'de> + Copy>(
 ) -> Result<(), Failed>
     requires none { data_of R.table fields.old ≡ no_data R.table }
     requires memo { IsMemoOf R.table memo.old d.old.section }
-    ensures read { FieldTaken R.free (decoded true (record_of R.table) d.old) (data_of R.table fields.new) d.old d.new result }
+    ensures read { TakesRecord R.free R.table fields.new d.old d.new result }
     ensures memo { OnOk result (IsMemoOf R.table memo.new d.old.section) }
 {
     let mut met = FieldsSeen(
@@ -120,7 +123,7 @@ fn read_into_or_reuse<'de, R: TryFields<'de> + Copy>(
 ) -> Result<(), Failed>
     requires none { data_of R.table fields.old ≡ no_data R.table }
     requires memo { IsMemoOf R.table memo.old d.old.section }
-    ensures read { FieldTaken R.free (decoded true (record_of R.table) d.old) (data_of R.table fields.new) d.old d.new result }
+    ensures read { TakesRecord R.free R.table fields.new d.old d.new result }
     ensures memo { OnOk result (IsMemoOf R.table memo.new d.old.section) }
 {
     let mut here = d.again();
@@ -148,7 +151,8 @@ pub fn read_part_or_reuse<'de, R: TryFields<'de> + Copy>(
 ) -> Result<(), Failed>
     requires started { IsSome d.old.budget }
     requires memo { IsMemoOf R.table memo.old d.old.section }
-    ensures read { FieldTaken R.free (decoded false (part_once (record_of R.table) (met.old, data_of R.table part.old)) d.old) (met.new, data_of R.table part.new) d.old d.new result }
+    ensures read { TakesPart R.free (record_of R.table) (met.old, data_of R.table part.old)
+        (met.new, data_of R.table part.new) d.old d.new result }
     ensures memo { OnOk result (IsMemoOf R.table memo.new d.old.section) }
 {
     if *met {
@@ -174,7 +178,9 @@ pub trait Recalls<'de, T: TryFields<'de> + Copy>: Fields<'de> {
     ) -> Result<(), Failed>
         requires started { IsSome d.old.budget }
         requires memo { IsMemoOf T.table memo.old d.old.section }
-        ensures read { FieldTaken Self.free (decoded false (fields_of Self.table (parts_met Self.table (flags met.old) self.old) name.now) d.old) (parts_met Self.table (flags met.new) self.new) d.old d.new result }
+        ensures read { TakesField Self.free Self.table name.now
+            (parts_met Self.table (flags met.old) self.old)
+            (parts_met Self.table (flags met.new) self.new) d.old d.new result }
         ensures memo { OnOk result (IsMemoOf T.table memo.new d.old.section) };
 }
 
@@ -190,7 +196,8 @@ fn read_each_reusing<'de, T: TryFields<'de> + Copy, R: Recalls<'de, T>>(
 ) -> Result<(), Failed>
     requires started { IsSome d.old.budget }
     requires memo { IsMemoOf T.table memo.old d.old.section }
-    ensures { RestTaken R.free (decoded false (pairs_from name_at (fields_of R.table) (parts_met R.table (flags met.old) fields.old) (pairs_left entries.old)) d.old) (parts_met R.table (flags met.new) fields.new) d.old d.new entries.old entries.new result }
+    ensures { TakesRest R.free R.table (parts_met R.table (flags met.old) fields.old)
+        (parts_met R.table (flags met.new) fields.new) d.old d.new entries.old entries.new result }
 {
     while let Some(name) = d.try_next(entries)? {
         fields.read_field_or_reuse(met, memo, alloc, name, d)?;
@@ -208,7 +215,8 @@ pub fn read_reusing<'de, T: TryFields<'de> + Copy, R: Recalls<'de, T>>(
     met: &mut FieldsSeen,
 ) -> Result<(), Failed>
     requires { IsSome d.old.budget }
-    ensures { RestTaken R.free (decoded false (pairs_from name_at (fields_of R.table) (parts_met R.table (flags met.old) fields.old) (pairs_left entries.old)) d.old) (parts_met R.table (flags met.new) fields.new) d.old d.new entries.old entries.new result }
+    ensures { TakesRest R.free R.table (parts_met R.table (flags met.old) fields.old)
+        (parts_met R.table (flags met.new) fields.new) d.old d.new entries.old entries.new result }
 {
     let mut memo = None;
     read_each_reusing(alloc, d, entries, fields, met, &mut memo)

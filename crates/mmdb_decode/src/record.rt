@@ -5,7 +5,7 @@ ghost use Rattle.mmdb_decode.specs.Reading.{Meaning};
 ghost use Rattle.mmdb_decode.specs.Maps.{Fields, pairs_from, name_at};
 ghost use Rattle.mmdb_decode.specs.Records.{record_at, finished, once, FieldRead, named as spec_named};
 ghost use Rattle.mmdb_decode.specs.State.{State, decoded, GivenUp};
-ghost use Rattle.mmdb_decode.specs.Errors.{Fails, Kept};
+ghost use Rattle.mmdb_decode.specs.Errors.{Fails, IsRead, FailsToRead, Kept};
 
 use crate::decode::Decode;
 use crate::decoder::Decoder;
@@ -53,7 +53,8 @@ pub trait Record<'de>: Sized + Drop {
         d: &mut Decoder<'de>,
     ) -> DecodeResult<()>
         requires { IsSome d.old.budget }
-        ensures { FieldRead free (decoded false (fields (datum self.old) name.now) d.old) (datum self.new) d.old d.new result };
+        ensures { FieldRead free (decoded false (fields (datum self.old) name.now) d.old)
+            (datum self.new) d.old d.new result };
 
     /// The whole record. A field that is required and missing is rejected, as `missing_field` says.
     fn finish(self, alloc: Global, offset: usize) -> DecodeResult<Self::Whole>
@@ -123,7 +124,8 @@ pub fn read_once<'de, T: Decode<'de>>(
 ) -> DecodeResult<()>
     requires exact { T.exact ≡ true }
     requires started { IsSome d.old.budget }
-    ensures { FieldRead T.free (decoded false (once T.meaning (option_map T.datum slot.old)) d.old) (option_map T.datum slot.new) d.old d.new result }
+    ensures { FieldRead T.free (decoded false (once T.meaning (option_map T.datum slot.old)) d.old)
+        (option_map T.datum slot.new) d.old d.new result }
 {
     if slot.is_some() {
         return Err(duplicate_field(alloc, name, d.offset()));
@@ -139,11 +141,13 @@ fn read_fields<'de, R: Record<'de>>(
     entries: &mut Entries,
 ) -> DecodeResult<R>
     requires { IsSome d.old.budget }
-    ensures ok { IfOk result (λ v. decoded false (pairs_from name_at R.fields R.none entries.old.remaining) d.old ≡ Some (R.datum v, d.new)) }
+    ensures ok { IfOk result (λ v. IsRead false
+        (pairs_from name_at R.fields R.none entries.old.remaining) d.old (R.datum v) d.new) }
     ensures rest { entries.new ≡ record entries.old { remaining = entries.new.remaining } }
     ensures spent { OnOk result (entries.new.remaining ≡ 0) }
     ensures kept { OnOk result (Kept d.old d.new) }
-    ensures err { IfErr result (λ e. Fails R.free e (decoded false (pairs_from name_at R.fields R.none entries.old.remaining) d.old)) }
+    ensures err { IfErr result (λ e. FailsToRead R.free e false
+        (pairs_from name_at R.fields R.none entries.old.remaining) d.old) }
     ensures given_up { OnErr result (GivenUp d.old d.new) }
 {
     let mut record = R::empty(alloc);
@@ -155,9 +159,10 @@ fn read_fields<'de, R: Record<'de>>(
 
 // All fields of a map.
 fn read_map<'de, R: Record<'de>>(alloc: Global, d: &mut Decoder<'de>) -> DecodeResult<R>
-    ensures ok { IfOk result (λ v. decoded true (record_at R.fields R.none) d.old ≡ Some (R.datum v, d.new)) }
+    ensures ok { IfOk result (λ v. IsRead true (record_at R.fields R.none)
+        d.old (R.datum v) d.new) }
     ensures kept { OnOk result (Kept d.old d.new) }
-    ensures err { IfErr result (λ e. Fails R.free e (decoded true (record_at R.fields R.none) d.old)) }
+    ensures err { IfErr result (λ e. FailsToRead R.free e true (record_at R.fields R.none) d.old) }
     ensures given_up { OnErr result (GivenUp d.old d.new) }
 {
     let mut entries = d.begin_map(alloc)?;
@@ -178,9 +183,11 @@ pub fn read_record<'de, R: Record<'de>>(
     alloc: Global,
     d: &mut Decoder<'de>,
 ) -> DecodeResult<R::Whole>
-    ensures ok { IfOk result (λ v. decoded true (finished R.whole (record_at R.fields R.none)) d.old ≡ Some (R.whole_datum v, d.new)) }
+    ensures ok { IfOk result (λ v. IsRead true (finished R.whole (record_at R.fields R.none))
+        d.old (R.whole_datum v) d.new) }
     ensures kept { OnOk result (Kept d.old d.new) }
-    ensures err { IfErr result (λ e. Fails R.free e (decoded true (finished R.whole (record_at R.fields R.none)) d.old)) }
+    ensures err { IfErr result (λ e. FailsToRead R.free e true
+        (finished R.whole (record_at R.fields R.none)) d.old) }
     ensures given_up { OnErr result (GivenUp d.old d.new) }
 {
     let fields: R = read_map(alloc, d)?;

@@ -2,8 +2,8 @@
 ghost use Rattle.std.specs.Prelude.{◌≡◌, ℕ, List, [], Option, Some, None, Bool, true, false, IfOk, IfErr, OnOk, OnErr, IsSome, map};
 ghost use Rattle.std.specs.String.{string_bytes};
 ghost use Rattle.mmdb_decode.specs.Maps.{pairs_from, pair_of, key_at, text_map_at};
-ghost use Rattle.mmdb_decode.specs.State.{decoded, GivenUp};
-ghost use Rattle.mmdb_decode.specs.Errors.{Fails, Kept};
+ghost use Rattle.mmdb_decode.specs.State.{GivenUp};
+ghost use Rattle.mmdb_decode.specs.Errors.{IsRead, FailsToRead, Kept};
 
 use crate::decode::Decode;
 use crate::decoder::Decoder;
@@ -19,11 +19,15 @@ fn read_pairs<'de, T: Decode<'de>>(
     entries: &mut Entries,
 ) -> DecodeResult<BTreeMap<String, T>>
     requires { IsSome d.old.budget }
-    ensures ok { IfOk result (λ m. T.exact ≡ true → decoded false (pairs_from key_at (pair_of T.meaning) [] entries.old.remaining) d.old ≡ Some (map (λ e. (string_bytes e.0, T.datum e.1)) m.entries, d.new)) }
+    ensures ok { IfOk result (λ m. T.exact ≡ true
+        → IsRead false (pairs_from key_at (pair_of T.meaning) [] entries.old.remaining)
+        d.old (map (λ e. (string_bytes e.0, T.datum e.1)) m.entries) d.new) }
     ensures rest { entries.new ≡ record entries.old { remaining = entries.new.remaining } }
     ensures spent { OnOk result (entries.new.remaining ≡ 0) }
     ensures kept { OnOk result (Kept d.old d.new) }
-    ensures err { IfErr result (λ e. T.exact ≡ true → Fails false e (decoded false (pairs_from key_at (pair_of T.meaning) [] entries.old.remaining) d.old)) }
+    ensures err { IfErr result (λ e. T.exact ≡ true
+        → FailsToRead false e false
+        (pairs_from key_at (pair_of T.meaning) [] entries.old.remaining) d.old) }
     ensures given_up { OnErr result (GivenUp d.old d.new) }
 {
     let mut pairs = BTreeMap::new(alloc);

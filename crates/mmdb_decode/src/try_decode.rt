@@ -1,9 +1,9 @@
 //! Types whose values are read as parts of records: why a reading fails is kept aside.
 ghost use Rattle.std.specs.Prelude.{◌≡◌, true, false, Some, IfOk, IfErr, OnOk, OnErr, IsSome, map, option_map};
 ghost use Rattle.mmdb_decode.specs.State.{decoded, GivenUp};
-ghost use Rattle.mmdb_decode.specs.Errors.{Declines, Kept};
-ghost use Rattle.mmdb_decode.specs.Arrays.{elements, items_left, with_items_left};
-ghost use Rattle.mmdb_decode.specs.Records.{once, FieldTaken};
+ghost use Rattle.mmdb_decode.specs.Errors.{IsRead, Declines, Kept};
+ghost use Rattle.mmdb_decode.specs.Arrays.{elements_left, with_items_left};
+ghost use Rattle.mmdb_decode.specs.TableReads.{TakesOnce};
 
 use crate::decode::Decode;
 use crate::decoder::Decoder;
@@ -18,8 +18,9 @@ pub trait TryDecode<'de>: Decode<'de> {
     /// Reads a value under a budget that has begun.
     fn try_decode(alloc: Global, d: &mut Decoder<'de>) -> Result<Self, Failed>
         requires { IsSome d.old.budget }
-        ensures ok { IfOk result (λ v. decoded Self.starts Self.meaning d.old ≡ Some (Self.datum v, d.new)) }
-        ensures err { IfErr result (λ e. Declines Self.free e (decoded Self.starts Self.meaning d.old)) }
+        ensures ok { IfOk result (λ v. IsRead Self.starts Self.meaning d.old (Self.datum v) d.new) }
+        ensures err { IfErr result (λ e.
+            Declines Self.free e (decoded Self.starts Self.meaning d.old)) }
         ensures given_up { OnErr result (GivenUp d.old d.new) };
 }
 
@@ -79,10 +80,12 @@ pub fn try_items<'de, T: TryDecode<'de>>(
     items: &mut Items,
 ) -> Result<Vec<T>, Failed>
     requires { IsSome d.old.budget }
-    ensures ok { IfOk result (λ v. decoded false (elements T.meaning (items_left items.old)) d.old ≡ Some (map T.datum v.items, d.new)) }
+    ensures ok { IfOk result (λ v.
+        IsRead false (elements_left T.meaning items.old) d.old (map T.datum v.items) d.new) }
     ensures spent { OnOk result (items.new ≡ with_items_left 0 items.old) }
     ensures kept { OnOk result (Kept d.old d.new) }
-    ensures err { IfErr result (λ e. Declines false e (decoded false (elements T.meaning (items_left items.old)) d.old)) }
+    ensures err { IfErr result (λ e.
+        Declines false e (decoded false (elements_left T.meaning items.old) d.old)) }
     ensures given_up { OnErr result (GivenUp d.old d.new) }
 {
     let mut out = Vec::new(alloc);
@@ -101,7 +104,8 @@ pub fn try_once<'de, T: TryDecode<'de>>(
     slot: &mut Option<T>,
 ) -> Result<(), Failed>
     requires { IsSome d.old.budget }
-    ensures { FieldTaken T.free (decoded false (once T.meaning (option_map T.datum slot.old)) d.old) (option_map T.datum slot.new) d.old d.new result }
+    ensures { TakesOnce T.free T.meaning (option_map T.datum slot.old)
+        (option_map T.datum slot.new) d.old d.new result }
 {
     if slot.is_some() {
         return Err(d.fail_repeated(name));

@@ -98,7 +98,8 @@ impl<'a, S: AsSlice<u8> + Drop> Comparison<'a, S> {
     // Goes on to an address in both, or gives a leaf that can't be read.
     fn go_to(&mut self, at: u128) -> Option<Part>
         ensures none { MatchOption result (self.exit.now ≡ self.entry.now) (λ _. Unit) }
-        ensures some { MatchOption result Unit (λ part. IsNextPart self.entry.now self.exit.now part) }
+        ensures some { MatchOption result Unit
+            (λ part. IsNextPart self.entry.now self.exit.now part) }
     {
         if let Some(fault) = self.old.go_to(at) {
             return Some(Part::Fault {
@@ -145,8 +146,10 @@ impl<'a, S: AsSlice<u8> + Drop> Comparison<'a, S> {
     // The part of what both have at an address, if there is something to compare. Goes behind it.
     fn part_at(&mut self, at: u128) -> Option<Part>
         requires { start_of self.now ≡ at }
-        ensures none { MatchOption result (start_of self.entry.now ≤ start_of self.exit.now) (λ _. Unit) }
-        ensures some { MatchOption result Unit (λ part. IsNextPart self.entry.now self.exit.now part) }
+        ensures none { MatchOption result (start_of self.entry.now ≤ start_of self.exit.now)
+            (λ _. Unit) }
+        ensures some { MatchOption result Unit
+            (λ part. IsNextPart self.entry.now self.exit.now part) }
     {
         if let Some(block) = self.shared_block(at) {
             return Some(Part::Stretch(self.stretch_of(block, true, true)));
@@ -164,7 +167,8 @@ impl<'a, S: AsSlice<u8> + Drop> Comparison<'a, S> {
 
     /// The next part. A stretch begins where the one before ends, or later. None where all is compared.
     pub fn next_part(&mut self) -> Option<Part>
-        ensures { MatchOption result Unit (λ part. IsNextPart self.entry.now self.exit.now part) }
+        ensures { MatchOption result Unit
+            (λ part. IsNextPart self.entry.now self.exit.now part) }
     {
         for _ in 0..u64::MAX {
             let at = self.at?;

@@ -81,3 +81,24 @@ blanks rows (path ∷ paths) = delimiter_of rows ∷ blanks rows paths
 abbrev pub are_read : List (List PathElement) → List ℕ → ℕ → Bool
 are_read [] s offset = true
 are_read (path ∷ paths) s offset = is_some (read_at path s offset) && are_read paths s offset
+
+-- bytes grow by the cell that shows a value
+abbrev pub PutsShown : Rows → Tree → List ℕ → List ℕ → Type 0
+PutsShown rows v old new = (cell : List ℕ) × ShowsCell rows v cell × (new ≡ old ++ cell)
+
+-- bytes grow by the cell of an answer, and it is said whether there is one
+abbrev pub PutsCell : Rows → Option (Option Tree) → Bool → List ℕ → List ℕ → Type 0
+PutsCell rows answer is_read old new =
+    (cell : List ℕ) × IsCell rows answer cell × (new ≡ old ++ cell) × (is_read ≡ is_some answer)
+
+-- bytes grow by a delimiter and the cell of what is read along a path
+abbrev pub PutsCellAlong : Rows → List PathElement → List ℕ → ℕ → Bool → List ℕ → List ℕ → Type 0
+PutsCellAlong rows path s offset is_read old new =
+    (cell : List ℕ) × IsCell rows (read_at path s offset) cell
+    × (new ≡ old ++ (delimiter_of rows ∷ cell)) × (is_read ≡ is_some (read_at path s offset))
+
+-- bytes grow by a delimiter and a cell for each path
+abbrev pub PutsCells : Rows → List (List PathElement) → List ℕ → ℕ → Bool → List ℕ → List ℕ → Type 0
+PutsCells rows paths s offset is_read old new =
+    (cells : List ℕ) × AreCells rows paths s offset cells
+    × (new ≡ old ++ cells) × (is_read ≡ are_read paths s offset)

@@ -1,6 +1,6 @@
 //! What was added for the last records.
 ghost use Rattle.std.specs.Prelude.{◌≡◌, ◌≤◌, ◌⊎◌, [], ℕ, Some, None, IfOk, IfSome, true, length};
-ghost use Rattle.mmdb_enrich.specs.Kept.{IsKept, AreKept};
+ghost use Rattle.mmdb_enrich.specs.Kept.{IsEmptySlot, IsKept, AreKept};
 ghost use Rattle.mmdb_enrich.specs.KeptCells.{bytes_of, heap_of};
 ghost use Rattle.mmdb_enrich.specs.Wanted.{Wanted, AddsOf};
 
@@ -93,8 +93,8 @@ impl Slot {
 impl Bucket {
     // Of no record.
     fn empty() -> Bucket
-        ensures newer { (result.newer.offset ≡ None) × (bytes_of result.newer.cells ≡ []) × (heap_of result.newer.cells ≡ 0) }
-        ensures older { (result.older.offset ≡ None) × (bytes_of result.older.cells ≡ []) × (heap_of result.older.cells ≡ 0) }
+        ensures newer { IsEmptySlot result.newer }
+        ensures older { IsEmptySlot result.older }
     {
         Bucket {
             newer: Slot::empty(),
@@ -143,7 +143,8 @@ impl Cache {
     /// What is kept of the record at an offset.
     #[inline(always)]
     pub(crate) fn kept(&self, offset: usize) -> Option<Kept<'_>>
-        ensures { IfSome result (λ kept. (wanted : Wanted) → AreKept wanted self.now → AddsOf wanted offset kept.cells.now kept.outcome) }
+        ensures { IfSome result (λ kept. (wanted : Wanted) → AreKept wanted self.now
+            → AddsOf wanted offset kept.cells.now kept.outcome) }
     {
         let slot = self.buckets[offset % BUCKETS].slot_of(offset);
         if !slot.is_of(offset) {
@@ -158,7 +159,8 @@ impl Cache {
     /// Keeps the cells of a record in the stead of the older one at its bucket, unless they are many or there is no
     /// memory.
     pub(crate) fn keep(&mut self, offset: usize, cells: &[u8], outcome: Outcome)
-        ensures { (wanted : Wanted) → AreKept wanted self.old → AddsOf wanted offset cells.now outcome → AreKept wanted self.new }
+        ensures { (wanted : Wanted) → AreKept wanted self.old
+            → AddsOf wanted offset cells.now outcome → AreKept wanted self.new }
     {
         if cells.len() > MOST_BYTES {
             return;

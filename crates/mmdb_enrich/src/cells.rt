@@ -1,12 +1,11 @@
 //! The cells of a record.
-ghost use Rattle.std.specs.Prelude.{◌≡◌, ◌∷◌, ◌++◌, ℕ, List, Option, Some, IfOk, OnOk, map, is_some};
+ghost use Rattle.std.specs.Prelude.{◌≡◌, ◌++◌, ℕ, Option, Some, IfOk, OnOk, map};
 ghost use Rattle.mmdb_filter.specs.declared.rows.Rows.TheVariants.{Lines, Csv};
 ghost use Rattle.mmdb_format.specs.Unfolding.{Tree};
 ghost use Rattle.mmdb_value.specs.Values.{value_tree};
-ghost use Rattle.mmdb_reader.specs.File.{data_section};
-ghost use Rattle.mmdb_reader.specs.Found.{database_asked, offset_found};
-ghost use Rattle.mmdb_enrich.specs.Columns.{delimiter_of as spec_delimiter_of};
-ghost use Rattle.mmdb_enrich.specs.Cells.{is_plain as spec_is_plain, ShowsCell, IsCell, IsReadAs, AreCells, blanks, are_read, read_at};
+ghost use Rattle.mmdb_reader.specs.Found.{offset_found};
+ghost use Rattle.mmdb_json.specs.Found.{section_asked};
+ghost use Rattle.mmdb_enrich.specs.Cells.{is_plain as spec_is_plain, PutsShown, PutsCell, PutsCellAlong, PutsCells, IsReadAs, blanks, are_read};
 
 use crate::columns::delimiter_of;
 use crate::quotes::put_csv_cell;
@@ -30,7 +29,7 @@ fn is_plain(text: &[u8]) -> bool
 
 // Adds the cell of a value in a line: a text without control characters itself, any other value as JSON.
 fn put_line_value(alloc: Global, value: &Value<'_>, out: &mut Vec<u8>) -> Result<(), AllocError>
-    ensures { OnOk result ((cell : List ℕ) × ShowsCell Lines (value_tree value.now) cell × (out.new.items ≡ out.old.items ++ cell)) }
+    ensures { OnOk result (PutsShown Lines (value_tree value.now) out.old.items out.new.items) }
 {
     if let Value::String(text) = value
         && is_plain(text.as_bytes())
@@ -48,7 +47,8 @@ fn put_csv_value(
     value: &Value<'_>,
     out: &mut Vec<u8>,
 ) -> Result<(), AllocError>
-    ensures { OnOk result ((cell : List ℕ) × ShowsCell (Csv delimiter) (value_tree value.now) cell × (out.new.items ≡ out.old.items ++ cell)) }
+    ensures { OnOk result
+        (PutsShown (Csv delimiter) (value_tree value.now) out.old.items out.new.items) }
 {
     if let Value::String(text) = value {
         return put_csv_cell(delimiter, text.as_bytes(), out);
@@ -64,7 +64,7 @@ fn put_value(
     value: &Value<'_>,
     out: &mut Vec<u8>,
 ) -> Result<(), AllocError>
-    ensures { OnOk result ((cell : List ℕ) × ShowsCell rows (value_tree value.now) cell × (out.new.items ≡ out.old.items ++ cell)) }
+    ensures { OnOk result (PutsShown rows (value_tree value.now) out.old.items out.new.items) }
 {
     match rows {
         Rows::Lines => put_line_value(alloc, value, out),
@@ -79,7 +79,8 @@ fn put_read(
     read: &Result<Option<Value<'_>>, MaxMindDbError>,
     out: &mut Vec<u8>,
 ) -> Result<bool, AllocError>
-    ensures { IfOk result (λ addition. (answer : Option (Option Tree)) → IsReadAs answer read.now → (cell : List ℕ) × IsCell rows answer cell × (out.new.items ≡ out.old.items ++ cell) × (addition ≡ is_some answer)) }
+    ensures { IfOk result (λ addition. (answer : Option (Option Tree)) → IsReadAs answer read.now
+        → PutsCell rows answer addition out.old.items out.new.items) }
 {
     match read {
         Ok(Some(value)) => {
@@ -100,7 +101,9 @@ fn put_cell<S: AsSlice<u8> + Drop>(
     path: &[PathElement<'_>],
     out: &mut Vec<u8>,
 ) -> Result<bool, AllocError>
-    ensures { IfOk result (λ read. (offset : ℕ) → offset_found found.now ≡ Some offset → (cell : List ℕ) × IsCell rows (read_at path.now (data_section (database_asked found.now)) offset) cell × (out.new.items ≡ out.old.items ++ (spec_delimiter_of rows ∷ cell)) × (read ≡ is_some (read_at path.now (data_section (database_asked found.now)) offset))) }
+    ensures { IfOk result (λ read. (offset : ℕ) → offset_found found.now ≡ Some offset
+        → PutsCellAlong rows path.now (section_asked found.now) offset
+        read out.old.items out.new.items) }
 {
     out.push(delimiter_of(rows))?;
     let read: Result<Option<Value<'_>>, MaxMindDbError> = found.decode_path(alloc, path);
@@ -115,7 +118,9 @@ pub(crate) fn put_cells<S: AsSlice<u8> + Drop>(
     paths: &[Vec<PathElement<'_>>],
     out: &mut Vec<u8>,
 ) -> Result<bool, AllocError>
-    ensures { IfOk result (λ read. (offset : ℕ) → offset_found found.now ≡ Some offset → (cells : List ℕ) × AreCells rows (map (λ path. path.items) paths.now) (data_section (database_asked found.now)) offset cells × (out.new.items ≡ out.old.items ++ cells) × (read ≡ are_read (map (λ path. path.items) paths.now) (data_section (database_asked found.now)) offset)) }
+    ensures { IfOk result (λ read. (offset : ℕ) → offset_found found.now ≡ Some offset
+        → PutsCells rows (map (λ path. path.items) paths.now) (section_asked found.now) offset
+        read out.old.items out.new.items) }
 {
     let mut are_read = true;
     for path in paths {
@@ -131,7 +136,8 @@ pub(crate) fn put_blanks(
     paths: &[Vec<PathElement<'_>>],
     out: &mut Vec<u8>,
 ) -> Result<(), AllocError>
-    ensures { OnOk result (out.new.items ≡ out.old.items ++ blanks rows (map (λ path. path.items) paths.now)) }
+    ensures { OnOk result (out.new.items
+        ≡ out.old.items ++ blanks rows (map (λ path. path.items) paths.now)) }
 {
     for _ in paths {
         out.push(delimiter_of(rows))?;

@@ -82,7 +82,8 @@ fn value_of(rows: Rows, cell: &[u8]) -> &[u8]
 
 /// The address that a column spells.
 pub(crate) fn address_of(rows: Rows, text: &[u8], goes_on: bool, column: usize) -> Option<IpAddr>
-    ensures { ReadsAddress (option_map (spec_value_of rows) (spec_column_of rows goes_on column text.now)) result }
+    ensures { ReadsAddress
+        (option_map (spec_value_of rows) (spec_column_of rows goes_on column text.now)) result }
 {
     match column_of(rows, text, goes_on, column) {
         Some(cell) => match IpAddr::parse_ascii(value_of(rows, cell)) {

@@ -43,7 +43,8 @@ fn outcome_of(are_read: bool) -> Outcome
 // Adds cells that are kept.
 #[inline(always)]
 fn put_kept(kept: Kept<'_>, out: &mut Vec<u8>) -> Result<Outcome, AllocError>
-    ensures { IfOk result (λ outcome. (outcome ≡ kept.entry.outcome) × (out.new.items ≡ out.old.items ++ kept.entry.cells.now)) }
+    ensures { IfOk result (λ outcome. (outcome ≡ kept.entry.outcome)
+        × (out.new.items ≡ out.old.items ++ kept.entry.cells.now)) }
 {
     out.extend_from_slice(kept.cells)?;
     Ok(kept.outcome)
@@ -65,7 +66,8 @@ impl<'a, 'f, S: AsSlice<u8> + Drop> Enrichment<'a, 'f, S> {
         requires at { offset_found found.now ≡ Some offset }
         requires asked { database_asked found.now ≡ self.now.reader.now }
         requires kept { AreKeptFor self.now.reader.now self.now.rows self.now.paths cache.old }
-        ensures added { IfOk result (λ outcome. AddsAtTo self.now.reader.now self.now.rows self.now.paths (Some offset) outcome out.old out.new) }
+        ensures added { IfOk result (λ outcome. AddsAtTo self.now.reader.now self.now.rows
+            self.now.paths (Some offset) outcome out.old out.new) }
         ensures kept { AreKeptFor self.now.reader.now self.now.rows self.now.paths cache.new }
     {
         let before = out.len();
@@ -77,7 +79,8 @@ impl<'a, 'f, S: AsSlice<u8> + Drop> Enrichment<'a, 'f, S> {
 
     // Adds empty cells.
     fn put_none(&self, outcome: Outcome, out: &mut Vec<u8>) -> Result<Outcome, AllocError>
-        ensures { IfOk result (λ addition. (addition ≡ outcome) × (out.new.items ≡ out.old.items ++ blanks self.now.rows (paths_of self.now.paths))) }
+        ensures { IfOk result (λ addition. (addition ≡ outcome)
+            × (out.new.items ≡ out.old.items ++ blanks self.now.rows (paths_of self.now.paths))) }
     {
         put_blanks(self.rows, self.paths.as_slice(), out)?;
         Ok(outcome)
@@ -91,7 +94,8 @@ impl<'a, 'f, S: AsSlice<u8> + Drop> Enrichment<'a, 'f, S> {
         out: &mut Vec<u8>,
     ) -> Result<Outcome, AllocError>
         requires { AreKeptFor self.now.reader.now self.now.rows self.now.paths cache.old }
-        ensures added { IfOk result (λ outcome. AddsForTo self.now.reader.now self.now.rows self.now.paths (Some address) outcome out.old out.new) }
+        ensures added { IfOk result (λ outcome. AddsForTo self.now.reader.now self.now.rows
+            self.now.paths (Some address) outcome out.old out.new) }
         ensures kept { AreKeptFor self.now.reader.now self.now.rows self.now.paths cache.new }
     {
         let Ok(found) = self.reader.lookup(address) else {
@@ -110,7 +114,8 @@ impl<'a, 'f, S: AsSlice<u8> + Drop> Enrichment<'a, 'f, S> {
 impl<'a, 'f, S: AsSlice<u8> + Drop> Additions for Enrichment<'a, 'f, S> {
     type Memory = Cache;
 
-    ghost adds = { λ e text goes_on extra behind outcome. (behind ≡ 0) × AddsTo e.reader.now e.rows e.column (paths_of e.paths) text goes_on extra outcome };
+    ghost adds = { λ e text goes_on extra behind outcome. (behind ≡ 0)
+        × AddsTo e.reader.now e.rows e.column (paths_of e.paths) text goes_on extra outcome };
 
     ghost fits = { λ e cache. AreKeptFor e.reader.now e.rows e.paths cache };
 

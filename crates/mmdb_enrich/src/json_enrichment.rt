@@ -1,6 +1,5 @@
 //! What is added to a line of JSON.
-ghost use Rattle.std.specs.Prelude.{◌≡◌, ◌≤◌, ℕ, List, [], Some, IfOk, MatchOption};
-ghost use Rattle.mmdb_filter.specs.declared.counts.Outcome.{Outcome as SpecOutcome};
+ghost use Rattle.std.specs.Prelude.{◌≡◌, ◌≤◌, [], Some, IfOk, MatchOption};
 ghost use Rattle.mmdb_filter.specs.declared.counts.Outcome.TheVariants.{Found, Failed};
 ghost use Rattle.mmdb_enrich.specs.Members.{PutsMember};
 
@@ -59,7 +58,8 @@ fn nothing(outcome: Outcome) -> Added
 
 // What is kept of a record: the text of its member, or that a field failed.
 fn kept_of(member: &Option<Vec<u8>>) -> Kept<'_>
-    ensures { MatchOption member.now ((result.cells.now ≡ []) × (result.outcome ≡ Failed)) (λ text. (result.cells.now ≡ text.items) × (result.outcome ≡ Found)) }
+    ensures { MatchOption member.now ((result.cells.now ≡ []) × (result.outcome ≡ Failed))
+        (λ text. (result.cells.now ≡ text.items) × (result.outcome ≡ Found)) }
 {
     match member {
         Some(text) => Kept {
@@ -75,7 +75,8 @@ fn kept_of(member: &Option<Vec<u8>>) -> Kept<'_>
 
 // Adds a member to an object: as the first, or behind a comma. Nothing is added where a field failed.
 fn put_member(line: &Line, member: Kept<'_>, out: &mut Vec<u8>) -> Result<Added, AllocError>
-    ensures { IfOk result (λ addition. PutsMember line.now member.entry.cells.now member.entry.outcome addition out.old.items out.new.items) }
+    ensures { IfOk result (λ addition. PutsMember line.now member.entry.cells.now
+        member.entry.outcome addition out.old.items out.new.items) }
 {
     if member.outcome != Outcome::Found {
         return Ok(nothing(member.outcome));
@@ -93,8 +94,8 @@ fn put_member(line: &Line, member: Kept<'_>, out: &mut Vec<u8>) -> Result<Added,
 impl<'a, 'f, S: AsSlice<u8> + Drop> JsonEnrichment<'a, 'f, S> {
     ghost use Rattle.mmdb_reader.specs.Found.{database_asked, offset_found};
     ghost use Rattle.mmdb_enrich.specs.Kept.{AreKept};
-    ghost use Rattle.mmdb_enrich.specs.Wanted.{MemberAt, member as spec_member};
-    ghost use Rattle.mmdb_enrich.specs.Members.{PutsMemberFor};
+    ghost use Rattle.mmdb_enrich.specs.Wanted.{member as spec_member};
+    ghost use Rattle.mmdb_enrich.specs.Members.{PutsMemberAt, PutsMemberFor};
 
     // Adds the member of a record that was not kept, and keeps it.
     #[inline(never)]
@@ -108,9 +109,12 @@ impl<'a, 'f, S: AsSlice<u8> + Drop> JsonEnrichment<'a, 'f, S> {
     ) -> Result<Added, AllocError>
         requires at { offset_found found.now ≡ Some offset }
         requires asked { database_asked found.now ≡ self.now.reader.now }
-        requires kept { AreKept (spec_member self.now.reader.now self.now.name.now self.now.fields.items) cache.old }
-        ensures added { IfOk result (λ addition. (text : List ℕ) × (outcome : SpecOutcome) × MemberAt self.now.reader.now self.now.name.now self.now.fields.items offset text outcome × PutsMember line.now text outcome addition out.old.items out.new.items) }
-        ensures kept { AreKept (spec_member self.now.reader.now self.now.name.now self.now.fields.items) cache.new }
+        requires kept { AreKept
+            (spec_member self.now.reader.now self.now.name.now self.now.fields.items) cache.old }
+        ensures added { IfOk result (λ addition. PutsMemberAt self.now.reader.now self.now.name.now
+            self.now.fields.items offset line.now addition out.old.items out.new.items) }
+        ensures kept { AreKept
+            (spec_member self.now.reader.now self.now.name.now self.now.fields.items) cache.new }
     {
         let member = member_of(self.alloc, found, self.name, self.fields.as_slice())?;
         let kept = kept_of(&member);
@@ -125,10 +129,13 @@ impl<'a, 'f, S: AsSlice<u8> + Drop> JsonEnrichment<'a, 'f, S> {
         cache: &mut Cache,
         out: &mut Vec<u8>,
     ) -> Result<Added, AllocError>
-        requires kept { AreKept (spec_member self.now.reader.now self.now.name.now self.now.fields.items) cache.old }
-        ensures added { IfOk result (λ addition. PutsMemberFor self.now.reader.now self.now.name.now self.now.fields.items line.now addition out.old.items out.new.items) }
+        requires kept { AreKept
+            (spec_member self.now.reader.now self.now.name.now self.now.fields.items) cache.old }
+        ensures added { IfOk result (λ addition. PutsMemberFor self.now.reader.now self.now.name.now
+            self.now.fields.items line.now addition out.old.items out.new.items) }
         ensures behind { IfOk result (λ addition. addition.behind ≤ line.now.behind) }
-        ensures kept { AreKept (spec_member self.now.reader.now self.now.name.now self.now.fields.items) cache.new }
+        ensures kept { AreKept
+            (spec_member self.now.reader.now self.now.name.now self.now.fields.items) cache.new }
     {
         let Ok(found) = self.reader.lookup(line.address) else {
             return Ok(nothing(Outcome::Failed));
@@ -150,9 +157,11 @@ impl<'a, 'f, S: AsSlice<u8> + Drop> Additions for JsonEnrichment<'a, 'f, S> {
 
     type Memory = JsonMemory;
 
-    ghost adds = { λ e text goes_on extra behind outcome. AddsMember e.reader.now e.path.items e.name.now e.fields.items text goes_on extra behind outcome };
+    ghost adds = { λ e text goes_on extra behind outcome. AddsMember e.reader.now e.path.items
+        e.name.now e.fields.items text goes_on extra behind outcome };
 
-    ghost fits = { λ e memory. AreKept (member e.reader.now e.name.now e.fields.items) memory.cache };
+    ghost fits = { λ e memory.
+        AreKept (member e.reader.now e.name.now e.fields.items) memory.cache };
 
     fn add(
         &self,

@@ -1,9 +1,8 @@
 //! The member that is added to an object.
-ghost use Rattle.std.specs.Prelude.{◌≡◌, ◌++◌, ℕ, List, Some, OnOk, IfOk, IfErr, IfSome, IfNone};
-ghost use Rattle.json.specs.Token.{Token as SpecToken};
-ghost use Rattle.mmdb_reader.specs.File.{data_section};
+ghost use Rattle.std.specs.Prelude.{◌≡◌, ℕ, Some, OnOk, IfOk, IfErr, IfSome, IfNone};
 ghost use Rattle.mmdb_reader.specs.Found.{database_asked, offset_found};
-ghost use Rattle.mmdb_enrich.specs.Fields.{AreFields, HasUnreadField, member_tokens, IsMember};
+ghost use Rattle.mmdb_json.specs.Found.{section_asked};
+ghost use Rattle.mmdb_enrich.specs.Fields.{PutsFields, PutsFieldsOf, HasUnreadField, IsMember};
 ghost use Rattle.mmdb_format.specs.Error.{MemoryApart};
 
 use json::{Token, Writer};
@@ -27,8 +26,11 @@ fn put_fields<S: AsSlice<u8> + Drop>(
     fields: &[Field<'_>],
     out: &mut Writer,
 ) -> Result<(), MaxMindDbError>
-    ensures fields { OnOk result ((offset : ℕ) → offset_found found.now ≡ Some offset → (tokens : List SpecToken) × AreFields fields.now (data_section (database_asked found.now)) offset tokens × (out.new.tokens ≡ out.old.tokens ++ tokens)) }
-    ensures rejected { IfErr result (λ e. MemoryApart e ((offset : ℕ) → offset_found found.now ≡ Some offset → HasUnreadField fields.now (data_section (database_asked found.now)) offset)) }
+    ensures fields { OnOk result ((offset : ℕ) → offset_found found.now ≡ Some offset
+        → PutsFields fields.now (section_asked found.now) offset out.old.tokens out.new.tokens) }
+    ensures rejected { IfErr result (λ e. MemoryApart e ((offset : ℕ)
+        → offset_found found.now ≡ Some offset
+        → HasUnreadField fields.now (section_asked found.now) offset)) }
     ensures before { out.new.before ≡ out.old.before }
 {
     for at in 0..fields.len() {
@@ -47,8 +49,12 @@ fn put_member<S: AsSlice<u8> + Drop>(
     fields: &[Field<'_>],
     out: &mut Writer,
 ) -> Result<(), MaxMindDbError>
-    ensures member { OnOk result ((offset : ℕ) → offset_found found.now ≡ Some offset → (tokens : List SpecToken) × AreFields fields.now (data_section (database_asked found.now)) offset tokens × (out.new.tokens ≡ out.old.tokens ++ member_tokens name.now tokens)) }
-    ensures rejected { IfErr result (λ e. MemoryApart e ((offset : ℕ) → offset_found found.now ≡ Some offset → HasUnreadField fields.now (data_section (database_asked found.now)) offset)) }
+    ensures member { OnOk result ((offset : ℕ) → offset_found found.now ≡ Some offset
+        → PutsFieldsOf name.now fields.now (section_asked found.now) offset
+        out.old.tokens out.new.tokens) }
+    ensures rejected { IfErr result (λ e. MemoryApart e ((offset : ℕ)
+        → offset_found found.now ≡ Some offset
+        → HasUnreadField fields.now (section_asked found.now) offset)) }
     ensures before { out.new.before ≡ out.old.before }
 {
     out.token(Token::Key(name))?;
@@ -65,8 +71,12 @@ pub(crate) fn member_of<S: AsSlice<u8> + Drop>(
     name: &str,
     fields: &[Field<'_>],
 ) -> Result<Option<Vec<u8>>, AllocError>
-    ensures some { IfOk result (λ member. IfSome member (λ text. (offset : ℕ) → offset_found found.now ≡ Some offset → IsMember (database_asked found.now) name.now fields.now offset text.items)) }
-    ensures none { IfOk result (λ member. IfNone member ((offset : ℕ) → offset_found found.now ≡ Some offset → HasUnreadField fields.now (data_section (database_asked found.now)) offset)) }
+    ensures some { IfOk result (λ member. IfSome member (λ text. (offset : ℕ)
+        → offset_found found.now ≡ Some offset
+        → IsMember (database_asked found.now) name.now fields.now offset text.items)) }
+    ensures none { IfOk result (λ member. IfNone member ((offset : ℕ)
+        → offset_found found.now ≡ Some offset
+        → HasUnreadField fields.now (section_asked found.now) offset)) }
 {
     let mut out = Writer::new(Vec::with_capacity(alloc, 256)?);
     match put_member(alloc, found, name, fields, &mut out) {

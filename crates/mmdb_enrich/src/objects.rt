@@ -38,7 +38,8 @@ fn is_space(byte: u8) -> bool
 
 // How many bytes stand from the last brace on, where behind it only white space stands.
 fn last_brace(text: &[u8]) -> Option<usize>
-    ensures { MatchOption result ((behind : ℕ) → ¬ EndsWithBrace text.now behind) (EndsWithBrace text.now) }
+    ensures { MatchOption result ((behind : ℕ) → ¬ EndsWithBrace text.now behind)
+        (EndsWithBrace text.now) }
 {
     let len = text.len();
     for behind in 1..len + 1 {
@@ -66,7 +67,8 @@ fn step_in<'t, 'a>(value: &Element<'t, 'a>, step: &PathElement<'_>) -> Option<El
 
 // The text at the end of a path.
 fn text_along<'a>(value: &Element<'_, 'a>, path: &[PathElement<'_>]) -> Option<&'a str>
-    ensures { (j : Json) → BeginsWith value.now j → option_map (λ s. s.now) result ≡ spec_text_along path.now j }
+    ensures { (j : Json) → BeginsWith value.now j
+        → option_map (λ s. s.now) result ≡ spec_text_along path.now j }
 {
     if path.is_empty() {
         return value.as_str();
@@ -79,7 +81,8 @@ fn text_along<'a>(value: &Element<'_, 'a>, path: &[PathElement<'_>]) -> Option<&
 
 // The address that a path leads to.
 fn address_along(value: &Element<'_, '_>, path: &[PathElement<'_>]) -> Option<IpAddr>
-    ensures { (j : Json) → BeginsWith value.now j → ReadsAddress (spec_text_along path.now j) result }
+    ensures { (j : Json) → BeginsWith value.now j
+        → ReadsAddress (spec_text_along path.now j) result }
 {
     match text_along(value, path) {
         Some(text) => match IpAddr::parse_ascii(text.as_bytes()) {

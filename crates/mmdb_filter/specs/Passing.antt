@@ -1,10 +1,15 @@
 -- How the rest of a row passes, the first chunk of which was read.
-use Rattle.std.specs.Prelude.{◌≡◌, ℕ, List, ◌++◌, Option, Some, None}
-use Rattle.std.specs.Io.KnownBytes.{Appends}
+use Rattle.std.specs.Prelude.{◌≡◌, ◌≢◌, ◌<◌, ℕ, List, ◌++◌, length, Option, Some, None}
+use Rattle.std.specs.Io.KnownBytes.{Appends, IsAtEnd}
 use Rattle.mmdb_filter.specs.Rows.{row_from, rows_after}
 use Rattle.mmdb_filter.specs.Lines.{row_with, AppendsFront}
 use Rattle.mmdb_filter.specs.declared.rows.Rows.{Rows}
 use Rattle.mmdb_filter.specs.declared.rows.Position.{Position}
+use Rattle.mmdb_filter.specs.declared.rows.Position.TheVariants.{Ended}
+
+-- A row that has not ended in a chunk of less than 65,539 bytes ends with the input.
+abbrev pub EndsWithInput : Position → List ℕ → Option (List ℕ) → Type 0
+EndsWithInput position chunk left = position ≢ Ended → length chunk < 65539 → IsAtEnd left
 
 -- all of the row was read and written, with what is added
 abbrev pub Passes : Rows → Position → List ℕ → List ℕ → ℕ → Option (List ℕ) → Option (List ℕ) → Option (List ℕ) → Option (List ℕ) → Type 0

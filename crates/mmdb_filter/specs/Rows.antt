@@ -41,3 +41,9 @@ abbrev pub Leads : Rows → Position → Option (List ℕ) → List ℕ → Posi
 Leads rows position None bytes next new = Unit {0}
 Leads rows position (Some xs) bytes next None = ⊥
 Leads rows position (Some xs) bytes next (Some ys) = Goes rows position xs bytes next ys
+
+-- A chunk grows by bytes that an input had left, which lead on in a row.
+abbrev pub GrowsAlong : Rows → Position → Position → List ℕ → List ℕ → Option (List ℕ) →
+    Option (List ℕ) → Type 0
+GrowsAlong rows position next chunk grown old new =
+    (bytes : List ℕ) × (grown ≡ chunk ++ bytes) × Leads rows position old bytes next new

@@ -1,7 +1,7 @@
 //! Rows in chunks.
-ghost use Rattle.std.specs.Prelude.{◌≡◌, ◌≢◌, ◌<◌, ◌++◌, List, ℕ, Ok, None, IfOk, IfSome, OnSome, length};
+ghost use Rattle.std.specs.Prelude.{◌≡◌, ◌≢◌, ◌<◌, Ok, None, IfOk, IfSome, OnSome, length};
 ghost use Rattle.std.specs.Io.KnownBytes.{Keeps, IsAtEnd};
-ghost use Rattle.mmdb_filter.specs.Rows.{Leads};
+ghost use Rattle.mmdb_filter.specs.Rows.{GrowsAlong};
 ghost use Rattle.mmdb_filter.specs.declared.rows.Position.TheVariants as spec_position;
 
 use crate::rows::{Position, Rows, scan};
@@ -19,9 +19,14 @@ fn read_some<R: BufRead>(
     chunk: &mut Vec<u8>,
 ) -> io::Result<Option<Position>>
     requires { position ≢ spec_position.Ended }
-    ensures interrupted { result ≡ Ok None → Keeps (R.remaining input.old) (R.remaining input.new) × (chunk.new.items ≡ chunk.old.items) }
-    ensures leads { IfOk result (λ read. IfSome read (λ next. (bytes : List ℕ) × (chunk.new.items ≡ chunk.old.items ++ bytes) × Leads rows position (R.remaining input.old) bytes next (R.remaining input.new))) }
-    ensures end { IfOk result (λ read. IfSome read (λ next. length chunk.old.items < 65539 → length chunk.new.items ≡ length chunk.old.items → OnSome (R.remaining input.old) (IsAtEnd (R.remaining input.new)))) }
+    ensures interrupted { result ≡ Ok None → Keeps (R.remaining input.old) (R.remaining input.new)
+        × (chunk.new.items ≡ chunk.old.items) }
+    ensures leads { IfOk result (λ read. IfSome read (λ next.
+        GrowsAlong rows position next chunk.old.items chunk.new.items
+        (R.remaining input.old) (R.remaining input.new))) }
+    ensures end { IfOk result (λ read. IfSome read (λ next. length chunk.old.items < 65539
+        → length chunk.new.items ≡ length chunk.old.items
+        → OnSome (R.remaining input.old) (IsAtEnd (R.remaining input.new)))) }
 {
     let shown = match input.fill_buf() {
         Ok(shown) => shown,
@@ -48,8 +53,12 @@ pub fn read_chunk<R: BufRead>(
     position: Position,
     chunk: &mut Vec<u8>,
 ) -> io::Result<Position>
-    ensures leads { IfOk result (λ next. (bytes : List ℕ) × (chunk.new.items ≡ chunk.old.items ++ bytes) × Leads rows position (R.remaining input.old) bytes next (R.remaining input.new)) }
-    ensures end { IfOk result (λ next. next ≢ spec_position.Ended → length chunk.new.items < 65539 → OnSome (R.remaining input.old) (IsAtEnd (R.remaining input.new))) }
+    ensures leads { IfOk result (λ next.
+        GrowsAlong rows position next chunk.old.items chunk.new.items
+        (R.remaining input.old) (R.remaining input.new)) }
+    ensures end { IfOk result (λ next. next ≢ spec_position.Ended
+        → length chunk.new.items < 65539
+        → OnSome (R.remaining input.old) (IsAtEnd (R.remaining input.new))) }
 {
     let mut now = position;
     for _ in 0..u64::MAX {

@@ -42,7 +42,9 @@ pub trait Additions {
         out: &mut Vec<u8>,
     ) -> io::Result<Added>
         requires { fits self.now memory.old }
-        ensures added { IfOk result (λ addition. (extra : List ℕ) × adds self.now text.now is_long extra addition.behind addition.outcome × (out.new.items ≡ out.old.items ++ extra)) }
+        ensures added { IfOk result (λ addition. (extra : List ℕ)
+            × adds self.now text.now is_long extra addition.behind addition.outcome
+            × (out.new.items ≡ out.old.items ++ extra)) }
         ensures behind { IfOk result (λ addition. StandsBehind text.now is_long addition.behind) }
         ensures fits { fits self.now memory.new };
 }
@@ -70,8 +72,10 @@ pub fn filter_rows<A: Additions, R: BufRead, W: Write, P: Progress>(
     progress: &mut P,
 ) -> io::Result<Counts>
     requires { A.fits additions.now memory.old }
-    ensures whole { IfOk result (IsFiltered rows (A.adds additions.now) (R.remaining input.old) (W.contents out.old) (W.contents out.new)) }
-    ensures begun { OnErr result (IsBegun rows (A.adds additions.now) (R.remaining input.old) (W.contents out.old) (W.contents out.new)) }
+    ensures whole { IfOk result (IsFiltered rows (A.adds additions.now)
+        (R.remaining input.old) (W.contents out.old) (W.contents out.new)) }
+    ensures begun { OnErr result (IsBegun rows (A.adds additions.now)
+        (R.remaining input.old) (W.contents out.old) (W.contents out.new)) }
     ensures fits { A.fits additions.now memory.new }
 {
     let mut counts = Counts::new();

@@ -1,8 +1,8 @@
 //! Rows longer than a chunk.
-ghost use Rattle.std.specs.Prelude.{◌≡◌, ◌≢◌, ◌-◌, ◌<◌, ◌≤◌, OnOk, OnErr, length, take, drop};
-ghost use Rattle.std.specs.Io.KnownBytes.{Appends, IsAtEnd};
+ghost use Rattle.std.specs.Prelude.{◌≡◌, ◌-◌, ◌<◌, ◌≤◌, OnOk, OnErr, length, take, drop};
+ghost use Rattle.std.specs.Io.KnownBytes.{Appends};
 ghost use Rattle.mmdb_filter.specs.Lines.{AppendsFront};
-ghost use Rattle.mmdb_filter.specs.Passing.{Passes, PassesFront};
+ghost use Rattle.mmdb_filter.specs.Passing.{EndsWithInput, Passes, PassesFront};
 ghost use Rattle.mmdb_filter.specs.declared.rows.Position.TheVariants as spec_position;
 
 use crate::chunk::{PIECE, read_chunk};
@@ -13,9 +13,12 @@ use std::io::{self, BufRead, ErrorKind, Write};
 // Writes all of a chunk but the last two bytes, in which the row's end may begin, and keeps those.
 fn put_front<W: Write>(out: &mut W, chunk: &mut Vec<u8>) -> io::Result<()>
     requires { 2 ≤ length chunk.old.items }
-    ensures whole { OnOk result (Appends (W.contents out.old) (W.contents out.new) (take (length chunk.old.items - 2) chunk.old.items)) }
-    ensures kept { OnOk result (chunk.new.items ≡ drop (length chunk.old.items - 2) chunk.old.items) }
-    ensures begun { OnErr result (AppendsFront (W.contents out.old) (W.contents out.new) (take (length chunk.old.items - 2) chunk.old.items)) }
+    ensures whole { OnOk result (Appends (W.contents out.old) (W.contents out.new)
+        (take (length chunk.old.items - 2) chunk.old.items)) }
+    ensures kept { OnOk result (chunk.new.items
+        ≡ drop (length chunk.old.items - 2) chunk.old.items) }
+    ensures begun { OnErr result (AppendsFront (W.contents out.old) (W.contents out.new)
+        (take (length chunk.old.items - 2) chunk.old.items)) }
 {
     let (front, back) = chunk.as_slice().split_at(chunk.len() - 2);
     put_all(out, front)?;
@@ -37,8 +40,12 @@ pub(crate) fn pass_on<R: BufRead, W: Write>(
     out: &mut W,
 ) -> io::Result<()>
     requires { 65539 ≤ length chunk.old.items → behind ≡ 0 }
-    ensures whole { (position ≢ spec_position.Ended → length chunk.old.items < 65539 → IsAtEnd (R.remaining input.old)) → OnOk result (Passes rows position chunk.old.items added.old.items behind (R.remaining input.old) (R.remaining input.new) (W.contents out.old) (W.contents out.new)) }
-    ensures begun { (position ≢ spec_position.Ended → length chunk.old.items < 65539 → IsAtEnd (R.remaining input.old)) → OnErr result (PassesFront rows position chunk.old.items added.old.items behind (R.remaining input.old) (W.contents out.old) (W.contents out.new)) }
+    ensures whole { EndsWithInput position chunk.old.items (R.remaining input.old)
+        → OnOk result (Passes rows position chunk.old.items added.old.items behind
+        (R.remaining input.old) (R.remaining input.new) (W.contents out.old) (W.contents out.new)) }
+    ensures begun { EndsWithInput position chunk.old.items (R.remaining input.old)
+        → OnErr result (PassesFront rows position chunk.old.items added.old.items behind
+        (R.remaining input.old) (W.contents out.old) (W.contents out.new)) }
 {
     let mut now = position;
     for _ in 0..u64::MAX {

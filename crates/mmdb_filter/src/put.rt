@@ -10,7 +10,8 @@ use std::io::{self, ErrorKind, Write};
 /// Writes all of the bytes. An interrupted write goes on.
 pub(crate) fn put_all<W: Write>(out: &mut W, bytes: &[u8]) -> io::Result<()>
     ensures whole { OnOk result (Appends (W.contents out.old) (W.contents out.new) bytes.now) }
-    ensures begun { OnErr result (AppendsFront (W.contents out.old) (W.contents out.new) bytes.now) }
+    ensures begun { OnErr result
+        (AppendsFront (W.contents out.old) (W.contents out.new) bytes.now) }
 {
     let mut rest = bytes;
     for _ in 0..u64::MAX {
@@ -39,8 +40,10 @@ pub(crate) fn put_row<W: Write>(
     added: &mut Vec<u8>,
     behind: usize,
 ) -> io::Result<()>
-    ensures whole { OnOk result (Appends (W.contents out.old) (W.contents out.new) (row_with row.old.items added.old.items behind)) }
-    ensures begun { OnErr result (AppendsFront (W.contents out.old) (W.contents out.new) (row_with row.old.items added.old.items behind)) }
+    ensures whole { OnOk result (Appends (W.contents out.old) (W.contents out.new)
+        (row_with row.old.items added.old.items behind)) }
+    ensures begun { OnErr result (AppendsFront (W.contents out.old) (W.contents out.new)
+        (row_with row.old.items added.old.items behind)) }
 {
     add_before(row, added, behind)?;
     put_all(out, row.as_slice())

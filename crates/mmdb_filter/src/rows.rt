@@ -57,7 +57,8 @@ impl Position {
 fn scan_quotes(rows: Rows, position: Position, bytes: &[u8]) -> (usize, Position)
     requires { position ≢ spec_position.Ended }
     ensures within { result.0 ≤ length bytes.now }
-    ensures goes { (ys : List ℕ) → Goes rows position (bytes.now ++ ys) (take result.0 bytes.now) result.1 (drop result.0 bytes.now ++ ys) }
+    ensures goes { (ys : List ℕ) → Goes rows position (bytes.now ++ ys)
+        (take result.0 bytes.now) result.1 (drop result.0 bytes.now ++ ys) }
     ensures some { 0 < length bytes.now → 0 < result.0 }
     ensures all { result.1 ≢ spec_position.Ended → result.0 ≡ length bytes.now }
 {
@@ -76,7 +77,8 @@ fn scan_quotes(rows: Rows, position: Position, bytes: &[u8]) -> (usize, Position
 pub(crate) fn scan(rows: Rows, position: Position, bytes: &[u8]) -> (usize, Position)
     requires { position ≢ spec_position.Ended }
     ensures within { result.0 ≤ length bytes.now }
-    ensures goes { (ys : List ℕ) → Goes rows position (bytes.now ++ ys) (take result.0 bytes.now) result.1 (drop result.0 bytes.now ++ ys) }
+    ensures goes { (ys : List ℕ) → Goes rows position (bytes.now ++ ys)
+        (take result.0 bytes.now) result.1 (drop result.0 bytes.now ++ ys) }
     ensures some { 0 < length bytes.now → 0 < result.0 }
     ensures all { result.1 ≢ spec_position.Ended → result.0 ≡ length bytes.now }
 {

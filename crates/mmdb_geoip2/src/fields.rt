@@ -1,10 +1,9 @@
 //! What the fields of records share.
-ghost use Rattle.std.specs.Prelude.{◌≡◌, true, false, Some, IfOk, IfErr, OnOk, OnErr, IsSome, map};
+ghost use Rattle.std.specs.Prelude.{true, false, IfOk, IfErr, OnOk, OnErr, IsSome, map};
 ghost use Rattle.mmdb_decode.specs.Arrays.{few_at};
 ghost use Rattle.mmdb_decode.specs.State.{decoded, GivenUp};
-ghost use Rattle.mmdb_decode.specs.Errors.{Declines, Kept};
-ghost use Rattle.mmdb_decode.specs.Records.{FieldTaken};
-ghost use Rattle.mmdb_decode.specs.Tables.{part_once};
+ghost use Rattle.mmdb_decode.specs.Errors.{IsRead, Declines, Kept};
+ghost use Rattle.mmdb_decode.specs.TableReads.{TakesPart};
 ghost use Rattle.mmdb_geoip2.specs.Cap.{FailsEarly};
 
 use mmdb_decode::decoder::Decoder;
@@ -30,7 +29,8 @@ pub const MAX_SUBDIVISIONS: usize = 32;
 // Reads a list of at most 32. A longer one is rejected before an element is read, unless at most 32 bytes
 // are left, and never handed out.
 fn read_few<'de, T: TryDecode<'de>>(alloc: Global, d: &mut Decoder<'de>) -> Result<Vec<T>, Failed>
-    ensures ok { IfOk result (λ v. decoded true (few_at 32 T.meaning) d.old ≡ Some (map T.datum v.items, d.new)) }
+    ensures ok { IfOk result (λ v.
+        IsRead true (few_at 32 T.meaning) d.old (map T.datum v.items) d.new) }
     ensures kept { OnOk result (Kept d.old d.new) }
     ensures err { IfErr result (λ e. Declines false e (decoded true (few_at 32 T.meaning) d.old)) }
     ensures given_up { OnErr result (GivenUp d.old d.new) }
@@ -66,7 +66,8 @@ pub fn read_few_once<'de, T: TryDecode<'de>>(
     list: &mut Vec<T>,
 ) -> Result<(), Failed>
     requires { IsSome d.old.budget }
-    ensures { FieldTaken false (decoded false (part_once (few_at 32 T.meaning) (met.old, map T.datum list.old.items)) d.old) (met.new, map T.datum list.new.items) d.old d.new result }
+    ensures { TakesPart false (few_at 32 T.meaning) (met.old, map T.datum list.old.items)
+        (met.new, map T.datum list.new.items) d.old d.new result }
 {
     if *met {
         return Err(d.fail_repeated(name));

@@ -1,12 +1,8 @@
 //! The JSON of what a lookup found.
 ghost use Rattle.std.specs.Prelude.{◌≡◌, true, false, IfOk, IfErr, IfSome, IfNone};
-ghost use Rattle.mmdb_format.specs.Error.{MemoryApart};
-ghost use Rattle.mmdb_value.specs.AnyValue.{value_at};
-ghost use Rattle.mmdb_reader.specs.Decoding.{FailsToDecode};
-ghost use Rattle.mmdb_reader.specs.File.{data_section};
-ghost use Rattle.mmdb_reader.specs.Found.{database_asked, offset_found};
-ghost use Rattle.mmdb_reader.specs.Selecting.{answer_along, HasNone};
-ghost use Rattle.mmdb_json.specs.Found.{IsJsonAlong, WritesAlong};
+ghost use Rattle.mmdb_reader.specs.Found.{offset_found};
+ghost use Rattle.mmdb_reader.specs.Selecting.{HasNone};
+ghost use Rattle.mmdb_json.specs.Found.{section_asked, IsJsonAlong, WritesAlong, FailsAlong};
 
 use crate::sink::TokenSink;
 use crate::text::compact;
@@ -25,9 +21,12 @@ pub fn found_json<S: AsSlice<u8> + Drop>(
     found: &LookupResult<'_, S>,
     path: &[PathElement<'_>],
 ) -> Result<Option<Vec<u8>>, MaxMindDbError>
-    ensures json { IfOk result (λ text. IfSome text (λ t. IsJsonAlong path.now (data_section (database_asked found.now)) (offset_found found.now) t.items)) }
-    ensures none { IfOk result (λ text. IfNone text (HasNone path.now (data_section (database_asked found.now)) (offset_found found.now))) }
-    ensures rejected { IfErr result (λ e. MemoryApart e (FailsToDecode false e (answer_along path.now true (value_at true) (data_section (database_asked found.now))) (offset_found found.now))) }
+    ensures json { IfOk result (λ text. IfSome text (λ t.
+        IsJsonAlong path.now (section_asked found.now) (offset_found found.now) t.items)) }
+    ensures none { IfOk result (λ text.
+        IfNone text (HasNone path.now (section_asked found.now) (offset_found found.now))) }
+    ensures rejected { IfErr result (λ e.
+        FailsAlong path.now (section_asked found.now) (offset_found found.now) e) }
 {
     let value: Option<Value<'_>> = found.decode_path(alloc, path)?;
     match &value {
@@ -45,9 +44,11 @@ pub fn write_found<S: AsSlice<u8> + Drop, W: TokenSink>(
     path: &[PathElement<'_>],
     out: &mut W,
 ) -> Result<bool, MaxMindDbError>
-    ensures written { IfOk result (λ is_found. WritesAlong path.now (data_section (database_asked found.now)) (offset_found found.now) is_found (W.tokens out.old) (W.tokens out.new)) }
+    ensures written { IfOk result (λ is_found. WritesAlong path.now (section_asked found.now)
+        (offset_found found.now) is_found (W.tokens out.old) (W.tokens out.new)) }
     ensures front { W.front out.new ≡ W.front out.old }
-    ensures rejected { IfErr result (λ e. MemoryApart e (FailsToDecode false e (answer_along path.now true (value_at true) (data_section (database_asked found.now))) (offset_found found.now))) }
+    ensures rejected { IfErr result (λ e.
+        FailsAlong path.now (section_asked found.now) (offset_found found.now) e) }
 {
     let value: Option<Value<'_>> = found.decode_path(alloc, path)?;
     match &value {

@@ -13,7 +13,8 @@ use std::num::{f32_from_bits_with_nan, f64_from_bits_with_nan};
 
 // Bytes are a string of base64.
 fn write_bytes<W: TokenSink>(alloc: Global, bytes: &[u8], out: &mut W) -> Result<(), AllocError>
-    ensures shown { OnOk result (WritesScalar (byte_string bytes.now) (W.tokens out.old) (W.tokens out.new)) }
+    ensures shown { OnOk result (WritesScalar (byte_string bytes.now)
+        (W.tokens out.old) (W.tokens out.new)) }
     ensures front { W.front out.new ≡ W.front out.old }
 {
     let text = STANDARD.encode(alloc, bytes)?;
@@ -49,7 +50,8 @@ fn write_signed<W: TokenSink>(n: i32, out: &mut W) -> Result<(), AllocError>
 
 // A number of double precision, by digits that read back as it; null where it is none.
 fn write_double<W: TokenSink>(double: Double, out: &mut W) -> Result<(), AllocError>
-    ensures shown { OnOk result (WritesScalar (double_bits double.bits) (W.tokens out.old) (W.tokens out.new)) }
+    ensures shown { OnOk result (WritesScalar (double_bits double.bits)
+        (W.tokens out.old) (W.tokens out.new)) }
     ensures front { W.front out.new ≡ W.front out.old }
 {
     let x = f64_from_bits_with_nan(double.bits);
@@ -62,7 +64,8 @@ fn write_double<W: TokenSink>(double: Double, out: &mut W) -> Result<(), AllocEr
 
 // The same of single precision.
 fn write_float<W: TokenSink>(float: Float, out: &mut W) -> Result<(), AllocError>
-    ensures shown { OnOk result (WritesScalar (float_bits float.bits) (W.tokens out.old) (W.tokens out.new)) }
+    ensures shown { OnOk result (WritesScalar (float_bits float.bits)
+        (W.tokens out.old) (W.tokens out.new)) }
     ensures front { W.front out.new ≡ W.front out.old }
 {
     let x = f32_from_bits_with_nan(float.bits);
@@ -79,7 +82,8 @@ pub fn write_value<W: TokenSink>(
     value: &Value<'_>,
     out: &mut W,
 ) -> Result<(), AllocError>
-    ensures shown { OnOk result (WritesShown (value_tree value.now) (W.tokens out.old) (W.tokens out.new)) }
+    ensures shown { OnOk result (WritesShown (value_tree value.now)
+        (W.tokens out.old) (W.tokens out.new)) }
     ensures front { W.front out.new ≡ W.front out.old }
 {
     match value {

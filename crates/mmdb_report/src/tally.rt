@@ -13,7 +13,8 @@ use std::convert::AsSlice;
 
 // The network of an item that is no error.
 fn network_of<S: AsSlice<u8> + Drop>(found: &LookupResult<'_, S>) -> IpNetwork
-    ensures { IsShownBy (database_asked found.now) (leaf_of found.now) (shown_as_ipv4 found.now) result }
+    ensures { IsShownBy (database_asked found.now) (leaf_of found.now)
+        (shown_as_ipv4 found.now) result }
 {
     match found.network() {
         Ok(network) => network,
@@ -58,7 +59,8 @@ impl Tally {
         &mut self,
         item: Result<LookupResult<'_, S>, MaxMindDbError>,
     ) -> Result<(), ReportError>
-        ensures added { OnOk result ((db : Database) → IsItemOf db (Some item.entry) → Adds db (item_view item.entry) self.old self.new) }
+        ensures added { OnOk result ((db : Database) → IsItemOf db (Some item.entry)
+            → Adds db (item_view item.entry) self.old self.new) }
         ensures no_other { IfErr result (IsFullOrMemory self.old) }
     {
         if self.items == u32::MAX {

@@ -38,7 +38,8 @@ pub fn lookup_line<S: AsSlice<u8> + Drop>(
     ensures line { IfOk result (λ text. IsLookupLine reader.now address (string_bytes text)) }
     ensures of_input { FailsAs OfInput result ↔ ¬ (CanAsk reader.now address) }
     ensures of_database { FailsAs OfDatabase result ↔ IsInvalidAt reader.now address }
-    ensures no_other { IfErr result (λ e. (kind_of e ≡ OfInput) ⊎ ((kind_of e ≡ OfDatabase) ⊎ (kind_of e ≡ OfMemory))) }
+    ensures no_other { IfErr result (λ e. (kind_of e ≡ OfInput)
+        ⊎ ((kind_of e ≡ OfDatabase) ⊎ (kind_of e ≡ OfMemory))) }
 {
     let found = reader.lookup(address)?;
     let network = found.network()?;
@@ -65,7 +66,8 @@ pub(crate) fn put_item_line<S: AsSlice<u8> + Drop>(
     item: Result<LookupResult<'_, S>, MaxMindDbError>,
     out: &mut Vec<u8>,
 ) -> Result<(), AllocError>
-    ensures { (db : Database) → IsItemOf db (Some item.entry) → OnOk result (out.new.items ≡ out.old.items ++ line_of db (item_view item.entry)) }
+    ensures { (db : Database) → IsItemOf db (Some item.entry)
+        → OnOk result (out.new.items ≡ out.old.items ++ line_of db (item_view item.entry)) }
 {
     let Ok(found) = item else {
         return out.extend_from_slice(FAULT.as_bytes());

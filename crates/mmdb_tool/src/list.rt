@@ -70,8 +70,10 @@ impl From<PutError> for ListError {
 // Puts the lines that are held, where one more might not fit.
 #[inline(always)]
 fn make_room<W: Sink>(sink: &mut W, lines: &mut Vec<u8>) -> Result<(), PutError>
-    ensures put { OnOk result (PutsFront (W.held sink.old) (W.held sink.new) lines.old.items lines.new.items) }
-    ensures begun { OnErr result (AppendsFront (W.held sink.old) (W.held sink.new) lines.old.items) }
+    ensures put { OnOk result (PutsFront (W.held sink.old) (W.held sink.new)
+        lines.old.items lines.new.items) }
+    ensures begun { OnErr result
+        (AppendsFront (W.held sink.old) (W.held sink.new) lines.old.items) }
     ensures fault { TellsFault (W.fault sink.old) (W.fault sink.new) result }
 {
     if lines.len() <= ROOM - MOST_BYTES {
@@ -94,8 +96,10 @@ pub fn list_to<S: AsSlice<u8> + Drop, W: Sink>(
     options: WithinOptions,
     sink: &mut W,
 ) -> Result<(), ListError>
-    ensures whole { OnOk result (WritesList reader.now options range (W.held sink.old) (W.held sink.new)) }
-    ensures begun { OnErr result (CanAsk reader.now (ip_of range) → BeginsList reader.now options range (W.held sink.old) (W.held sink.new)) }
+    ensures whole { OnOk result
+        (WritesList reader.now options range (W.held sink.old) (W.held sink.new)) }
+    ensures begun { OnErr result (CanAsk reader.now (ip_of range)
+        → BeginsList reader.now options range (W.held sink.old) (W.held sink.new)) }
     ensures of_range { IsOfRange result ↔ ¬ (CanAsk reader.now (ip_of range)) }
     ensures no_other { NamesRangeOrMemory result }
     ensures untouched { ¬ (CanAsk reader.now (ip_of range)) → sink.new ≡ sink.old }

@@ -3,8 +3,7 @@ ghost use Rattle.std.specs.Prelude.{◌≡◌, ◌<◌, ◌^◌, true, false, ma
 ghost use Rattle.std.specs.Result.{result_ok};
 ghost use Rattle.mmdb_format.specs.Unfolding.{Tree, scalar as scalar_tree};
 ghost use Rattle.mmdb_format.specs.Views.{content_view};
-ghost use Rattle.mmdb_decode.specs.State.{decoded};
-ghost use Rattle.mmdb_decode.specs.Errors.{Reads};
+ghost use Rattle.mmdb_decode.specs.Errors.{ReadsValue};
 ghost use Rattle.mmdb_value.specs.AnyValue.{value_at, key_at as spec_key_at, scalar_of, if_scalar_text, array_of, table_of};
 ghost use Rattle.mmdb_value.specs.Values.{value_tree};
 
@@ -43,7 +42,8 @@ pub enum Value<'de> {
 pub(crate) struct Tested;
 
 fn of_content<'de>(content: Content<'de>) -> Result<Value<'de>, DecodeErrorKind>
-    ensures { option_map value_tree (result_ok result) ≡ option_map scalar_tree (if_scalar_text true (content_view content.entry)) }
+    ensures { option_map value_tree (result_ok result)
+        ≡ option_map scalar_tree (if_scalar_text true (content_view content.entry)) }
 {
     Ok(match content {
         Content::Text(bytes) => Value::String(text_of(bytes)?),
@@ -62,7 +62,7 @@ fn of_content<'de>(content: Content<'de>) -> Result<Value<'de>, DecodeErrorKind>
 // A value that holds no others.
 fn scalar_at<'de>(alloc: Global, d: &mut Decoder<'de>, header: Header) -> DecodeResult<Value<'de>>
     requires { header.size < 2 ^ 25 }
-    ensures { Reads value_tree false (decoded false (scalar_of true header) d.old) d.old d.new result }
+    ensures { ReadsValue value_tree false (scalar_of true header) d.old d.new result }
 {
     let content = d.read_content(alloc, header)?;
     match of_content(content) {
@@ -73,7 +73,7 @@ fn scalar_at<'de>(alloc: Global, d: &mut Decoder<'de>, header: Header) -> Decode
 
 // A map's key.
 fn key_at<'de>(alloc: Global, d: &mut Decoder<'de>) -> DecodeResult<&'de str>
-    ensures { Reads (λ x. x.now) false (decoded false (spec_key_at true) d.old) d.old d.new result }
+    ensures { ReadsValue (λ x. x.now) false (spec_key_at true) d.old d.new result }
 {
     let bytes = d.read_key(alloc)?;
     match text_of(bytes) {
@@ -108,7 +108,8 @@ impl<'de> Source<Tested> for Decoder<'de> {
     }
 
     fn table(all: Vec<(&'de str, Value<'de>)>) -> Value<'de>
-        ensures { value_tree result ≡ table_of (map (λ x. (x.0.now, value_tree x.1)) all.entry.items) }
+        ensures { value_tree result
+            ≡ table_of (map (λ x. (x.0.now, value_tree x.1)) all.entry.items) }
     {
         Value::Map(all)
     }

@@ -17,7 +17,8 @@ use std::alloc::Global;
 /// texts for keys and all texts UTF-8, within the limits.
 pub fn decode_value(alloc: Global, section: &[u8]) -> DecodeResult<Value<'_>>
     ensures ok { IfOk result (λ v. WholeValue true section.now 0 (value_tree v)) }
-    ensures err { IfErr result (λ e. MemoryApart e ((v : Tree) → WholeValue true section.now 0 v → ⊥)) }
+    ensures err { IfErr result (λ e.
+        MemoryApart e ((v : Tree) → WholeValue true section.now 0 v → ⊥)) }
 {
     decode::<Value<'_>>(alloc, section)
 }
@@ -25,7 +26,8 @@ pub fn decode_value(alloc: Global, section: &[u8]) -> DecodeResult<Value<'_>>
 /// The same, its texts not tested.
 pub fn decode_raw_value(alloc: Global, section: &[u8]) -> DecodeResult<RawValue<'_>>
     ensures ok { IfOk result (λ v. WholeValue false section.now 0 (raw_tree v)) }
-    ensures err { IfErr result (λ e. MemoryApart e ((v : Tree) → WholeValue false section.now 0 v → ⊥)) }
+    ensures err { IfErr result (λ e.
+        MemoryApart e ((v : Tree) → WholeValue false section.now 0 v → ⊥)) }
 {
     decode::<RawValue<'_>>(alloc, section)
 }

@@ -4,7 +4,7 @@ ghost use Rattle.mmdb_value.specs.AnyValue.{value_at};
 ghost use Rattle.mmdb_value.specs.RawValues.{raw_tree};
 ghost use Rattle.mmdb_value.specs.Values.{value_tree};
 ghost use Rattle.mmdb_value.specs.Standing.{ValueIsWhatStands, AnswerIsWholeValue, OneValueStands};
-ghost use Rattle.mmdb_decode.specs.Shapes.{IsContainerShape};
+ghost use Rattle.mmdb_decode.specs.Shapes.{decoding, IsContainerShape};
 ghost use Rattle.mmdb_format.specs.Equality.{IsEqualityOf};
 
 use crate::any_value::Value;
@@ -36,8 +36,10 @@ pub fn one_value_stands()
 
 /// Any value says its tree and is read as what stands there, exactly, under a budget, with memory.
 pub fn any_value_is_exact()
-    ensures tested { let t = ⟦<Value<'static> as Decode<'static>>⟧ in IsContainerShape t.datum t.meaning t.exact t.starts t.free value_tree (value_at true) }
-    ensures raw { let t = ⟦<RawValue<'static> as Decode<'static>>⟧ in IsContainerShape t.datum t.meaning t.exact t.starts t.free raw_tree (value_at false) }
+    ensures tested { IsContainerShape (decoding ⟦<Value<'static> as Decode<'static>>⟧)
+        value_tree (value_at true) }
+    ensures raw { IsContainerShape (decoding ⟦<RawValue<'static> as Decode<'static>>⟧)
+        raw_tree (value_at false) }
 {}
 
 /// `==` of any values is equality of their trees: of kinds too, of bits where a number is not whole, and of

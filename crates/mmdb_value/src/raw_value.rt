@@ -2,8 +2,7 @@
 ghost use Rattle.std.specs.Prelude.{◌≡◌, ◌<◌, ◌^◌, true, false, map};
 ghost use Rattle.mmdb_format.specs.Unfolding.{Tree, scalar as scalar_tree};
 ghost use Rattle.mmdb_format.specs.Views.{content_view};
-ghost use Rattle.mmdb_decode.specs.State.{decoded};
-ghost use Rattle.mmdb_decode.specs.Errors.{Reads};
+ghost use Rattle.mmdb_decode.specs.Errors.{ReadsValue};
 ghost use Rattle.mmdb_value.specs.AnyValue.{value_at, key_at as spec_key_at, scalar_of, array_of, table_of};
 ghost use Rattle.mmdb_value.specs.RawValues.{raw_tree};
 
@@ -60,7 +59,7 @@ fn scalar_at<'de>(
     header: Header,
 ) -> DecodeResult<RawValue<'de>>
     requires { header.size < 2 ^ 25 }
-    ensures { Reads raw_tree false (decoded false (scalar_of false header) d.old) d.old d.new result }
+    ensures { ReadsValue raw_tree false (scalar_of false header) d.old d.new result }
 {
     let content = d.read_content(alloc, header)?;
     Ok(of_content(content))
@@ -68,7 +67,7 @@ fn scalar_at<'de>(
 
 // A map's key.
 fn key_at<'de>(alloc: Global, d: &mut Decoder<'de>) -> DecodeResult<&'de [u8]>
-    ensures { Reads (λ x. x.now) false (decoded false (spec_key_at false) d.old) d.old d.new result }
+    ensures { ReadsValue (λ x. x.now) false (spec_key_at false) d.old d.new result }
 {
     let bytes = d.read_key(alloc)?;
     Ok(bytes)

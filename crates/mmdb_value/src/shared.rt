@@ -2,9 +2,9 @@
 ghost use Rattle.std.specs.Prelude.{◌≡◌, ◌<◌, ◌^◌, ℕ, List, Some, Bool, false, map};
 ghost use Rattle.mmdb_format.specs.Header.{header_at};
 ghost use Rattle.mmdb_format.specs.Unfolding.{Tree};
-ghost use Rattle.mmdb_decode.specs.State.{decoded, Within};
+ghost use Rattle.mmdb_decode.specs.State.{Within};
 ghost use Rattle.mmdb_decode.specs.Arrays.{elements};
-ghost use Rattle.mmdb_decode.specs.Errors.{Reads};
+ghost use Rattle.mmdb_decode.specs.Errors.{ReadsValue};
 ghost use Rattle.mmdb_value.specs.AnyValue.{value_at as spec_value_at, key_at, pair_at as spec_pair_at, scalar_of, array_of, table_of};
 
 use mmdb_decode::steps::Steps;
@@ -29,11 +29,13 @@ pub trait Source<K>: Steps {
     /// The value behind a header, which holds no others.
     fn scalar(&mut self, alloc: Global, header: Header) -> DecodeResult<Self::Value>
         requires { header.size < 2 ^ 25 }
-        ensures { Reads tree false (decoded false (scalar_of tested header) (Self.state self.old)) (Self.state self.old) (Self.state self.new) result };
+        ensures { ReadsValue tree false (scalar_of tested header)
+            (Self.state self.old) (Self.state self.new) result };
 
     /// The key at the offset.
     fn key(&mut self, alloc: Global) -> DecodeResult<Self::Text>
-        ensures { Reads text_bytes false (decoded false (key_at tested) (Self.state self.old)) (Self.state self.old) (Self.state self.new) result };
+        ensures { ReadsValue text_bytes false (key_at tested)
+            (Self.state self.old) (Self.state self.new) result };
 
     fn array(all: Vec<Self::Value>) -> Self::Value
         ensures { tree result ≡ array_of (map tree all.items) };
@@ -46,7 +48,8 @@ pub trait Source<K>: Steps {
 #[cycle(shared)]
 pub(crate) fn value_at<K, D: Source<K>>(alloc: Global, d: &mut D) -> DecodeResult<D::Value>
     requires { Within (D.state d.old).budget }
-    ensures { Reads D.tree false (decoded false (spec_value_at D.tested) (D.state d.old)) (D.state d.old) (D.state d.new) result }
+    ensures { ReadsValue D.tree false (spec_value_at D.tested)
+        (D.state d.old) (D.state d.new) result }
 {
     let header = d.header(alloc)?;
     match header.kind {
@@ -68,7 +71,8 @@ fn behind_pointer<K, D: Source<K>>(
     requires header { header_at (D.state d.old).section (D.state d.old).offset ≡ Some header }
     requires kind { header.kind ≡ 1 }
     requires size { header.size < 32 }
-    ensures { Reads D.tree false (decoded false (spec_value_at D.tested) (D.state d.old)) (D.state d.old) (D.state d.new) result }
+    ensures { ReadsValue D.tree false (spec_value_at D.tested)
+        (D.state d.old) (D.state d.new) result }
 {
     let next = d.enter_pointer(alloc, header)?;
     let value = value_at::<K, D>(alloc, d)?;
@@ -82,7 +86,8 @@ fn array_at<K, D: Source<K>>(alloc: Global, d: &mut D, header: Header) -> Decode
     requires header { header_at (D.state d.old).section (D.state d.old).offset ≡ Some header }
     requires kind { header.kind ≡ 11 }
     requires size { header.size < 2 ^ 25 }
-    ensures { Reads D.tree false (decoded false (spec_value_at D.tested) (D.state d.old)) (D.state d.old) (D.state d.new) result }
+    ensures { ReadsValue D.tree false (spec_value_at D.tested)
+        (D.state d.old) (D.state d.new) result }
 {
     d.enter_parts(alloc, header, header.size)?;
     let all = values_at::<K, D>(alloc, d, header.size)?;
@@ -96,7 +101,8 @@ fn table_at<K, D: Source<K>>(alloc: Global, d: &mut D, header: Header) -> Decode
     requires header { header_at (D.state d.old).section (D.state d.old).offset ≡ Some header }
     requires kind { header.kind ≡ 7 }
     requires size { header.size < 2 ^ 25 }
-    ensures { Reads D.tree false (decoded false (spec_value_at D.tested) (D.state d.old)) (D.state d.old) (D.state d.new) result }
+    ensures { ReadsValue D.tree false (spec_value_at D.tested)
+        (D.state d.old) (D.state d.new) result }
 {
     d.enter_parts(alloc, header, 2 * header.size)?;
     let all = pairs_at::<K, D>(alloc, d, header.size)?;
@@ -108,7 +114,8 @@ fn table_at<K, D: Source<K>>(alloc: Global, d: &mut D, header: Header) -> Decode
 #[cycle(shared)]
 fn values_at<K, D: Source<K>>(alloc: Global, d: &mut D, count: usize) -> DecodeResult<Vec<D::Value>>
     requires { Within (D.state d.old).budget }
-    ensures { Reads (λ vs. map D.tree vs.items) false (decoded false (elements (spec_value_at D.tested) count) (D.state d.old)) (D.state d.old) (D.state d.new) result }
+    ensures { ReadsValue (λ vs. map D.tree vs.items) false
+        (elements (spec_value_at D.tested) count) (D.state d.old) (D.state d.new) result }
 {
     let mut all = Vec::new(alloc);
     for _ in 0..count {
@@ -125,7 +132,9 @@ fn pairs_at<K, D: Source<K>>(
     count: usize,
 ) -> DecodeResult<Vec<(D::Text, D::Value)>>
     requires { Within (D.state d.old).budget }
-    ensures { Reads (λ vs. map (λ x. (D.text_bytes x.0, D.tree x.1)) vs.items) false (decoded false (elements (spec_pair_at D.tested (spec_value_at D.tested)) count) (D.state d.old)) (D.state d.old) (D.state d.new) result }
+    ensures { ReadsValue (λ vs. map (λ x. (D.text_bytes x.0, D.tree x.1)) vs.items) false
+        (elements (spec_pair_at D.tested (spec_value_at D.tested)) count)
+        (D.state d.old) (D.state d.new) result }
 {
     let mut all = Vec::new(alloc);
     for _ in 0..count {
@@ -138,7 +147,8 @@ fn pairs_at<K, D: Source<K>>(
 #[cycle(shared)]
 fn pair_at<K, D: Source<K>>(alloc: Global, d: &mut D) -> DecodeResult<(D::Text, D::Value)>
     requires { Within (D.state d.old).budget }
-    ensures { Reads (λ x. (D.text_bytes x.0, D.tree x.1)) false (decoded false (spec_pair_at D.tested (spec_value_at D.tested)) (D.state d.old)) (D.state d.old) (D.state d.new) result }
+    ensures { ReadsValue (λ x. (D.text_bytes x.0, D.tree x.1)) false
+        (spec_pair_at D.tested (spec_value_at D.tested)) (D.state d.old) (D.state d.new) result }
 {
     let key = d.key(alloc)?;
     let value = value_at::<K, D>(alloc, d)?;

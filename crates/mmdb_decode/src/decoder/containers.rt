@@ -44,7 +44,8 @@ impl<'de> Decoder<'de> {
 
     /// Enters an array of so many elements, and charges them.
     pub fn begin_array_of(&mut self, alloc: Global, len: usize) -> DecodeResult<Items>
-        ensures { Reads (λ items. items) true (entered_array_of len self.old) self.old self.new result }
+        ensures { Reads (λ items. items) true (entered_array_of len self.old)
+            self.old self.new result }
     {
         let items = self.begin_array(alloc)?;
         if items.remaining != len {
@@ -59,7 +60,8 @@ impl<'de> Decoder<'de> {
     pub fn next_item(&mut self, items: &mut Items) -> bool
         ensures same { self.new ≡ self.old }
         ensures within { Within self.new.budget }
-        ensures taken { MatchBool result (items_left items.old ≡ items_left items.new + 1) (items_left items.old ≡ 0) }
+        ensures taken { MatchBool result (items_left items.old ≡ items_left items.new + 1)
+            (items_left items.old ≡ 0) }
         ensures rest { items.new ≡ with_items_left (items_left items.old - 1) items.old }
     {
         self.stays_within();
@@ -89,7 +91,8 @@ impl<'de> Decoder<'de> {
     // Goes back to the levels before a container, and to the offset after a pointer that led to it.
     #[inline(always)]
     fn leave(&mut self, after: Option<usize>, levels: u16)
-        ensures { self.new ≡ record self.old { offset = unwrap_or after self.old.offset; levels = levels } }
+        ensures { self.new
+            ≡ record self.old { offset = unwrap_or after self.old.offset; levels = levels } }
     {
         self.levels = levels;
         if let Some(offset) = after {

@@ -1,8 +1,7 @@
 //! The keys of maps.
-ghost use Rattle.std.specs.Prelude.{◌≡◌, true, false};
-ghost use Rattle.mmdb_decode.specs.State.{decoded};
+ghost use Rattle.std.specs.Prelude.{◌≡◌, true};
 ghost use Rattle.mmdb_decode.specs.Maps.{key_past, name_at, raw_key_at, key_at, NextKey, pairs_left, with_pairs_left};
-ghost use Rattle.mmdb_decode.specs.Errors.{Reads, Takes};
+ghost use Rattle.mmdb_decode.specs.Errors.{TakesValue, ReadsValue};
 
 use super::Decoder;
 use crate::budget::spent_past;
@@ -20,7 +19,7 @@ impl<'de> Decoder<'de> {
     // A key, some of whose first bytes are free.
     #[inline(always)]
     pub(super) fn take_key(&mut self, free: usize) -> Result<&'de [u8], DecodeErrorKind>
-        ensures { Takes (λ x. x.now) (decoded false (key_past free) self.old) self.old self.new result }
+        ensures { TakesValue (λ x. x.now) (key_past free) self.old self.new result }
     {
         let (key, next) = key_bytes_at(self.section, self.offset)?;
         self.budget = spent_past(self.budget, key.len(), free)?;
@@ -31,7 +30,7 @@ impl<'de> Decoder<'de> {
     // A key that is text.
     #[inline(always)]
     fn take_text_key(&mut self) -> Result<&'de str, DecodeErrorKind>
-        ensures { Takes (λ x. x.now) (decoded false key_at self.old) self.old self.new result }
+        ensures { TakesValue (λ x. x.now) key_at self.old self.new result }
     {
         let bytes = self.take_key(0)?;
         text_of(bytes)
@@ -122,7 +121,7 @@ impl<'de> Decoder<'de> {
 
     /// Reads a key, charged in full and not tested for UTF-8.
     pub fn read_key(&mut self, alloc: Global) -> DecodeResult<&'de [u8]>
-        ensures { Reads (λ x. x.now) true (decoded false raw_key_at self.old) self.old self.new result }
+        ensures { ReadsValue (λ x. x.now) true raw_key_at self.old self.new result }
     {
         match self.take_key(0) {
             Ok(key) => Ok(key),

@@ -1,10 +1,9 @@
 //! Steps of a path: from a map or an array to one of its values.
 ghost use Rattle.std.specs.Prelude.{◌≡◌, Option, Some, None, Bool, true, false};
 ghost use Rattle.mmdb_decode.specs.Maps.{pairs_left, with_pairs_left};
-ghost use Rattle.mmdb_decode.specs.Errors.{Takes};
+ghost use Rattle.mmdb_decode.specs.Errors.{TakesValue, TakesUnderBudget};
 ghost use Rattle.mmdb_decode.specs.Selecting.{to_key as spec_to_key, to_element as spec_to_element, from_front, from_end, at_key, at_element};
 ghost use Rattle.mmdb_decode.specs.Skipping.{passes, skip_at};
-ghost use Rattle.mmdb_decode.specs.State.{decoded};
 
 use super::Decoder;
 use super::skipping::MAX_NESTED;
@@ -20,7 +19,7 @@ impl<'de> Decoder<'de> {
     /// it are skipped. Fails where no map stands there, directly or behind one pointer.
     #[inline(always)]
     pub fn go_to_key(&mut self, key: &str) -> Result<bool, DecodeErrorKind>
-        ensures { Takes (λ b. b) (decoded true (at_key key.now) self.old) self.old self.new result }
+        ensures { TakesUnderBudget (λ b. b) (at_key key.now) self.old self.new result }
     {
         let mut entries = self.enter_map()?;
         let found = self.to_key(&mut entries, key);
@@ -35,7 +34,8 @@ impl<'de> Decoder<'de> {
     /// where no array stands there, directly or behind one pointer.
     #[inline(always)]
     pub fn go_to_index(&mut self, index: usize) -> Result<bool, DecodeErrorKind>
-        ensures { Takes (λ b. b) (decoded true (at_element (from_front index)) self.old) self.old self.new result }
+        ensures { TakesUnderBudget (λ b. b) (at_element (from_front index))
+            self.old self.new result }
     {
         let items = self.enter_array()?;
         let found = self.to_element(front_place(index, items.remaining));
@@ -46,7 +46,8 @@ impl<'de> Decoder<'de> {
     /// The same, counted from the array's end: 0 is the last element.
     #[inline(always)]
     pub fn go_to_index_from_end(&mut self, index: usize) -> Result<bool, DecodeErrorKind>
-        ensures { Takes (λ b. b) (decoded true (at_element (from_end index)) self.old) self.old self.new result }
+        ensures { TakesUnderBudget (λ b. b) (at_element (from_end index))
+            self.old self.new result }
     {
         let items = self.enter_array()?;
         let found = self.to_element(end_place(index, items.remaining));
@@ -57,7 +58,8 @@ impl<'de> Decoder<'de> {
     // Goes to the value of the first pair left whose key has these bytes.
     #[inline(always)]
     fn to_key(&mut self, entries: &mut Entries, key: &str) -> Result<bool, DecodeErrorKind>
-        ensures found { Takes (λ b. b) (decoded false (spec_to_key key.now (pairs_left entries.old)) self.old) self.old self.new result }
+        ensures found { TakesValue (λ b. b) (spec_to_key key.now (pairs_left entries.old))
+            self.old self.new result }
         ensures rest { entries.new ≡ with_pairs_left (pairs_left entries.new) entries.old }
     {
         while let Some(name) = self.step_key(entries, 0)? {
@@ -73,7 +75,7 @@ impl<'de> Decoder<'de> {
     // Goes to the element before which so many stand.
     #[inline(always)]
     fn to_element(&mut self, before: Option<usize>) -> Result<bool, DecodeErrorKind>
-        ensures { Takes (λ b. b) (decoded false (spec_to_element before) self.old) self.old self.new result }
+        ensures { TakesValue (λ b. b) (spec_to_element before) self.old self.new result }
     {
         let Some(before) = before else {
             self.stays_within();
@@ -85,7 +87,7 @@ impl<'de> Decoder<'de> {
 
     // Passes so many values.
     fn pass_all(&mut self, count: usize) -> Result<(), DecodeErrorKind>
-        ensures { Takes (λ x. tt) (decoded false (passes skip_at count) self.old) self.old self.new result }
+        ensures { TakesValue (λ x. tt) (passes skip_at count) self.old self.new result }
     {
         for _ in 0..count {
             self.pass(MAX_NESTED)?;

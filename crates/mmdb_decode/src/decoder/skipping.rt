@@ -1,8 +1,7 @@
 //! Passing a value without reading it.
-ghost use Rattle.std.specs.Prelude.{◌≡◌, ◌<◌, ◌^◌, true, false, IfSome};
-ghost use Rattle.mmdb_decode.specs.State.{decoded};
+ghost use Rattle.std.specs.Prelude.{◌≡◌, ◌<◌, ◌^◌, true, IfSome};
 ghost use Rattle.mmdb_decode.specs.Skipping.{skip_within, skip_at, parts_of as spec_parts_of, scalar_passed, entered_inline};
-ghost use Rattle.mmdb_decode.specs.Errors.{Reads, Takes};
+ghost use Rattle.mmdb_decode.specs.Errors.{Takes, TakesValue, ReadsUnderBudget};
 
 use super::Decoder;
 use crate::budget::spent;
@@ -20,7 +19,7 @@ impl<'de> Decoder<'de> {
     /// Passes one inline value. A container's parts are charged; pointers are not followed, and texts
     /// neither tested for UTF-8 nor charged.
     pub fn skip_value(&mut self, alloc: Global) -> DecodeResult<()>
-        ensures { Reads (λ x. tt) true (decoded true skip_at self.old) self.old self.new result }
+        ensures { ReadsUnderBudget (λ x. tt) true skip_at self.old self.new result }
     {
         self.start();
         if let Err(fault) = self.pass(MAX_NESTED) {
@@ -50,7 +49,7 @@ impl<'de> Decoder<'de> {
 
     // Passes one inline value, whose containers nest at most so deep.
     pub(super) fn pass(&mut self, nested: u16) -> Result<(), DecodeErrorKind>
-        ensures { Takes (λ x. tt) (decoded false (skip_within nested) self.old) self.old self.new result }
+        ensures { TakesValue (λ x. tt) (skip_within nested) self.old self.new result }
     {
         self.stays_within();
         let header = self.header_here()?;

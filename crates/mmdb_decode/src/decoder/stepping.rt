@@ -1,9 +1,8 @@
 //! Single steps over pointers, into containers and over contents.
-ghost use Rattle.std.specs.Prelude.{◌≡◌, ◌<◌, ◌^◌, true, false, OnOk, OnErr, None};
-ghost use Rattle.mmdb_decode.specs.State.{decoded};
+ghost use Rattle.std.specs.Prelude.{◌≡◌, ◌<◌, ◌^◌, true, OnOk, OnErr, None};
 ghost use Rattle.mmdb_format.specs.Views.{content_view};
 ghost use Rattle.mmdb_decode.specs.Levels.{content_of, entered_pointer, entered_parts};
-ghost use Rattle.mmdb_decode.specs.Errors.{Reads, Takes};
+ghost use Rattle.mmdb_decode.specs.Errors.{Takes, TakesValue, ReadsValue};
 
 use super::Decoder;
 use crate::budget::{spent, spent_bytes};
@@ -18,7 +17,7 @@ impl<'de> Decoder<'de> {
     // What stands behind the header at the offset.
     fn take_content(&mut self, header: Header) -> Result<Content<'de>, DecodeErrorKind>
         requires { header.size < 2 ^ 25 }
-        ensures { Takes content_view (decoded false (content_of header) self.old) self.old self.new result }
+        ensures { TakesValue content_view (content_of header) self.old self.new result }
     {
         let content = content_at(self.section, header)?;
         self.budget = spent_bytes(self.budget, content.payload())?;
@@ -30,7 +29,7 @@ impl<'de> Decoder<'de> {
     /// A text is not tested for UTF-8.
     pub fn read_content(&mut self, alloc: Global, header: Header) -> DecodeResult<Content<'de>>
         requires { header.size < 2 ^ 25 }
-        ensures { Reads content_view true (decoded false (content_of header) self.old) self.old self.new result }
+        ensures { ReadsValue content_view true (content_of header) self.old self.new result }
     {
         match self.take_content(header) {
             Ok(content) => Ok(content),

@@ -1,7 +1,6 @@
 //! Readings that keep aside why they fail, so that a loop over many values holds no memory for an error.
 ghost use Rattle.std.specs.Prelude.{◌≡◌, ℕ, true, false, Some, IfSome, IsSome, IfOk, ◌≤ℤ◌};
-ghost use Rattle.mmdb_decode.specs.Errors.{Takes};
-ghost use Rattle.mmdb_decode.specs.State.{decoded};
+ghost use Rattle.mmdb_decode.specs.Errors.{Takes, TakesValue, TakesUnderBudget};
 ghost use Rattle.mmdb_decode.specs.Scalars.{u16_at, u32_at, bool_at, double_at, text_at, free_of_charge};
 ghost use Rattle.mmdb_decode.specs.Maps.{name_at, entered_map, NextKey, pairs_left, with_pairs_left};
 ghost use Rattle.mmdb_decode.specs.SmallNumbers.{small_at, whole_at};
@@ -77,7 +76,7 @@ impl<'de> Decoder<'de> {
     // The number of 16 bits that is read.
     #[inline(always)]
     pub(crate) fn try_u16(&mut self) -> Result<u16, Failed>
-        ensures { Takes (λ n. n) (decoded false u16_at self.old) self.old self.new result }
+        ensures { TakesValue (λ n. n) u16_at self.old self.new result }
     {
         match self.take_number(U16, 2) {
             Ok(n) => Ok(n as u16),
@@ -88,7 +87,7 @@ impl<'de> Decoder<'de> {
     // The number of 32 bits that is read.
     #[inline(always)]
     pub(crate) fn try_u32(&mut self) -> Result<u32, Failed>
-        ensures { Takes (λ n. n) (decoded false u32_at self.old) self.old self.new result }
+        ensures { TakesValue (λ n. n) u32_at self.old self.new result }
     {
         match self.take_number(U32, 4) {
             Ok(n) => Ok(n as u32),
@@ -99,7 +98,7 @@ impl<'de> Decoder<'de> {
     // The truth value that is read.
     #[inline(always)]
     pub(crate) fn try_bool(&mut self) -> Result<bool, Failed>
-        ensures { Takes (λ b. b) (decoded false bool_at self.old) self.old self.new result }
+        ensures { TakesValue (λ b. b) bool_at self.old self.new result }
     {
         match self.take_bool() {
             Ok(b) => Ok(b),
@@ -110,7 +109,7 @@ impl<'de> Decoder<'de> {
     // The number of double precision that is read.
     #[inline(always)]
     pub(crate) fn try_double(&mut self) -> Result<Double, Failed>
-        ensures { Takes (λ x. x.bits) (decoded false double_at self.old) self.old self.new result }
+        ensures { TakesValue (λ x. x.bits) double_at self.old self.new result }
     {
         match self.take_bits(DOUBLE, 8) {
             Ok(bits) => Ok(Double { bits: bits as u64 }),
@@ -121,7 +120,7 @@ impl<'de> Decoder<'de> {
     // The text that is read.
     #[inline(always)]
     pub(crate) fn try_str(&mut self) -> Result<&'de str, Failed>
-        ensures { Takes (λ x. x.now) (decoded false text_at self.old) self.old self.new result }
+        ensures { TakesValue (λ x. x.now) text_at self.old self.new result }
     {
         match self.take_text() {
             Ok(text) => Ok(text),
@@ -143,7 +142,7 @@ impl<'de> Decoder<'de> {
 
     // An integer of whatever type.
     fn try_whole(&mut self) -> Result<i128, Failed>
-        ensures { Takes (λ z. z) (decoded true whole_at self.old) self.old self.new result }
+        ensures { TakesUnderBudget (λ z. z) whole_at self.old self.new result }
     {
         match self.take_whole() {
             Ok(number) => Ok(number),
@@ -153,7 +152,7 @@ impl<'de> Decoder<'de> {
 
     // An integer of whatever type from low to high.
     pub(crate) fn try_between(&mut self, low: i128, high: i128) -> Result<i128, Failed>
-        ensures read { Takes (λ z. z) (decoded true (small_at low high) self.old) self.old self.new result }
+        ensures read { TakesUnderBudget (λ z. z) (small_at low high) self.old self.new result }
         ensures low { IfOk result (λ z. low ≤ℤ z) }
         ensures high { IfOk result (λ z. z ≤ℤ high) }
     {
@@ -188,7 +187,7 @@ impl<'de> Decoder<'de> {
     /// Passes one inline value as `skip_value` does.
     #[inline(never)]
     pub fn try_skip(&mut self) -> Result<(), Failed>
-        ensures { Takes (λ x. tt) (decoded true skip_at self.old) self.old self.new result }
+        ensures { TakesUnderBudget (λ x. tt) skip_at self.old self.new result }
     {
         self.start();
         match self.pass(MAX_NESTED) {
@@ -201,7 +200,7 @@ impl<'de> Decoder<'de> {
     #[inline(always)]
     pub fn try_skip_scalar(&mut self) -> Result<(), Failed>
         requires { IsSome self.old.budget }
-        ensures { Takes (λ x. tt) (decoded true skip_at self.old) self.old self.new result }
+        ensures { TakesUnderBudget (λ x. tt) skip_at self.old self.new result }
     {
         self.stays_within();
         match passed_scalar(self.section, self.offset) {
@@ -238,7 +237,8 @@ fn step_of(step: Step, fault: DecodeErrorKind) -> Step {
 // The offset after an inline value that holds no others.
 #[inline(never)]
 fn passed_scalar(section: &[u8], offset: usize) -> Option<usize>
-    ensures { IfSome result (λ next. (levels : ℕ) → skip_at section.now offset levels ≡ Some (free_of_charge (tt, next))) }
+    ensures { IfSome result (λ next. (levels : ℕ)
+        → skip_at section.now offset levels ≡ Some (free_of_charge (tt, next))) }
 {
     let Ok(header) = header_at(section, offset) else {
         return None;
