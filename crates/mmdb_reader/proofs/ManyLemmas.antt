@@ -14,7 +14,7 @@ use Rattle.mmdb_reader.specs.declared.many.FoundLeaf.{FoundLeaf}
 use Rattle.mmdb_reader.specs.Tree.{SearchTree, child, step}
 use Rattle.mmdb_reader.specs.Descents.{Walks, Descends}
 use Rattle.mmdb_reader.specs.Table.{IsFull}
-use Rattle.mmdb_reader.specs.Many.{HasEnded, HasWalk, first_number, IsFoundFor, IsGroup, AllGoOn, GoesOn, IsBitsOf, AreWordsOf, BeginsWith}
+use Rattle.mmdb_reader.specs.Many.{HasEnded, HasWalk, first_number, IsFoundFor, IsGroup, AllWalkOn, WalksOn, IsBitsOf, AreWordsOf, BeginsWith}
 use Rattle.mmdb_reader.specs.File.{Database, tree_of}
 use Rattle.mmdb_reader.proofs.WalkLemmas.{Walks-more, step-child}
 
@@ -41,32 +41,32 @@ Walks-all tree start address taken number all walked =
 
 -- ---- all of them
 
-pub AllGoOn-then : (Along : ℕ → List Bool → Type 0) (tree : SearchTree) (one two three : List FoundLeaf) → AllGoOn Along tree one two → AllGoOn Along tree two three → AllGoOn Along tree one three
-AllGoOn-then Along tree one two three first second i d bits b start w = second i d bits b start (first i d bits b start w)
+pub AllWalkOn-then : (Along : ℕ → List Bool → Type 0) (tree : SearchTree) (one two three : List FoundLeaf) → AllWalkOn Along tree one two → AllWalkOn Along tree two three → AllWalkOn Along tree one three
+AllWalkOn-then Along tree one two three first second i d bits b start w = second i d bits b start (first i d bits b start w)
 
-pub AllGoOn-words : (tree : SearchTree) (addresses : List IpAddr) (words : List ℕ) (old new : List FoundLeaf) → AreWordsOf addresses words → AllGoOn (λ i bits. BeginsWith (slice_index words i) bits) tree old new → AllGoOn (IsBitsOf addresses) tree old new
-AllGoOn-words tree addresses words old new are go i d bits b = go i d bits (are i bits b)
+pub AllWalkOn-words : (tree : SearchTree) (addresses : List IpAddr) (words : List ℕ) (old new : List FoundLeaf) → AreWordsOf addresses words → AllWalkOn (λ i bits. BeginsWith (slice_index words i) bits) tree old new → AllWalkOn (IsBitsOf addresses) tree old new
+AllWalkOn-words tree addresses words old new are go i d bits b = go i d bits (are i bits b)
 
-module _ (Along : ℕ → List Bool → Type 0) (tree : SearchTree) (old leaves : List FoundLeaf) (k : ℕ) (d0 next : FoundLeaf) (within : k < length leaves) (all : AllGoOn Along tree old leaves) (here : (bits : List Bool) → Along k bits → GoesOn tree bits (get_or leaves k d0) next) where
-  set-at : (d : FoundLeaf) (bits : List Bool) → Along k bits → GoesOn tree bits (get_or old k d) (get_or (set leaves k next) k d)
+module _ (Along : ℕ → List Bool → Type 0) (tree : SearchTree) (old leaves : List FoundLeaf) (k : ℕ) (d0 next : FoundLeaf) (within : k < length leaves) (all : AllWalkOn Along tree old leaves) (here : (bits : List Bool) → Along k bits → WalksOn tree bits (get_or leaves k d0) next) where
+  set-at : (d : FoundLeaf) (bits : List Bool) → Along k bits → WalksOn tree bits (get_or old k d) (get_or (set leaves k next) k d)
   set-at d bits b start w =
       let W : FoundLeaf → Type 0 = λ l. Walks tree start bits l.taken l.number in
       subst W (sym (get_or-set_same leaves k next d within)) (here bits b start (subst W (get_or_default leaves k d d0 within) (all k d bits b start w)))
 
-  set-away : (i : ℕ) (d : FoundLeaf) (bits : List Bool) → i ≢ k → Along i bits → GoesOn tree bits (get_or old i d) (get_or (set leaves k next) i d)
+  set-away : (i : ℕ) (d : FoundLeaf) (bits : List Bool) → i ≢ k → Along i bits → WalksOn tree bits (get_or old i d) (get_or (set leaves k next) i d)
   set-away i d bits apart b start w =
       let W : FoundLeaf → Type 0 = λ l. Walks tree start bits l.taken l.number in
       subst W (sym (get_or-set_other leaves k i next d apart)) (all i d bits b start w)
 
   -- a step of the walk at an index
-  pub AllGoOn-set : AllGoOn Along tree old (set leaves k next)
-  AllGoOn-set i d bits b = elim (cases_lt i k) [
+  pub AllWalkOn-set : AllWalkOn Along tree old (set leaves k next)
+  AllWalkOn-set i d bits b = elim (cases_lt i k) [
     | inl less ↦ set-away i d bits (λ same. absurd (omega (arith, same, less))) b
     | inr not_less ↦ elim (cases_lt k i) [
       | inl more ↦ set-away i d bits (λ same. absurd (omega (arith, same, more))) b
       | inr not_more ↦
           let at : k ≡ i = omega (arith, not_less, not_more) in
-          let R : ℕ → Type 0 = λ n. Along n bits → GoesOn tree bits (get_or old n d) (get_or (set leaves k next) n d) in
+          let R : ℕ → Type 0 = λ n. Along n bits → WalksOn tree bits (get_or old n d) (get_or (set leaves k next) n d) in
           subst R at (set-at d bits) b
     ]
   ]

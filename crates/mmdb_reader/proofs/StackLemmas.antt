@@ -8,7 +8,7 @@ use Rattle.mmdb_reader.specs.declared.positions.Position.{Position}
 use Rattle.mmdb_reader.specs.File.{Database, tree_of, width}
 use Rattle.mmdb_reader.specs.Tree.{walk}
 use Rattle.mmdb_reader.specs.Listing.{Finding, Listed, listed_below, list_if, is_hidden, finding_at}
-use Rattle.mmdb_reader.specs.Positions.{IsAt, HasHalves, IsEnd, IsPlaced, IsStack, GoesOn, IsLowest, IsNothing, bits_to, half_of, listed_from, listed_of_stack, positions_below, positions_left}
+use Rattle.mmdb_reader.specs.Positions.{IsAt, HasHalves, IsEnd, IsPlaced, IsStack, ListsSame, IsLowest, IsNothing, bits_to, half_of, listed_from, listed_of_stack, positions_below, positions_left}
 use Rattle.mmdb_reader.proofs.ListingSteps.{below-hidden, below-node, below-full, below-leaf}
 use Rattle.mmdb_reader.proofs.PositionLemmas.{bits_to-half, IsAt-half}
 
@@ -142,10 +142,10 @@ halves-stack db capacity same one_same two_same old xs one two p upper lower e p
 
 module _ (db : Database) (options : WithinOptions) (capacity : ℕ) (old : List Position) where
   -- where a walk goes down from
-  pub goes_on-start : IsStack db capacity old → GoesOn db options capacity old old
+  pub goes_on-start : IsStack db capacity old → ListsSame db options capacity old old
   goes_on-start placed = record { placed = placed; lists = refl; left = omega arith }
 
-  module _ (xs : List Position) (p : Position) (on : GoesOn db options capacity old (xs ++ p ∷ [])) where
+  module _ (xs : List Position) (p : Position) (on : ListsSame db options capacity old (xs ++ p ∷ [])) where
     pub top-placed : IsPlaced db capacity (length xs) p
     top-placed = IsStack-top db capacity xs p on.placed
 
@@ -158,7 +158,7 @@ module _ (db : Database) (options : WithinOptions) (capacity : ℕ) (old : List 
     }
 
     -- the upper half of a node is put on the stack, and the walk goes on at the lower one
-    pub goes_on-node : is_hidden db options (bits_to db p) ≡ false → HasHalves db p → GoesOn db options capacity old ((xs ++ half_of db p true ∷ []) ++ half_of db p false ∷ [])
+    pub goes_on-node : is_hidden db options (bits_to db p) ≡ false → HasHalves db p → ListsSame db options capacity old ((xs ++ half_of db p true ∷ []) ++ half_of db p false ∷ [])
     goes_on-node shown halves = record {
       placed = halves-stack db capacity capacity capacity capacity (xs ++ p ∷ []) xs (xs ++ half_of db p true ∷ []) ((xs ++ half_of db p true ∷ []) ++ half_of db p false ∷ []) p (half_of db p true) (half_of db p false)
           refl on.placed halves refl refl refl refl refl refl refl;

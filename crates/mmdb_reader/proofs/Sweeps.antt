@@ -1,5 +1,5 @@
 -- A walk that looks at both halves of a node together: what it has met does not depend on the order.
-use Rattle.std.proofs.Common.{◌≡◌, ℕ, ◌+◌, ◌-◌, ◌*◌, ◌<◌, ◌≤◌, zero, suc, Bool, true, false, not, ◌||◌, ◌==◌, List, [], ◌∷◌, ◌++◌, length, arith, sym, ap, ◌∙◌, refl, subst, append_assoc, length-append, get_or, ◌⊎◌, inl, inr, nat_lt}
+use Rattle.std.proofs.Common.{◌≡◌, ℕ, ◌+◌, ◌-◌, ◌*◌, ◌<◌, zero, suc, Bool, true, false, not, ◌||◌, ◌==◌, List, [], ◌∷◌, ◌++◌, length, arith, sym, ap, ◌∙◌, refl, subst, append_assoc, length-append, get_or, ◌⊎◌, inl, inr, nat_lt}
 use Rattle.std.specs.List.{list_any}
 use Rattle.std.proofs.lemmas.List.{append-nil, get_or_append_left}
 use Rattle.std.proofs.Math.Seq.{get_or-append_seam}
@@ -8,7 +8,7 @@ use Rattle.mmdb_check.specs.Checking.{holds}
 use Rattle.mmdb_reader.specs.File.{Database, width, tree_of}
 use Rattle.mmdb_reader.specs.Tree.{step}
 use Rattle.mmdb_reader.specs.declared.walked.WalkEnd.TheVariants.{Whole}
-use Rattle.mmdb_reader.specs.Stops.{is_fault, offset_of, most_stops, walk_cost, stops, offsets}
+use Rattle.mmdb_reader.specs.Stops.{is_fault, offset_of, most_stops, walk_cost}
 use Rattle.mmdb_reader.specs.Walked.{goes_on_from, end_from, half_of, IsPlaced, GoesOn, IsStopped, Keeps, Takes, IsVerdict}
 use Rattle.mmdb_reader.specs.declared.walked.Point.{Point}
 use Rattle.mmdb_reader.specs.declared.walked.End.{End}

@@ -16,13 +16,13 @@ abbrev pub HasEnded : SearchTree → ℕ → List Bool → FoundLeaf → Type 0
 HasEnded tree start bits leaf = Descends tree start bits leaf.taken leaf.number
 
 -- A walk along these bits that had come to the old place has come to the new one, wherever it began.
-abbrev pub GoesOn : SearchTree → List Bool → FoundLeaf → FoundLeaf → Type 0
-GoesOn tree bits old new = (start : ℕ) → Walks tree start bits old.taken old.number → Walks tree start bits new.taken new.number
+abbrev pub WalksOn : SearchTree → List Bool → FoundLeaf → FoundLeaf → Type 0
+WalksOn tree bits old new = (start : ℕ) → Walks tree start bits old.taken old.number → Walks tree start bits new.taken new.number
 
 -- Each does so, where its bits are such.
-abbrev pub AllGoOn : (ℕ → List Bool → Type 0) → SearchTree → List FoundLeaf → List FoundLeaf → Type 0
-AllGoOn Along tree old new =
-    (i : ℕ) (d : FoundLeaf) (bits : List Bool) → Along i bits → GoesOn tree bits (slice_index_or old i d) (slice_index_or new i d)
+abbrev pub AllWalkOn : (ℕ → List Bool → Type 0) → SearchTree → List FoundLeaf → List FoundLeaf → Type 0
+AllWalkOn Along tree old new =
+    (i : ℕ) (d : FoundLeaf) (bits : List Bool) → Along i bits → WalksOn tree bits (slice_index_or old i d) (slice_index_or new i d)
 
 -- these are the bits of the address at an index
 abbrev pub IsBitsOf : List IpAddr → ℕ → List Bool → Type 0

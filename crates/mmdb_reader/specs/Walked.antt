@@ -1,5 +1,5 @@
 -- How a walk of the whole tree is taken.
-use Rattle.std.specs.Prelude.{◌≡◌, ℕ, Option, Some, None, [], ◌∷◌, ◌++◌, false, ◌+◌, ◌-◌, ◌*◌, ◌≤◌, ◌<◌, ◌⊎◌, ◌||◌, ◌&&◌, ◌==◌, not, true, false, List, slice_index_or, length, Bool, if◌then◌else◌, nat_lt}
+use Rattle.std.specs.Prelude.{◌≡◌, ℕ, Option, Some, None, [], ◌∷◌, ◌++◌, false, ◌+◌, ◌-◌, ◌*◌, ◌^◌, ◌≤◌, ◌<◌, ◌⊎◌, ◌||◌, ◌&&◌, ◌==◌, not, true, false, List, slice_index_or, length, Bool, if◌then◌else◌, nat_lt}
 use Rattle.std.specs.List.{list_any}
 use Rattle.mmdb_reader.specs.declared.walked.End.{End}
 use Rattle.mmdb_reader.specs.declared.walked.End.TheVariants.{Alias}
@@ -29,6 +29,7 @@ end_from db number high = if is_alias_of db number high then Alias else end_of_l
 pub record AreLimits (db : Database) (nodes : Nodes) (bits : ℕ) (alias : Option ℕ) (len : ℕ) : Type 0 where
   pub tree : search_tree nodes.bytes.now nodes.node_count nodes.record_size ≡ tree_of db
   pub count : nodes.node_count ≡ db.metadata.node_count
+  pub few : nodes.node_count < 2 ^ 32
   pub width : bits ≡ width db
   pub start : alias ≡ (if has_ipv4_subtree db && nat_lt 0 (ipv4_start db) then Some (ipv4_start db) else None)
   pub data_len : len ≡ data_length db

@@ -95,14 +95,14 @@ fn all_lanes() -> [u8; 64] {
 impl Nodes<'_> {
     ghost use Rattle.mmdb_reader.specs.Tree.{search_tree};
     ghost use Rattle.mmdb_reader.specs.Descents.{Walks};
-    ghost use Rattle.mmdb_reader.specs.Many.{AllGoOn, AllEnd, AreWordsOf, BeginsWith, GoesOn, HasEnded, IsBitsOf};
+    ghost use Rattle.mmdb_reader.specs.Many.{AllWalkOn, AllEnd, AreWordsOf, BeginsWith, WalksOn, HasEnded, IsBitsOf};
 
     // One bit more of a walk that has taken so many and is on a node; any other stays.
     #[inline(always)]
     fn step_word(&self, leaf: FoundLeaf, word: u32, taken: u32) -> FoundLeaf
         requires { taken < 32 }
         ensures { let tree = search_tree self.now.bytes.now self.now.node_count self.now.record_size in
-            (bits : List Bool) → BeginsWith word bits → GoesOn tree bits leaf result }
+            (bits : List Bool) → BeginsWith word bits → WalksOn tree bits leaf result }
     {
         let number = leaf.number as usize;
         if number >= self.node_count || leaf.taken != taken {
@@ -120,7 +120,7 @@ impl Nodes<'_> {
     fn step(&self, leaf: FoundLeaf, address: IpAddr, taken: u32) -> FoundLeaf
         requires { taken < 128 }
         ensures { let tree = search_tree self.now.bytes.now self.now.node_count self.now.record_size in
-            GoesOn tree (bits_of_address address) leaf result }
+            WalksOn tree (bits_of_address address) leaf result }
     {
         let number = leaf.number as usize;
         if number >= self.node_count || leaf.taken != taken {
@@ -187,7 +187,7 @@ impl Nodes<'_> {
         requires count { count ≤ 64 }
         requires taken { taken < 32 }
         ensures { let tree = search_tree self.now.bytes.now self.now.node_count self.now.record_size in
-            AllGoOn (λ i bits. BeginsWith (slice_index words.now i) bits) tree leaves.old leaves.new }
+            AllWalkOn (λ i bits. BeginsWith (slice_index words.now i) bits) tree leaves.old leaves.new }
     {
         for j in 0..count {
             let lane = usize::from(lanes[j] % 64);
@@ -208,7 +208,7 @@ impl Nodes<'_> {
         requires count { count ≤ 64 }
         requires taken { taken < 128 }
         ensures { let tree = search_tree self.now.bytes.now self.now.node_count self.now.record_size in
-            AllGoOn (IsBitsOf addresses.now) tree leaves.old leaves.new }
+            AllWalkOn (IsBitsOf addresses.now) tree leaves.old leaves.new }
     {
         for j in 0..count {
             let lane = usize::from(lanes[j] % 64);
@@ -225,7 +225,7 @@ impl Nodes<'_> {
         requires few { length addresses.now ≤ 64 }
         requires words { AreWordsOf addresses.now words.now }
         ensures { let tree = search_tree self.now.bytes.now self.now.node_count self.now.record_size in
-            AllGoOn (IsBitsOf addresses.now) tree leaves.old leaves.new }
+            AllWalkOn (IsBitsOf addresses.now) tree leaves.old leaves.new }
     {
         let mut lanes = all_lanes();
         let mut count = self.keep_walking(leaves, &mut lanes, addresses.len());
@@ -264,7 +264,7 @@ impl Nodes<'_> {
         requires few { length addresses.now ≤ 64 }
         requires words { AreWordsOf addresses.now words.now }
         ensures { let tree = search_tree self.now.bytes.now self.now.node_count self.now.record_size in
-            AllGoOn (IsBitsOf addresses.now) tree leaves.old leaves.new }
+            AllWalkOn (IsBitsOf addresses.now) tree leaves.old leaves.new }
     {
         match self.record_size {
             24 => self.with_size(24).walk_group(addresses, words, leaves),

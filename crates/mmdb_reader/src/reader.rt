@@ -82,7 +82,6 @@ impl<S: AsSlice<u8> + Drop> Reader<S> {
     ghost use Rattle.mmdb_reader.specs.Shown.{is_shown_as_ipv4, has_ipv4_subtree, ipv4_start};
     ghost use Rattle.mmdb_reader.specs.Tree.{search_tree};
     ghost use Rattle.mmdb_reader.specs.File.{tree_of, width, data_section};
-    ghost use Rattle.mmdb_reader.specs.Alias.{is_alias_at};
 
     /// A reader of a source whose marker stands at this place, and whose metadata are these.
     pub(crate) fn from_parts(
@@ -220,14 +219,6 @@ impl<S: AsSlice<u8> + Drop> Reader<S> {
         } else {
             32
         }
-    }
-
-    // Whether bits that lead to this number, and spell this address with zeros after them, are an alias.
-    pub(crate) fn is_alias(&self, number: usize, address: u128) -> bool
-        ensures { result ≡ is_alias_at self.now number address }
-    {
-        let start = self.ipv4_start();
-        self.has_ipv4_subtree() && start != 0 && number == start && address >= 1 << 32
     }
 
     // Whether IPv4 begins on a node of an IPv6 database.

@@ -2,8 +2,8 @@ use Rattle.std.proofs.Common.{Bool, List, get_or, arith, sym, subst}
 use Rattle.std.proofs.lemmas.List.{length-set}
 use Rattle.mmdb_reader.specs.Tree.{search_tree}
 use Rattle.mmdb_reader.specs.declared.many.FoundLeaf.{FoundLeaf}
-use Rattle.mmdb_reader.specs.Many.{GoesOn}
-use Rattle.mmdb_reader.proofs.ManyLemmas.{AllGoOn-set}
+use Rattle.mmdb_reader.specs.Many.{WalksOn}
+use Rattle.mmdb_reader.proofs.ManyLemmas.{AllWalkOn-set}
 use Rattle.mmdb_reader.proofs.tree.Nodes.step_all.Goals as goal
 use Rattle.mmdb_reader.proofs.tree.Nodes.step_all.Goals.{then-lane-addresses, else-lane-addresses}
 
@@ -16,8 +16,8 @@ loop-j-preserved c =
     elim c.if-lane-addresses.branch [
       | then-lane-addresses w ↦ rw w.leaves-is (record {
         long = omega (arith, length-set c.loop-j.leaves c.from-lane.result w.step.result, long);
-        goes = AllGoOn-set _ tree c.args.leaves.now c.loop-j.leaves c.from-lane.result zero w.step.result (let lane = c.from-lane.ensures in omega (arith, long, lane)) c.loop-j.invariant.goes (λ bits b.
-            let E : List Bool → Type 0 = λ bs. GoesOn tree bs leaf w.step.result in
+        goes = AllWalkOn-set _ tree c.args.leaves.now c.loop-j.leaves c.from-lane.result zero w.step.result (let lane = c.from-lane.ensures in omega (arith, long, lane)) c.loop-j.invariant.goes (λ bits b.
+            let E : List Bool → Type 0 = λ bs. WalksOn tree bs leaf w.step.result in
             subst E (sym (b.1 _)) w.step.ensures);
       })
       | else-lane-addresses w ↦ rw w.leaves-is c.loop-j.invariant

@@ -1,6 +1,6 @@
 use Rattle.std.proofs.Common.{◌≡◌, length}
 use Rattle.mmdb_reader.specs.Tree.{search_tree}
-use Rattle.mmdb_reader.specs.Many.{AllGoOn, IsBitsOf}
+use Rattle.mmdb_reader.specs.Many.{AllWalkOn, IsBitsOf}
 use Rattle.mmdb_reader.proofs.tree.Nodes.step_all.Given as goal
 
 abbrev pub invariant-loop-j : goal.invariant-loop-j
@@ -8,5 +8,5 @@ invariant-loop-j l =
     let tree = search_tree l.self.bytes.now l.self.node_count l.self.record_size in
     record {
       long : length l.leaves ≡ 64;
-      goes : AllGoOn (IsBitsOf l.addresses) tree l.fn.leaves l.leaves;
+      goes : AllWalkOn (IsBitsOf l.addresses) tree l.fn.leaves l.leaves;
     }

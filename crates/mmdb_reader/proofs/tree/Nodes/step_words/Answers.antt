@@ -1,6 +1,6 @@
 use Rattle.std.proofs.Common.{arith}
 use Rattle.std.proofs.lemmas.List.{length-set}
-use Rattle.mmdb_reader.proofs.ManyLemmas.{AllGoOn-set}
+use Rattle.mmdb_reader.proofs.ManyLemmas.{AllWalkOn-set}
 use Rattle.mmdb_reader.proofs.tree.Nodes.step_words.Goals as goal
 
 pub loop-j-preserved : goal.loop-j-preserved
@@ -8,5 +8,5 @@ loop-j-preserved c =
     let long = c.loop-j.invariant.long in
     record {
       long = omega (arith, length-set c.loop-j.leaves c.from-lane.result c.step_word.result, long);
-      goes = AllGoOn-set _ _ c.args.leaves.now c.loop-j.leaves c.from-lane.result _ c.step_word.result (let lane = c.from-lane.ensures in omega (arith, long, lane)) c.loop-j.invariant.goes c.step_word.ensures;
+      goes = AllWalkOn-set _ _ c.args.leaves.now c.loop-j.leaves c.from-lane.result _ c.step_word.result (let lane = c.from-lane.ensures in omega (arith, long, lane)) c.loop-j.invariant.goes c.step_word.ensures;
     }

@@ -1,6 +1,6 @@
 use Rattle.std.proofs.Common.{◌≡◌, ℕ, List, Bool, length, slice_index}
 use Rattle.mmdb_reader.specs.Tree.{search_tree}
-use Rattle.mmdb_reader.specs.Many.{AllGoOn, BeginsWith}
+use Rattle.mmdb_reader.specs.Many.{AllWalkOn, BeginsWith}
 use Rattle.mmdb_reader.proofs.tree.Nodes.step_words.Given as goal
 
 abbrev pub invariant-loop-j : goal.invariant-loop-j
@@ -8,5 +8,5 @@ invariant-loop-j l =
     let tree = search_tree l.self.bytes.now l.self.node_count l.self.record_size in
     record {
       long : length l.leaves ≡ 64;
-      goes : AllGoOn (λ (i : ℕ) (bits : List Bool). BeginsWith (slice_index l.words i) bits) tree l.fn.leaves l.leaves;
+      goes : AllWalkOn (λ (i : ℕ) (bits : List Bool). BeginsWith (slice_index l.words i) bits) tree l.fn.leaves l.leaves;
     }

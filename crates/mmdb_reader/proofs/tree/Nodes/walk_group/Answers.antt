@@ -1,5 +1,5 @@
 use Rattle.std.proofs.Common.{arith}
-use Rattle.mmdb_reader.proofs.ManyLemmas.{AllGoOn-then, AllGoOn-words}
+use Rattle.mmdb_reader.proofs.ManyLemmas.{AllWalkOn-then, AllWalkOn-words}
 use Rattle.mmdb_reader.proofs.tree.Nodes.walk_group.Goals as goal
 
 pub loop-taken-preserved : goal.loop-taken-preserved
@@ -8,8 +8,8 @@ loop-taken-preserved c =
     let kept = c.keep_walking-count-in-loop-taken.ensures in
     record {
       few = omega (arith, few, kept);
-      goes = AllGoOn-then _ _ c.args.leaves.now c.loop-taken.leaves c.step_words.new.leaves c.loop-taken.invariant.goes
-          (AllGoOn-words _ c.args.addresses.now c.args.words.now _ _ c.requires.words c.step_words.ensures);
+      goes = AllWalkOn-then _ _ c.args.leaves.now c.loop-taken.leaves c.step_words.new.leaves c.loop-taken.invariant.goes
+          (AllWalkOn-words _ c.args.addresses.now c.args.words.now _ _ c.requires.words c.step_words.ensures);
     }
 
 pub loop-later-preserved : goal.loop-later-preserved
@@ -18,5 +18,5 @@ loop-later-preserved c =
     let kept = c.keep_walking-count-in-loop-later.ensures in
     record {
       few = omega (arith, few, kept);
-      goes = AllGoOn-then _ _ c.args.leaves.now c.loop-later.leaves c.step_all.new.leaves c.loop-later.invariant.goes c.step_all.ensures;
+      goes = AllWalkOn-then _ _ c.args.leaves.now c.loop-later.leaves c.step_all.new.leaves c.loop-later.invariant.goes c.step_all.ensures;
     }

@@ -1,6 +1,6 @@
 use Rattle.std.proofs.Common.{◌≤◌}
 use Rattle.mmdb_reader.specs.Tree.{search_tree}
-use Rattle.mmdb_reader.specs.Many.{AllGoOn, IsBitsOf}
+use Rattle.mmdb_reader.specs.Many.{AllWalkOn, IsBitsOf}
 use Rattle.mmdb_reader.proofs.tree.Nodes.walk_group.Given as goal
 
 abbrev pub invariant-loop-taken : goal.invariant-loop-taken
@@ -8,7 +8,7 @@ invariant-loop-taken l =
     let tree = search_tree l.self.bytes.now l.self.node_count l.self.record_size in
     record {
       few : l.count ≤ 64;
-      goes : AllGoOn (IsBitsOf l.addresses) tree l.fn.leaves l.leaves;
+      goes : AllWalkOn (IsBitsOf l.addresses) tree l.fn.leaves l.leaves;
     }
 
 abbrev pub invariant-loop-later : goal.invariant-loop-later
@@ -16,5 +16,5 @@ invariant-loop-later l =
     let tree = search_tree l.self.bytes.now l.self.node_count l.self.record_size in
     record {
       few : l.count ≤ 64;
-      goes : AllGoOn (IsBitsOf l.addresses) tree l.fn.leaves l.leaves;
+      goes : AllWalkOn (IsBitsOf l.addresses) tree l.fn.leaves l.leaves;
     }

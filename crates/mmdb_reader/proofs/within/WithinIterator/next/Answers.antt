@@ -1,13 +1,13 @@
-use Rattle.std.proofs.Common.{rules, ◌≡◌, ◌<◌, ◌++◌, ◌∷◌, [], Some, None, List, Option, ℕ, length, sym, ap, ◌∙◌, refl, subst, arith}
+use Rattle.std.proofs.Common.{rules, ◌≡◌, ◌++◌, ◌∷◌, [], Some, None, List, Option, ℕ, length, sym, ap, ◌∙◌, refl, subst, arith}
 use Rattle.std.specs.Vec.{vec_capacity}
 use Rattle.std.proofs.lemmas.List.{nil_from_length}
 use Rattle.mmdb_reader.specs.declared.options.WithinOptions.{WithinOptions}
 use Rattle.mmdb_reader.specs.declared.positions.Position.{Position}
-use Rattle.mmdb_reader.specs.File.{Database, width}
+use Rattle.mmdb_reader.specs.File.{Database}
 use Rattle.mmdb_reader.specs.Listing.{Finding}
 use Rattle.mmdb_reader.specs.Items.{items_of, item_view}
 use Rattle.mmdb_reader.specs.Findings.{finding_of_answer}
-use Rattle.mmdb_reader.specs.Positions.{IsStack, bits_to, listed_of_stack, positions_left}
+use Rattle.mmdb_reader.specs.Positions.{IsStack, bits_to, listed_of_stack}
 use Rattle.mmdb_reader.specs.Enumeration.{items_to_come}
 use Rattle.mmdb_reader.proofs.ItemLemmas.{items-first}
 use Rattle.mmdb_reader.proofs.StackLemmas.{left-placed, lowest-at, lowest-smaller, lowest-lists}

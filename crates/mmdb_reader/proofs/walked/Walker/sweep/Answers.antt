@@ -1,45 +1,40 @@
-use Rattle.std.proofs.Common.{◌≡◌, ◌+◌, ◌*◌, ◌<◌, ◌≤◌, length, ℕ, Bool, true, false, not, List, [], ◌∷◌, ◌++◌, sym, ap, ◌∙◌, refl, subst, arith, length-append}
-use Rattle.std.specs.Vec.{vec_capacity}
+use Rattle.std.proofs.Common.{◌≡◌, ◌+◌, ◌<◌, true, false, List, [], ◌∷◌, ◌++◌, sym, ap, ◌∙◌, refl, subst, arith}
 use Rattle.std.proofs.lemmas.List.{nil_from_length}
-use Rattle.std.proofs.lemmas.Bool.{not-true, not-false}
 use Rattle.mmdb_check.specs.Checking.{holds}
-use Rattle.mmdb_reader.specs.File.{Database, width, data_length}
-use Rattle.mmdb_reader.specs.Stops.{is_fault, walk_cost, most_stops}
-use Rattle.mmdb_reader.specs.Walked.{half_of, end_from, Takes, GoesOn, IsStopped, Keeps, IsVerdict}
+use Rattle.mmdb_reader.specs.Stops.{most_stops}
+use Rattle.mmdb_reader.specs.Walked.{half_of, Takes, GoesOn}
 use Rattle.mmdb_reader.specs.declared.walked.Point.{Point}
-use Rattle.mmdb_reader.specs.declared.walked.WalkEnd.TheVariants.{Whole}
-use Rattle.mmdb_reader.proofs.Sweeps.{IsSwept, AreNodes, AreNodes-front, AreNodes-top, AreNodes-push, node-room, nodes-below, nodes-left, swept-start, swept-node, swept-taken, swept-both, swept-whole}
-use Rattle.mmdb_reader.proofs.reader.Reader.sweep.Goals as goal
+use Rattle.mmdb_reader.proofs.Sweeps.{IsSwept, AreNodes, AreNodes-top, AreNodes-push, node-room, nodes-below, nodes-left, swept-start, swept-node, swept-taken, swept-both, swept-whole}
+use Rattle.mmdb_reader.proofs.walked.Walker.sweep.Goals as goal
 
 abbrev root : Point
 root = record { number = 0; prefix = 0; high = false }
 
 pub loop-nodes-init : goal.loop-nodes-init
 loop-nodes-init g c =
-    let db = c.walker-walker.result.reader.now in
-    let same : db ≡ c.args.self.now = c.walker-walker.ensures in
+    let db = c.args.self.now.reader.now in
     let one : c.args.stack.now.items ++ root ∷ [] ≡ root ∷ [] = ap (λ (xs : List Point). xs ++ root ∷ []) c.requires.empty in
     let first = AreNodes-push db [] root (λ index d h. absurd (omega arith)) (record { placed = record { within = omega arith; room = omega arith }; on = c.if-not-goes_on.ensures }) in
     record {
       are = subst (AreNodes db) (sym one) first;
       kept = refl;
-      room = subst (λ x. width x ≤ vec_capacity c.args.stack.now) (sym same) c.requires.room;
-      set = c.requires.set ∙ ap data_length (sym same);
+      room = c.requires.room;
+      set = c.requires.set;
       swept = subst (λ (s : List Point). IsSwept db s 1 (holds c.args.set.now)) (sym one) (swept-start db root (holds c.args.set.now) refl refl refl c.requires.none);
     }
 
 pub half_of-lower-requires : goal.half_of-lower-requires
-half_of-lower-requires g c = (AreNodes-top c.walker-walker.result.reader.now c.loop-nodes.stack.items c.loop-nodes.point c.loop-nodes.invariant.are).on
+half_of-lower-requires g c = (AreNodes-top c.args.self.now.reader.now c.loop-nodes.stack.items c.loop-nodes.point c.loop-nodes.invariant.are).on
 
 pub half_of-requires : goal.half_of-requires
-half_of-requires g c = (AreNodes-top c.walker-walker.result.reader.now c.loop-nodes.stack.items c.loop-nodes.point c.loop-nodes.invariant.are).on
+half_of-requires g c = (AreNodes-top c.args.self.now.reader.now c.loop-nodes.stack.items c.loop-nodes.point c.loop-nodes.invariant.are).on
 
 pub take-requires-clause-room : goal.take-requires-clause-room
-take-requires-clause-room g c = omega (arith, node-room c.walker-walker.result.reader.now c.loop-nodes.stack.items c.loop-nodes.point c.loop-nodes.invariant.are, c.loop-nodes.stack.ok.0, c.loop-nodes.invariant.room)
+take-requires-clause-room g c = omega (arith, node-room c.args.self.now.reader.now c.loop-nodes.stack.items c.loop-nodes.point c.loop-nodes.invariant.are, c.loop-nodes.stack.ok.0, c.loop-nodes.invariant.room)
 
 pub loop-nodes-preserved-then-goes_on : goal.loop-nodes-preserved-then-goes_on
 loop-nodes-preserved-then-goes_on g c =
-    let db = c.walker-walker.result.reader.now in
+    let db = c.args.self.now.reader.now in
     let xs = c.loop-nodes.stack.items in
     let p = c.loop-nodes.point in
     let on = AreNodes-top db xs p c.loop-nodes.invariant.are in
@@ -57,7 +52,7 @@ loop-nodes-preserved-then-goes_on g c =
 
 pub returns-in_default-clause-whole : goal.returns-in_default-clause-whole
 returns-in_default-clause-whole g c =
-    let db = c.walker-walker.result.reader.now in
+    let db = c.args.self.now.reader.now in
     let xs = c.loop-nodes.stack.items in
     let p = c.loop-nodes.point in
     let on = AreNodes-top db xs p c.loop-nodes.invariant.are in
@@ -66,13 +61,12 @@ returns-in_default-clause-whole g c =
     let swept = swept-both db xs c.take.new.stack.items p c.half_of-lower.result c.loop-nodes.nodes c.loop-nodes.set c.take.new.set c.keep.new.set (sym c.half_of-lower.ensures) on.on takes
     c.if-goes_on.ensures (sym c.if-not-keep.false ∙ c.keep.ensures.kept) c.keep.ensures.set c.loop-nodes.invariant.swept in
     let none : c.take.new.stack.items ≡ [] = nil_from_length c.take.new.stack.items (omega (arith, c.in_default.ensures.cases.0, c.take.new.stack.ok.0)) in
-    let few : c.loop-nodes.nodes < most_stops db = omega (arith, c.loop-nodes-test.true, c.walker-walker.result.are.count) in
-    let whole = swept-whole db c.take.new.stack.items c.loop-nodes.nodes c.keep.new.set none few swept in
-    subst (λ d. IsVerdict d c.keep.new.set (2 * c.loop-nodes.nodes + 1) Whole) c.walker-walker.ensures whole.0
+    let few : c.loop-nodes.nodes < most_stops db = omega (arith, c.loop-nodes-test.true, c.args.self.now.are.count) in
+    (swept-whole db c.take.new.stack.items c.loop-nodes.nodes c.keep.new.set none few swept).0
 
 pub returns-in_default-clause-counted : goal.returns-in_default-clause-counted
 returns-in_default-clause-counted g c =
-    let db = c.walker-walker.result.reader.now in
+    let db = c.args.self.now.reader.now in
     let xs = c.loop-nodes.stack.items in
     let p = c.loop-nodes.point in
     let on = AreNodes-top db xs p c.loop-nodes.invariant.are in
@@ -81,13 +75,12 @@ returns-in_default-clause-counted g c =
     let swept = swept-both db xs c.take.new.stack.items p c.half_of-lower.result c.loop-nodes.nodes c.loop-nodes.set c.take.new.set c.keep.new.set (sym c.half_of-lower.ensures) on.on takes
     c.if-goes_on.ensures (sym c.if-not-keep.false ∙ c.keep.ensures.kept) c.keep.ensures.set c.loop-nodes.invariant.swept in
     let none : c.take.new.stack.items ≡ [] = nil_from_length c.take.new.stack.items (omega (arith, c.in_default.ensures.cases.0, c.take.new.stack.ok.0)) in
-    let few : c.loop-nodes.nodes < most_stops db = omega (arith, c.loop-nodes-test.true, c.walker-walker.result.are.count) in
-    let whole = swept-whole db c.take.new.stack.items c.loop-nodes.nodes c.keep.new.set none few swept in
-    whole.1 ∙ ap walk_cost c.walker-walker.ensures
+    let few : c.loop-nodes.nodes < most_stops db = omega (arith, c.loop-nodes-test.true, c.args.self.now.are.count) in
+    (swept-whole db c.take.new.stack.items c.loop-nodes.nodes c.keep.new.set none few swept).1
 
 pub loop-nodes-preserved : goal.loop-nodes-preserved
 loop-nodes-preserved g c =
-    let db = c.walker-walker.result.reader.now in
+    let db = c.args.self.now.reader.now in
     let xs = c.loop-nodes.stack.items in
     let p = c.loop-nodes.point in
     let on = AreNodes-top db xs p c.loop-nodes.invariant.are in
