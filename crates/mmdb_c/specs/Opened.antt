@@ -5,10 +5,10 @@ use Rattle.std.specs.declared.net.ip_addr.IpAddr.TheVariants.{V4, V6}
 use Rattle.std.specs.declared.net.ipv4_addr.Ipv4Addr.{Ipv4Addr}
 use Rattle.std.specs.declared.net.ipv6_addr.Ipv6Addr.{Ipv6Addr}
 use Rattle.std.specs.Net.Addr.{ipv4_bits, ipv6_bits}
-use Rattle.mmdb_reader.specs.declared.table.Entry.{Entry}
-use Rattle.mmdb_reader.specs.Tree.{SearchTree, search_tree, is_record_size, node_bytes, step}
-use Rattle.mmdb_reader.specs.Table.{IsFull}
-use Rattle.mmdb_reader.specs.Descents.{Descends}
+use Rattle.mmdb_tree.specs.declared.table.Entry.{Entry}
+use Rattle.mmdb_tree.specs.Tree.{SearchTree, search_tree, is_record_size, node_bytes, step}
+use Rattle.mmdb_tree.specs.Table.{IsFull}
+use Rattle.mmdb_tree.specs.Descents.{Descends}
 use Rattle.mmdb_reader.specs.File.{Database, tree_of, data_start, before_ipv4}
 use Rattle.mmdb_reader.specs.Source.{IsDatabaseOf}
 use Rattle.mmdb_reader.specs.Whole.{IsWhole}

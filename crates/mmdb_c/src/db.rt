@@ -1,8 +1,8 @@
 //! Lookups in databases over bytes and tables that C holds.
 ghost use Rattle.std.specs.Prelude.{◌≡◌, ◌<◌, ◌≤◌, ◌^◌, ◌+◌, ◌*◌, ◌≢◌, ◌==◌, if◌then◌else◌, length};
 ghost use Rattle.mmdb_net.specs.Bits.{bits_of};
-ghost use Rattle.mmdb_reader.specs.Descents.{Descends};
-ghost use Rattle.mmdb_reader.specs.Tree.{search_tree};
+ghost use Rattle.mmdb_tree.specs.Descents.{Descends};
+ghost use Rattle.mmdb_tree.specs.Nodes.{tree_in};
 ghost use Rattle.mmdb_reader.specs.File.{Database};
 ghost use Rattle.mmdb_reader.specs.Lookup.{outcome_of};
 ghost use Rattle.mmdb_c.specs.Opened.{IsOpened, IsOf, IsOfFile, ReportsIpv4, ReportsIpv6, HasNoIpv6, IsChild};
@@ -59,8 +59,7 @@ struct Leaf {
 impl Db<'_> {
     #[inline(always)]
     fn nodes(&self) -> Nodes<'_>
-        ensures tree { let nodes = result in
-            search_tree nodes.bytes.now nodes.node_count nodes.record_size ≡ tree self.now.file.now self.now.facts }
+        ensures tree { tree_in result ≡ tree self.now.file.now self.now.facts }
         ensures count { result.node_count ≡ self.now.facts.node_count }
     {
         Nodes {

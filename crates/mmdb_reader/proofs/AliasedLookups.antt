@@ -6,7 +6,7 @@ use Rattle.std.specs.declared.net.ip_addr.IpAddr.{IpAddr}
 use Rattle.mmdb_net.specs.Bits.{zero_bits, number_of}
 use Rattle.mmdb_net.proofs.BitLaws.{length-zero_bits}
 use Rattle.mmdb_reader.specs.File.{Database, tree_of, width, has_ipv6, before_ipv4}
-use Rattle.mmdb_reader.specs.Tree.{walk_from, walk}
+use Rattle.mmdb_tree.specs.Tree.{walk_from, walk}
 use Rattle.mmdb_reader.specs.Lookup.{Offset, NoData, Failed, Outcome, Answers, address_bits, outcome_of}
 use Rattle.mmdb_reader.specs.Shown.{ipv4_start}
 use Rattle.mmdb_reader.specs.Alias.{IsAlias}
@@ -14,7 +14,7 @@ use Rattle.mmdb_reader.specs.Listing.{HasValueAt}
 use Rattle.mmdb_reader.specs.Stops.{stop, end_at}
 use Rattle.mmdb_reader.specs.Whole.{IsWalked, IsTopmost, HasNoFault}
 use Rattle.mmdb_reader.specs.WholeLaws.{LookupsSucceed, AnsweredOffsetsAreWalked, WholeFilesAnswer, GoesOnAsIpv4, AliasesEndAsIpv4}
-use Rattle.mmdb_reader.proofs.WalkLemmas.{walk-append, walk-inner, walk-past}
+use Rattle.mmdb_tree.proofs.WalkLemmas.{walk-append, walk-inner, walk-past}
 use Rattle.mmdb_reader.proofs.NumberLemmas.{number-below}
 use Rattle.mmdb_reader.proofs.LawLemmas.{length-address_bits, answer-walk}
 use Rattle.mmdb_reader.proofs.FindingLemmas.{OnNode, AtEnd, Nowhere, Value, kind_of_leaf, outcome-offset, outcome-end}

@@ -9,7 +9,7 @@ use Rattle.std.specs.Net.Addr.{ipv4_bits, ipv6_bits}
 use Rattle.mmdb_net.specs.Bits.{bits_of}
 use Rattle.mmdb_net.proofs.BitLaws.{length-bits_of}
 use Rattle.mmdb_reader.specs.File.{Database, tree_of, before_ipv4}
-use Rattle.mmdb_reader.specs.Descents.{Descends}
+use Rattle.mmdb_tree.specs.Descents.{Descends}
 use Rattle.mmdb_reader.specs.Lookup.{Answers, IsLeafAt, Outcome, block_at, address_bits}
 use Rattle.mmdb_reader.specs.Counting.{CountsNodes}
 use Rattle.mmdb_reader.proofs.LeafLemmas.{start-is}

@@ -4,7 +4,7 @@ use Rattle.std.proofs.lemmas.Bool.{cases_Bool, cases_lt, le-leb, lt-leb, lt-ltb,
 use Rattle.std.proofs.Math.Nat.{two-pow-succ}
 use Rattle.std.proofs.Math.Pow.{pow_mono, pow_pos}
 use Rattle.mmdb_reader.specs.File.{Database, tree_of, width, has_ipv6}
-use Rattle.mmdb_reader.specs.Tree.{walk}
+use Rattle.mmdb_tree.specs.Tree.{walk}
 use Rattle.mmdb_net.specs.Bits.{number_of}
 use Rattle.mmdb_reader.specs.Alias.{is_alias}
 use Rattle.mmdb_reader.specs.Stops.{goes_on, end_at}

@@ -8,12 +8,12 @@ use Rattle.mmdb_net.specs.Bits.{IsPrefix}
 use Rattle.mmdb_net.specs.Address.{bits_of_address}
 use Rattle.mmdb_net.proofs.AddressLaws.{length-bits_of_address}
 use Rattle.mmdb_reader.specs.File.{Database, tree_of, width, has_ipv6, before_ipv4}
-use Rattle.mmdb_reader.specs.Tree.{walk}
+use Rattle.mmdb_tree.specs.Tree.{walk}
 use Rattle.mmdb_reader.specs.Leaves.{IsLeaf}
 use Rattle.mmdb_reader.specs.Lookup.{Outcome, Failed, CanAsk, Answers, IsInvalidAt, IsLeafAt, address_bits, outcome_of, outcome_at}
-use Rattle.mmdb_reader.specs.Descents.{Descends}
+use Rattle.mmdb_tree.specs.Descents.{Descends}
 use Rattle.mmdb_reader.specs.Laws.{LeavesAreDisjoint, EachAddressHasOneLeaf, EachAddressIsAnswered, AnswersAreUnique, SameLeafSameAnswer}
-use Rattle.mmdb_reader.proofs.WalkLemmas.{walk-nil, walk-past}
+use Rattle.mmdb_tree.proofs.WalkLemmas.{walk-nil, walk-past}
 use Rattle.mmdb_reader.proofs.LeafLemmas.{EndsOn, EndsOn-descends, IsLeaf-ends, IsPrefix-ends, length-before_ipv4}
 
 -- a leaf that begins another is that leaf

@@ -7,7 +7,7 @@ use Rattle.std.proofs.lemmas.Bool.{cases_Bool, cases_lt}
 use Rattle.mmdb_net.specs.Bits.{IsPrefix}
 use Rattle.mmdb_reader.specs.declared.options.WithinOptions.{WithinOptions}
 use Rattle.mmdb_reader.specs.File.{Database, tree_of, width}
-use Rattle.mmdb_reader.specs.Tree.{walk}
+use Rattle.mmdb_tree.specs.Tree.{walk}
 use Rattle.mmdb_reader.specs.Leaves.{IsLeaf}
 use Rattle.mmdb_reader.specs.Options.{includes_aliased}
 use Rattle.mmdb_reader.specs.Listing.{Finding, Listed, listed_with, IsClear, IsListed, ComesBefore, Ascends, leaves_of, IsListing, is_hidden, finding_at, list_if, listed_at, listed_below, listed_along, listed}

@@ -4,7 +4,7 @@ use Rattle.std.proofs.lemmas.Bool.{cases_Bool, cases_lt, false≢true}
 use Rattle.std.proofs.lemmas.List.{take-append-le}
 use Rattle.std.proofs.Math.Seq.{take-append-add}
 use Rattle.mmdb_reader.specs.File.{Database, tree_of, width}
-use Rattle.mmdb_reader.specs.Tree.{step}
+use Rattle.mmdb_tree.specs.Tree.{step}
 use Rattle.mmdb_reader.specs.Stops.{Stop, stops, shared, cost, cut, is_fault, EndsAtFault, AreFirst, most_stops}
 use Rattle.mmdb_reader.specs.declared.walked.End.TheVariants.{Alias}
 use Rattle.mmdb_reader.specs.Walked.{goes_on_from}

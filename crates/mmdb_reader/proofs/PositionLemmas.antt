@@ -8,14 +8,14 @@ use Rattle.mmdb_net.proofs.BitLaws.{length-bits_of}
 use Rattle.mmdb_reader.specs.declared.options.WithinOptions.{WithinOptions}
 use Rattle.mmdb_reader.specs.declared.positions.Position.{Position}
 use Rattle.mmdb_reader.specs.File.{Database, tree_of, width, has_ipv6}
-use Rattle.mmdb_reader.specs.Tree.{walk, step}
+use Rattle.mmdb_tree.specs.Tree.{walk, step}
 use Rattle.mmdb_net.specs.Bits.{number_of}
 use Rattle.mmdb_reader.specs.Alias.{is_alias, is_alias_at}
 use Rattle.mmdb_reader.specs.Positions.{IsAt, HidesAliases, bits_to, half_of, is_high_at}
 use Rattle.mmdb_reader.specs.Listing.{is_hidden}
 use Rattle.mmdb_reader.specs.Options.{includes_aliased}
 use Rattle.mmdb_reader.specs.Shown.{ipv4_start, has_ipv4_subtree}
-use Rattle.mmdb_reader.proofs.WalkLemmas.{walk-append, walk-nil, walk-one}
+use Rattle.mmdb_tree.proofs.WalkLemmas.{walk-append, walk-nil, walk-one}
 use Rattle.mmdb_reader.proofs.NumberLemmas.{number-room, number-snoc, take-bits-number}
 
 abbrev pub root : Position

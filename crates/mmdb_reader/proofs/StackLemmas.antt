@@ -6,7 +6,7 @@ use Rattle.std.proofs.lemmas.Bool.{cases_lt}
 use Rattle.mmdb_reader.specs.declared.options.WithinOptions.{WithinOptions}
 use Rattle.mmdb_reader.specs.declared.positions.Position.{Position}
 use Rattle.mmdb_reader.specs.File.{Database, tree_of, width}
-use Rattle.mmdb_reader.specs.Tree.{walk}
+use Rattle.mmdb_tree.specs.Tree.{walk}
 use Rattle.mmdb_reader.specs.Listing.{Finding, Listed, listed_below, list_if, is_hidden, finding_at}
 use Rattle.mmdb_reader.specs.Positions.{IsAt, HasHalves, IsEnd, IsPlaced, IsStack, ListsSame, IsLowest, IsNothing, bits_to, half_of, listed_from, listed_of_stack, positions_below, positions_left}
 use Rattle.mmdb_reader.proofs.ListingSteps.{below-hidden, below-node, below-full, below-leaf}

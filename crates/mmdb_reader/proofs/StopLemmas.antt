@@ -7,13 +7,13 @@ use Rattle.std.proofs.lemmas.List.Elements.{Contains-append_left, Contains-appen
 use Rattle.mmdb_reader.specs.declared.walked.End.{End}
 use Rattle.mmdb_reader.specs.declared.walked.End.TheVariants.{Alias, Fault, Absent, Found}
 use Rattle.mmdb_reader.specs.File.{Database, tree_of, width}
-use Rattle.mmdb_reader.specs.Tree.{walk}
+use Rattle.mmdb_tree.specs.Tree.{walk}
 use Rattle.mmdb_reader.specs.Lookup.{outcome_of}
 use Rattle.mmdb_reader.specs.Alias.{IsAlias, is_alias}
 use Rattle.mmdb_reader.specs.Listing.{HasValueAt, LeadsNowhere, Ascends, ComesBefore}
 use Rattle.mmdb_reader.specs.Stops.{Stop, stop, end_of_outcome, end_of_leaf, end_at, goes_on, stops_below, stops}
 use Rattle.mmdb_reader.specs.WholeLaws.{HasEnd, IsStop, StopsAreExact}
-use Rattle.mmdb_reader.proofs.WalkLemmas.{walk-inner}
+use Rattle.mmdb_tree.proofs.WalkLemmas.{walk-inner}
 use Rattle.mmdb_reader.proofs.PositionLemmas.{width-le}
 use Rattle.mmdb_reader.proofs.AliasLemmas.{alias-sound, alias-complete}
 use Rattle.mmdb_reader.proofs.FindingLemmas.{OnNode, AtEnd, Nowhere, Value, kind_of_leaf, outcome-offset, outcome-nowhere, outcome-end}

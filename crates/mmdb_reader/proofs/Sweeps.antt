@@ -6,7 +6,7 @@ use Rattle.std.proofs.Math.Seq.{get_or-append_seam}
 use Rattle.std.proofs.lemmas.Bool.{cases_lt, not-true}
 use Rattle.mmdb_check.specs.Checking.{holds}
 use Rattle.mmdb_reader.specs.File.{Database, width, tree_of}
-use Rattle.mmdb_reader.specs.Tree.{step}
+use Rattle.mmdb_tree.specs.Tree.{step}
 use Rattle.mmdb_reader.specs.declared.walked.WalkEnd.TheVariants.{Whole}
 use Rattle.mmdb_reader.specs.Stops.{is_fault, offset_of, most_stops, walk_cost}
 use Rattle.mmdb_reader.specs.Walked.{goes_on_from, end_from, half_of, IsPlaced, GoesOn, IsStopped, Keeps, Takes, IsVerdict}

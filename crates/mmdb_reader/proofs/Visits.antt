@@ -3,12 +3,12 @@ use Rattle.std.proofs.Common.{◌≡◌, ℕ, ◌+◌, ◌-◌, ◌<◌, zero, s
 use Rattle.std.specs.List.{list_any}
 use Rattle.std.proofs.lemmas.List.{append-nil}
 use Rattle.mmdb_reader.specs.File.{Database, tree_of, width}
-use Rattle.mmdb_reader.specs.Tree.{step, walk}
+use Rattle.mmdb_tree.specs.Tree.{step, walk}
 use Rattle.mmdb_reader.specs.Stops.{Stop, stop, end_at, goes_on, stops_below, stops, shared, cost, cost_after, cut, is_fault, offset_of, offsets}
 use Rattle.mmdb_reader.specs.Walked.{goes_on_from, end_from}
 use Rattle.mmdb_reader.specs.declared.walked.End.{End}
 use Rattle.mmdb_reader.proofs.HighBits.{lt_same, high_of, high-nil, high-snoc, goes-on-is, end-at-is}
-use Rattle.mmdb_reader.proofs.WalkLemmas.{walk-append, walk-nil, walk-one}
+use Rattle.mmdb_tree.proofs.WalkLemmas.{walk-append, walk-nil, walk-one}
 
 -- a stop, and how many positions are taken after the stop before
 pub record Visit : Type 0 where

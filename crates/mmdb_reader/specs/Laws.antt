@@ -10,7 +10,7 @@ use Rattle.mmdb_net.specs.Network.{ip_of, prefix_of}
 use Rattle.mmdb_net.specs.declared.network.IpNetwork.{IpNetwork}
 use Rattle.mmdb_reader.specs.Shown.{has_ipv4_subtree, IsIpv4Depth, block_in, ShowsAnswer}
 use Rattle.mmdb_reader.specs.File.{Database, has_ipv6, width, tree_of}
-use Rattle.mmdb_reader.specs.Tree.{walk}
+use Rattle.mmdb_tree.specs.Tree.{walk}
 use Rattle.mmdb_reader.specs.Leaves.{IsLeaf}
 use Rattle.mmdb_reader.specs.Lookup.{Outcome, Answers, CanAsk, address_bits, outcome_of}
 

@@ -5,7 +5,7 @@ use Rattle.std.specs.List.{Contains}
 use Rattle.mmdb_net.specs.Bits.{IsPrefix}
 use Rattle.mmdb_reader.specs.declared.options.WithinOptions.{WithinOptions}
 use Rattle.mmdb_reader.specs.File.{Database, tree_of, width, separator, data_length, data_section}
-use Rattle.mmdb_reader.specs.Tree.{walk}
+use Rattle.mmdb_tree.specs.Tree.{walk}
 use Rattle.mmdb_reader.specs.Leaves.{IsLeaf}
 use Rattle.mmdb_reader.specs.Lookup.{Outcome, Offset, NoData, Failed, outcome_of}
 use Rattle.mmdb_reader.specs.Alias.{IsAlias, is_alias}

@@ -6,7 +6,7 @@ use Rattle.std.specs.declared.net.ip_addr.IpAddr.TheVariants.{V4, V6}
 use Rattle.mmdb_net.specs.Bits.{IsPrefix}
 use Rattle.mmdb_net.specs.Address.{bits_of_address}
 use Rattle.mmdb_reader.specs.File.{Database, tree_of, before_ipv4, separator, data_length}
-use Rattle.mmdb_reader.specs.Tree.{walk}
+use Rattle.mmdb_tree.specs.Tree.{walk}
 use Rattle.mmdb_reader.specs.Leaves.{IsLeaf}
 
 -- An address's bits, the highest first. In an IPv6 database an IPv4 address has 96 zero bits before it.

@@ -4,7 +4,7 @@ use Rattle.mmdb_net.specs.Bits.{bits_of}
 use Rattle.mmdb_reader.specs.declared.options.WithinOptions.{WithinOptions}
 use Rattle.mmdb_reader.specs.declared.positions.Position.{Position}
 use Rattle.mmdb_reader.specs.File.{Database, tree_of, width}
-use Rattle.mmdb_reader.specs.Tree.{walk, step}
+use Rattle.mmdb_tree.specs.Tree.{walk, step}
 use Rattle.mmdb_net.specs.Bits.{number_of}
 use Rattle.mmdb_reader.specs.Alias.{is_alias_at}
 use Rattle.mmdb_reader.specs.Listing.{Listed, listed_below, listed, is_hidden}

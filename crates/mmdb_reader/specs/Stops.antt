@@ -4,7 +4,7 @@ use Rattle.std.specs.Prelude.{◌≡◌, ◌≤◌, ◌⊎◌, ℕ, ◌+◌, ◌
 use Rattle.mmdb_reader.specs.declared.walked.End.{End}
 use Rattle.mmdb_reader.specs.declared.walked.End.TheVariants.{Alias, Fault, Absent, Found}
 use Rattle.mmdb_reader.specs.File.{Database, tree_of, width}
-use Rattle.mmdb_reader.specs.Tree.{walk}
+use Rattle.mmdb_tree.specs.Tree.{walk}
 use Rattle.mmdb_reader.specs.Alias.{is_alias}
 use Rattle.mmdb_reader.specs.Lookup.{Outcome, Offset, NoData, Failed, outcome_of}
 

@@ -7,7 +7,7 @@ use Rattle.mmdb_check.specs.Checking.{IsGood}
 use Rattle.mmdb_reader.specs.declared.walked.End.{End}
 use Rattle.mmdb_reader.specs.declared.walked.End.TheVariants.{Alias, Fault, Absent, Found}
 use Rattle.mmdb_reader.specs.File.{Database, tree_of, before_ipv4, data_section}
-use Rattle.mmdb_reader.specs.Tree.{walk}
+use Rattle.mmdb_tree.specs.Tree.{walk}
 use Rattle.mmdb_reader.specs.Leaves.{IsLeaf}
 use Rattle.mmdb_reader.specs.Lookup.{CanAsk, Answers, Offset, IsInvalidAt}
 use Rattle.mmdb_reader.specs.Alias.{IsAlias}

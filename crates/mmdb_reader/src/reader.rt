@@ -10,10 +10,9 @@ use crate::lookup_result::{LookupResult, NumberedAddress};
 use crate::marker::MARKER;
 use crate::metadata::Metadata;
 use crate::steps::Steps;
-use crate::table::Entry;
-use crate::tree::Nodes;
 use mmdb_format::error::MaxMindDbError;
 use mmdb_format::message::{Message, Text};
+use mmdb_tree::{Entry, Nodes};
 use std::alloc::Global;
 use std::convert::AsSlice;
 use std::marker::Model;
@@ -80,7 +79,7 @@ impl<S: AsSlice<u8> + Drop> Reader<S> {
     ghost use Rattle.mmdb_reader.specs.Kept.{IsReader};
     ghost use Rattle.mmdb_reader.specs.Lookup.{CanAsk, Outcome, Answers, IsInvalidAt, IsLeafAt, Failed, outcome_of, outcome_at, block_at};
     ghost use Rattle.mmdb_reader.specs.Shown.{is_shown_as_ipv4, has_ipv4_subtree, ipv4_start};
-    ghost use Rattle.mmdb_reader.specs.Tree.{search_tree};
+    ghost use Rattle.mmdb_tree.specs.Nodes.{tree_in};
     ghost use Rattle.mmdb_reader.specs.File.{tree_of, width, data_section};
 
     /// A reader of a source whose marker stands at this place, and whose metadata are these.
@@ -198,7 +197,7 @@ impl<S: AsSlice<u8> + Drop> Reader<S> {
     // The nodes of the search tree.
     #[inline(always)]
     pub(crate) fn nodes(&self) -> Nodes<'_>
-        ensures tree { search_tree result.bytes.now result.node_count result.record_size ≡ tree_of self.now }
+        ensures tree { tree_in result ≡ tree_of self.now }
         ensures count { result.node_count ≡ self.now.metadata.node_count }
         ensures few { result.node_count < 2 ^ 32 }
     {

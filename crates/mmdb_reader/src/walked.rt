@@ -8,8 +8,8 @@ ghost use Rattle.mmdb_reader.specs.Stops.{is_fault, walk_cost};
 ghost use Rattle.mmdb_reader.specs.Walked.{AreLimits, Takes, GoesOn, IsStopped, half_of, end_from, is_alias_of, Keeps, IsVerdict};
 
 use crate::reader::{Reader, SEPARATOR};
-use crate::tree::Nodes;
 use mmdb_check::offset_set::OffsetSet;
+use mmdb_tree::Nodes;
 use std::convert::AsSlice;
 
 /// What a walk stops at: an alias, or a leaf that is faulty, has no data, or has a value at an offset.

@@ -1,0 +1,5 @@
+pub mod WalkLemmas
+pub mod DescentLemmas
+pub mod TableLemmas
+pub mod GroupLemmas
+pub mod RecordLemmas

@@ -1,0 +1,5 @@
+pub mod Tree
+pub mod Descents
+pub mod Table
+pub mod Nodes
+pub mod Groups
