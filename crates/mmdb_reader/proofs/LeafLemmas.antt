@@ -11,7 +11,7 @@ use Rattle.std.specs.Net.Addr.{ipv4_bits, ipv6_bits}
 use Rattle.mmdb_net.specs.Bits.{bits_of, zero_bits, IsPrefix}
 use Rattle.mmdb_net.proofs.BitLaws.{length-bits_of, length-zero_bits, take-zero_bits, bits_of-zero}
 use Rattle.mmdb_tree.specs.declared.table.Entry.{Entry}
-use Rattle.mmdb_tree.specs.Tree.{SearchTree, walk_from, walk}
+use Rattle.mmdb_tree.specs.Tree.{walk_from, walk}
 use Rattle.mmdb_reader.specs.File.{Database, tree_of, has_ipv6, width, before_ipv4}
 use Rattle.mmdb_reader.specs.Leaves.{IsLeaf}
 use Rattle.mmdb_reader.specs.Lookup.{IsLeafAt, block_at}

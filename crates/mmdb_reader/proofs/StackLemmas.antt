@@ -7,7 +7,8 @@ use Rattle.mmdb_reader.specs.declared.options.WithinOptions.{WithinOptions}
 use Rattle.mmdb_reader.specs.declared.positions.Position.{Position}
 use Rattle.mmdb_reader.specs.File.{Database, tree_of, width}
 use Rattle.mmdb_tree.specs.Tree.{walk}
-use Rattle.mmdb_reader.specs.Listing.{Finding, Listed, listed_below, list_if, is_hidden, finding_at}
+use Rattle.mmdb_tree.specs.declared.record.TreeRecord.{TreeRecord}
+use Rattle.mmdb_reader.specs.Listing.{Listed, listed_below, list_if, is_hidden, finding_at}
 use Rattle.mmdb_reader.specs.Positions.{IsAt, HasHalves, IsEnd, IsPlaced, IsStack, ListsSame, IsLowest, IsNothing, bits_to, half_of, listed_from, listed_of_stack, positions_below, positions_left}
 use Rattle.mmdb_reader.proofs.ListingSteps.{below-hidden, below-node, below-full, below-leaf}
 use Rattle.mmdb_reader.proofs.PositionLemmas.{bits_to-half, IsAt-half}
@@ -42,7 +43,7 @@ module _ (db : Database) (options : WithinOptions) (p : Position) (at : IsAt db 
   leaf_with (suc left) shown (inr off) = let r = at.reached in below-leaf db options (bits_to db p) left shown (omega (arith, r, off))
 
   -- the list of a leaf
-  pub from-leaf : (found : Option Finding) → found ≡ finding_at db options p.number → is_hidden db options (bits_to db p) ≡ false → IsEnd db p → listed_from db options p ≡ list_if (bits_to db p) found
+  pub from-leaf : (found : Option TreeRecord) → found ≡ finding_at db options p.number → is_hidden db options (bits_to db p) ≡ false → IsEnd db p → listed_from db options p ≡ list_if (bits_to db p) found
   from-leaf found is shown ended =
       let at_end : ((width db - p.prefix ≡ 0) ⊎ (db.metadata.node_count ≤ p.number)) = elim ended [ inl full ↦ inl (omega arith) | inr off ↦ inr off ] in
       leaf_with (width db - p.prefix) shown at_end ∙ ap (λ (n : ℕ). list_if (bits_to db p) (finding_at db options n)) (sym at.reached) ∙ ap (list_if (bits_to db p)) (sym is)
@@ -74,7 +75,7 @@ module _ (db : Database) (options : WithinOptions) (xs : List Position) (p : Pos
       stack-push db options xs p ∙ ap (λ (m : List Listed). m ++ listed_of_stack db options xs) split ∙ append_assoc low high (listed_of_stack db options xs) ∙ sym with_lower
 
   -- a leaf gives itself, if it is listed
-  pub step-leaf : (found : Option Finding) → IsAt db p → found ≡ finding_at db options p.number → is_hidden db options (bits_to db p) ≡ false → IsEnd db p → listed_of_stack db options (xs ++ p ∷ []) ≡ list_if (bits_to db p) found ++ listed_of_stack db options xs
+  pub step-leaf : (found : Option TreeRecord) → IsAt db p → found ≡ finding_at db options p.number → is_hidden db options (bits_to db p) ≡ false → IsEnd db p → listed_of_stack db options (xs ++ p ∷ []) ≡ list_if (bits_to db p) found ++ listed_of_stack db options xs
   step-leaf found at is shown ended = stack-push db options xs p ∙ ap (λ (m : List Listed). m ++ listed_of_stack db options xs) (from-leaf db options p at found is shown ended)
 
   pub leaf-smaller : positions_left (width db) xs < positions_left (width db) (xs ++ p ∷ [])
@@ -184,7 +185,7 @@ module _ (db : Database) (options : WithinOptions) (capacity : ℕ) (old xs : Li
   lowest-smaller = let less = leaf-smaller db options xs p in let left = lowest.on.left in omega (arith, less, left)
 
   -- the leaf comes first, if it is listed
-  pub lowest-lists : (found : Option Finding) → found ≡ finding_at db options p.number → listed_of_stack db options old ≡ list_if (bits_to db p) found ++ listed_of_stack db options xs
+  pub lowest-lists : (found : Option TreeRecord) → found ≡ finding_at db options p.number → listed_of_stack db options old ≡ list_if (bits_to db p) found ++ listed_of_stack db options xs
   lowest-lists found is = sym lowest.on.lists ∙ step-leaf db options xs p found lowest-at is lowest.shown lowest.ends
 
 -- what is left on the stack keeps its place, whether a leaf was met or an alias

@@ -12,14 +12,11 @@ use crate::metadata::Metadata;
 use crate::steps::Steps;
 use mmdb_format::error::MaxMindDbError;
 use mmdb_format::message::{Message, Text};
-use mmdb_tree::{Entry, Nodes};
+use mmdb_tree::{Entry, Nodes, SEPARATOR, TreeRecord};
 use std::alloc::Global;
 use std::convert::AsSlice;
 use std::marker::Model;
 use std::net::{IpAddr, Ipv6Addr};
-
-// The zero bytes between the tree and the data.
-pub(crate) const SEPARATOR: usize = 16;
 
 // A leaf as the network that shows it, with the number to which its walk leads.
 #[derive(Clone, Copy)]
@@ -77,9 +74,11 @@ impl<S: AsSlice<u8> + Drop> Reader<S> {
     ghost use Rattle.mmdb_reader.specs.Found.{database_asked, leaf_of, offset_found, shown_as_ipv4};
     ghost use Rattle.mmdb_reader.specs.Counting.{CountsNodes};
     ghost use Rattle.mmdb_reader.specs.Kept.{IsReader};
-    ghost use Rattle.mmdb_reader.specs.Lookup.{CanAsk, Outcome, Answers, IsInvalidAt, IsLeafAt, Failed, outcome_of, outcome_at, block_at};
+    ghost use Rattle.mmdb_reader.specs.Lookup.{CanAsk, Answers, IsInvalidAt, IsLeafAt, outcome_of, outcome_at, record_at, block_at};
     ghost use Rattle.mmdb_reader.specs.Shown.{is_shown_as_ipv4, has_ipv4_subtree, ipv4_start};
     ghost use Rattle.mmdb_tree.specs.Nodes.{tree_in};
+    ghost use Rattle.mmdb_tree.specs.declared.record.TreeRecord.{TreeRecord as Record};
+    ghost use Rattle.mmdb_tree.specs.declared.record.TreeRecord.TheVariants.{Invalid};
     ghost use Rattle.mmdb_reader.specs.File.{tree_of, width, data_section};
 
     /// A reader of a source whose marker stands at this place, and whose metadata are these.
@@ -274,35 +273,29 @@ impl<S: AsSlice<u8> + Drop> Reader<S> {
         }
     }
 
-    // The offset in the data section that a number of the tree stands for, if it has data. None where the
-    // number leads nowhere.
-    #[tactic(auto, unfolding(crate::specs::Lookup::outcome_of))]
+    // Where a number of the tree leads.
     #[inline(always)]
-    pub(crate) fn place_of(&self, number: usize) -> Option<Option<usize>>
-        ensures { MatchOption result
-            (outcome_of self.now number ≡ Failed)
-            (λ offset. outcome_of self.now number ≡ outcome_at offset) }
+    pub(crate) fn record_at(&self, number: usize) -> TreeRecord
+        ensures { result ≡ record_at self.now number }
     {
-        let nodes = self.metadata.node_count as usize;
-        if number <= nodes {
-            return Some(None);
-        }
-        match number.checked_sub(nodes + SEPARATOR) {
-            Some(offset) if offset < self.marker - self.data_start => Some(Some(offset)),
-            _ => None,
-        }
+        let data_len = self.marker - self.data_start;
+        TreeRecord::of(number, self.metadata.node_count as usize, data_len)
     }
 
-    // The same, with the error for a number that leads nowhere.
+    // The offset in the data section to which a number of the tree leads, if it has data, or the error for a number
+    // that leads nowhere.
+    #[tactic(auto, unfolding(crate::specs::Lookup::outcome_of))]
     #[inline(always)]
     pub(crate) fn offset_at(&self, number: usize) -> Result<Option<usize>, MaxMindDbError>
         ensures { MatchResult result
             (λ offset. outcome_of self.now number ≡ outcome_at offset)
-            (λ e. (kind_of e ≡ OfDatabase) × (outcome_of self.now number ≡ Failed)) }
+            (λ e. (kind_of e ≡ OfDatabase) × (outcome_of self.now number ≡ Invalid)) }
     {
-        match self.place_of(number) {
-            Some(offset) => Ok(offset),
-            None => Err(MaxMindDbError::InvalidDatabase {
+        match self.record_at(number) {
+            TreeRecord::Node(_) => Ok(None),
+            TreeRecord::Empty => Ok(None),
+            TreeRecord::Data(offset) => Ok(Some(offset)),
+            TreeRecord::Invalid => Err(MaxMindDbError::InvalidDatabase {
                 message: Message::Fixed(Text::InvalidLocation),
                 offset: None,
             }),
@@ -326,7 +319,7 @@ impl<S: AsSlice<u8> + Drop> Reader<S> {
         ensures of_input { FailsAs OfInput result ↔ ¬ (CanAsk self.now address) }
         ensures of_database { FailsAs OfDatabase result ↔ IsInvalidAt self.now address }
         ensures no_other { IfErr result (λ e. (kind_of e ≡ OfInput) ⊎ (kind_of e ≡ OfDatabase)) }
-        ensures counted { (leaf : List Bool) (outcome : Outcome) → Answers self.now address leaf outcome → CountsNodes self.now address leaf steps.old steps.new }
+        ensures counted { (leaf : List Bool) (outcome : Record) → Answers self.now address leaf outcome → CountsNodes self.now address leaf steps.old steps.new }
         ensures not_counted { ¬ (CanAsk self.now address) → steps.new ≡ steps.old }
     {
         let Some(leaf) = self.find_leaf(address, steps) else {

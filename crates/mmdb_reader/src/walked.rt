@@ -7,19 +7,10 @@ ghost use Rattle.mmdb_reader.specs.File.{width, data_length};
 ghost use Rattle.mmdb_reader.specs.Stops.{is_fault, walk_cost};
 ghost use Rattle.mmdb_reader.specs.Walked.{AreLimits, Takes, GoesOn, IsStopped, half_of, end_from, is_alias_of, Keeps, IsVerdict};
 
-use crate::reader::{Reader, SEPARATOR};
+use crate::reader::Reader;
 use mmdb_check::offset_set::OffsetSet;
-use mmdb_tree::Nodes;
+use mmdb_tree::{Nodes, TreeRecord};
 use std::convert::AsSlice;
-
-/// What a walk stops at: an alias, or a leaf that is faulty, has no data, or has a value at an offset.
-#[derive(Clone, Copy)]
-pub(crate) enum End {
-    Alias,
-    Fault,
-    Absent,
-    Found(usize),
-}
 
 /// A number of the tree, how many bits lead to it, and whether they are high: whether one of the first 96
 /// bits of an IPv6 address is 1.
@@ -113,31 +104,19 @@ impl<S: AsSlice<u8> + Drop> Walker<'_, S> {
         }
     }
 
-    // What the walk stops at. An alias is a node, so of the others nothing is asked.
-    #[tactic(auto, unfolding(crate::specs::Stops::end_of_leaf, crate::specs::Lookup::outcome_of))]
+    // What the walk stops at: the node to which an alias leads, or what a leaf has.
     #[inline(always)]
-    fn end_from(&self, point: Point) -> End
+    fn end_from(&self, point: Point) -> TreeRecord
         ensures { result ≡ end_from self.now.reader.now point.number point.high }
     {
-        if point.number < self.nodes.node_count {
-            return if self.is_alias(point) {
-                End::Alias
-            } else {
-                End::Fault
-            };
-        }
-        let past = point.number - self.nodes.node_count;
-        if past == 0 {
-            End::Absent
-        } else if past < SEPARATOR || past - SEPARATOR >= self.data_len {
-            End::Fault
-        } else {
-            End::Found(past - SEPARATOR)
+        match TreeRecord::of(point.number, self.nodes.node_count, self.data_len) {
+            TreeRecord::Node(_) if !self.is_alias(point) => TreeRecord::Invalid,
+            record => record,
         }
     }
 
     // Puts the offset of what the walk stops at into the set, if it has one. Whether it is no fault.
-    #[tactic(auto, using(crate::proofs::Progress::adds_offset, crate::proofs::Progress::adds_none, crate::proofs::Progress::found_inside))]
+    #[tactic(auto, using(crate::proofs::Progress::adds_offset, crate::proofs::Progress::adds_node, crate::proofs::Progress::adds_empty, crate::proofs::Progress::found_inside))]
     #[inline(always)]
     fn keep(&self, point: Point, set: &mut OffsetSet) -> bool
         requires { length set.old ≡ data_length self.now.reader.now }
@@ -146,9 +125,10 @@ impl<S: AsSlice<u8> + Drop> Walker<'_, S> {
         ensures length { length set.new ≡ length set.old }
     {
         match self.end_from(point) {
-            End::Fault => return false,
-            End::Found(offset) => set.insert(offset),
-            End::Alias | End::Absent => {}
+            TreeRecord::Invalid => return false,
+            TreeRecord::Data(offset) => set.insert(offset),
+            TreeRecord::Node(_) => {}
+            TreeRecord::Empty => {}
         }
         true
     }

@@ -18,6 +18,7 @@ use mmdb_decode::peek::empty_container;
 use mmdb_format::error::MaxMindDbError;
 use mmdb_format::message::{Message, Text};
 use mmdb_net::IpNetwork;
+use mmdb_tree::TreeRecord;
 use std::alloc::Global;
 use std::convert::AsSlice;
 use std::net::{IpAddr, Ipv4Addr, Ipv6Addr};
@@ -86,26 +87,19 @@ impl<S: AsSlice<u8> + Drop> Reader<S> {
         ensures value { finding_of_answer result ≡ finding_at self.now options number }
         ensures faults { FaultsAreOfDatabase result }
     {
-        if number < self.nodes().node_count {
-            return Some(Err(invalid(Text::TreeTooDeep)));
-        }
-        let offset = match self.offset_at(number) {
-            Ok(offset) => offset,
-            Err(error) => return Some(Err(error)),
-        };
-        let Some(place) = offset else {
-            return if options.includes_without_data() {
-                Some(Ok(None))
-            } else {
-                None
-            };
+        let place = match self.record_at(number) {
+            TreeRecord::Node(_) => return Some(Err(invalid(Text::TreeTooDeep))),
+            TreeRecord::Invalid => return Some(Err(invalid(Text::InvalidLocation))),
+            TreeRecord::Empty if options.includes_without_data() => return Some(Ok(None)),
+            TreeRecord::Empty => return None,
+            TreeRecord::Data(place) => place,
         };
         if !options.skips_empty() {
-            return Some(Ok(offset));
+            return Some(Ok(Some(place)));
         }
         match empty_container(self.data_section(), place) {
             Ok(true) => None,
-            Ok(false) => Some(Ok(offset)),
+            Ok(false) => Some(Ok(Some(place))),
             Err(error) => Some(Err(counted_from_start(error, self.data_start()))),
         }
     }

@@ -3,3 +3,4 @@ pub mod DescentLemmas
 pub mod TableLemmas
 pub mod GroupLemmas
 pub mod RecordLemmas
+pub mod LeadLemmas

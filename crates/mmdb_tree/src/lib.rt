@@ -4,8 +4,10 @@
 
 mod group;
 mod nodes;
+mod record;
 mod table;
 
 pub use group::FoundLeaf;
 pub use nodes::{Descent, Nodes, read_node};
+pub use record::{SEPARATOR, TreeRecord};
 pub use table::Entry;
