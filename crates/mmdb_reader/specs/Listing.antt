@@ -109,6 +109,7 @@ abbrev pub finding_unless_empty : Option Bool → ℕ → Option TreeRecord
 finding_unless_empty None offset = Some Invalid
 finding_unless_empty (Some empty) offset = if empty then None else Some (Data offset)
 
+-- what a leaf is listed with, by where its number leads
 abbrev pub finding_of : Database → WithinOptions → TreeRecord → Option TreeRecord
 finding_of db options (Data offset) =
     if skips_empty options then finding_unless_empty (empty_at (data_section db) offset) offset else Some (Data offset)

@@ -1,5 +1,5 @@
 //! Readers, and lookups of addresses.
-ghost use Rattle.std.specs.Prelude.{◌≡◌, ℕ, ◌+◌, ◌^◌, ◌<◌, ◌≤◌, ◌⊎◌, ◌↔◌, Bool, List, IfOk, IfErr, IfSome, OnOk, MatchOption, MatchResult, length, slice_index};
+ghost use Rattle.std.specs.Prelude.{◌≡◌, ℕ, ◌+◌, ◌^◌, ◌<◌, ◌≤◌, ◌⊎◌, ◌↔◌, IfOk, IfErr, IfSome, OnOk, MatchOption, MatchResult, length, slice_index};
 ghost use Rattle.std.specs.Net.Addr.{is_ipv4};
 ghost use Rattle.mmdb_format.specs.Error.{OfDatabase, OfInput, kind_of, MemoryApart, FailsAs};
 ghost use Rattle.mmdb_net.specs.Address.{address_width};
@@ -72,12 +72,11 @@ impl<S: AsSlice<u8> + Drop> Model for Reader<S> {
 
 impl<S: AsSlice<u8> + Drop> Reader<S> {
     ghost use Rattle.mmdb_reader.specs.Found.{database_asked, leaf_of, offset_found, shown_as_ipv4};
-    ghost use Rattle.mmdb_reader.specs.Counting.{CountsNodes};
+    ghost use Rattle.mmdb_reader.specs.Counting.{CountsAnswer, CountsNodes};
     ghost use Rattle.mmdb_reader.specs.Kept.{IsReader};
     ghost use Rattle.mmdb_reader.specs.Lookup.{CanAsk, Answers, IsInvalidAt, IsLeafAt, outcome_of, outcome_at, record_at, block_at};
     ghost use Rattle.mmdb_reader.specs.Shown.{is_shown_as_ipv4, has_ipv4_subtree, ipv4_start};
     ghost use Rattle.mmdb_tree.specs.Nodes.{tree_in};
-    ghost use Rattle.mmdb_tree.specs.declared.record.TreeRecord.{TreeRecord as Record};
     ghost use Rattle.mmdb_tree.specs.declared.record.TreeRecord.TheVariants.{Invalid};
     ghost use Rattle.mmdb_reader.specs.File.{tree_of, width, data_section};
 
@@ -319,7 +318,7 @@ impl<S: AsSlice<u8> + Drop> Reader<S> {
         ensures of_input { FailsAs OfInput result ↔ ¬ (CanAsk self.now address) }
         ensures of_database { FailsAs OfDatabase result ↔ IsInvalidAt self.now address }
         ensures no_other { IfErr result (λ e. (kind_of e ≡ OfInput) ⊎ (kind_of e ≡ OfDatabase)) }
-        ensures counted { (leaf : List Bool) (outcome : Record) → Answers self.now address leaf outcome → CountsNodes self.now address leaf steps.old steps.new }
+        ensures counted { CountsAnswer self.now address steps.old steps.new }
         ensures not_counted { ¬ (CanAsk self.now address) → steps.new ≡ steps.old }
     {
         let Some(leaf) = self.find_leaf(address, steps) else {
