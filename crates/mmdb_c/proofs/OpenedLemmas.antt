@@ -14,9 +14,10 @@ use Rattle.mmdb_reader.specs.Whole.{IsWhole}
 use Rattle.mmdb_format.specs.declared.error.MaxMindDbError.{MaxMindDbError}
 use Rattle.mmdb_format.specs.declared.error.MaxMindDbError.TheVariants.{InvalidDatabase, Io, Decoding, ResourceLimit, InvalidNetwork, InvalidInput, Memory}
 use Rattle.mmdb_format.specs.Error.{MemoryApart, OfMemory, kind_of}
-use Rattle.mmdb_reader.specs.Descents.{Descends}
+use Rattle.mmdb_tree.specs.Descents.{Descends}
 use Rattle.mmdb_reader.specs.Lookup.{block_at, outcome_of}
-use Rattle.mmdb_reader.proofs.LeafLemmas.{Descends-same, depth-le, IsLeafAt-v4, IsLeafAt-v6, IsLeafAt-none, ipv6_bits-unspecified}
+use Rattle.mmdb_tree.proofs.DescentLemmas.{Descends-same}
+use Rattle.mmdb_reader.proofs.LeafLemmas.{depth-le, IsLeafAt-v4, IsLeafAt-v6, IsLeafAt-none, ipv6_bits-unspecified}
 use Rattle.mmdb_c.specs.declared.db.Facts.{Facts}
 use Rattle.mmdb_c.specs.declared.db.Found.{Found}
 use Rattle.mmdb_c.specs.Opened.{IsOf, IsOfFile, IsWholeFile, Reports, tree, outcome_reported}

@@ -5,14 +5,16 @@ use Rattle.std.specs.declared.net.ip_addr.IpAddr.TheVariants.{V4, V6}
 use Rattle.std.specs.declared.net.ipv4_addr.Ipv4Addr.{Ipv4Addr}
 use Rattle.std.specs.declared.net.ipv6_addr.Ipv6Addr.{Ipv6Addr}
 use Rattle.std.specs.Net.Addr.{ipv4_bits, ipv6_bits}
-use Rattle.mmdb_reader.specs.declared.table.Entry.{Entry}
-use Rattle.mmdb_reader.specs.Tree.{SearchTree, search_tree, is_record_size, node_bytes, step}
-use Rattle.mmdb_reader.specs.Table.{IsFull}
-use Rattle.mmdb_reader.specs.Descents.{Descends}
+use Rattle.mmdb_tree.specs.declared.table.Entry.{Entry}
+use Rattle.mmdb_tree.specs.Tree.{SearchTree, search_tree, is_record_size, node_bytes, step}
+use Rattle.mmdb_tree.specs.Table.{IsFull}
+use Rattle.mmdb_tree.specs.Descents.{Descends}
 use Rattle.mmdb_reader.specs.File.{Database, tree_of, data_start, before_ipv4}
 use Rattle.mmdb_reader.specs.Source.{IsDatabaseOf}
 use Rattle.mmdb_reader.specs.Whole.{IsWhole}
-use Rattle.mmdb_reader.specs.Lookup.{Outcome, Offset, NoData, Failed, Answers}
+use Rattle.mmdb_tree.specs.declared.record.TreeRecord.{TreeRecord}
+use Rattle.mmdb_tree.specs.declared.record.TreeRecord.TheVariants.{Data, Empty, Invalid}
+use Rattle.mmdb_reader.specs.Lookup.{Answers}
 use Rattle.mmdb_c.specs.declared.db.Facts.{Facts}
 use Rattle.mmdb_c.specs.declared.db.Found.{Found}
 
@@ -58,8 +60,8 @@ pub record IsOpened (file : List ℕ) (facts : Facts) (ipv4 ipv6 : List Entry) :
   pub ipv6_full : facts.ip_version ≡ 6 → IsFull (tree file facts) 0 ipv6
 
 -- what the status and the offset say
-abbrev pub outcome_reported : Found → Outcome
-outcome_reported found = if nat_eq found.status 0 then Offset found.offset else (if nat_eq found.status 1 then NoData else Failed)
+abbrev pub outcome_reported : Found → TreeRecord
+outcome_reported found = if nat_eq found.status 0 then Data found.offset else (if nat_eq found.status 1 then Empty else Invalid)
 
 -- The answer of the database for the address is reported, and how many bits its leaf has. The status is 0, 1 or,
 -- where the leaf's number is no offset of the data section, 2.

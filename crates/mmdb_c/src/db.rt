@@ -1,8 +1,8 @@
 //! Lookups in databases over bytes and tables that C holds.
 ghost use Rattle.std.specs.Prelude.{◌≡◌, ◌<◌, ◌≤◌, ◌^◌, ◌+◌, ◌*◌, ◌≢◌, ◌==◌, if◌then◌else◌, length};
 ghost use Rattle.mmdb_net.specs.Bits.{bits_of};
-ghost use Rattle.mmdb_reader.specs.Descents.{Descends};
-ghost use Rattle.mmdb_reader.specs.Tree.{search_tree};
+ghost use Rattle.mmdb_tree.specs.Descents.{Descends};
+ghost use Rattle.mmdb_tree.specs.Nodes.{tree_in};
 ghost use Rattle.mmdb_reader.specs.File.{Database};
 ghost use Rattle.mmdb_reader.specs.Lookup.{outcome_of};
 ghost use Rattle.mmdb_c.specs.Opened.{IsOpened, IsOf, IsOfFile, ReportsIpv4, ReportsIpv6, HasNoIpv6, IsChild};
@@ -10,6 +10,7 @@ ghost use Rattle.mmdb_c.specs.Opened.{outcome_reported, tree};
 
 use crate::status::{CORRUPT_TREE, FOUND, IPV6_IN_IPV4, NO_DATA};
 use mmdb_reader::{Entry, Nodes};
+use mmdb_tree::TreeRecord;
 
 /// The numbers of a database: of its metadata, where its data section and its marker begin, and where IPv4
 /// begins in its tree, after how many bits.
@@ -59,9 +60,7 @@ struct Leaf {
 impl Db<'_> {
     #[inline(always)]
     fn nodes(&self) -> Nodes<'_>
-        ensures tree { let nodes = result in
-            search_tree nodes.bytes.now nodes.node_count nodes.record_size
-            ≡ tree self.now.file.now self.now.facts }
+        ensures tree { tree_in result ≡ tree self.now.file.now self.now.facts }
         ensures count { result.node_count ≡ self.now.facts.node_count }
     {
         Nodes {
@@ -120,16 +119,12 @@ impl Db<'_> {
             IsOf db self.now.facts → outcome_reported result ≡ outcome_of db number }
         ensures netmask { result.netmask ≡ netmask }
     {
-        let nodes = self.facts.node_count;
-        let (status, offset) = if number <= nodes {
-            (NO_DATA, 0)
-        } else {
-            match number.checked_sub(nodes + 16) {
-                Some(offset) if offset < self.facts.marker - self.facts.data_start => {
-                    (FOUND, offset)
-                }
-                _ => (CORRUPT_TREE, 0),
-            }
+        let data_len = self.facts.marker - self.facts.data_start;
+        let (status, offset) = match TreeRecord::of(number, self.facts.node_count, data_len) {
+            TreeRecord::Node(_) => (NO_DATA, 0),
+            TreeRecord::Empty => (NO_DATA, 0),
+            TreeRecord::Data(offset) => (FOUND, offset),
+            TreeRecord::Invalid => (CORRUPT_TREE, 0),
         };
         Found {
             status,

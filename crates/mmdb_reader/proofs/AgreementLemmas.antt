@@ -13,7 +13,9 @@ use Rattle.mmdb_net.specs.declared.network.IpNetwork.{IpNetwork}
 use Rattle.mmdb_net.specs.declared.network.IpNetwork.TheVariants as Net
 use Rattle.mmdb_reader.specs.File.{Database, has_ipv6, before_ipv4}
 use Rattle.mmdb_reader.specs.Items.{Item, Network, item_of, item_of_leaf, items_of}
-use Rattle.mmdb_reader.specs.Listing.{Finding, Fault, Absent, Found, Listed, listed_with}
+use Rattle.mmdb_tree.specs.declared.record.TreeRecord.{TreeRecord}
+use Rattle.mmdb_tree.specs.declared.record.TreeRecord.TheVariants.{Node, Empty, Data, Invalid}
+use Rattle.mmdb_reader.specs.Listing.{Listed, listed_with}
 use Rattle.mmdb_reader.specs.Lookup.{Answers, CanAsk, address_bits, outcome_at}
 use Rattle.mmdb_reader.specs.Shown.{has_ipv4_subtree, block_in}
 use Rattle.mmdb_reader.specs.ShownLeaf.{begins_with_zeros, is_leaf_shown_as_ipv4}
@@ -25,20 +27,21 @@ use Rattle.mmdb_reader.proofs.FindingLemmas.{listed_agrees}
 -- a member of the list for which an item is handed out
 handed-out : (db : Database) (list : List Listed) (item : Item) → Contains (items_of db list) item → (m : Listed) × Contains list m × (item_of db m ≡ item)
 handed-out db list item (k, below, is) =
-    let fault : Listed = listed_with [] Fault in
+    let fault : Listed = listed_with [] Invalid in
     let m : Listed = get_or list k fault in
     let inside : k < length list = omega (arith, below, length-map list (item_of db)) in
     let same : get_or list k m ≡ m = get_or_default list k m fault inside in
     (m, (k, inside, same), sym (get_or-map (item_of db) list k fault item inside) ∙ is)
 
 -- what an item that is a network tells of its leaf
-network-parts : (db : Database) (at : List Bool) (finding : Finding) (leaf : List Bool) (offset : Option ℕ) (as_ipv4 : Bool) → item_of_leaf db at finding ≡ Network leaf offset as_ipv4
+network-parts : (db : Database) (at : List Bool) (finding : TreeRecord) (leaf : List Bool) (offset : Option ℕ) (as_ipv4 : Bool) → item_of_leaf db at finding ≡ Network leaf offset as_ipv4
     → (at ≡ leaf) × (is_leaf_shown_as_ipv4 db at ≡ as_ipv4) × ((address : IpAddr) → AgreesWith db address at finding → Answers db address at (outcome_at offset))
-network-parts db at Fault leaf offset as_ipv4 is = absurd (cc)
-network-parts db at Absent leaf offset as_ipv4 is =
+network-parts db at Invalid leaf offset as_ipv4 is = absurd (cc)
+network-parts db at (Node number) leaf offset as_ipv4 is = absurd (cc)
+network-parts db at Empty leaf offset as_ipv4 is =
     let none : None ≡ offset = cc in
     (cc, cc, λ address agrees. subst (λ (o : Option ℕ). Answers db address at (outcome_at o)) none agrees)
-network-parts db at (Found place) leaf offset as_ipv4 is =
+network-parts db at (Data place) leaf offset as_ipv4 is =
     let some : Some place ≡ offset = cc in
     (cc, cc, λ address agrees. subst (λ (o : Option ℕ). Answers db address at (outcome_at o)) some agrees)
 

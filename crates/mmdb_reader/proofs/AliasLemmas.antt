@@ -3,7 +3,7 @@ use Rattle.std.proofs.Common.{◌≡◌, ◌≤◌, ◌⊎◌, ◌&&◌, ◌==�
 use Rattle.std.proofs.lemmas.Bool.{cases_Bool, lt-ltb, ltb-true, le-leb, leb-true, eqb-true, eq-eqb, both_ways, and_parts, and_from}
 use Rattle.mmdb_reader.specs.declared.options.WithinOptions.{WithinOptions}
 use Rattle.mmdb_reader.specs.File.{Database, tree_of, has_ipv6}
-use Rattle.mmdb_reader.specs.Tree.{walk}
+use Rattle.mmdb_tree.specs.Tree.{walk}
 use Rattle.mmdb_reader.specs.Shown.{ipv4_start, has_ipv4_subtree}
 use Rattle.mmdb_reader.specs.Alias.{IsAlias, is_alias}
 use Rattle.mmdb_reader.specs.Options.{includes_aliased}

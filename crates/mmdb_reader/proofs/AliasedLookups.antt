@@ -6,15 +6,17 @@ use Rattle.std.specs.declared.net.ip_addr.IpAddr.{IpAddr}
 use Rattle.mmdb_net.specs.Bits.{zero_bits, number_of}
 use Rattle.mmdb_net.proofs.BitLaws.{length-zero_bits}
 use Rattle.mmdb_reader.specs.File.{Database, tree_of, width, has_ipv6, before_ipv4}
-use Rattle.mmdb_reader.specs.Tree.{walk_from, walk}
-use Rattle.mmdb_reader.specs.Lookup.{Offset, NoData, Failed, Outcome, Answers, address_bits, outcome_of}
+use Rattle.mmdb_tree.specs.Tree.{walk_from, walk}
+use Rattle.mmdb_tree.specs.declared.record.TreeRecord.{TreeRecord}
+use Rattle.mmdb_tree.specs.declared.record.TreeRecord.TheVariants.{Node, Empty, Data, Invalid}
+use Rattle.mmdb_reader.specs.Lookup.{Answers, address_bits, outcome_of}
 use Rattle.mmdb_reader.specs.Shown.{ipv4_start}
 use Rattle.mmdb_reader.specs.Alias.{IsAlias}
 use Rattle.mmdb_reader.specs.Listing.{HasValueAt}
 use Rattle.mmdb_reader.specs.Stops.{stop, end_at}
 use Rattle.mmdb_reader.specs.Whole.{IsWalked, IsTopmost, HasNoFault}
 use Rattle.mmdb_reader.specs.WholeLaws.{LookupsSucceed, AnsweredOffsetsAreWalked, WholeFilesAnswer, GoesOnAsIpv4, AliasesEndAsIpv4}
-use Rattle.mmdb_reader.proofs.WalkLemmas.{walk-append, walk-inner, walk-past}
+use Rattle.mmdb_tree.proofs.WalkLemmas.{walk-append, walk-inner, walk-past}
 use Rattle.mmdb_reader.proofs.NumberLemmas.{number-below}
 use Rattle.mmdb_reader.proofs.LawLemmas.{length-address_bits, answer-walk}
 use Rattle.mmdb_reader.proofs.FindingLemmas.{OnNode, AtEnd, Nowhere, Value, kind_of_leaf, outcome-offset, outcome-end}
@@ -139,10 +141,11 @@ lookups_walked db good s full =
     ]
 
 -- what a lookup answers then: no data, or the offset of the value of a walked leaf
-abbrev IsAnswerOfWalked : Database → Outcome → Type 0
-IsAnswerOfWalked db NoData = Unit {0}
-IsAnswerOfWalked db (Offset offset) = (t : List Bool) × IsWalked db t × HasValueAt db t offset
-IsAnswerOfWalked db Failed = ⊥
+abbrev IsAnswerOfWalked : Database → TreeRecord → Type 0
+IsAnswerOfWalked db Empty = Unit {0}
+IsAnswerOfWalked db (Data offset) = (t : List Bool) × IsWalked db t × HasValueAt db t offset
+IsAnswerOfWalked db Invalid = ⊥
+IsAnswerOfWalked db (Node number) = ⊥
 
 leaf_of_walked : (db : Database) (t : List Bool) → HasNoFault db → IsWalked db t → IsAnswerOfWalked db (outcome_of db (walk (tree_of db) t))
 leaf_of_walked db t good walked = elim (kind_of_leaf db t) [
@@ -152,7 +155,7 @@ leaf_of_walked db t good walked = elim (kind_of_leaf db t) [
   | Value offset v ↦ subst (IsAnswerOfWalked db) (sym (outcome-offset db (walk (tree_of db) t) offset v.leads v.inside)) (t, walked, v)
 ]
 
-of_walked : (db : Database) → HasNoFault db → (address : IpAddr) (leaf : List Bool) (outcome : Outcome) → Answers db address leaf outcome → IsAnswerOfWalked db outcome
+of_walked : (db : Database) → HasNoFault db → (address : IpAddr) (leaf : List Bool) (outcome : TreeRecord) → Answers db address leaf outcome → IsAnswerOfWalked db outcome
 of_walked db good address leaf outcome at =
     let number : ℕ = walk (tree_of db) (address_bits db address) in
     let here : IsAnswerOfWalked db (outcome_of db number) = elim (lookups_walked db good (address_bits db address) (length-address_bits db address at.can_ask)) [
@@ -162,10 +165,10 @@ of_walked db good address leaf outcome at =
     subst (IsAnswerOfWalked db) (answer-walk db address leaf outcome at) here
 
 pub lookups_succeed : LookupsSucceed
-lookups_succeed db good address can rejected = of_walked db good address rejected.0 Failed rejected.1
+lookups_succeed db good address can rejected = of_walked db good address rejected.0 Invalid rejected.1
 
 pub answered_offsets_are_walked : AnsweredOffsetsAreWalked
-answered_offsets_are_walked db good address leaf offset at = (offsets_are_exact db offset).1 (of_walked db good address leaf (Offset offset) at)
+answered_offsets_are_walked db good address leaf offset at = (offsets_are_exact db offset).1 (of_walked db good address leaf (Data offset) at)
 
 pub whole_files_answer : WholeFilesAnswer
 whole_files_answer db whole = record {

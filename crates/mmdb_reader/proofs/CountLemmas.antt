@@ -9,8 +9,9 @@ use Rattle.std.specs.Net.Addr.{ipv4_bits, ipv6_bits}
 use Rattle.mmdb_net.specs.Bits.{bits_of}
 use Rattle.mmdb_net.proofs.BitLaws.{length-bits_of}
 use Rattle.mmdb_reader.specs.File.{Database, tree_of, before_ipv4}
-use Rattle.mmdb_reader.specs.Descents.{Descends}
-use Rattle.mmdb_reader.specs.Lookup.{Answers, IsLeafAt, Outcome, block_at, address_bits}
+use Rattle.mmdb_tree.specs.Descents.{Descends}
+use Rattle.mmdb_tree.specs.declared.record.TreeRecord.{TreeRecord}
+use Rattle.mmdb_reader.specs.Lookup.{Answers, IsLeafAt, block_at, address_bits}
 use Rattle.mmdb_reader.specs.Counting.{CountsNodes}
 use Rattle.mmdb_reader.proofs.LeafLemmas.{start-is}
 use Rattle.mmdb_reader.proofs.LawLemmas.{one_leaf}
@@ -45,7 +46,7 @@ CountsNodes-v6 db a taken read old new few past added =
     }
 
 -- the leaf of an answer is the one that was found
-pub CountsNodes-answer : (db : Database) (address : IpAddr) (leaf other : List Bool) (number old new : ℕ) (outcome : Outcome) → IsLeafAt db address leaf number → CountsNodes db address leaf old new → Answers db address other outcome → CountsNodes db address other old new
+pub CountsNodes-answer : (db : Database) (address : IpAddr) (leaf other : List Bool) (number old new : ℕ) (outcome : TreeRecord) → IsLeafAt db address leaf number → CountsNodes db address leaf old new → Answers db address other outcome → CountsNodes db address other old new
 CountsNodes-answer db address leaf other number old new outcome at counts answer =
     let P : List Bool → Type 0 = λ l. CountsNodes db address l old new in
     subst P (one_leaf db (address_bits db address) leaf other at.is_leaf answer.is_leaf at.on_address answer.on_address) counts

@@ -1,73 +1,55 @@
 -- What a leaf is listed with.
-use Rattle.std.proofs.Common.{◌≡◌, ℕ, ◌+◌, ◌-◌, ◌<◌, ◌≤◌, ◌⊎◌, ◌||◌, ◌==◌, option_map, cond, Bool, true, false, nat_le, nat_lt, List, Option, Some, None, refl, ap, arith, sym, ◌∙◌, subst, inl, inr}
-use Rattle.std.proofs.lemmas.Bool.{cases_Bool, cases_lt, lt-ltb, le-ltb, le-leb, lt-leb, both_ways, eq-eqb, eqb-true, and_parts, and_from, or_left}
+use Rattle.std.proofs.Common.{◌≡◌, ℕ, ◌+◌, ◌-◌, ◌<◌, ◌≤◌, ◌⊎◌, ◌||◌, ◌==◌, option_map, cond, Bool, true, false, List, Option, Some, None, refl, ap, arith, sym, ◌∙◌, subst, inl, inr}
+use Rattle.std.proofs.lemmas.Bool.{cases_Bool, cases_lt, both_ways, eq-eqb, eqb-true, and_parts, and_from, or_left}
 use Rattle.mmdb_format.specs.declared.header.Direct.{Direct}
 use Rattle.mmdb_format.specs.declared.header.Header.{Header}
 use Rattle.mmdb_format.specs.Pointer.{direct_at}
 use Rattle.mmdb_reader.specs.declared.options.WithinOptions.{WithinOptions}
 use Rattle.mmdb_reader.specs.File.{Database, tree_of, data_length, data_section}
-use Rattle.mmdb_reader.specs.Tree.{walk}
-use Rattle.mmdb_reader.specs.Lookup.{Offset, NoData, Failed, outcome_of}
+use Rattle.mmdb_tree.specs.Tree.{walk}
+use Rattle.mmdb_tree.specs.declared.record.TreeRecord.{TreeRecord}
+use Rattle.mmdb_tree.specs.declared.record.TreeRecord.TheVariants.{Node, Empty, Data, Invalid}
+use Rattle.mmdb_reader.specs.Lookup.{for_lookup, outcome_of}
+use Rattle.mmdb_tree.proofs.LeadLemmas.{record-node, record-empty, record-data, record-invalid}
 use Rattle.mmdb_format.specs.Header.{◌>>=◌}
 use Rattle.mmdb_decode.specs.Peeking.{is_empty_container, empty_at}
 use Rattle.mmdb_reader.specs.Empty.{IsUnreadable, IsEmptyContainer}
 use Rattle.mmdb_reader.specs.Options.{includes_without_data, skips_empty}
 use Rattle.mmdb_reader.specs.ListingLaws.{ListedAgrees}
-use Rattle.mmdb_reader.specs.Listing.{Finding, Fault, Absent, Found, HasValueAt, LeadsNowhere, IsFaulty, IsListedWith, finding_at, finding_of_outcome, finding_unless_empty}
+use Rattle.mmdb_reader.specs.Listing.{HasValueAt, LeadsNowhere, IsFaulty, IsListedWith, finding_at, finding_of, finding_unless_empty}
 
--- the outcome of a number past the nodes
-pub outcome-offset : (db : Database) (number offset : ℕ) → number ≡ db.metadata.node_count + 16 + offset → offset < data_length db → outcome_of db number ≡ Offset offset
+-- what a lookup finds
+pub outcome-offset : (db : Database) (number offset : ℕ) → number ≡ db.metadata.node_count + 16 + offset → offset < data_length db → outcome_of db number ≡ Data offset
 unfolding outcome_of
-outcome-offset db number offset is inside =
-    let above : nat_le number db.metadata.node_count ≡ false = lt-leb _ _ (omega arith) in
-    let far : nat_le (db.metadata.node_count + 16) number ≡ true = le-leb _ _ (omega arith) in
-    let back : number - db.metadata.node_count - 16 ≡ offset = omega arith in
-    let low : nat_lt offset (data_length db) ≡ true = lt-ltb _ _ inside in
-    rw (above, far, back, low) refl
+outcome-offset db number offset is inside = ap for_lookup (record-data db.metadata.node_count (data_length db) number offset is inside)
 
-pub outcome-nowhere : (db : Database) (number : ℕ) → db.metadata.node_count < number → ((offset : ℕ) → number ≡ db.metadata.node_count + 16 + offset → offset < data_length db → ⊥) → outcome_of db number ≡ Failed
+pub outcome-end : (db : Database) (number : ℕ) → number ≤ db.metadata.node_count → outcome_of db number ≡ Empty
 unfolding outcome_of
-outcome-nowhere db number past nowhere =
-    let above : nat_le number db.metadata.node_count ≡ false = lt-leb _ _ past in
-    elim (cases_lt number (db.metadata.node_count + 16)) [
-      | inl near ↦ let test : nat_le (db.metadata.node_count + 16) number ≡ false = lt-leb _ _ near in rw (above, test) refl
-      | inr far ↦
-          let test : nat_le (db.metadata.node_count + 16) number ≡ true = le-leb _ _ far in
-          let high : nat_lt (number - db.metadata.node_count - 16) (data_length db) ≡ false = le-ltb _ _ (beyond db number far nowhere) in
-          rw (above, test, high) refl
-    ]
-  where
-    beyond : (db : Database) (number : ℕ) → db.metadata.node_count + 16 ≤ number → ((offset : ℕ) → number ≡ db.metadata.node_count + 16 + offset → offset < data_length db → ⊥) → data_length db ≤ number - db.metadata.node_count - 16
-    beyond db number far nowhere = elim (cases_lt (number - db.metadata.node_count - 16) (data_length db)) [
-      | inl low ↦ absurd (nowhere (number - db.metadata.node_count - 16) (omega arith) low)
-      | inr high ↦ high
-    ]
-
-pub outcome-end : (db : Database) (number : ℕ) → number ≤ db.metadata.node_count → outcome_of db number ≡ NoData
-unfolding outcome_of
-outcome-end db number low = let test : nat_le number db.metadata.node_count ≡ true = le-leb _ _ low in rw test refl
+outcome-end db number low = elim (cases_lt number db.metadata.node_count) [
+  | inl on ↦ ap for_lookup (record-node db.metadata.node_count (data_length db) number on)
+  | inr off ↦ ap for_lookup (record-empty db.metadata.node_count (data_length db) number (omega arith))
+]
 
 module _ (db : Database) (options : WithinOptions) (number : ℕ) where
-  finding-node : number < db.metadata.node_count → finding_at db options number ≡ Some Fault
+  finding-node : number < db.metadata.node_count → finding_at db options number ≡ Some Invalid
   unfolding finding_at
-  finding-node on = let test : nat_lt number db.metadata.node_count ≡ true = lt-ltb _ _ on in rw test refl
+  finding-node on = ap (finding_of db options) (record-node db.metadata.node_count (data_length db) number on)
 
-  finding-off : db.metadata.node_count ≤ number → finding_at db options number ≡ finding_of_outcome db options (outcome_of db number)
+  finding-end : number ≡ db.metadata.node_count → finding_at db options number ≡ cond (includes_without_data options) (Some Empty) None
   unfolding finding_at
-  finding-off off = let test : nat_lt number db.metadata.node_count ≡ false = le-ltb _ _ off in rw test refl
+  finding-end is = ap (finding_of db options) (record-empty db.metadata.node_count (data_length db) number is)
 
-  finding-end : number ≡ db.metadata.node_count → finding_at db options number ≡ cond (includes_without_data options) (Some Absent) None
-  finding-end is = finding-off (omega arith) ∙ ap (finding_of_outcome db options) (outcome-end db number (omega arith))
-
-  finding-nowhere : db.metadata.node_count < number → ((offset : ℕ) → number ≡ db.metadata.node_count + 16 + offset → offset < data_length db → ⊥) → finding_at db options number ≡ Some Fault
-  finding-nowhere past nowhere = finding-off (omega arith) ∙ ap (finding_of_outcome db options) (outcome-nowhere db number past nowhere)
+  finding-nowhere : db.metadata.node_count < number → ((offset : ℕ) → number ≡ db.metadata.node_count + 16 + offset → offset < data_length db → ⊥) → finding_at db options number ≡ Some Invalid
+  unfolding finding_at
+  finding-nowhere past nowhere = ap (finding_of db options) (record-invalid db.metadata.node_count (data_length db) number past nowhere)
 
   finding-value : (offset : ℕ) → number ≡ db.metadata.node_count + 16 + offset → offset < data_length db
-      → finding_at db options number ≡ cond (skips_empty options) (finding_unless_empty (empty_at (data_section db) offset) offset) (Some (Found offset))
-  finding-value offset is inside = finding-off (omega arith) ∙ ap (finding_of_outcome db options) (outcome-offset db number offset is inside)
+      → finding_at db options number ≡ cond (skips_empty options) (finding_unless_empty (empty_at (data_section db) offset) offset) (Some (Data offset))
+  unfolding finding_at
+  finding-value offset is inside = ap (finding_of db options) (record-data db.metadata.node_count (data_length db) number offset is inside)
 
 -- where empty values are left out
-unless_empty-none : (offset : ℕ) (empty : Option Bool) (finding : Finding) → finding_unless_empty empty offset ≡ Some finding → ((finding ≡ Fault) × (empty ≡ None)) ⊎ ((finding ≡ Found offset) × (empty ≡ Some false))
+unless_empty-none : (offset : ℕ) (empty : Option Bool) (finding : TreeRecord) → finding_unless_empty empty offset ≡ Some finding → ((finding ≡ Invalid) × (empty ≡ None)) ⊎ ((finding ≡ Data offset) × (empty ≡ Some false))
 unless_empty-none offset None finding e = inl (cc, refl)
 unless_empty-none offset (Some true) finding e = cc
 unless_empty-none offset (Some false) finding e = inr (cc, refl)
@@ -172,23 +154,23 @@ kind_of_leaf db leaf = elim (cases_lt (walk (tree_of db) leaf) db.metadata.node_
   ]
 ]
 
-module _ (db : Database) (options : WithinOptions) (leaf : List Bool) (finding : Finding) where
-  fault_is : Some Fault ≡ Some finding → IsFaulty db options leaf → IsListedWith db options leaf finding
-  fault_is e faulty = let same : Fault ≡ finding = cc in subst (IsListedWith db options leaf) same faulty
+module _ (db : Database) (options : WithinOptions) (leaf : List Bool) (finding : TreeRecord) where
+  fault_is : Some Invalid ≡ Some finding → IsFaulty db options leaf → IsListedWith db options leaf finding
+  fault_is e faulty = let same : Invalid ≡ finding = cc in subst (IsListedWith db options leaf) same faulty
 
-  sound_end : walk (tree_of db) leaf ≡ db.metadata.node_count → cond (includes_without_data options) (Some Absent) None ≡ Some finding → IsListedWith db options leaf finding
+  sound_end : walk (tree_of db) leaf ≡ db.metadata.node_count → cond (includes_without_data options) (Some Empty) None ≡ Some finding → IsListedWith db options leaf finding
   sound_end is e = elim (cases_Bool (includes_without_data options)) [
     | inl asked ↦
-        let have : Some Absent ≡ Some finding = sym (ap (λ (b : Bool). cond b (Some Absent) None) asked) ∙ e in
-        let same : Absent ≡ finding = cc in
+        let have : Some Empty ≡ Some finding = sym (ap (λ (b : Bool). cond b (Some Empty) None) asked) ∙ e in
+        let same : Empty ≡ finding = cc in
         subst (IsListedWith db options leaf) same (is, asked)
-    | inr other ↦ let have : None ≡ Some finding = sym (ap (λ (b : Bool). cond b (Some Absent) None) other) ∙ e in cc
+    | inr other ↦ let have : None ≡ Some finding = sym (ap (λ (b : Bool). cond b (Some Empty) None) other) ∙ e in cc
   ]
 
-  sound_value : (offset : ℕ) → HasValueAt db leaf offset → cond (skips_empty options) (finding_unless_empty (empty_at (data_section db) offset) offset) (Some (Found offset)) ≡ Some finding → IsListedWith db options leaf finding
+  sound_value : (offset : ℕ) → HasValueAt db leaf offset → cond (skips_empty options) (finding_unless_empty (empty_at (data_section db) offset) offset) (Some (Data offset)) ≡ Some finding → IsListedWith db options leaf finding
   sound_value offset v e = elim (cases_Bool (skips_empty options)) [
     | inl skips ↦
-        let have = sym (ap (λ (b : Bool). cond b (finding_unless_empty (empty_at (data_section db) offset) offset) (Some (Found offset))) skips) ∙ e in
+        let have = sym (ap (λ (b : Bool). cond b (finding_unless_empty (empty_at (data_section db) offset) offset) (Some (Data offset))) skips) ∙ e in
         elim (unless_empty-none offset (empty_at (data_section db) offset) finding have) [
           | inl bad ↦ subst (IsListedWith db options leaf) (sym bad.0) (inr (inr (skips, record { offset = offset; value = v; unreadable = unreadable-none (data_section db) offset bad.1 })))
           | inr good ↦
@@ -196,8 +178,8 @@ module _ (db : Database) (options : WithinOptions) (leaf : List Bool) (finding :
               subst (IsListedWith db options leaf) (sym good.0) (v, (not_faulty db options leaf offset v (λ _. full.0), λ _. full.1))
         ]
     | inr keeps ↦
-        let have : Some (Found offset) ≡ Some finding = sym (ap (λ (b : Bool). cond b (finding_unless_empty (empty_at (data_section db) offset) offset) (Some (Found offset))) keeps) ∙ e in
-        let same : Found offset ≡ finding = cc in
+        let have : Some (Data offset) ≡ Some finding = sym (ap (λ (b : Bool). cond b (finding_unless_empty (empty_at (data_section db) offset) offset) (Some (Data offset))) keeps) ∙ e in
+        let same : Data offset ≡ finding = cc in
         subst (IsListedWith db options leaf) same (v, (not_faulty db options leaf offset v (λ skips. absurd (both_ways _ keeps skips)), λ skips. absurd (both_ways _ keeps skips)))
   ]
 
@@ -211,39 +193,41 @@ module _ (db : Database) (options : WithinOptions) (leaf : List Bool) (finding :
   ]
 
 -- and each that has such a reason stands in the list
-pub finding-complete : (db : Database) (options : WithinOptions) (leaf : List Bool) (finding : Finding) → IsListedWith db options leaf finding → finding_at db options (walk (tree_of db) leaf) ≡ Some finding
-finding-complete db options leaf Fault (inl n) = finding-nowhere db options (walk (tree_of db) leaf) n.past (λ offset leads inside. n.nowhere offset (record { leads = leads; inside = inside }))
-finding-complete db options leaf Fault (inr (inl on)) = finding-node db options (walk (tree_of db) leaf) on
-finding-complete db options leaf Fault (inr (inr (skips, u))) =
-    finding-value db options (walk (tree_of db) leaf) u.offset u.value.leads u.value.inside ∙ ap (λ (b : Bool). cond b (finding_unless_empty (empty_at (data_section db) u.offset) u.offset) (Some (Found u.offset))) skips
+pub finding-complete : (db : Database) (options : WithinOptions) (leaf : List Bool) (finding : TreeRecord) → IsListedWith db options leaf finding → finding_at db options (walk (tree_of db) leaf) ≡ Some finding
+finding-complete db options leaf (Node number) h = absurd h
+finding-complete db options leaf Invalid (inl n) = finding-nowhere db options (walk (tree_of db) leaf) n.past (λ offset leads inside. n.nowhere offset (record { leads = leads; inside = inside }))
+finding-complete db options leaf Invalid (inr (inl on)) = finding-node db options (walk (tree_of db) leaf) on
+finding-complete db options leaf Invalid (inr (inr (skips, u))) =
+    finding-value db options (walk (tree_of db) leaf) u.offset u.value.leads u.value.inside ∙ ap (λ (b : Bool). cond b (finding_unless_empty (empty_at (data_section db) u.offset) u.offset) (Some (Data u.offset))) skips
     ∙ ap (λ (empty : Option Bool). finding_unless_empty empty u.offset) (none-unreadable (data_section db) u.offset u.unreadable)
-finding-complete db options leaf Absent h = finding-end db options (walk (tree_of db) leaf) h.0 ∙ ap (λ (b : Bool). cond b (Some Absent) None) h.1
-finding-complete db options leaf (Found offset) h =
+finding-complete db options leaf Empty h = finding-end db options (walk (tree_of db) leaf) h.0 ∙ ap (λ (b : Bool). cond b (Some Empty) None) h.1
+finding-complete db options leaf (Data offset) h =
     finding-value db options (walk (tree_of db) leaf) offset h.0.leads h.0.inside ∙ elim (cases_Bool (skips_empty options)) [
-      | inl skips ↦ ap (λ (b : Bool). cond b (finding_unless_empty (empty_at (data_section db) offset) offset) (Some (Found offset))) skips ∙ ap (λ (empty : Option Bool). finding_unless_empty empty offset) (value-full (data_section db) offset (readable_of db options leaf offset h.0 h.1.0 skips) (h.1.1 skips))
-      | inr keeps ↦ ap (λ (b : Bool). cond b (finding_unless_empty (empty_at (data_section db) offset) offset) (Some (Found offset))) keeps
+      | inl skips ↦ ap (λ (b : Bool). cond b (finding_unless_empty (empty_at (data_section db) offset) offset) (Some (Data offset))) skips ∙ ap (λ (empty : Option Bool). finding_unless_empty empty offset) (value-full (data_section db) offset (readable_of db options leaf offset h.0 h.1.0 skips) (h.1.1 skips))
+      | inr keeps ↦ ap (λ (b : Bool). cond b (finding_unless_empty (empty_at (data_section db) offset) offset) (Some (Data offset))) keeps
     ]
 
 -- each leaf is listed with something where those without data are, and empty values are kept
-pub some_finding : (db : Database) (options : WithinOptions) (leaf : List Bool) → includes_without_data options ≡ true → skips_empty options ≡ false → (finding : Finding) × IsListedWith db options leaf finding
+pub some_finding : (db : Database) (options : WithinOptions) (leaf : List Bool) → includes_without_data options ≡ true → skips_empty options ≡ false → (finding : TreeRecord) × IsListedWith db options leaf finding
 some_finding db options leaf asked keeps = elim (kind_of_leaf db leaf) [
-  | OnNode on ↦ (Fault, inr (inl on))
-  | AtEnd is ↦ (Absent, (is, asked))
-  | Nowhere n ↦ (Fault, inl n)
-  | Value offset v ↦ (Found offset, (v, (not_faulty db options leaf offset v (λ skips. absurd (both_ways _ keeps skips)), λ skips. absurd (both_ways _ keeps skips))))
+  | OnNode on ↦ (Invalid, inr (inl on))
+  | AtEnd is ↦ (Empty, (is, asked))
+  | Nowhere n ↦ (Invalid, inl n)
+  | Value offset v ↦ (Data offset, (v, (not_faulty db options leaf offset v (λ skips. absurd (both_ways _ keeps skips)), λ skips. absurd (both_ways _ keeps skips))))
 ]
 
 -- ---- answers
 
 pub listed_agrees : ListedAgrees
-listed_agrees db options range leaf Fault address h can on = tt
-listed_agrees db options range leaf Absent address h can on = record {
+listed_agrees db options range leaf Invalid address h can on = tt
+listed_agrees db options range leaf (Node number) address h can on = tt
+listed_agrees db options range leaf Empty address h can on = record {
   can_ask = can;
   is_leaf = h.is_leaf;
   on_address = on;
   outcome_is = outcome-end db (walk (tree_of db) leaf) (let is = h.found.0 in omega (arith, is));
 }
-listed_agrees db options range leaf (Found offset) address h can on = record {
+listed_agrees db options range leaf (Data offset) address h can on = record {
   can_ask = can;
   is_leaf = h.is_leaf;
   on_address = on;

@@ -4,10 +4,11 @@ use Rattle.std.proofs.lemmas.Bool.{cases_Bool, cases_lt, le-leb, lt-leb, lt-ltb,
 use Rattle.std.proofs.Math.Nat.{two-pow-succ}
 use Rattle.std.proofs.Math.Pow.{pow_mono, pow_pos}
 use Rattle.mmdb_reader.specs.File.{Database, tree_of, width, has_ipv6}
-use Rattle.mmdb_reader.specs.Tree.{walk}
+use Rattle.mmdb_tree.specs.Tree.{walk}
 use Rattle.mmdb_net.specs.Bits.{number_of}
 use Rattle.mmdb_reader.specs.Alias.{is_alias}
-use Rattle.mmdb_reader.specs.Stops.{goes_on, end_at}
+use Rattle.mmdb_reader.specs.Stops.{goes_on, at_stop, end_at}
+use Rattle.mmdb_reader.specs.Lookup.{record_at}
 use Rattle.mmdb_reader.specs.Walked.{is_alias_of, goes_on_from, end_from}
 use Rattle.mmdb_reader.proofs.NumberLemmas.{number-below}
 
@@ -88,4 +89,4 @@ pub goes-on-is : (db : Database) (s : List Bool) → goes_on db s ≡ goes_on_fr
 goes-on-is db s = ap (λ (b : Bool). not b && ltb (walk (tree_of db) s) db.metadata.node_count) (alias-is db s)
 
 pub end-at-is : (db : Database) (s : List Bool) → end_at db s ≡ end_from db (walk (tree_of db) s) (high_of db s)
-end-at-is db s = rw (alias-is db s) refl
+end-at-is db s = ap (at_stop (record_at db (walk (tree_of db) s))) (alias-is db s)

@@ -8,12 +8,14 @@ use Rattle.mmdb_net.specs.Bits.{IsPrefix}
 use Rattle.mmdb_net.specs.Address.{bits_of_address}
 use Rattle.mmdb_net.proofs.AddressLaws.{length-bits_of_address}
 use Rattle.mmdb_reader.specs.File.{Database, tree_of, width, has_ipv6, before_ipv4}
-use Rattle.mmdb_reader.specs.Tree.{walk}
+use Rattle.mmdb_tree.specs.Tree.{walk}
 use Rattle.mmdb_reader.specs.Leaves.{IsLeaf}
-use Rattle.mmdb_reader.specs.Lookup.{Outcome, Failed, CanAsk, Answers, IsInvalidAt, IsLeafAt, address_bits, outcome_of, outcome_at}
-use Rattle.mmdb_reader.specs.Descents.{Descends}
+use Rattle.mmdb_tree.specs.declared.record.TreeRecord.{TreeRecord}
+use Rattle.mmdb_tree.specs.declared.record.TreeRecord.TheVariants.{Invalid}
+use Rattle.mmdb_reader.specs.Lookup.{CanAsk, Answers, IsInvalidAt, IsLeafAt, address_bits, outcome_of, outcome_at}
+use Rattle.mmdb_tree.specs.Descents.{Descends}
 use Rattle.mmdb_reader.specs.Laws.{LeavesAreDisjoint, EachAddressHasOneLeaf, EachAddressIsAnswered, AnswersAreUnique, SameLeafSameAnswer}
-use Rattle.mmdb_reader.proofs.WalkLemmas.{walk-nil, walk-past}
+use Rattle.mmdb_tree.proofs.WalkLemmas.{walk-nil, walk-past}
 use Rattle.mmdb_reader.proofs.LeafLemmas.{EndsOn, EndsOn-descends, IsLeaf-ends, IsPrefix-ends, length-before_ipv4}
 
 -- a leaf that begins another is that leaf
@@ -88,7 +90,7 @@ same_leaf_same_answer db address other leaf outcome at can on = record {
   outcome_is = at.outcome_is;
 }
 
-rejected_at-none : (x : Option ℕ) → outcome_at x ≡ Failed → ⊥
+rejected_at-none : (x : Option ℕ) → outcome_at x ≡ Invalid → ⊥
 rejected_at-none (Some offset) e = cc
 rejected_at-none None e = cc
 
@@ -96,7 +98,7 @@ rejected_at-none None e = cc
 pub not_rejected : (db : Database) (address : IpAddr) (leaf : List Bool) (number : ℕ) (x : Option ℕ) → IsLeafAt db address leaf number → outcome_of db number ≡ outcome_at x → ¬ IsInvalidAt db address
 not_rejected db address leaf number x at is rejected =
     let answer : Answers db address leaf (outcome_at x) = record { can_ask = at.can_ask; is_leaf = at.is_leaf; on_address = at.on_address; outcome_is = ap (outcome_of db) at.reached ∙ is } in
-    rejected_at-none x ((answers_are_unique db address leaf rejected.0 (outcome_at x) Failed answer rejected.1).1)
+    rejected_at-none x ((answers_are_unique db address leaf rejected.0 (outcome_at x) Invalid answer rejected.1).1)
 
 -- ---- the walk of all bits of an address
 
@@ -116,7 +118,7 @@ walk-on_leaf db address leaf can is_leaf on = ap (walk (tree_of db)) on.1 ∙ el
 ]
 
 -- so the answer for an address is what the walk of all its bits says
-pub answer-walk : (db : Database) (address : IpAddr) (leaf : List Bool) (outcome : Outcome) → Answers db address leaf outcome → outcome_of db (walk (tree_of db) (address_bits db address)) ≡ outcome
+pub answer-walk : (db : Database) (address : IpAddr) (leaf : List Bool) (outcome : TreeRecord) → Answers db address leaf outcome → outcome_of db (walk (tree_of db) (address_bits db address)) ≡ outcome
 answer-walk db address leaf outcome at = ap (outcome_of db) (walk-on_leaf db address leaf at.can_ask at.is_leaf at.on_address) ∙ at.outcome_is
 
 -- and each address that can be asked has an answer

@@ -10,15 +10,15 @@ use Rattle.std.specs.declared.net.ipv6_addr.Ipv6Addr.{Ipv6Addr}
 use Rattle.std.specs.Net.Addr.{ipv4_bits, ipv6_bits}
 use Rattle.mmdb_net.specs.Bits.{bits_of, zero_bits, IsPrefix}
 use Rattle.mmdb_net.proofs.BitLaws.{length-bits_of, length-zero_bits, take-zero_bits, bits_of-zero}
-use Rattle.mmdb_reader.specs.declared.table.Entry.{Entry}
-use Rattle.mmdb_reader.specs.Tree.{SearchTree, walk_from, walk}
+use Rattle.mmdb_tree.specs.declared.table.Entry.{Entry}
+use Rattle.mmdb_tree.specs.Tree.{walk_from, walk}
 use Rattle.mmdb_reader.specs.File.{Database, tree_of, has_ipv6, width, before_ipv4}
 use Rattle.mmdb_reader.specs.Leaves.{IsLeaf}
 use Rattle.mmdb_reader.specs.Lookup.{IsLeafAt, block_at}
 use Rattle.mmdb_reader.specs.Shown.{ipv4_start, is_shown_as_ipv4}
-use Rattle.mmdb_reader.specs.Descents.{Walks, Descends}
+use Rattle.mmdb_tree.specs.Descents.{Walks, Descends}
 use Rattle.mmdb_reader.specs.Kept.{IsReader}
-use Rattle.mmdb_reader.proofs.WalkLemmas.{walk-append, walk-nil, walk-inner, walk-past}
+use Rattle.mmdb_tree.proofs.WalkLemmas.{walk-append, walk-nil, walk-inner, walk-past}
 
 -- Bits that lead to `start` on nodes alone, and the bits that a walk from there took to the end of the
 -- walk, are a leaf.
@@ -193,12 +193,6 @@ shown-node db a start depth d on =
 -- what a reader keeps, of its value
 pub reader_of : (db seen : Database) (section start depth : ℕ) (ipv4 ipv6 : List Entry) → seen ≡ db → IsReader seen section start depth ipv4 ipv6 → IsReader db section start depth ipv4 ipv6
 reader_of db seen section start depth ipv4 ipv6 same h = let P : Database → Type 0 = λ x. IsReader x section start depth ipv4 ipv6 in subst P same h
-
-pub Descends-same : (tree seen : SearchTree) (start : ℕ) (bits seen_bits : List Bool) (taken number : ℕ) → seen ≡ tree → seen_bits ≡ bits → Descends seen start seen_bits taken number → Descends tree start bits taken number
-Descends-same tree seen start bits seen_bits taken number same same_bits d =
-    let P : SearchTree → Type 0 = λ t. Descends t start bits taken number in
-    let Q : List Bool → Type 0 = λ b. Descends seen start b taken number in
-    subst P same (subst Q same_bits d)
 
 pub ipv6_bits-unspecified : ipv6_bits (record { segments = 0 ∷ 0 ∷ 0 ∷ 0 ∷ 0 ∷ 0 ∷ 0 ∷ 0 ∷ [] }) ≡ 0
 unfolding ipv6_bits

@@ -1,7 +1,4 @@
 pub mod NumberedLemmas
-pub mod WalkLemmas
-pub mod DescentLemmas
-pub mod TableLemmas
 pub mod LeafLemmas
 pub mod ManyLemmas
 pub mod LawLemmas
@@ -22,7 +19,6 @@ pub mod AliasLemmas
 pub mod ListingLemmas
 pub mod AgreementLemmas
 pub mod EqualityLemmas
-pub mod RecordLemmas
 pub mod HighBits
 pub mod Visits
 pub mod Points

@@ -7,10 +7,11 @@ use Rattle.std.proofs.lemmas.Bool.{cases_Bool, cases_lt}
 use Rattle.mmdb_net.specs.Bits.{IsPrefix}
 use Rattle.mmdb_reader.specs.declared.options.WithinOptions.{WithinOptions}
 use Rattle.mmdb_reader.specs.File.{Database, tree_of, width}
-use Rattle.mmdb_reader.specs.Tree.{walk}
+use Rattle.mmdb_tree.specs.Tree.{walk}
 use Rattle.mmdb_reader.specs.Leaves.{IsLeaf}
 use Rattle.mmdb_reader.specs.Options.{includes_aliased}
-use Rattle.mmdb_reader.specs.Listing.{Finding, Listed, listed_with, IsClear, IsListed, ComesBefore, Ascends, leaves_of, IsListing, is_hidden, finding_at, list_if, listed_at, listed_below, listed_along, listed}
+use Rattle.mmdb_tree.specs.declared.record.TreeRecord.{TreeRecord}
+use Rattle.mmdb_reader.specs.Listing.{Listed, listed_with, IsClear, IsListed, ComesBefore, Ascends, leaves_of, IsListing, is_hidden, finding_at, list_if, listed_at, listed_below, listed_along, listed}
 use Rattle.mmdb_reader.proofs.ListingSteps.{below-hidden, below-node, below-full, below-leaf, along-there, along-full, along-hidden, along-node, along-leaf}
 use Rattle.mmdb_reader.specs.ListingLaws.{WholeWalkListsAll, ListingsAreUnique}
 use Rattle.mmdb_reader.proofs.FindingLemmas.{finding-sound, finding-complete, some_finding}
@@ -18,7 +19,7 @@ use Rattle.mmdb_reader.proofs.AliasLemmas.{shown-clear, clear-shown}
 use Rattle.mmdb_reader.proofs.PositionLemmas.{width-le}
 
 -- The bits `s` behind `bits` make a leaf that is listed, as far as it lies behind `bits`.
-pub record Below (db : Database) (options : WithinOptions) (left : ℕ) (bits s : List Bool) (finding : Finding) : Type 0 where
+pub record Below (db : Database) (options : WithinOptions) (left : ℕ) (bits s : List Bool) (finding : TreeRecord) : Type 0 where
   pub inner : (c : List Bool) (x : Bool) (d : List Bool) → s ≡ c ++ x ∷ d → walk (tree_of db) (bits ++ c) < db.metadata.node_count
   pub short : length s ≤ left
   pub ended : (db.metadata.node_count ≤ walk (tree_of db) (bits ++ s)) ⊎ (length s ≡ left)
@@ -41,14 +42,14 @@ shifted : (bits : List Bool) (x : Bool) (c : List Bool) → (bits ++ x ∷ []) +
 shifted bits x c = append_assoc bits (x ∷ []) c
 
 -- the leaf of a list of one
-one_sound : (leaf : List Bool) (found : Option Finding) (m : Listed) → Contains (list_if leaf found) m → (m.leaf ≡ leaf) × (found ≡ Some m.finding)
+one_sound : (leaf : List Bool) (found : Option TreeRecord) (m : Listed) → Contains (list_if leaf found) m → (m.leaf ≡ leaf) × (found ≡ Some m.finding)
 one_sound leaf None m h = absurd (no_listed m h)
 one_sound leaf (Some finding) m (k, below, is) =
     let first : k ≡ 0 = omega arith in
     let same : listed_with leaf finding ≡ m = sym (ap (λ (j : ℕ). get_or (list_if leaf (Some finding)) j m) first) ∙ is in
     (ap (λ (n : Listed). n.leaf) (sym same), ap (λ (n : Listed). Some n.finding) same)
 
-one_complete : (leaf : List Bool) (found : Option Finding) (finding : Finding) → found ≡ Some finding → Contains (list_if leaf found) (listed_with leaf finding)
+one_complete : (leaf : List Bool) (found : Option TreeRecord) (finding : TreeRecord) → found ≡ Some finding → Contains (list_if leaf found) (listed_with leaf finding)
 one_complete leaf found finding e = rw e (0, omega arith, refl)
 
 module _ (db : Database) (options : WithinOptions) where
@@ -65,7 +66,7 @@ module _ (db : Database) (options : WithinOptions) where
         found = ap (λ (t : List Bool). finding_at db options (walk (tree_of db) t)) same ∙ found;
       }
 
-  lift_inner : (left : ℕ) (bits : List Bool) (y : Bool) (s : List Bool) (f : Finding) → walk (tree_of db) bits < db.metadata.node_count → Below db options left (bits ++ y ∷ []) s f
+  lift_inner : (left : ℕ) (bits : List Bool) (y : Bool) (s : List Bool) (f : TreeRecord) → walk (tree_of db) bits < db.metadata.node_count → Below db options left (bits ++ y ∷ []) s f
       → (c : List Bool) (x : Bool) (d : List Bool) → y ∷ s ≡ c ++ x ∷ d → walk (tree_of db) (bits ++ c) < db.metadata.node_count
   lift_inner left bits y s f on h [] x d e = omega (arith, on, ap (walk (tree_of db)) (append-nil bits))
   lift_inner left bits y s f on h (z ∷ c) x d e =
@@ -75,7 +76,7 @@ module _ (db : Database) (options : WithinOptions) where
       let same : walk (tree_of db) ((bits ++ y ∷ []) ++ c) ≡ walk (tree_of db) (bits ++ z ∷ c) = ap (walk (tree_of db)) (shifted bits y c ∙ ap (λ (w : Bool). bits ++ w ∷ c) first) in
       omega (arith, below, same)
 
-  lift_shown : (left : ℕ) (bits : List Bool) (y : Bool) (s : List Bool) (f : Finding) → is_hidden db options bits ≡ false → Below db options left (bits ++ y ∷ []) s f
+  lift_shown : (left : ℕ) (bits : List Bool) (y : Bool) (s : List Bool) (f : TreeRecord) → is_hidden db options bits ≡ false → Below db options left (bits ++ y ∷ []) s f
       → (c d : List Bool) → y ∷ s ≡ c ++ d → is_hidden db options (bits ++ c) ≡ false
   lift_shown left bits y s f shown h [] d e = ap (is_hidden db options) (append-nil bits) ∙ shown
   lift_shown left bits y s f shown h (z ∷ c) d e =
@@ -84,7 +85,7 @@ module _ (db : Database) (options : WithinOptions) where
       ap (λ (w : Bool). is_hidden db options (bits ++ w ∷ c)) (sym first) ∙ sym (ap (is_hidden db options) (shifted bits y c)) ∙ h.shown c d others
 
   -- a leaf below a half is one below the whole
-  lift : (left : ℕ) (bits : List Bool) (y : Bool) (s : List Bool) (f : Finding) → is_hidden db options bits ≡ false → walk (tree_of db) bits < db.metadata.node_count → Below db options left (bits ++ y ∷ []) s f → Below db options (suc left) bits (y ∷ s) f
+  lift : (left : ℕ) (bits : List Bool) (y : Bool) (s : List Bool) (f : TreeRecord) → is_hidden db options bits ≡ false → walk (tree_of db) bits < db.metadata.node_count → Below db options left (bits ++ y ∷ []) s f → Below db options (suc left) bits (y ∷ s) f
   lift left bits y s f shown on h =
       let same = shifted bits y s in
       record {
@@ -96,7 +97,7 @@ module _ (db : Database) (options : WithinOptions) where
       }
 
   -- and the other way round
-  unlift : (left : ℕ) (bits : List Bool) (y : Bool) (s : List Bool) (f : Finding) → Below db options (suc left) bits (y ∷ s) f → Below db options left (bits ++ y ∷ []) s f
+  unlift : (left : ℕ) (bits : List Bool) (y : Bool) (s : List Bool) (f : TreeRecord) → Below db options (suc left) bits (y ∷ s) f → Below db options left (bits ++ y ∷ []) s f
   unlift left bits y s f h =
       let same = shifted bits y s in
       record {
@@ -107,16 +108,16 @@ module _ (db : Database) (options : WithinOptions) where
         found = ap (λ (t : List Bool). finding_at db options (walk (tree_of db) t)) same ∙ h.found;
       }
 
-  shown_here : (left : ℕ) (bits s : List Bool) (f : Finding) → Below db options left bits s f → is_hidden db options bits ≡ false
+  shown_here : (left : ℕ) (bits s : List Bool) (f : TreeRecord) → Below db options left bits s f → is_hidden db options bits ≡ false
   shown_here left bits s f h = sym (ap (is_hidden db options) (append-nil bits)) ∙ h.shown [] s refl
 
-  on_here : (left : ℕ) (bits : List Bool) (y : Bool) (s : List Bool) (f : Finding) → Below db options left bits (y ∷ s) f → walk (tree_of db) bits < db.metadata.node_count
+  on_here : (left : ℕ) (bits : List Bool) (y : Bool) (s : List Bool) (f : TreeRecord) → Below db options left bits (y ∷ s) f → walk (tree_of db) bits < db.metadata.node_count
   on_here left bits y s f h = let on = h.inner [] y s refl in omega (arith, on, ap (walk (tree_of db)) (append-nil bits))
 
-  off_here : (left : ℕ) (bits : List Bool) (f : Finding) → Below db options (suc left) bits [] f → db.metadata.node_count ≤ walk (tree_of db) bits
+  off_here : (left : ℕ) (bits : List Bool) (f : TreeRecord) → Below db options (suc left) bits [] f → db.metadata.node_count ≤ walk (tree_of db) bits
   off_here left bits f h = elim h.ended [ inl off ↦ omega (arith, off, ap (walk (tree_of db)) (append-nil bits)) | inr full ↦ absurd (omega (arith, full)) ]
 
-  found_here : (left : ℕ) (bits : List Bool) (f : Finding) → Below db options left bits [] f → finding_at db options (walk (tree_of db) bits) ≡ Some f
+  found_here : (left : ℕ) (bits : List Bool) (f : TreeRecord) → Below db options left bits [] f → finding_at db options (walk (tree_of db) bits) ≡ Some f
   found_here left bits f h = ap (λ (t : List Bool). finding_at db options (walk (tree_of db) t)) (sym (append-nil bits)) ∙ h.found
 
   -- what stands in the list
@@ -147,13 +148,13 @@ module _ (db : Database) (options : WithinOptions) where
     ]
   ]
 
-  one_contains : (bits : List Bool) (f : Finding) → finding_at db options (walk (tree_of db) bits) ≡ Some f → Contains (listed_at db options bits) (listed_with (bits ++ []) f)
+  one_contains : (bits : List Bool) (f : TreeRecord) → finding_at db options (walk (tree_of db) bits) ≡ Some f → Contains (listed_at db options bits) (listed_with (bits ++ []) f)
   one_contains bits f e = subst (λ (leaf : List Bool). Contains (listed_at db options bits) (listed_with leaf f)) (sym (append-nil bits)) (one_complete bits (finding_at db options (walk (tree_of db) bits)) f e)
 
-  half_contains : (ms : List Listed) (bits : List Bool) (y : Bool) (s : List Bool) (f : Finding) → Contains ms (listed_with ((bits ++ y ∷ []) ++ s) f) → Contains ms (listed_with (bits ++ y ∷ s) f)
+  half_contains : (ms : List Listed) (bits : List Bool) (y : Bool) (s : List Bool) (f : TreeRecord) → Contains ms (listed_with ((bits ++ y ∷ []) ++ s) f) → Contains ms (listed_with (bits ++ y ∷ s) f)
   half_contains ms bits y s f h = subst (λ (leaf : List Bool). Contains ms (listed_with leaf f)) (shifted bits y s) h
 
-  pub complete : (left : ℕ) (bits s : List Bool) (f : Finding) → Below db options left bits s f → Contains (listed_below db options left bits) (listed_with (bits ++ s) f)
+  pub complete : (left : ℕ) (bits s : List Bool) (f : TreeRecord) → Below db options left bits s f → Contains (listed_below db options left bits) (listed_with (bits ++ s) f)
   complete zero bits [] f h =
       subst (λ (ms : List Listed). Contains ms (listed_with (bits ++ []) f)) (sym (below-full db options bits (shown_here zero bits [] f h))) (one_contains bits f (found_here zero bits f h))
   complete zero bits (y ∷ s) f h = let short = h.short in absurd (omega (arith, short))
@@ -181,11 +182,11 @@ meets-first x range y s (inl (rest, e)) = (cc, inl (rest, (let t : s ≡ range +
 meets-first x range y s (inr (rest, e)) = (cc, inr (rest, (let t : range ≡ s ++ rest = cc in t)))
 
 module _ (db : Database) (options : WithinOptions) where
-  leaf_ends : (left : ℕ) (bits s : List Bool) (f : Finding) → db.metadata.node_count ≤ walk (tree_of db) bits → Below db options left bits s f → s ≡ []
+  leaf_ends : (left : ℕ) (bits s : List Bool) (f : TreeRecord) → db.metadata.node_count ≤ walk (tree_of db) bits → Below db options left bits s f → s ≡ []
   leaf_ends left bits [] f off h = refl
   leaf_ends left bits (y ∷ s) f off h = let on = on_here db options left bits y s f h in absurd (omega (arith, off, on))
 
-  full_ends : (bits s : List Bool) (f : Finding) → Below db options zero bits s f → s ≡ []
+  full_ends : (bits s : List Bool) (f : TreeRecord) → Below db options zero bits s f → s ≡ []
   full_ends bits [] f h = refl
   full_ends bits (y ∷ s) f h = let short = h.short in absurd (omega (arith, short))
 
@@ -212,7 +213,7 @@ module _ (db : Database) (options : WithinOptions) where
     ]
   ]
 
-  pub along-complete : (range : List Bool) (left : ℕ) (bits s : List Bool) (f : Finding) → Meets range s → Below db options left bits s f → Contains (listed_along db options range left bits) (listed_with (bits ++ s) f)
+  pub along-complete : (range : List Bool) (left : ℕ) (bits s : List Bool) (f : TreeRecord) → Meets range s → Below db options left bits s f → Contains (listed_along db options range left bits) (listed_with (bits ++ s) f)
   along-complete [] left bits s f meets h = subst (λ (ms : List Listed). Contains ms (listed_with (bits ++ s) f)) (sym (along-there db options bits left)) (complete db options left bits s f h)
   along-complete (x ∷ range) zero bits s f meets h = subst (λ (ms : List Listed). Contains ms (listed_with (bits ++ s) f)) (sym (along-full db options bits (x ∷ range))) (complete db options zero bits s f h)
   along-complete (x ∷ range) (suc left) bits [] f meets h =
@@ -229,7 +230,7 @@ module _ (db : Database) (options : WithinOptions) where
 
 -- ---- the whole tree
 
-module _ (db : Database) (options : WithinOptions) (s : List Bool) (f : Finding) where
+module _ (db : Database) (options : WithinOptions) (s : List Bool) (f : TreeRecord) where
   below_leaf : Below db options (width db) [] s f → IsLeaf db s
   below_leaf h = record { inner = h.inner; short = h.short; ended = h.ended }
 
@@ -304,7 +305,7 @@ module _ (db : Database) (options : WithinOptions) where
         high = sym high.2 ∙ t.1 ∙ shifted bits true t.0;
       }
 
-  ascends-one : (leaf : List Bool) (found : Option Finding) → Ascends (leaves_of (list_if leaf found))
+  ascends-one : (leaf : List Bool) (found : Option TreeRecord) → Ascends (leaves_of (list_if leaf found))
   ascends-one leaf None = tt
   ascends-one leaf (Some finding) = ((λ other h. absurd (let below = h.1 in omega (arith, below))), tt)
 

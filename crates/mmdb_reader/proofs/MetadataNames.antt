@@ -1,11 +1,11 @@
 -- Each name of the metadata stands at most once: the fields that were met know it.
-use Rattle.std.proofs.Common.{◌≡◌, ℕ, List, Option, Some, None, Bool, true, false, if◌then◌else◌, refl, sym, ap, ◌∙◌, is_some, codes}
+use Rattle.std.proofs.Common.{◌≡◌, ℕ, List, Some, Bool, true, false, if◌then◌else◌, refl, is_some, codes}
 use Rattle.mmdb_decode.specs.Arrays.{list_at}
-use Rattle.mmdb_decode.specs.Maps.{Fields, text_map_at}
+use Rattle.mmdb_decode.specs.Maps.{text_map_at}
 use Rattle.mmdb_decode.specs.Reading.{Reading, Meaning}
 use Rattle.mmdb_decode.specs.Records.{named, field, skipped}
 use Rattle.mmdb_decode.specs.Scalars.{u16_at, u32_at, u64_at, text_at}
-use Rattle.mmdb_decode.specs.TypedReads.{RecordStands, StandsOnce, IsKnown}
+use Rattle.mmdb_decode.specs.TypedReads.{IsKnown}
 use Rattle.mmdb_decode.proofs.RecordStandingLaws.{known_names_stand_once, field_fills, field_rejected, skipped_keeps}
 use Rattle.mmdb_reader.specs.MetadataShape.{MetadataFields, no_metadata_fields, metadata_fields, MetadataNamesStandOnce}
 

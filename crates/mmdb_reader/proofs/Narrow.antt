@@ -4,9 +4,9 @@ use Rattle.std.proofs.lemmas.Bool.{cases_Bool, cases_lt, false≢true}
 use Rattle.std.proofs.lemmas.List.{take-append-le}
 use Rattle.std.proofs.Math.Seq.{take-append-add}
 use Rattle.mmdb_reader.specs.File.{Database, tree_of, width}
-use Rattle.mmdb_reader.specs.Tree.{step}
+use Rattle.mmdb_tree.specs.Tree.{step}
 use Rattle.mmdb_reader.specs.Stops.{Stop, stops, shared, cost, cut, is_fault, EndsAtFault, AreFirst, most_stops}
-use Rattle.mmdb_reader.specs.declared.walked.End.TheVariants.{Alias}
+use Rattle.mmdb_tree.specs.declared.record.TreeRecord.TheVariants.{Empty}
 use Rattle.mmdb_reader.specs.Walked.{goes_on_from}
 use Rattle.mmdb_reader.specs.WholeLaws.{FewPositionsWait, FewStopsAreTaken}
 use Rattle.mmdb_reader.proofs.PositionLemmas.{width-le}
@@ -123,7 +123,7 @@ few_wait db n less =
     omega (arith, costs, width-le db, first-below db (width db) 0 false n (omega (arith, long, less)))
 
 no-stop : Stop
-no-stop = record { bits = []; end = Alias }
+no-stop = record { bits = []; end = Empty }
 
 first-of : List Stop → Stop
 first-of [] = no-stop

@@ -1,5 +1,5 @@
 -- Addresses as numbers.
-use Rattle.std.proofs.Common.{◌≡◌, ℕ, ◌≤◌, ◌++◌, Bool, false, List, take, nat_eq, refl, ◌∙◌, arith}
+use Rattle.std.proofs.Common.{◌≡◌, ℕ, ◌≤◌, ◌++◌, false, take, nat_eq, refl, ◌∙◌, arith}
 use Rattle.std.specs.declared.net.ip_addr.IpAddr.{IpAddr}
 use Rattle.std.specs.Net.Addr.{is_ipv4}
 use Rattle.mmdb_net.specs.Bits.{bits_of}

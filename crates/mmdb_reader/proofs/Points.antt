@@ -6,7 +6,7 @@ use Rattle.std.proofs.lemmas.Bool.{cases_lt}
 use Rattle.mmdb_reader.specs.File.{Database, width}
 use Rattle.mmdb_reader.specs.Walked.{goes_on_from, end_from, half_of, IsPlaced, IsStack, GoesOn, IsStopped}
 use Rattle.mmdb_reader.specs.declared.walked.Point.{Point}
-use Rattle.mmdb_reader.specs.declared.walked.End.{End}
+use Rattle.mmdb_tree.specs.declared.record.TreeRecord.{TreeRecord}
 use Rattle.mmdb_reader.proofs.HighBits.{lt_same}
 use Rattle.mmdb_reader.proofs.Visits.{Visit, visit, with_lead, with_lead-append, with_lead-twice, visits_below, some_visit, below-node, below-stop}
 
@@ -94,10 +94,10 @@ step-node db xs p lead on =
     ap (with_lead lead) old ∙ with_lead-twice lead 1 (vl ++ (vu ++ vs)) ∙ ap (with_lead (lead + 1)) (sym new)
 
 -- a stop gives itself
-pub step-stop : (db : Database) (xs : List Point) (p : Point) (lead : ℕ) (end : End) → end ≡ end_from db p.number p.high → IsStopped db p
+pub step-stop : (db : Database) (xs : List Point) (p : Point) (lead : ℕ) (end : TreeRecord) → end ≡ end_from db p.number p.high → IsStopped db p
     → with_lead lead (visits_of_stack db (xs ++ p ∷ [])) ≡ visit (lead + 1) end ∷ visits_of_stack db xs
 unfolding with_lead
 step-stop db xs p lead end is ended =
     let here : ((width db - p.prefix ≡ 0) ⊎ (goes_on_from db p.number p.high ≡ false)) = elim ended [ inl full ↦ inl (omega arith) | inr ends ↦ inr ends ] in
     let one = below-stop db (width db - p.prefix) p.number p.high here in
-    ap (with_lead lead) (visits_of_stack-push db xs p ∙ ap (λ (v : List Visit). v ++ visits_of_stack db xs) one) ∙ ap (λ (e : End). visit (lead + 1) e ∷ visits_of_stack db xs) (sym is)
+    ap (with_lead lead) (visits_of_stack-push db xs p ∙ ap (λ (v : List Visit). v ++ visits_of_stack db xs) one) ∙ ap (λ (e : TreeRecord). visit (lead + 1) e ∷ visits_of_stack db xs) (sym is)

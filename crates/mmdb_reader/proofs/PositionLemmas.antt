@@ -1,5 +1,5 @@
 -- Positions, and the halves of their addresses.
-use Rattle.std.proofs.Common.{◌≡◌, ◌⊎◌, ◌==◌, nat_lt, nat_le, if◌then◌else◌, Some, None, ℕ, suc, ◌+◌, ◌-◌, ◌^◌, ◌<◌, ◌≤◌, ◌&&◌, not, cond, Bool, true, false, [], ◌∷◌, ◌++◌, length, take, refl, ap, arith, sym, ◌∙◌, inl, inr, length-append}
+use Rattle.std.proofs.Common.{◌≡◌, ◌==◌, nat_lt, nat_le, if◌then◌else◌, Some, None, ℕ, suc, ◌+◌, ◌-◌, ◌^◌, ◌<◌, ◌≤◌, ◌&&◌, not, cond, Bool, true, false, [], ◌∷◌, ◌++◌, length, take, refl, ap, arith, sym, ◌∙◌, inl, inr, length-append}
 use Rattle.std.proofs.lemmas.Bool.{cases_Bool, and_left, and_right, and_parts, not_from_true, ne_eqb, ltb-true}
 use Rattle.std.proofs.lemmas.List.{length-take-le}
 use Rattle.std.proofs.Math.Pow.{pow_mono, pow_pos}
@@ -8,14 +8,14 @@ use Rattle.mmdb_net.proofs.BitLaws.{length-bits_of}
 use Rattle.mmdb_reader.specs.declared.options.WithinOptions.{WithinOptions}
 use Rattle.mmdb_reader.specs.declared.positions.Position.{Position}
 use Rattle.mmdb_reader.specs.File.{Database, tree_of, width, has_ipv6}
-use Rattle.mmdb_reader.specs.Tree.{walk, step}
+use Rattle.mmdb_tree.specs.Tree.{walk, step}
 use Rattle.mmdb_net.specs.Bits.{number_of}
 use Rattle.mmdb_reader.specs.Alias.{is_alias, is_alias_at}
 use Rattle.mmdb_reader.specs.Positions.{IsAt, HidesAliases, bits_to, half_of, is_high_at}
 use Rattle.mmdb_reader.specs.Listing.{is_hidden}
 use Rattle.mmdb_reader.specs.Options.{includes_aliased}
 use Rattle.mmdb_reader.specs.Shown.{ipv4_start, has_ipv4_subtree}
-use Rattle.mmdb_reader.proofs.WalkLemmas.{walk-append, walk-nil, walk-one}
+use Rattle.mmdb_tree.proofs.WalkLemmas.{walk-append, walk-nil, walk-one}
 use Rattle.mmdb_reader.proofs.NumberLemmas.{number-room, number-snoc, take-bits-number}
 
 abbrev pub root : Position
@@ -95,9 +95,6 @@ alias-at db p at = elim (cases_Bool (has_ipv6 db)) [
       ap (λ (n : ℕ). is_alias_at db n p.address) at.reached ∙ ap (is_alias_at db (walk (tree_of db) (bits_to db p))) (at.filled ∙ ap (λ (n : ℕ). number_of n (bits_to db p)) w)
   | inr four ↦ no_ipv6 (has_ipv6 db) _ _ four ∙ sym (no_ipv6 (has_ipv6 db) _ _ four)
 ]
-
-pub hidden-at : (db : Database) (options : WithinOptions) (p : Position) (found : Bool) → IsAt db p → found ≡ is_alias_at db p.number p.address → includes_aliased options ≡ false → found ≡ is_hidden db options (bits_to db p)
-hidden-at db options p found at is off = is ∙ alias-at db p at ∙ sym (ap (λ (b : Bool). not b && is_alias db (bits_to db p)) off)
 
 -- ---- what is hidden
 

@@ -1,15 +1,15 @@
 -- How far a walk over a tree has come.
-use Rattle.std.proofs.Common.{◌≡◌, ℕ, ◌+◌, ◌-◌, ◌<◌, ◌≤◌, zero, suc, Bool, true, false, List, [], ◌∷◌, ◌++◌, length, arith, sym, ap, ◌∙◌, refl, length-append, append_assoc, ◌⊎◌, inl, inr, ◌||◌, ◌&&◌, ◌==◌, leb, ltb}
+use Rattle.std.proofs.Common.{◌≡◌, ℕ, ◌+◌, ◌-◌, ◌<◌, ◌≤◌, zero, suc, Bool, true, false, List, [], ◌∷◌, ◌++◌, length, arith, sym, ap, ◌∙◌, refl, length-append, append_assoc, ◌⊎◌, inl, inr, ◌||◌, ◌==◌}
 use Rattle.std.proofs.lemmas.List.{append-nil}
 use Rattle.std.specs.List.{list_any}
-use Rattle.std.proofs.lemmas.Bool.{cases_Bool, ltb-true, and_parts}
-use Rattle.mmdb_reader.specs.File.{Database, width, separator, data_length}
-use Rattle.mmdb_reader.specs.Lookup.{Outcome, Offset, NoData, Failed, outcome_of}
-use Rattle.mmdb_reader.specs.Stops.{stops, cut, is_fault, offset_of, offsets, most_stops, walk_cost, end_of_outcome, end_of_leaf}
+use Rattle.mmdb_reader.specs.File.{Database, width, data_length}
+use Rattle.mmdb_tree.specs.declared.record.TreeRecord.{TreeRecord}
+use Rattle.mmdb_tree.specs.declared.record.TreeRecord.TheVariants.{Data, Empty, Invalid, Node}
+use Rattle.mmdb_reader.specs.Lookup.{record_at}
+use Rattle.mmdb_tree.proofs.LeadLemmas.{data-inside}
+use Rattle.mmdb_reader.specs.Stops.{stops, cut, is_fault, offset_of, offsets, most_stops, walk_cost, at_stop}
 use Rattle.mmdb_reader.specs.Walked.{half_of, GoesOn, IsStopped, is_alias_of, end_from}
 use Rattle.mmdb_reader.specs.declared.walked.Point.{Point}
-use Rattle.mmdb_reader.specs.declared.walked.End.{End}
-use Rattle.mmdb_reader.specs.declared.walked.End.TheVariants.{Alias, Fault, Absent, Found}
 use Rattle.mmdb_reader.proofs.Visits.{Visit, visit, with_lead, with_lead-zero, visits_below, total, cut_visits, offsets_of, has_fault, visits_of, total-visits_of, length-visits_of, offsets-visits_of, fault-visits_of, cut-visits_of, visits-stops}
 use Rattle.mmdb_reader.proofs.Points.{visits_of_stack, step-node, step-stop}
 
@@ -24,7 +24,7 @@ unfolding total
 total-append [] ws = omega arith
 total-append (v ∷ vs) ws = let h = total-append vs ws in omega (arith, h)
 
-total-one : (gap : ℕ) (end : End) (vs : List Visit) → total (visit gap end ∷ vs) ≡ gap + total vs
+total-one : (gap : ℕ) (end : TreeRecord) (vs : List Visit) → total (visit gap end ∷ vs) ≡ gap + total vs
 unfolding total
 total-one gap end vs = refl
 
@@ -40,11 +40,11 @@ fault-append (v ∷ vs) ws good = elim (cases_bool (is_fault v.end)) [
   | inr fine ↦ rw fine (fault-append vs ws (rw fine at good))
 ]
 
-fault-one : (gap : ℕ) (end : End) (vs : List Visit) → is_fault end ≡ false → has_fault (visit gap end ∷ vs) ≡ has_fault vs
+fault-one : (gap : ℕ) (end : TreeRecord) (vs : List Visit) → is_fault end ≡ false → has_fault (visit gap end ∷ vs) ≡ has_fault vs
 unfolding has_fault
 fault-one gap end vs good = rw good refl
 
-fault-here : (gap : ℕ) (end : End) (vs : List Visit) → is_fault end ≡ true → has_fault (visit gap end ∷ vs) ≡ true
+fault-here : (gap : ℕ) (end : TreeRecord) (vs : List Visit) → is_fault end ≡ true → has_fault (visit gap end ∷ vs) ≡ true
 unfolding has_fault
 fault-here gap end vs bad = rw bad refl
 
@@ -57,7 +57,7 @@ unfolding offsets_of
 offsets-append [] ws = refl
 offsets-append (v ∷ vs) ws = rw (offsets-append vs ws, append_assoc) refl
 
-offsets-one : (gap : ℕ) (end : End) → offsets_of (visit gap end ∷ []) ≡ offset_of end
+offsets-one : (gap : ℕ) (end : TreeRecord) → offsets_of (visit gap end ∷ []) ≡ offset_of end
 unfolding offsets_of
 offsets-one gap end = append-nil _
 
@@ -84,12 +84,12 @@ unfolding cut_visits
 cut-zero vs = refl
 
 -- the first visit after the cut's beginning is in it
-cut-more : (most gap : ℕ) (end : End) (vs : List Visit) → 0 < most → gap ≤ total (cut_visits most (visit gap end ∷ vs))
+cut-more : (most gap : ℕ) (end : TreeRecord) (vs : List Visit) → 0 < most → gap ≤ total (cut_visits most (visit gap end ∷ vs))
 unfolding cut_visits total
 cut-more zero gap end vs h = absurd (omega arith)
 cut-more (suc most) gap end vs h = omega arith
 
-cut-fault : (most gap : ℕ) (end : End) (vs : List Visit) → 0 < most → is_fault end ≡ true → cut_visits most (visit gap end ∷ vs) ≡ visit gap end ∷ []
+cut-fault : (most gap : ℕ) (end : TreeRecord) (vs : List Visit) → 0 < most → is_fault end ≡ true → cut_visits most (visit gap end ∷ vs) ≡ visit gap end ∷ []
 unfolding cut_visits
 cut-fault zero gap end vs h bad = absurd (omega arith)
 cut-fault (suc most) gap end vs h bad = rw bad refl
@@ -158,7 +158,7 @@ progress-node db xs p steps counted has w on few = record {
   at_most = λ h. absurd (omega arith);
 }
 
-module _ (db : Database) (xs : List Point) (p : Point) (steps counted : ℕ) (has : ℕ → Bool) (w : IsProgress db (xs ++ p ∷ []) steps counted has) (end : End) (is : end ≡ end_from db p.number p.high) (stopped : IsStopped db p) where
+module _ (db : Database) (xs : List Point) (p : Point) (steps counted : ℕ) (has : ℕ → Bool) (w : IsProgress db (xs ++ p ∷ []) steps counted has) (end : TreeRecord) (is : end ≡ end_from db p.number p.high) (stopped : IsStopped db p) where
   split-stop : all_visits db ≡ (w.passed ++ visit (w.lead + 1) end ∷ []) ++ visits_of_stack db xs
   split-stop =
       w.split ∙ ap (λ (vs : List Visit). w.passed ++ vs) (step-stop db xs p w.lead end is stopped)
@@ -245,47 +245,23 @@ or_none true = refl
 or_none false = refl
 
 -- what an insertion into the set adds
-pub adds_offset : (end : End) (offset q : ℕ) (old : Bool) → end ≡ Found offset → (old || (offset == q)) ≡ (old || list_any (λ o. o == q) (offset_of end))
-adds_offset end offset q old e = ap (λ b. old || b) (or_none (offset == q)) ∙ ap (λ (e : End). old || list_any (λ o. o == q) (offset_of e)) (sym e)
+pub adds_offset : (end : TreeRecord) (offset q : ℕ) (old : Bool) → end ≡ Data offset → (old || (offset == q)) ≡ (old || list_any (λ o. o == q) (offset_of end))
+adds_offset end offset q old e = ap (λ b. old || b) (or_none (offset == q)) ∙ ap (λ (e : TreeRecord). old || list_any (λ o. o == q) (offset_of e)) (sym e)
 
-pub adds_none : (end : End) (q : ℕ) (old : Bool) → ((end ≡ Alias) ⊎ (end ≡ Absent)) → old ≡ (old || list_any (λ o. o == q) (offset_of end))
-adds_none end q old is = elim is [ inl e ↦ rw e (or_none old) | inr e ↦ rw e (or_none old) ]
+pub adds_node : (end : TreeRecord) (number q : ℕ) (old : Bool) → end ≡ Node number → old ≡ (old || list_any (λ o. o == q) (offset_of end))
+adds_node end number q old e = rw e (or_none old)
 
-pub adds_fault : (end : End) (q : ℕ) (old : Bool) → end ≡ Fault → old ≡ (old || list_any (λ o. o == q) (offset_of end))
-adds_fault end q old e = rw e (or_none old)
-
-pub no_fault : (end : End) → ((end ≡ Alias) ⊎ (end ≡ Absent)) → is_fault end ≡ false
-no_fault end is = elim is [ inl e ↦ ap is_fault e | inr e ↦ ap is_fault e ]
+pub adds_empty : (end : TreeRecord) (q : ℕ) (old : Bool) → end ≡ Empty → old ≡ (old || list_any (λ o. o == q) (offset_of end))
+adds_empty end q old e = rw e (or_none old)
 
 -- an offset that is found is one of the data section
-of_outcome : (o : Outcome) (offset : ℕ) → end_of_outcome o ≡ Found offset → o ≡ Offset offset
-of_outcome (Offset n) offset e = ap Offset (let same : n ≡ offset = cc in same)
-of_outcome NoData offset e = absurd (cc)
-of_outcome Failed offset e = absurd (cc)
+of_stop : (x : TreeRecord) (aliased : Bool) (offset : ℕ) → at_stop x aliased ≡ Data offset → x ≡ Data offset
+of_stop (Node number) true offset e = absurd (cc)
+of_stop (Node number) false offset e = absurd (cc)
+of_stop Empty aliased offset e = absurd (cc)
+of_stop (Data n) aliased offset e = e
+of_stop Invalid aliased offset e = absurd (cc)
 
-outcome_inside : (db : Database) (number offset : ℕ) → outcome_of db number ≡ Offset offset → offset < data_length db
-unfolding outcome_of
-outcome_inside db number offset e = elim (cases_Bool (leb number db.metadata.node_count)) [
-  | inl low ↦ absurd (let no : NoData ≡ Offset offset = rw low at e in cc)
-  | inr high ↦ elim (cases_Bool (leb (db.metadata.node_count + separator) number && ltb (number - db.metadata.node_count - separator) (data_length db))) [
-    | inl fits ↦
-        let same : Offset (number - db.metadata.node_count - separator) ≡ Offset offset = rw (high, fits) at e in
-        let is : number - db.metadata.node_count - separator ≡ offset = cc in
-        let less = ltb-true (number - db.metadata.node_count - separator) (data_length db) (and_parts (leb (db.metadata.node_count + separator) number) (ltb (number - db.metadata.node_count - separator) (data_length db)) fits).1 in
-        omega (arith, less, is)
-    | inr out ↦ absurd (let no : Failed ≡ Offset offset = rw (high, out) at e in cc)
-  ]
-]
-
-leaf_inside : (db : Database) (number offset : ℕ) → end_of_leaf db number ≡ Found offset → offset < data_length db
-unfolding end_of_leaf
-leaf_inside db number offset e = elim (cases_Bool (ltb number db.metadata.node_count)) [
-  | inl on ↦ absurd (let no : Fault ≡ Found offset = rw on at e in cc)
-  | inr off ↦ outcome_inside db number offset (of_outcome (outcome_of db number) offset (let same : end_of_outcome (outcome_of db number) ≡ Found offset = rw off at e in same))
-]
-
-pub found_inside : (db : Database) (number : ℕ) (high : Bool) (offset : ℕ) → end_from db number high ≡ Found offset → offset < data_length db
-found_inside db number high offset e = elim (cases_Bool (is_alias_of db number high)) [
-  | inl alias ↦ absurd (let no : Alias ≡ Found offset = rw alias at e in cc)
-  | inr fine ↦ leaf_inside db number offset (let same : end_of_leaf db number ≡ Found offset = rw fine at e in same)
-]
+pub found_inside : (db : Database) (number : ℕ) (high : Bool) (offset : ℕ) → end_from db number high ≡ Data offset → offset < data_length db
+found_inside db number high offset e =
+    data-inside db.metadata.node_count (data_length db) number offset (of_stop (record_at db number) (is_alias_of db number high) offset e)

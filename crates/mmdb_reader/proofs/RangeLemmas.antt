@@ -7,7 +7,7 @@ use Rattle.mmdb_net.proofs.BitLaws.{length-bits_of, get_or-bits_of}
 use Rattle.mmdb_reader.specs.declared.options.WithinOptions.{WithinOptions}
 use Rattle.mmdb_reader.specs.declared.positions.Position.{Position}
 use Rattle.mmdb_reader.specs.File.{Database, tree_of, width}
-use Rattle.mmdb_reader.specs.Tree.{walk}
+use Rattle.mmdb_tree.specs.Tree.{walk}
 use Rattle.mmdb_reader.specs.Listing.{Listed, listed, listed_along, is_hidden}
 use Rattle.mmdb_reader.specs.Positions.{IsAt, HasHalves, IsEnd, IsStart, bits_to, half_of, listed_from, listed_of_stack}
 use Rattle.mmdb_reader.proofs.ListingSteps.{along-there, along-full, along-hidden, along-node, along-leaf}

@@ -6,9 +6,10 @@ use Rattle.std.proofs.lemmas.Bool.{cases_lt}
 use Rattle.mmdb_reader.specs.declared.options.WithinOptions.{WithinOptions}
 use Rattle.mmdb_reader.specs.declared.positions.Position.{Position}
 use Rattle.mmdb_reader.specs.File.{Database, tree_of, width}
-use Rattle.mmdb_reader.specs.Tree.{walk}
-use Rattle.mmdb_reader.specs.Listing.{Finding, Listed, listed_below, list_if, is_hidden, finding_at}
-use Rattle.mmdb_reader.specs.Positions.{IsAt, HasHalves, IsEnd, IsPlaced, IsStack, GoesOn, IsLowest, IsNothing, bits_to, half_of, listed_from, listed_of_stack, positions_below, positions_left}
+use Rattle.mmdb_tree.specs.Tree.{walk}
+use Rattle.mmdb_tree.specs.declared.record.TreeRecord.{TreeRecord}
+use Rattle.mmdb_reader.specs.Listing.{Listed, listed_below, list_if, is_hidden, finding_at}
+use Rattle.mmdb_reader.specs.Positions.{IsAt, HasHalves, IsEnd, IsPlaced, IsStack, ListsSame, IsLowest, IsNothing, bits_to, half_of, listed_from, listed_of_stack, positions_below, positions_left}
 use Rattle.mmdb_reader.proofs.ListingSteps.{below-hidden, below-node, below-full, below-leaf}
 use Rattle.mmdb_reader.proofs.PositionLemmas.{bits_to-half, IsAt-half}
 
@@ -42,7 +43,7 @@ module _ (db : Database) (options : WithinOptions) (p : Position) (at : IsAt db 
   leaf_with (suc left) shown (inr off) = let r = at.reached in below-leaf db options (bits_to db p) left shown (omega (arith, r, off))
 
   -- the list of a leaf
-  pub from-leaf : (found : Option Finding) → found ≡ finding_at db options p.number → is_hidden db options (bits_to db p) ≡ false → IsEnd db p → listed_from db options p ≡ list_if (bits_to db p) found
+  pub from-leaf : (found : Option TreeRecord) → found ≡ finding_at db options p.number → is_hidden db options (bits_to db p) ≡ false → IsEnd db p → listed_from db options p ≡ list_if (bits_to db p) found
   from-leaf found is shown ended =
       let at_end : ((width db - p.prefix ≡ 0) ⊎ (db.metadata.node_count ≤ p.number)) = elim ended [ inl full ↦ inl (omega arith) | inr off ↦ inr off ] in
       leaf_with (width db - p.prefix) shown at_end ∙ ap (λ (n : ℕ). list_if (bits_to db p) (finding_at db options n)) (sym at.reached) ∙ ap (list_if (bits_to db p)) (sym is)
@@ -74,7 +75,7 @@ module _ (db : Database) (options : WithinOptions) (xs : List Position) (p : Pos
       stack-push db options xs p ∙ ap (λ (m : List Listed). m ++ listed_of_stack db options xs) split ∙ append_assoc low high (listed_of_stack db options xs) ∙ sym with_lower
 
   -- a leaf gives itself, if it is listed
-  pub step-leaf : (found : Option Finding) → IsAt db p → found ≡ finding_at db options p.number → is_hidden db options (bits_to db p) ≡ false → IsEnd db p → listed_of_stack db options (xs ++ p ∷ []) ≡ list_if (bits_to db p) found ++ listed_of_stack db options xs
+  pub step-leaf : (found : Option TreeRecord) → IsAt db p → found ≡ finding_at db options p.number → is_hidden db options (bits_to db p) ≡ false → IsEnd db p → listed_of_stack db options (xs ++ p ∷ []) ≡ list_if (bits_to db p) found ++ listed_of_stack db options xs
   step-leaf found at is shown ended = stack-push db options xs p ∙ ap (λ (m : List Listed). m ++ listed_of_stack db options xs) (from-leaf db options p at found is shown ended)
 
   pub leaf-smaller : positions_left (width db) xs < positions_left (width db) (xs ++ p ∷ [])
@@ -142,10 +143,10 @@ halves-stack db capacity same one_same two_same old xs one two p upper lower e p
 
 module _ (db : Database) (options : WithinOptions) (capacity : ℕ) (old : List Position) where
   -- where a walk goes down from
-  pub goes_on-start : IsStack db capacity old → GoesOn db options capacity old old
+  pub goes_on-start : IsStack db capacity old → ListsSame db options capacity old old
   goes_on-start placed = record { placed = placed; lists = refl; left = omega arith }
 
-  module _ (xs : List Position) (p : Position) (on : GoesOn db options capacity old (xs ++ p ∷ [])) where
+  module _ (xs : List Position) (p : Position) (on : ListsSame db options capacity old (xs ++ p ∷ [])) where
     pub top-placed : IsPlaced db capacity (length xs) p
     top-placed = IsStack-top db capacity xs p on.placed
 
@@ -158,7 +159,7 @@ module _ (db : Database) (options : WithinOptions) (capacity : ℕ) (old : List 
     }
 
     -- the upper half of a node is put on the stack, and the walk goes on at the lower one
-    pub goes_on-node : is_hidden db options (bits_to db p) ≡ false → HasHalves db p → GoesOn db options capacity old ((xs ++ half_of db p true ∷ []) ++ half_of db p false ∷ [])
+    pub goes_on-node : is_hidden db options (bits_to db p) ≡ false → HasHalves db p → ListsSame db options capacity old ((xs ++ half_of db p true ∷ []) ++ half_of db p false ∷ [])
     goes_on-node shown halves = record {
       placed = halves-stack db capacity capacity capacity capacity (xs ++ p ∷ []) xs (xs ++ half_of db p true ∷ []) ((xs ++ half_of db p true ∷ []) ++ half_of db p false ∷ []) p (half_of db p true) (half_of db p false)
           refl on.placed halves refl refl refl refl refl refl refl;
@@ -184,7 +185,7 @@ module _ (db : Database) (options : WithinOptions) (capacity : ℕ) (old xs : Li
   lowest-smaller = let less = leaf-smaller db options xs p in let left = lowest.on.left in omega (arith, less, left)
 
   -- the leaf comes first, if it is listed
-  pub lowest-lists : (found : Option Finding) → found ≡ finding_at db options p.number → listed_of_stack db options old ≡ list_if (bits_to db p) found ++ listed_of_stack db options xs
+  pub lowest-lists : (found : Option TreeRecord) → found ≡ finding_at db options p.number → listed_of_stack db options old ≡ list_if (bits_to db p) found ++ listed_of_stack db options xs
   lowest-lists found is = sym lowest.on.lists ∙ step-leaf db options xs p found lowest-at is lowest.shown lowest.ends
 
 -- what is left on the stack keeps its place, whether a leaf was met or an alias

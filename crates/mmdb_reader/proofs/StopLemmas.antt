@@ -1,26 +1,27 @@
 -- The stops of a tree are exactly the walked leaves and the topmost aliases.
-use Rattle.std.proofs.Common.{◌≡◌, ℕ, ◌<◌, ◌≤◌, ◌⊎◌, ◌↔◌, zero, suc, Bool, true, false, not, ltb, List, [], ◌∷◌, ◌++◌, map, length, arith, sym, ap, ◌∙◌, refl, subst, inl, inr, append_assoc, length-append}
+use Rattle.std.proofs.Common.{◌≡◌, ℕ, ◌<◌, ◌≤◌, ◌⊎◌, ◌↔◌, zero, suc, Bool, true, false, not, List, [], ◌∷◌, ◌++◌, map, length, arith, sym, ap, ◌∙◌, refl, subst, inl, inr, append_assoc, length-append}
 use Rattle.std.specs.List.{Contains}
 use Rattle.std.proofs.lemmas.Bool.{cases_Bool, ltb-true, ltb-false, lt-ltb, le-ltb, and_parts, and_from, and_cases, and_left, and_right, not-true, not-false, both_ways}
 use Rattle.std.proofs.lemmas.List.{append-nil, map-append}
 use Rattle.std.proofs.lemmas.List.Elements.{Contains-append_left, Contains-append_right, Contains-append_cases}
-use Rattle.mmdb_reader.specs.declared.walked.End.{End}
-use Rattle.mmdb_reader.specs.declared.walked.End.TheVariants.{Alias, Fault, Absent, Found}
-use Rattle.mmdb_reader.specs.File.{Database, tree_of, width}
-use Rattle.mmdb_reader.specs.Tree.{walk}
-use Rattle.mmdb_reader.specs.Lookup.{outcome_of}
+use Rattle.mmdb_tree.specs.declared.record.TreeRecord.{TreeRecord}
+use Rattle.mmdb_tree.specs.declared.record.TreeRecord.TheVariants.{Data, Empty, Invalid, Node}
+use Rattle.mmdb_reader.specs.File.{Database, tree_of, width, data_length}
+use Rattle.mmdb_tree.specs.Tree.{walk}
+use Rattle.mmdb_reader.specs.Lookup.{record_at}
 use Rattle.mmdb_reader.specs.Alias.{IsAlias, is_alias}
 use Rattle.mmdb_reader.specs.Listing.{HasValueAt, LeadsNowhere, Ascends, ComesBefore}
-use Rattle.mmdb_reader.specs.Stops.{Stop, stop, end_of_outcome, end_of_leaf, end_at, goes_on, stops_below, stops}
+use Rattle.mmdb_reader.specs.Stops.{Stop, stop, at_stop, end_of_leaf, end_at, goes_on, stops_below, stops}
 use Rattle.mmdb_reader.specs.WholeLaws.{HasEnd, IsStop, StopsAreExact}
-use Rattle.mmdb_reader.proofs.WalkLemmas.{walk-inner}
+use Rattle.mmdb_tree.proofs.WalkLemmas.{walk-inner}
+use Rattle.mmdb_tree.proofs.LeadLemmas.{record-node, record-empty, record-data, record-invalid}
 use Rattle.mmdb_reader.proofs.PositionLemmas.{width-le}
 use Rattle.mmdb_reader.proofs.AliasLemmas.{alias-sound, alias-complete}
-use Rattle.mmdb_reader.proofs.FindingLemmas.{OnNode, AtEnd, Nowhere, Value, kind_of_leaf, outcome-offset, outcome-nowhere, outcome-end}
+use Rattle.mmdb_reader.proofs.FindingLemmas.{OnNode, AtEnd, Nowhere, Value, kind_of_leaf}
 use Rattle.mmdb_reader.proofs.Visits.{stops-node, stops-end}
 
 -- The bits `s` behind `bits` are where a walk stops that goes on from `bits`.
-pub record EndsBelow (db : Database) (left : ℕ) (bits s : List Bool) (end : End) : Type 0 where
+pub record EndsBelow (db : Database) (left : ℕ) (bits s : List Bool) (end : TreeRecord) : Type 0 where
   pub inner : (c : List Bool) (x : Bool) (d : List Bool) → s ≡ c ++ x ∷ d → goes_on db (bits ++ c) ≡ true
   pub short : length s ≤ left
   pub ended : (goes_on db (bits ++ s) ≡ false) ⊎ (length s ≡ left)
@@ -49,7 +50,7 @@ module _ (db : Database) where
     end_is = ap (end_at db) (sym (append-nil bits));
   }
 
-  lift_inner : (left : ℕ) (bits : List Bool) (y : Bool) (s : List Bool) (end : End) → goes_on db bits ≡ true → EndsBelow db left (bits ++ y ∷ []) s end
+  lift_inner : (left : ℕ) (bits : List Bool) (y : Bool) (s : List Bool) (end : TreeRecord) → goes_on db bits ≡ true → EndsBelow db left (bits ++ y ∷ []) s end
       → (c : List Bool) (x : Bool) (d : List Bool) → y ∷ s ≡ c ++ x ∷ d → goes_on db (bits ++ c) ≡ true
   lift_inner left bits y s end on h [] x d e = ap (goes_on db) (append-nil bits) ∙ on
   lift_inner left bits y s end on h (z ∷ c) x d e =
@@ -57,7 +58,7 @@ module _ (db : Database) where
       let others : s ≡ c ++ x ∷ d = cc in
       ap (λ (w : Bool). goes_on db (bits ++ w ∷ c)) (sym first) ∙ sym (ap (goes_on db) (shifted bits y c)) ∙ h.inner c x d others
 
-  lift : (left : ℕ) (bits : List Bool) (y : Bool) (s : List Bool) (end : End) → goes_on db bits ≡ true → EndsBelow db left (bits ++ y ∷ []) s end → EndsBelow db (suc left) bits (y ∷ s) end
+  lift : (left : ℕ) (bits : List Bool) (y : Bool) (s : List Bool) (end : TreeRecord) → goes_on db bits ≡ true → EndsBelow db left (bits ++ y ∷ []) s end → EndsBelow db (suc left) bits (y ∷ s) end
   lift left bits y s end on h = record {
     inner = lift_inner left bits y s end on h;
     short = let short = h.short in omega (arith, short);
@@ -65,7 +66,7 @@ module _ (db : Database) where
     end_is = h.end_is ∙ ap (end_at db) (shifted bits y s);
   }
 
-  unlift : (left : ℕ) (bits : List Bool) (y : Bool) (s : List Bool) (end : End) → EndsBelow db (suc left) bits (y ∷ s) end → EndsBelow db left (bits ++ y ∷ []) s end
+  unlift : (left : ℕ) (bits : List Bool) (y : Bool) (s : List Bool) (end : TreeRecord) → EndsBelow db (suc left) bits (y ∷ s) end → EndsBelow db left (bits ++ y ∷ []) s end
   unlift left bits y s end h = record {
     inner = λ c x d e. ap (goes_on db) (shifted bits y c) ∙ h.inner (y ∷ c) x d (ap (λ (t : List Bool). y ∷ t) e);
     short = let short = h.short in omega (arith, short);
@@ -73,10 +74,10 @@ module _ (db : Database) where
     end_is = h.end_is ∙ sym (ap (end_at db) (shifted bits y s));
   }
 
-  on_here : (left : ℕ) (bits : List Bool) (y : Bool) (s : List Bool) (end : End) → EndsBelow db left bits (y ∷ s) end → goes_on db bits ≡ true
+  on_here : (left : ℕ) (bits : List Bool) (y : Bool) (s : List Bool) (end : TreeRecord) → EndsBelow db left bits (y ∷ s) end → goes_on db bits ≡ true
   on_here left bits y s end h = sym (ap (goes_on db) (append-nil bits)) ∙ h.inner [] y s refl
 
-  off_here : (left : ℕ) (bits : List Bool) (end : End) → EndsBelow db (suc left) bits [] end → goes_on db bits ≡ false
+  off_here : (left : ℕ) (bits : List Bool) (end : TreeRecord) → EndsBelow db (suc left) bits [] end → goes_on db bits ≡ false
   off_here left bits end h = elim h.ended [ inl off ↦ sym (ap (goes_on db) (append-nil bits)) ∙ off | inr full ↦ absurd (omega (arith, full)) ]
 
   -- what stands in the list
@@ -101,15 +102,15 @@ module _ (db : Database) where
     ]
   ]
 
-  one_contains : (left : ℕ) (bits : List Bool) (end : End) → ((left ≡ 0) ⊎ (goes_on db bits ≡ false)) → EndsBelow db left bits [] end → Contains (stops_below db left bits) (stop (bits ++ []) end)
+  one_contains : (left : ℕ) (bits : List Bool) (end : TreeRecord) → ((left ≡ 0) ⊎ (goes_on db bits ≡ false)) → EndsBelow db left bits [] end → Contains (stops_below db left bits) (stop (bits ++ []) end)
   one_contains left bits end ended h =
       let same : stop bits (end_at db bits) ≡ stop (bits ++ []) end = ap (λ (b : List Bool). stop b (end_at db b)) (sym (append-nil bits)) ∙ ap (stop (bits ++ [])) (sym h.end_is) in
       subst (λ (ms : List Stop). Contains ms (stop (bits ++ []) end)) (sym (stops-end db left bits ended)) (the_one _ _ same)
 
-  half_contains : (ms : List Stop) (bits : List Bool) (y : Bool) (s : List Bool) (end : End) → Contains ms (stop ((bits ++ y ∷ []) ++ s) end) → Contains ms (stop (bits ++ y ∷ s) end)
+  half_contains : (ms : List Stop) (bits : List Bool) (y : Bool) (s : List Bool) (end : TreeRecord) → Contains ms (stop ((bits ++ y ∷ []) ++ s) end) → Contains ms (stop (bits ++ y ∷ s) end)
   half_contains ms bits y s end h = subst (λ (b : List Bool). Contains ms (stop b end)) (shifted bits y s) h
 
-  pub complete : (left : ℕ) (bits s : List Bool) (end : End) → EndsBelow db left bits s end → Contains (stops_below db left bits) (stop (bits ++ s) end)
+  pub complete : (left : ℕ) (bits s : List Bool) (end : TreeRecord) → EndsBelow db left bits s end → Contains (stops_below db left bits) (stop (bits ++ s) end)
   complete zero bits [] end h = one_contains zero bits end (inl refl) h
   complete zero bits (y ∷ s) end h = let short = h.short in absurd (omega (arith, short))
   complete (suc left) bits [] end h = one_contains (suc left) bits end (inr (off_here left bits end h)) h
@@ -134,26 +135,31 @@ module _ (db : Database) where
 
 -- ---- what a leaf has
 
-leaf_on : (db : Database) (number : ℕ) → number < db.metadata.node_count → end_of_leaf db number ≡ Fault
+leaf_on : (db : Database) (number : ℕ) → number < db.metadata.node_count → end_of_leaf db number ≡ Invalid
 unfolding end_of_leaf
-leaf_on db number on = let test : ltb number db.metadata.node_count ≡ true = lt-ltb _ _ on in rw test refl
+leaf_on db number on = ap (λ (x : TreeRecord). at_stop x false) (record-node db.metadata.node_count (data_length db) number on)
 
-leaf_off : (db : Database) (number : ℕ) → db.metadata.node_count ≤ number → end_of_leaf db number ≡ end_of_outcome (outcome_of db number)
+nowhere-end : (db : Database) (leaf : List Bool) → LeadsNowhere db leaf → end_of_leaf db (walk (tree_of db) leaf) ≡ Invalid
 unfolding end_of_leaf
-leaf_off db number off = let test : ltb number db.metadata.node_count ≡ false = le-ltb _ _ off in rw test refl
-
-nowhere-end : (db : Database) (leaf : List Bool) → LeadsNowhere db leaf → end_of_leaf db (walk (tree_of db) leaf) ≡ Fault
 nowhere-end db leaf n =
-    let past = n.past in
-    leaf_off db (walk (tree_of db) leaf) (omega (arith, past)) ∙ ap end_of_outcome (outcome-nowhere db (walk (tree_of db) leaf) past (λ offset leads inside. n.nowhere offset (record { leads = leads; inside = inside })))
+    ap (λ (x : TreeRecord). at_stop x false) (record-invalid db.metadata.node_count (data_length db) (walk (tree_of db) leaf) n.past (λ offset leads inside. n.nowhere offset (record { leads = leads; inside = inside })))
 
-value-end : (db : Database) (leaf : List Bool) (offset : ℕ) → HasValueAt db leaf offset → end_of_leaf db (walk (tree_of db) leaf) ≡ Found offset
-value-end db leaf offset v =
-    let leads = v.leads in
-    leaf_off db (walk (tree_of db) leaf) (omega (arith, leads)) ∙ ap end_of_outcome (outcome-offset db (walk (tree_of db) leaf) offset v.leads v.inside)
+value-end : (db : Database) (leaf : List Bool) (offset : ℕ) → HasValueAt db leaf offset → end_of_leaf db (walk (tree_of db) leaf) ≡ Data offset
+unfolding end_of_leaf
+value-end db leaf offset v = ap (λ (x : TreeRecord). at_stop x false) (record-data db.metadata.node_count (data_length db) (walk (tree_of db) leaf) offset v.leads v.inside)
 
-absent-end : (db : Database) (leaf : List Bool) → walk (tree_of db) leaf ≡ db.metadata.node_count → end_of_leaf db (walk (tree_of db) leaf) ≡ Absent
-absent-end db leaf is = leaf_off db (walk (tree_of db) leaf) (omega (arith, is)) ∙ ap end_of_outcome (outcome-end db (walk (tree_of db) leaf) (omega (arith, is)))
+absent-end : (db : Database) (leaf : List Bool) → walk (tree_of db) leaf ≡ db.metadata.node_count → end_of_leaf db (walk (tree_of db) leaf) ≡ Empty
+unfolding end_of_leaf
+absent-end db leaf is = ap (λ (x : TreeRecord). at_stop x false) (record-empty db.metadata.node_count (data_length db) (walk (tree_of db) leaf) is)
+
+-- what a walk stops at, by an alias and by none
+end-aliased : (db : Database) (bits : List Bool) → is_alias db bits ≡ true → walk (tree_of db) bits < db.metadata.node_count → end_at db bits ≡ Node (walk (tree_of db) bits)
+end-aliased db bits aliased on =
+    ap (at_stop (record_at db (walk (tree_of db) bits))) aliased ∙ ap (λ (x : TreeRecord). at_stop x true) (record-node db.metadata.node_count (data_length db) (walk (tree_of db) bits) on)
+
+end-unaliased : (db : Database) (bits : List Bool) → is_alias db bits ≡ false → end_at db bits ≡ end_of_leaf db (walk (tree_of db) bits)
+unfolding end_of_leaf
+end-unaliased db bits unaliased = ap (at_stop (record_at db (walk (tree_of db) bits))) unaliased
 
 pub has-end : (db : Database) (leaf : List Bool) → HasEnd db leaf (end_of_leaf db (walk (tree_of db) leaf))
 has-end db leaf = elim (kind_of_leaf db leaf) [
@@ -166,13 +172,13 @@ has-end db leaf = elim (kind_of_leaf db leaf) [
 no_skip : {P : Type 0} → false ≡ true → P
 no_skip e = cc
 
-pub end-has : (db : Database) (leaf : List Bool) (end : End) → HasEnd db leaf end → end_of_leaf db (walk (tree_of db) leaf) ≡ end
-end-has db leaf Alias h = absurd h
-end-has db leaf Fault (inl n) = nowhere-end db leaf n
-end-has db leaf Fault (inr (inl on)) = leaf_on db (walk (tree_of db) leaf) on
-end-has db leaf Fault (inr (inr (skips, u))) = no_skip skips
-end-has db leaf Absent h = absent-end db leaf h
-end-has db leaf (Found offset) h = value-end db leaf offset h
+pub end-has : (db : Database) (leaf : List Bool) (end : TreeRecord) → HasEnd db leaf end → end_of_leaf db (walk (tree_of db) leaf) ≡ end
+end-has db leaf (Node number) h = absurd h
+end-has db leaf Invalid (inl n) = nowhere-end db leaf n
+end-has db leaf Invalid (inr (inl on)) = leaf_on db (walk (tree_of db) leaf) on
+end-has db leaf Invalid (inr (inr (skips, u))) = no_skip skips
+end-has db leaf Empty h = absent-end db leaf h
+end-has db leaf (Data offset) h = value-end db leaf offset h
 
 -- ---- at the root
 
@@ -198,7 +204,9 @@ module _ (db : Database) where
       let proper : (c : List Bool) (x : Bool) (d : List Bool) → m.bits ≡ c ++ x ∷ d → ¬ IsAlias db c = λ c x d e. no_test c (goes_parts c (h.inner c x d e)).0 in
       let short = h.short in
       elim (cases_Bool (is_alias db m.bits)) [
-        | inl aliased ↦ inl (record { alias = alias-sound db m.bits (omega (arith, short, width-le db)) aliased; clear = proper }, h.end_is ∙ rw aliased refl)
+        | inl aliased ↦
+            let alias = alias-sound db m.bits (omega (arith, short, width-le db)) aliased in
+            inl (record { alias = alias; clear = proper }, h.end_is ∙ end-aliased db m.bits aliased (omega (arith, alias.same, alias.on_node)))
         | inr unaliased ↦ inr (
           record {
             is_leaf = record {
@@ -214,7 +222,7 @@ module _ (db : Database) where
             };
             clear = λ c begins. any_prefix m.bits c begins.0 begins.1 (no_test m.bits unaliased) (λ x q f. proper c x q f);
           },
-          (let is : m.end ≡ end_of_leaf db (walk (tree_of db) m.bits) = h.end_is ∙ rw unaliased refl in subst (HasEnd db m.bits) (sym is) (has-end db m.bits)),
+          (let is : m.end ≡ end_of_leaf db (walk (tree_of db) m.bits) = h.end_is ∙ end-unaliased db m.bits unaliased in subst (HasEnd db m.bits) (sym is) (has-end db m.bits)),
         )
       ]
 
@@ -232,7 +240,7 @@ module _ (db : Database) where
             (walk-inner (tree_of db) 0 c (x ∷ d) (omega (arith, ap (walk (tree_of db)) (sym e), same, node)));
         short = short;
         ended = inl (and_left (not (is_alias db m.bits)) _ (ap not aliased));
-        end_is = is ∙ sym (rw aliased refl);
+        end_is = is ∙ sym (end-aliased db m.bits aliased (omega (arith, same, node)));
       }
   end_of_stop m (inr (h, is)) =
       let short = h.is_leaf.short in
@@ -244,7 +252,7 @@ module _ (db : Database) where
           | inl out ↦ inl (and_right (not (is_alias db m.bits)) _ (le-ltb _ _ out))
           | inr full ↦ inr full
         ];
-        end_is = sym (end-has db m.bits m.end is) ∙ sym (rw unaliased refl);
+        end_is = sym (end-has db m.bits m.end is) ∙ sym (end-unaliased db m.bits unaliased);
       }
 
 -- ---- in ascending order

@@ -1,17 +1,17 @@
 -- A walk that looks at both halves of a node together: what it has met does not depend on the order.
-use Rattle.std.proofs.Common.{◌≡◌, ℕ, ◌+◌, ◌-◌, ◌*◌, ◌<◌, ◌≤◌, zero, suc, Bool, true, false, not, ◌||◌, ◌==◌, List, [], ◌∷◌, ◌++◌, length, arith, sym, ap, ◌∙◌, refl, subst, append_assoc, length-append, get_or, ◌⊎◌, inl, inr, nat_lt}
+use Rattle.std.proofs.Common.{◌≡◌, ℕ, ◌+◌, ◌-◌, ◌*◌, ◌<◌, zero, suc, Bool, true, false, not, ◌||◌, ◌==◌, List, [], ◌∷◌, ◌++◌, length, arith, sym, ap, ◌∙◌, refl, subst, append_assoc, length-append, get_or, ◌⊎◌, inl, inr, nat_lt}
 use Rattle.std.specs.List.{list_any}
 use Rattle.std.proofs.lemmas.List.{append-nil, get_or_append_left}
 use Rattle.std.proofs.Math.Seq.{get_or-append_seam}
 use Rattle.std.proofs.lemmas.Bool.{cases_lt, not-true}
 use Rattle.mmdb_check.specs.Checking.{holds}
 use Rattle.mmdb_reader.specs.File.{Database, width, tree_of}
-use Rattle.mmdb_reader.specs.Tree.{step}
+use Rattle.mmdb_tree.specs.Tree.{step}
 use Rattle.mmdb_reader.specs.declared.walked.WalkEnd.TheVariants.{Whole}
-use Rattle.mmdb_reader.specs.Stops.{is_fault, offset_of, most_stops, walk_cost, stops, offsets}
+use Rattle.mmdb_reader.specs.Stops.{is_fault, offset_of, most_stops, walk_cost}
 use Rattle.mmdb_reader.specs.Walked.{goes_on_from, end_from, half_of, IsPlaced, GoesOn, IsStopped, Keeps, Takes, IsVerdict}
 use Rattle.mmdb_reader.specs.declared.walked.Point.{Point}
-use Rattle.mmdb_reader.specs.declared.walked.End.{End}
+use Rattle.mmdb_tree.specs.declared.record.TreeRecord.{TreeRecord}
 use Rattle.mmdb_reader.proofs.Visits.{Visit, visit, with_lead, with_lead-zero, visits_below, some_visit, below-node, below-stop, total, cut_visits, offsets_of, has_fault}
 use Rattle.mmdb_reader.proofs.Points.{visits_of_stack, visits_of_stack-push, step-node, step-stop, half-placed}
 use Rattle.mmdb_reader.proofs.Progress.{all_visits, cut-past, cut-none, cost-is, length-is, fault-is, offsets-are}
@@ -126,11 +126,11 @@ swept-swap db xs a b nodes has w =
       keeps = λ q. w.keeps q ∙ ap (λ c. has q || c) (ap (among q) old ∙ among3 q vb va vs ∙ or_swap (among q vb) (among q va) (among q vs) ∙ sym (ap (among q) new ∙ among3 q va vb vs));
     }
 
-fault-first : (end : End) (vs : List Visit) → is_fault end ≡ false → has_fault (visit 1 end ∷ vs) ≡ has_fault vs
+fault-first : (end : TreeRecord) (vs : List Visit) → is_fault end ≡ false → has_fault (visit 1 end ∷ vs) ≡ has_fault vs
 unfolding has_fault
 fault-first end vs fine = rw fine refl
 
-among-first : (q : ℕ) (end : End) (vs : List Visit) → among q (visit 1 end ∷ vs) ≡ (list_any (λ o. o == q) (offset_of end) || among q vs)
+among-first : (q : ℕ) (end : TreeRecord) (vs : List Visit) → among q (visit 1 end ∷ vs) ≡ (list_any (λ o. o == q) (offset_of end) || among q vs)
 unfolding among offsets_of
 among-first q end vs = any-append (λ o. o == q) (offset_of end) (offsets_of vs)
 
@@ -138,7 +138,7 @@ pub swept-stop : (db : Database) (xs : List Point) (p : Point) (nodes : ℕ) (ha
     → ((q : ℕ) → has' q ≡ (has q || list_any (λ o. o == q) (offset_of (end_from db p.number p.high))))
     → IsSwept db (xs ++ p ∷ []) nodes has → IsSwept db xs nodes has'
 swept-stop db xs p nodes has has' stopped fine adds w =
-    let end : End = end_from db p.number p.high in
+    let end : TreeRecord = end_from db p.number p.high in
     let vs : List Visit = visits_of_stack db xs in
     let same : visits_of_stack db (xs ++ p ∷ []) ≡ visit 1 end ∷ vs = sym (with_lead-zero (visits_of_stack db (xs ++ p ∷ []))) ∙ step-stop db xs p 0 end refl stopped in
     record {
@@ -238,7 +238,7 @@ cases_bool : (b : Bool) → (b ≡ true) ⊎ (b ≡ false)
 cases_bool true = inl refl
 cases_bool false = inr refl
 
-total-one : (end : End) → total (visit 1 end ∷ []) ≡ 1
+total-one : (end : TreeRecord) → total (visit 1 end ∷ []) ≡ 1
 unfolding total
 total-one end = refl
 

@@ -3,19 +3,19 @@ use Rattle.std.proofs.Common.{◌≡◌, ℕ, ◌+◌, ◌-◌, ◌<◌, zero, s
 use Rattle.std.specs.List.{list_any}
 use Rattle.std.proofs.lemmas.List.{append-nil}
 use Rattle.mmdb_reader.specs.File.{Database, tree_of, width}
-use Rattle.mmdb_reader.specs.Tree.{step, walk}
+use Rattle.mmdb_tree.specs.Tree.{step, walk}
 use Rattle.mmdb_reader.specs.Stops.{Stop, stop, end_at, goes_on, stops_below, stops, shared, cost, cost_after, cut, is_fault, offset_of, offsets}
 use Rattle.mmdb_reader.specs.Walked.{goes_on_from, end_from}
-use Rattle.mmdb_reader.specs.declared.walked.End.{End}
+use Rattle.mmdb_tree.specs.declared.record.TreeRecord.{TreeRecord}
 use Rattle.mmdb_reader.proofs.HighBits.{lt_same, high_of, high-nil, high-snoc, goes-on-is, end-at-is}
-use Rattle.mmdb_reader.proofs.WalkLemmas.{walk-append, walk-nil, walk-one}
+use Rattle.mmdb_tree.proofs.WalkLemmas.{walk-append, walk-nil, walk-one}
 
 -- a stop, and how many positions are taken after the stop before
 pub record Visit : Type 0 where
   pub gap : ℕ
-  pub end : End
+  pub end : TreeRecord
 
-abbrev pub visit : ℕ → End → Visit
+abbrev pub visit : ℕ → TreeRecord → Visit
 visit gap end = record { gap = gap; end = end }
 
 -- so many more positions are taken first
@@ -248,7 +248,7 @@ module _ (db : Database) where
   there-end : (left : ℕ) (bits : List Bool) → ((left ≡ 0) ⊎ (goes_on db bits ≡ false)) → there left bits ≡ visit 1 (end_at db bits) ∷ []
   there-end left bits ended =
       let here : ((left ≡ 0) ⊎ (goes_on_from db (walk (tree_of db) bits) (high_of db bits) ≡ false)) = elim ended [ inl full ↦ inl full | inr ends ↦ inr (sym (goes-on-is db bits) ∙ ends) ] in
-      below-stop db left (walk (tree_of db) bits) (high_of db bits) here ∙ ap (λ (e : End). visit 1 e ∷ []) (sym (end-at-is db bits))
+      below-stop db left (walk (tree_of db) bits) (high_of db bits) here ∙ ap (λ (e : TreeRecord). visit 1 e ∷ []) (sym (end-at-is db bits))
 
   after-one : (before bits : List Bool) (k : ℕ) (ms : List Stop) (vs : List Visit) → ms ≡ stop bits (end_at db bits) ∷ [] → vs ≡ visit 1 (end_at db bits) ∷ [] → shared before bits ≡ k → k < length bits → visits_after before ms ≡ with_lead (length bits - k - 1) vs
   unfolding visits_after with_lead

@@ -10,8 +10,8 @@ use Rattle.mmdb_format.specs.declared.error.MaxMindDbError.TheVariants.{InvalidD
 use Rattle.mmdb_check.specs.Checking.{holds, none, IsGood, CanAddAll}
 use Rattle.mmdb_check.specs.OffsetSet.{offsets_of}
 use Rattle.mmdb_check.proofs.Members.{can_add_places, can_add_at, good_tree}
-use Rattle.mmdb_reader.specs.declared.walked.End.{End}
-use Rattle.mmdb_reader.specs.declared.walked.End.TheVariants.{Alias, Fault, Absent, Found}
+use Rattle.mmdb_tree.specs.declared.record.TreeRecord.{TreeRecord}
+use Rattle.mmdb_tree.specs.declared.record.TreeRecord.TheVariants.{Data, Empty, Invalid, Node}
 use Rattle.mmdb_reader.specs.File.{Database, data_section}
 use Rattle.mmdb_reader.specs.Stops.{Stop, stop, stops, is_fault, offset_of, offsets, most_stops}
 use Rattle.mmdb_reader.specs.Walked.{HoldsOffsets}
@@ -47,14 +47,14 @@ free_fault : (ms : List Stop) → ((m : Stop) → Contains ms m → is_fault m.e
 free_fault [] h = refl
 free_fault (n ∷ ms) h = rw (h n (0, omega arith, refl)) (free_fault ms (λ m c. h m (suc c.0, let b = c.1 in omega (arith, b), c.2)))
 
-the_fault : (end : End) → is_fault end ≡ true → end ≡ Fault
-the_fault Fault h = refl
-the_fault Alias h = absurd (cc)
-the_fault Absent h = absurd (cc)
-the_fault (Found offset) h = absurd (cc)
+the_fault : (end : TreeRecord) → is_fault end ≡ true → end ≡ Invalid
+the_fault Invalid h = refl
+the_fault (Node number) h = absurd (cc)
+the_fault Empty h = absurd (cc)
+the_fault (Data offset) h = absurd (cc)
 
-no_alias_fault : (end : End) → end ≡ Alias → end ≡ Fault → ⊥
-no_alias_fault end a b = let e : Alias ≡ Fault = sym a ∙ b in cc
+no_alias_fault : (end : TreeRecord) (number : ℕ) → end ≡ Node number → end ≡ Invalid → ⊥
+no_alias_fault end number a b = let e : Node number ≡ Invalid = sym a ∙ b in cc
 
 -- no stop is a fault, and there are not too many
 pub record IsClean (db : Database) : Type 0 where
@@ -64,8 +64,8 @@ pub record IsClean (db : Database) : Type 0 where
 pub tree_of_clean : (db : Database) → IsClean db → HasWholeTree db
 tree_of_clean db clean = record {
   faultless = λ leaf walked faulty.
-      let there = (stops_exact db (stop leaf Fault)).1 (inr (walked, faulty)) in
-      both_ways _ (fault_free (stops db) clean.faultless (stop leaf Fault) there) refl;
+      let there = (stops_exact db (stop leaf Invalid)).1 (inr (walked, faulty)) in
+      both_ways _ (fault_free (stops db) clean.faultless (stop leaf Invalid) there) refl;
   few = clean.few;
 }
 
@@ -76,7 +76,7 @@ clean_of_tree db h = record {
     | inl bad ↦
         let fault = the_fault m.end bad in
         absurd (elim ((stops_exact db m).0 there) [
-          | inl alias ↦ no_alias_fault m.end alias.1 fault
+          | inl alias ↦ no_alias_fault m.end _ alias.1 fault
           | inr leaf ↦ h.faultless m.bits leaf.0 (subst (HasEnd db m.bits) fault leaf.1)
         ])
   ]);
@@ -93,41 +93,41 @@ offsets_cons : (m : Stop) (ms : List Stop) → offsets (m ∷ ms) ≡ offset_of 
 unfolding offsets
 offsets_cons m ms = refl
 
-the_offset : (end : End) (offset : ℕ) → Contains (offset_of end) offset → end ≡ Found offset
-the_offset Fault offset (k, below, is) = absurd (omega arith)
-the_offset Alias offset (k, below, is) = absurd (omega arith)
-the_offset Absent offset (k, below, is) = absurd (omega arith)
-the_offset (Found o) offset (zero, below, is) = ap Found is
-the_offset (Found o) offset (suc k, below, is) = absurd (omega arith)
+the_offset : (end : TreeRecord) (offset : ℕ) → Contains (offset_of end) offset → end ≡ Data offset
+the_offset Invalid offset (k, below, is) = absurd (omega arith)
+the_offset (Node number) offset (k, below, is) = absurd (omega arith)
+the_offset Empty offset (k, below, is) = absurd (omega arith)
+the_offset (Data o) offset (zero, below, is) = ap Data is
+the_offset (Data o) offset (suc k, below, is) = absurd (omega arith)
 
-in_offsets : (ms : List Stop) (offset : ℕ) → Contains (offsets ms) offset → (m : Stop) × Contains ms m × (m.end ≡ Found offset)
+in_offsets : (ms : List Stop) (offset : ℕ) → Contains (offsets ms) offset → (m : Stop) × Contains ms m × (m.end ≡ Data offset)
 in_offsets [] offset h = let none = subst (λ (os : List ℕ). Contains os offset) offsets_nil h in absurd (let below = none.1 in omega (arith, below))
 in_offsets (m ∷ ms) offset h = elim (Contains-append_cases (offset_of m.end) (offsets ms) offset (subst (λ (os : List ℕ). Contains os offset) (offsets_cons m ms) h)) [
   | inl first ↦ (m, (0, omega arith, refl), the_offset m.end offset first)
   | inr later ↦ let w = in_offsets ms offset later in (w.0, (suc w.1.0, let b = w.1.1 in omega (arith, b), w.1.2), w.2)
 ]
 
-to_offsets : (ms : List Stop) (m : Stop) (offset : ℕ) → Contains ms m → m.end ≡ Found offset → Contains (offsets ms) offset
+to_offsets : (ms : List Stop) (m : Stop) (offset : ℕ) → Contains ms m → m.end ≡ Data offset → Contains (offsets ms) offset
 to_offsets [] m offset (k, below, is) e = absurd (omega arith)
 to_offsets (n ∷ ms) m offset (zero, below, is) e =
-    let found : n.end ≡ Found offset = ap (λ (s : Stop). s.end) is ∙ e in
-    let here : Contains (offset_of n.end) offset = subst (λ (end : End). Contains (offset_of end) offset) (sym found) (0, omega arith, refl) in
+    let found : n.end ≡ Data offset = ap (λ (s : Stop). s.end) is ∙ e in
+    let here : Contains (offset_of n.end) offset = subst (λ (end : TreeRecord). Contains (offset_of end) offset) (sym found) (0, omega arith, refl) in
     subst (λ (os : List ℕ). Contains os offset) (sym (offsets_cons n ms)) (Contains-append_left _ _ _ here)
 to_offsets (n ∷ ms) m offset (suc k, below, is) e =
     subst (λ (os : List ℕ). Contains os offset) (sym (offsets_cons n ms)) (Contains-append_right _ _ _ (to_offsets ms m offset (k, omega arith, is) e))
 
-no_alias_found : (end : End) (offset : ℕ) → end ≡ Alias → end ≡ Found offset → ⊥
-no_alias_found end offset a b = let e : Alias ≡ Found offset = sym a ∙ b in cc
+no_alias_found : (end : TreeRecord) (number offset : ℕ) → end ≡ Node number → end ≡ Data offset → ⊥
+no_alias_found end number offset a b = let e : Node number ≡ Data offset = sym a ∙ b in cc
 
 pub offsets_are_exact : OffsetsAreExact
 offsets_are_exact db offset = (
   (λ h.
       let w = in_offsets (stops db) offset h in
       elim ((stops_exact db w.0).0 w.1) [
-        | inl alias ↦ absurd (no_alias_found w.0.end offset alias.1 w.2)
+        | inl alias ↦ absurd (no_alias_found w.0.end _ offset alias.1 w.2)
         | inr leaf ↦ (w.0.bits, leaf.0, subst (HasEnd db w.0.bits) w.2 leaf.1)
       ]),
-  λ w. to_offsets (stops db) (stop w.0 (Found offset)) offset ((stops_exact db (stop w.0 (Found offset))).1 (inr (w.1, w.2))) refl,
+  λ w. to_offsets (stops db) (stop w.0 (Data offset)) offset ((stops_exact db (stop w.0 (Data offset))).1 (inr (w.1, w.2))) refl,
 )
 
 -- ---- values

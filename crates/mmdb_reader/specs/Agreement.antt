@@ -10,7 +10,8 @@ use Rattle.mmdb_reader.specs.declared.options.WithinOptions.{WithinOptions}
 use Rattle.mmdb_reader.specs.File.{Database}
 use Rattle.mmdb_reader.specs.Items.{Network, items_of}
 use Rattle.mmdb_reader.specs.Listing.{Listed, IsListing}
-use Rattle.mmdb_reader.specs.Lookup.{Outcome, Answers, outcome_at}
+use Rattle.mmdb_tree.specs.declared.record.TreeRecord.{TreeRecord}
+use Rattle.mmdb_reader.specs.Lookup.{Answers, outcome_at}
 use Rattle.mmdb_reader.specs.Shown.{IsShownBy}
 
 -- The network holds the address, as its `contains` tells: both are IPv4 or both IPv6, and the address begins
@@ -19,9 +20,9 @@ abbrev pub Holds : IpNetwork → IpAddr → Type 0
 Holds network address = IsSameKind address (ip_of network) × IsPrefix (block_of network) (bits_of_address address)
 
 -- The address may be asked for, and its one answer is this leaf with this outcome.
-pub record HasAnswer (db : Database) (address : IpAddr) (leaf : List Bool) (outcome : Outcome) : Type 0 where
+pub record HasAnswer (db : Database) (address : IpAddr) (leaf : List Bool) (outcome : TreeRecord) : Type 0 where
   pub answers : Answers db address leaf outcome
-  pub only : (other : List Bool) (found : Outcome) → Answers db address other found → (other ≡ leaf) × (found ≡ outcome)
+  pub only : (other : List Bool) (found : TreeRecord) → Answers db address other found → (other ≡ leaf) × (found ≡ outcome)
 
 -- An item of the list of a range that is no error, and the network that shows it: the answer for each address
 -- that the network holds is the item's leaf with the item's offset, or with no data where it has none.

@@ -3,7 +3,7 @@
 use Rattle.std.specs.Prelude.{◌≡◌, ℕ, ◌≤◌, ◌<◌, ◌^◌, Bool, true, ◌&&◌, ◌==◌, nat_lt, nat_le, List, length}
 use Rattle.mmdb_net.specs.Bits.{number_of}
 use Rattle.mmdb_reader.specs.File.{Database, tree_of, has_ipv6}
-use Rattle.mmdb_reader.specs.Tree.{walk}
+use Rattle.mmdb_tree.specs.Tree.{walk}
 use Rattle.mmdb_reader.specs.Shown.{ipv4_start, has_ipv4_subtree}
 
 -- In an IPv6 database where IPv4 begins on a node other than node 0: bits that lead to that node, and are

@@ -3,6 +3,8 @@ use Rattle.std.specs.Prelude.{◌≡◌, ℕ, ◌+◌, ◌-◌, ◌<◌, ◌≤�
 use Rattle.std.specs.declared.net.ip_addr.IpAddr.{IpAddr}
 use Rattle.std.specs.Net.Addr.{is_ipv4}
 use Rattle.mmdb_reader.specs.File.{Database, before_ipv4}
+use Rattle.mmdb_tree.specs.declared.record.TreeRecord.{TreeRecord}
+use Rattle.mmdb_reader.specs.Lookup.{Answers}
 use Rattle.mmdb_reader.specs.Shown.{ipv4_start}
 
 -- How many of a leaf's bits stand after the sixteenth that follows the start of IPv4.
@@ -15,3 +17,8 @@ pub record CountsNodes (db : Database) (address : IpAddr) (leaf : List Bool) (ol
   pub least : old ≤ new
   pub most : new ≤ old + length leaf
   pub ipv4 : is_ipv4 address ≡ true → ipv4_start db < db.metadata.node_count → new ≡ old + bits_after_table db leaf
+
+-- The nodes are counted of the leaf that is the answer for the address.
+abbrev pub CountsAnswer : Database → IpAddr → ℕ → ℕ → Type 0
+CountsAnswer db address old new =
+    (leaf : List Bool) (outcome : TreeRecord) → Answers db address leaf outcome → CountsNodes db address leaf old new

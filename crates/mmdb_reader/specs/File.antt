@@ -3,7 +3,7 @@
 use Rattle.std.specs.Prelude.{◌≡◌, ℕ, ◌+◌, ◌-◌, ◌*◌, ◌^◌, ◌<◌, ◌≤◌, ◌⊎◌, Bool, List, [], ◌∷◌, length, drop, slice_index, slice_range, if◌then◌else◌, ◌==◌}
 use Rattle.mmdb_net.specs.Bits.{zero_bits}
 use Rattle.mmdb_reader.specs.Metadata.{MetadataDatum}
-use Rattle.mmdb_reader.specs.Tree.{SearchTree, search_tree, node_bytes}
+use Rattle.mmdb_tree.specs.Tree.{SearchTree, search_tree, node_bytes}
 
 -- 0xAB, 0xCD, 0xEF and "MaxMind.com" ("Database Metadata")
 abbrev pub marker_bytes : List ℕ

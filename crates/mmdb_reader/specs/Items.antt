@@ -6,7 +6,9 @@ use Rattle.mmdb_format.specs.declared.error.MaxMindDbError.{MaxMindDbError}
 use Rattle.mmdb_reader.specs.declared.lookup_result.LookupResult.{LookupResult}
 use Rattle.mmdb_reader.specs.File.{Database}
 use Rattle.mmdb_reader.specs.Found.{database_asked, leaf_of, offset_found, shown_as_ipv4}
-use Rattle.mmdb_reader.specs.Listing.{Finding, Fault, Absent, Found, Listed}
+use Rattle.mmdb_tree.specs.declared.record.TreeRecord.{TreeRecord}
+use Rattle.mmdb_tree.specs.declared.record.TreeRecord.TheVariants.{Node, Empty, Data, Invalid}
+use Rattle.mmdb_reader.specs.Listing.{Listed}
 use Rattle.mmdb_reader.specs.ShownLeaf.{is_leaf_shown_as_ipv4}
 
 -- an error of some kind, or a leaf, with the offset of its value, if it has one, and whether it is shown as
@@ -16,10 +18,11 @@ pub data Item : Type 0 where
   Network : List Bool → Option ℕ → Bool → Item
 
 -- how a leaf is handed out: a faulty one as an error that says so of the database
-abbrev pub item_of_leaf : Database → List Bool → Finding → Item
-item_of_leaf db leaf Fault = Failure OfDatabase
-item_of_leaf db leaf Absent = Network leaf None (is_leaf_shown_as_ipv4 db leaf)
-item_of_leaf db leaf (Found offset) = Network leaf (Some offset) (is_leaf_shown_as_ipv4 db leaf)
+abbrev pub item_of_leaf : Database → List Bool → TreeRecord → Item
+item_of_leaf db leaf Invalid = Failure OfDatabase
+item_of_leaf db leaf (Node number) = Failure OfDatabase
+item_of_leaf db leaf Empty = Network leaf None (is_leaf_shown_as_ipv4 db leaf)
+item_of_leaf db leaf (Data offset) = Network leaf (Some offset) (is_leaf_shown_as_ipv4 db leaf)
 
 abbrev pub item_of : Database → Listed → Item
 item_of db m = item_of_leaf db m.leaf m.finding

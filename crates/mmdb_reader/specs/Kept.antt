@@ -1,9 +1,9 @@
 -- What a reader keeps beside its source, so that lookups need not find it anew.
 use Rattle.std.specs.Prelude.{◌≡◌, ℕ, List, true}
-use Rattle.mmdb_reader.specs.declared.table.Entry.{Entry}
+use Rattle.mmdb_tree.specs.declared.table.Entry.{Entry}
 use Rattle.mmdb_reader.specs.File.{Database, tree_of, has_ipv6, before_ipv4, data_start, IsAccepted}
-use Rattle.mmdb_reader.specs.Descents.{Descends}
-use Rattle.mmdb_reader.specs.Table.{IsTable, IsFull}
+use Rattle.mmdb_tree.specs.Descents.{Descends}
+use Rattle.mmdb_tree.specs.Table.{IsTable, IsFull}
 
 -- where the data section begins, where IPv4 begins and after how many bits, and the tables of the first
 -- sixteen bits of IPv4 addresses and, in an IPv6 database, of IPv6 ones

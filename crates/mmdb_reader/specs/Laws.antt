@@ -10,9 +10,10 @@ use Rattle.mmdb_net.specs.Network.{ip_of, prefix_of}
 use Rattle.mmdb_net.specs.declared.network.IpNetwork.{IpNetwork}
 use Rattle.mmdb_reader.specs.Shown.{has_ipv4_subtree, IsIpv4Depth, block_in, ShowsAnswer}
 use Rattle.mmdb_reader.specs.File.{Database, has_ipv6, width, tree_of}
-use Rattle.mmdb_reader.specs.Tree.{walk}
+use Rattle.mmdb_tree.specs.Tree.{walk}
 use Rattle.mmdb_reader.specs.Leaves.{IsLeaf}
-use Rattle.mmdb_reader.specs.Lookup.{Outcome, Answers, CanAsk, address_bits, outcome_of}
+use Rattle.mmdb_tree.specs.declared.record.TreeRecord.{TreeRecord}
+use Rattle.mmdb_reader.specs.Lookup.{Answers, CanAsk, address_bits, outcome_of}
 
 -- No leaf begins another leaf: the blocks of addresses that begin with them are disjoint.
 abbrev pub LeavesAreDisjoint : Type 0
@@ -37,12 +38,12 @@ EachAddressIsAnswered =
 -- An address has one answer.
 abbrev pub AnswersAreUnique : Type 0
 AnswersAreUnique =
-    (db : Database) (address : IpAddr) (a b : List Bool) (x y : Outcome) → Answers db address a x → Answers db address b y → (a ≡ b) × (x ≡ y)
+    (db : Database) (address : IpAddr) (a b : List Bool) (x y : TreeRecord) → Answers db address a x → Answers db address b y → (a ≡ b) × (x ≡ y)
 
 -- Two addresses of one leaf have the same answer.
 abbrev pub SameLeafSameAnswer : Type 0
 SameLeafSameAnswer =
-    (db : Database) (address other : IpAddr) (leaf : List Bool) (outcome : Outcome) → Answers db address leaf outcome → CanAsk db other → IsPrefix leaf (address_bits db other) → Answers db other leaf outcome
+    (db : Database) (address other : IpAddr) (leaf : List Bool) (outcome : TreeRecord) → Answers db address leaf outcome → CanAsk db other → IsPrefix leaf (address_bits db other) → Answers db other leaf outcome
 
 -- the network's block is a beginning of the address's bits, and its prefix is one of its kind
 pub record HoldsAddress (db : Database) (address : IpAddr) (network : IpNetwork) : Type 0 where
@@ -52,7 +53,7 @@ pub record HoldsAddress (db : Database) (address : IpAddr) (network : IpNetwork)
 -- The network that is shown for an answer holds the address.
 abbrev pub NetworkHoldsAddress : Type 0
 NetworkHoldsAddress =
-    (db : Database) (address : IpAddr) (leaf : List Bool) (outcome : Outcome) (network : IpNetwork) → Answers db address leaf outcome → ShowsAnswer db address leaf network → HoldsAddress db address network
+    (db : Database) (address : IpAddr) (leaf : List Bool) (outcome : TreeRecord) (network : IpNetwork) → Answers db address leaf outcome → ShowsAnswer db address leaf network → HoldsAddress db address network
 
 -- the network `::/depth`
 pub record IsZeroNetwork (db : Database) (depth : ℕ) (network : IpNetwork) : Type 0 where
@@ -63,4 +64,4 @@ pub record IsZeroNetwork (db : Database) (depth : ℕ) (network : IpNetwork) : T
 -- bits left the nodes.
 abbrev pub Ipv4WithoutSubtree : Type 0
 Ipv4WithoutSubtree =
-    (db : Database) (a : Ipv4Addr) (leaf : List Bool) (outcome : Outcome) (network : IpNetwork) (depth : ℕ) → has_ipv6 db ≡ true → has_ipv4_subtree db ≡ false → IsIpv4Depth db depth → Answers db (V4 a) leaf outcome → ShowsAnswer db (V4 a) leaf network → IsZeroNetwork db depth network
+    (db : Database) (a : Ipv4Addr) (leaf : List Bool) (outcome : TreeRecord) (network : IpNetwork) (depth : ℕ) → has_ipv6 db ≡ true → has_ipv4_subtree db ≡ false → IsIpv4Depth db depth → Answers db (V4 a) leaf outcome → ShowsAnswer db (V4 a) leaf network → IsZeroNetwork db depth network

@@ -1,7 +1,7 @@
 -- The leaves of a search tree ("Binary Search Tree Section" of the MaxMind DB File Format Specification 2.0).
 use Rattle.std.specs.Prelude.{◌≡◌, ◌≤◌, ◌<◌, ◌⊎◌, Bool, List, ◌∷◌, ◌++◌, length}
 use Rattle.mmdb_reader.specs.File.{Database, tree_of, width}
-use Rattle.mmdb_reader.specs.Tree.{walk}
+use Rattle.mmdb_tree.specs.Tree.{walk}
 
 -- A shortest bit string whose walk leaves the nodes, or a full address whose walk is still on one: each
 -- proper beginning walks to a node, and the whole to none, or it has all bits.

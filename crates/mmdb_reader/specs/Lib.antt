@@ -1,10 +1,7 @@
 pub mod Metadata
-pub mod Tree
 pub mod File
 pub mod Leaves
 pub mod Lookup
-pub mod Descents
-pub mod Table
 pub mod Shown
 pub mod Many
 pub mod Counting

@@ -5,26 +5,22 @@ use Rattle.std.specs.List.{Contains}
 use Rattle.mmdb_net.specs.Bits.{IsPrefix}
 use Rattle.mmdb_reader.specs.declared.options.WithinOptions.{WithinOptions}
 use Rattle.mmdb_reader.specs.File.{Database, tree_of, width, separator, data_length, data_section}
-use Rattle.mmdb_reader.specs.Tree.{walk}
+use Rattle.mmdb_tree.specs.Tree.{walk}
 use Rattle.mmdb_reader.specs.Leaves.{IsLeaf}
-use Rattle.mmdb_reader.specs.Lookup.{Outcome, Offset, NoData, Failed, outcome_of}
+use Rattle.mmdb_tree.specs.declared.record.TreeRecord.{TreeRecord}
+use Rattle.mmdb_tree.specs.declared.record.TreeRecord.TheVariants.{Data, Empty, Invalid, Node}
+use Rattle.mmdb_reader.specs.Lookup.{record_at}
 use Rattle.mmdb_reader.specs.Alias.{IsAlias, is_alias}
 use Rattle.mmdb_decode.specs.Peeking.{empty_at}
 use Rattle.mmdb_reader.specs.Empty.{IsUnreadable, IsEmptyContainer}
 use Rattle.mmdb_reader.specs.Options.{includes_aliased, includes_without_data, skips_empty}
 
--- What a leaf is listed with: a fault, no data, or the offset of its value in the data section.
-pub data Finding : Type 0 where
-  Fault : Finding
-  Absent : Finding
-  Found : ℕ → Finding
-
--- a leaf that is listed, with what it is listed with
+-- A leaf that is listed, with what it is listed with: no data, the offset of its value in the data section, or a fault.
 pub record Listed : Type 0 where
   pub leaf : List Bool
-  pub finding : Finding
+  pub finding : TreeRecord
 
-abbrev pub listed_with : List Bool → Finding → Listed
+abbrev pub listed_with : List Bool → TreeRecord → Listed
 listed_with leaf finding = record { leaf = leaf; finding = finding }
 
 -- ---- which leaves are listed, in the words of the format
@@ -62,10 +58,11 @@ IsKept db options offset = skips_empty options ≡ true → ¬ IsEmptyContainer 
 
 -- A faulty leaf is listed with a fault, one without data where such are asked for, and any other with the
 -- offset of its value, unless it is empty and such are left out.
-abbrev pub IsListedWith : Database → WithinOptions → List Bool → Finding → Type 0
-IsListedWith db options leaf Fault = IsFaulty db options leaf
-IsListedWith db options leaf Absent = (walk (tree_of db) leaf ≡ db.metadata.node_count) × (includes_without_data options ≡ true)
-IsListedWith db options leaf (Found offset) = HasValueAt db leaf offset × (¬ IsFaulty db options leaf × IsKept db options offset)
+abbrev pub IsListedWith : Database → WithinOptions → List Bool → TreeRecord → Type 0
+IsListedWith db options leaf (Node number) = ⊥
+IsListedWith db options leaf Invalid = IsFaulty db options leaf
+IsListedWith db options leaf Empty = (walk (tree_of db) leaf ≡ db.metadata.node_count) × (includes_without_data options ≡ true)
+IsListedWith db options leaf (Data offset) = HasValueAt db leaf offset × (¬ IsFaulty db options leaf × IsKept db options offset)
 
 -- no beginning of the leaf, and not the leaf itself, is an alias
 abbrev pub IsClear : Database → List Bool → Type 0
@@ -73,7 +70,7 @@ IsClear db leaf = (beginning : List Bool) → IsPrefix beginning leaf → ¬ IsA
 
 -- The leaf is listed for a range of bits, with that finding: it begins with the range's bits, or they
 -- begin with it; and it is behind no alias, unless aliased networks are asked for.
-pub record IsListed (db : Database) (options : WithinOptions) (range leaf : List Bool) (finding : Finding) : Type 0 where
+pub record IsListed (db : Database) (options : WithinOptions) (range leaf : List Bool) (finding : TreeRecord) : Type 0 where
   pub is_leaf : IsLeaf db leaf
   pub in_range : IsPrefix range leaf ⊎ IsPrefix leaf range
   pub clear : (includes_aliased options ≡ true) ⊎ IsClear db leaf
@@ -108,22 +105,23 @@ abbrev pub is_hidden : Database → WithinOptions → List Bool → Bool
 is_hidden db options bits = not (includes_aliased options) && is_alias db bits
 
 -- where empty values are left out
-abbrev pub finding_unless_empty : Option Bool → ℕ → Option Finding
-finding_unless_empty None offset = Some Fault
-finding_unless_empty (Some empty) offset = if empty then None else Some (Found offset)
+abbrev pub finding_unless_empty : Option Bool → ℕ → Option TreeRecord
+finding_unless_empty None offset = Some Invalid
+finding_unless_empty (Some empty) offset = if empty then None else Some (Data offset)
 
-abbrev pub finding_of_outcome : Database → WithinOptions → Outcome → Option Finding
-finding_of_outcome db options (Offset offset) =
-    if skips_empty options then finding_unless_empty (empty_at (data_section db) offset) offset else Some (Found offset)
-finding_of_outcome db options NoData = if includes_without_data options then Some Absent else None
-finding_of_outcome db options Failed = Some Fault
+-- what a leaf is listed with, by where its number leads
+abbrev pub finding_of : Database → WithinOptions → TreeRecord → Option TreeRecord
+finding_of db options (Data offset) =
+    if skips_empty options then finding_unless_empty (empty_at (data_section db) offset) offset else Some (Data offset)
+finding_of db options (Node number) = Some Invalid
+finding_of db options Empty = if includes_without_data options then Some Empty else None
+finding_of db options Invalid = Some Invalid
 
 -- what a leaf is listed with that leads to this number, if it is listed
-unfoldable pub finding_at : Database → WithinOptions → ℕ → Option Finding
-finding_at db options number =
-    if nat_lt number db.metadata.node_count then Some Fault else finding_of_outcome db options (outcome_of db number)
+unfoldable pub finding_at : Database → WithinOptions → ℕ → Option TreeRecord
+finding_at db options number = finding_of db options (record_at db number)
 
-abbrev pub list_if : List Bool → Option Finding → List Listed
+abbrev pub list_if : List Bool → Option TreeRecord → List Listed
 list_if leaf None = []
 list_if leaf (Some finding) = listed_with leaf finding ∷ []
 

@@ -6,8 +6,10 @@ use Rattle.mmdb_net.specs.Bits.{IsPrefix}
 use Rattle.mmdb_reader.specs.declared.options.WithinOptions.{WithinOptions}
 use Rattle.mmdb_reader.specs.File.{Database}
 use Rattle.mmdb_reader.specs.Leaves.{IsLeaf}
-use Rattle.mmdb_reader.specs.Lookup.{Offset, NoData, Answers, CanAsk, address_bits}
-use Rattle.mmdb_reader.specs.Listing.{Finding, Fault, Absent, Found, Listed, IsListing, IsListed, Ascends, leaves_of, listed}
+use Rattle.mmdb_tree.specs.declared.record.TreeRecord.{TreeRecord}
+use Rattle.mmdb_tree.specs.declared.record.TreeRecord.TheVariants.{Node, Empty, Data, Invalid}
+use Rattle.mmdb_reader.specs.Lookup.{Answers, CanAsk, address_bits}
+use Rattle.mmdb_reader.specs.Listing.{Listed, IsListing, IsListed, Ascends, leaves_of, listed}
 use Rattle.mmdb_reader.specs.Options.{includes_aliased, includes_without_data, skips_empty}
 
 -- The list of a range, as a function, has exactly the leaves that are listed for it, ascending.
@@ -31,12 +33,13 @@ WholeWalkListsAll =
     (db : Database) (options : WithinOptions) → includes_aliased options ≡ true → includes_without_data options ≡ true → skips_empty options ≡ false → AreAllLeaves db (leaves_of (listed db options []))
 
 -- the answer of a lookup is no data, or that offset; of a fault nothing is said
-abbrev pub AgreesWith : Database → IpAddr → List Bool → Finding → Type 0
-AgreesWith db address leaf Fault = ⊤
-AgreesWith db address leaf Absent = Answers db address leaf NoData
-AgreesWith db address leaf (Found offset) = Answers db address leaf (Offset offset)
+abbrev pub AgreesWith : Database → IpAddr → List Bool → TreeRecord → Type 0
+AgreesWith db address leaf Invalid = ⊤
+AgreesWith db address leaf (Node number) = ⊤
+AgreesWith db address leaf Empty = Answers db address leaf Empty
+AgreesWith db address leaf (Data offset) = Answers db address leaf (Data offset)
 
 -- What is listed of a leaf agrees with the answer for each address that begins with it.
 abbrev pub ListedAgrees : Type 0
 ListedAgrees =
-    (db : Database) (options : WithinOptions) (range leaf : List Bool) (finding : Finding) (address : IpAddr) → IsListed db options range leaf finding → CanAsk db address → IsPrefix leaf (address_bits db address) → AgreesWith db address leaf finding
+    (db : Database) (options : WithinOptions) (range leaf : List Bool) (finding : TreeRecord) (address : IpAddr) → IsListed db options range leaf finding → CanAsk db address → IsPrefix leaf (address_bits db address) → AgreesWith db address leaf finding

@@ -1,12 +1,15 @@
 -- What a lookup answers ("Search Lookup Algorithm" and "IPv4 addresses in an IPv6 tree" of the MaxMind DB
 -- File Format Specification 2.0).
-use Rattle.std.specs.Prelude.{◌≡◌, ℕ, ◌+◌, ◌-◌, Bool, ◌&&◌, List, ◌++◌, take, if◌then◌else◌, nat_le, nat_lt, ⊤, Option, Some, None}
+use Rattle.std.specs.Prelude.{◌≡◌, ℕ, Bool, List, ◌++◌, take, ⊤, Option, Some, None}
 use Rattle.std.specs.declared.net.ip_addr.IpAddr.{IpAddr}
 use Rattle.std.specs.declared.net.ip_addr.IpAddr.TheVariants.{V4, V6}
 use Rattle.mmdb_net.specs.Bits.{IsPrefix}
 use Rattle.mmdb_net.specs.Address.{bits_of_address}
-use Rattle.mmdb_reader.specs.File.{Database, tree_of, before_ipv4, separator, data_length}
-use Rattle.mmdb_reader.specs.Tree.{walk}
+use Rattle.mmdb_tree.specs.declared.record.TreeRecord.{TreeRecord}
+use Rattle.mmdb_tree.specs.declared.record.TreeRecord.TheVariants.{Data, Empty, Invalid, Node}
+use Rattle.mmdb_reader.specs.File.{Database, tree_of, before_ipv4, data_length}
+use Rattle.mmdb_tree.specs.Tree.{walk}
+use Rattle.mmdb_tree.specs.Records.{record_of}
 use Rattle.mmdb_reader.specs.Leaves.{IsLeaf}
 
 -- An address's bits, the highest first. In an IPv6 database an IPv4 address has 96 zero bits before it.
@@ -19,26 +22,24 @@ abbrev pub CanAsk : Database → IpAddr → Type 0
 CanAsk db (V4 a) = ⊤
 CanAsk db (V6 a) = db.metadata.ip_version ≡ 6
 
--- What a leaf has: a value at an offset of the data section, no data, or a number that is no place of
--- the data section.
-pub data Outcome : Type 0 where
-  Offset : ℕ → Outcome
-  NoData : Outcome
-  Failed : Outcome
+-- where a number of the tree leads
+abbrev pub record_at : Database → ℕ → TreeRecord
+record_at db number = record_of db.metadata.node_count (data_length db) number
 
--- What a number of the tree stands for, where a walk ended on it. The number of nodes is no data, and so
--- is a node, on which the walk of a full address may still stand. A number above leads past the nodes and
--- the separator into the data section, or is invalid.
-unfoldable pub outcome_of : Database → ℕ → Outcome
-outcome_of db number =
-    if nat_le number db.metadata.node_count
-    then NoData
-    else (if nat_le (db.metadata.node_count + separator) number && nat_lt (number - db.metadata.node_count - separator) (data_length db)
-    then Offset (number - db.metadata.node_count - separator)
-    else Failed)
+-- A lookup finds no data where the walk of a full address still stands on a node.
+abbrev pub for_lookup : TreeRecord → TreeRecord
+for_lookup (Node number) = Empty
+for_lookup Empty = Empty
+for_lookup (Data offset) = Data offset
+for_lookup Invalid = Invalid
+
+-- What a lookup finds where a walk ended on this number: a value at an offset of the data section, no data, or a number
+-- that is no place of the data section.
+unfoldable pub outcome_of : Database → ℕ → TreeRecord
+outcome_of db number = for_lookup (record_at db number)
 
 -- The database may be asked for the address, the leaf is the one on its bits, and it has that outcome.
-pub record Answers (db : Database) (address : IpAddr) (leaf : List Bool) (outcome : Outcome) : Type 0 where
+pub record Answers (db : Database) (address : IpAddr) (leaf : List Bool) (outcome : TreeRecord) : Type 0 where
   pub can_ask : CanAsk db address
   pub is_leaf : IsLeaf db leaf
   pub on_address : IsPrefix leaf (address_bits db address)
@@ -53,12 +54,12 @@ pub record IsLeafAt (db : Database) (address : IpAddr) (leaf : List Bool) (numbe
 
 -- the leaf on the address's bits has a number that is no place of the data section
 abbrev pub IsInvalidAt : Database → IpAddr → Type 0
-IsInvalidAt db address = (leaf : List Bool) × Answers db address leaf Failed
+IsInvalidAt db address = (leaf : List Bool) × Answers db address leaf Invalid
 
 -- the outcome that an optional offset stands for
-abbrev pub outcome_at : Option ℕ → Outcome
-outcome_at (Some offset) = Offset offset
-outcome_at None = NoData
+abbrev pub outcome_at : Option ℕ → TreeRecord
+outcome_at (Some offset) = Data offset
+outcome_at None = Empty
 
 -- The first bits of an address of the database that begins with those of this one: as `address_bits`,
 -- with the bits of the address cut after `prefix` of its own.

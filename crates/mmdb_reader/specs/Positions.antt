@@ -1,10 +1,10 @@
 -- The positions of a tree that a list has still to go to.
-use Rattle.std.specs.Prelude.{◌≡◌, ℕ, ◌+◌, ◌-◌, ◌≤◌, ◌<◌, ◌⊎◌, ◌^◌, zero, suc, Bool, List, [], ◌∷◌, ◌++◌, take, true, false, not, ◌&&◌, ◌==◌, nat_le, slice_index_or, length, if◌then◌else◌}
+use Rattle.std.specs.Prelude.{◌≡◌, ℕ, ◌+◌, ◌-◌, ◌≤◌, ◌<◌, ◌⊎◌, ◌^◌, zero, suc, Bool, List, [], ◌∷◌, ◌++◌, take, false, not, ◌&&◌, ◌==◌, nat_le, slice_index_or, length, if◌then◌else◌}
 use Rattle.mmdb_net.specs.Bits.{bits_of}
 use Rattle.mmdb_reader.specs.declared.options.WithinOptions.{WithinOptions}
 use Rattle.mmdb_reader.specs.declared.positions.Position.{Position}
 use Rattle.mmdb_reader.specs.File.{Database, tree_of, width}
-use Rattle.mmdb_reader.specs.Tree.{walk, step}
+use Rattle.mmdb_tree.specs.Tree.{walk, step}
 use Rattle.mmdb_net.specs.Bits.{number_of}
 use Rattle.mmdb_reader.specs.Alias.{is_alias_at}
 use Rattle.mmdb_reader.specs.Listing.{Listed, listed_below, listed, is_hidden}
@@ -82,14 +82,14 @@ HidesAliases db options hidden =
     → is_high_at p hidden ≡ (not (includes_aliased options) && is_alias_at db p.number p.address)
 
 -- the positions list the same leaves, in less or as much walk, and are placed
-pub record GoesOn (db : Database) (options : WithinOptions) (capacity : ℕ) (old new : List Position) : Type 0 where
+pub record ListsSame (db : Database) (options : WithinOptions) (capacity : ℕ) (old new : List Position) : Type 0 where
   pub placed : IsStack db capacity new
   pub lists : listed_of_stack db options new ≡ listed_of_stack db options old
   pub left : positions_left (width db) new ≤ positions_left (width db) old
 
 -- the last position is a leaf behind no alias
 pub record IsLowest (db : Database) (options : WithinOptions) (capacity : ℕ) (old stack : List Position) (leaf : Position) : Type 0 where
-  pub on : GoesOn db options capacity old (stack ++ leaf ∷ [])
+  pub on : ListsSame db options capacity old (stack ++ leaf ∷ [])
   pub shown : is_hidden db options (bits_to db leaf) ≡ false
   pub ends : IsEnd db leaf
 

@@ -9,8 +9,8 @@ use Rattle.mmdb_net.specs.Network.{ip_of, prefix_of}
 use Rattle.mmdb_net.specs.declared.network.IpNetwork.{IpNetwork}
 use Rattle.mmdb_reader.specs.Lookup.{block_at}
 use Rattle.mmdb_reader.specs.File.{Database, tree_of, has_ipv6, before_ipv4}
-use Rattle.mmdb_reader.specs.Tree.{walk}
-use Rattle.mmdb_reader.specs.Descents.{Descends}
+use Rattle.mmdb_tree.specs.Tree.{walk}
+use Rattle.mmdb_tree.specs.Descents.{Descends}
 
 -- Where IPv4 begins: the number to which the 96 zero bits of an IPv6 database lead, and else node 0.
 abbrev pub ipv4_start : Database → ℕ

@@ -1,29 +1,30 @@
 -- What a walk of the whole tree stops at, ascending, and how many positions it takes to get there ("Binary
 -- Search Tree Section" and "IPv4 addresses in an IPv6 tree" of the MaxMind DB File Format Specification 2.0).
 use Rattle.std.specs.Prelude.{◌≡◌, ◌≤◌, ◌⊎◌, ℕ, ◌+◌, ◌-◌, ◌*◌, zero, suc, Bool, true, false, not, ◌&&◌, List, [], ◌∷◌, ◌++◌, length, if◌then◌else◌, nat_lt}
-use Rattle.mmdb_reader.specs.declared.walked.End.{End}
-use Rattle.mmdb_reader.specs.declared.walked.End.TheVariants.{Alias, Fault, Absent, Found}
+use Rattle.mmdb_tree.specs.declared.record.TreeRecord.{TreeRecord}
+use Rattle.mmdb_tree.specs.declared.record.TreeRecord.TheVariants.{Data, Empty, Invalid, Node}
 use Rattle.mmdb_reader.specs.File.{Database, tree_of, width}
-use Rattle.mmdb_reader.specs.Tree.{walk}
+use Rattle.mmdb_tree.specs.Tree.{walk}
 use Rattle.mmdb_reader.specs.Alias.{is_alias}
-use Rattle.mmdb_reader.specs.Lookup.{Outcome, Offset, NoData, Failed, outcome_of}
+use Rattle.mmdb_reader.specs.Lookup.{record_at}
 
--- what a leaf has: a value at an offset, no data, or a fault
-abbrev pub end_of_outcome : Outcome → End
-end_of_outcome (Offset offset) = Found offset
-end_of_outcome NoData = Absent
-end_of_outcome Failed = Fault
+-- A walk stops at a node to which an alias leads; any other node is a full address that leads nowhere.
+abbrev pub at_stop : TreeRecord → Bool → TreeRecord
+at_stop (Node number) aliased = if aliased then Node number else Invalid
+at_stop Empty aliased = Empty
+at_stop (Data offset) aliased = Data offset
+at_stop Invalid aliased = Invalid
 
--- The same of the number to which a leaf leads. A full address that still stands on a node is a fault.
-unfoldable pub end_of_leaf : Database → ℕ → End
-end_of_leaf db number = if nat_lt number db.metadata.node_count then Fault else end_of_outcome (outcome_of db number)
+-- what a leaf has that leads to this number
+unfoldable pub end_of_leaf : Database → ℕ → TreeRecord
+end_of_leaf db number = at_stop (record_at db number) false
 
 -- where a walk stops, and at what
 pub record Stop : Type 0 where
   pub bits : List Bool
-  pub end : End
+  pub end : TreeRecord
 
-abbrev pub stop : List Bool → End → Stop
+abbrev pub stop : List Bool → TreeRecord → Stop
 stop bits end = record { bits = bits; end = end }
 
 -- The walk goes on below a node, unless it has come there by an alias.
@@ -31,8 +32,8 @@ abbrev pub goes_on : Database → List Bool → Bool
 goes_on db bits = not (is_alias db bits) && nat_lt (walk (tree_of db) bits) db.metadata.node_count
 
 -- It stops at an alias, and else at a leaf.
-abbrev pub end_at : Database → List Bool → End
-end_at db bits = if is_alias db bits then Alias else end_of_leaf db (walk (tree_of db) bits)
+abbrev pub end_at : Database → List Bool → TreeRecord
+end_at db bits = at_stop (record_at db (walk (tree_of db) bits)) (is_alias db bits)
 
 -- the stops that begin with these bits, where so many bits are left to a full address
 unfoldable pub stops_below : Database → ℕ → List Bool → List Stop
@@ -47,21 +48,21 @@ abbrev pub stops : Database → List Stop
 stops db = stops_below db (width db) []
 
 -- the offsets of the values of leaves
-abbrev pub offset_of : End → List ℕ
-offset_of (Found offset) = offset ∷ []
-offset_of Alias = []
-offset_of Fault = []
-offset_of Absent = []
+abbrev pub offset_of : TreeRecord → List ℕ
+offset_of (Data offset) = offset ∷ []
+offset_of (Node number) = []
+offset_of Invalid = []
+offset_of Empty = []
 
 unfoldable pub offsets : List Stop → List ℕ
 offsets [] = []
 offsets (m ∷ ms) = offset_of m.end ++ offsets ms
 
-abbrev pub is_fault : End → Bool
-is_fault Fault = true
-is_fault Alias = false
-is_fault Absent = false
-is_fault (Found offset) = false
+abbrev pub is_fault : TreeRecord → Bool
+is_fault Invalid = true
+is_fault (Node number) = false
+is_fault Empty = false
+is_fault (Data offset) = false
 
 -- ---- what it costs to walk there
 

@@ -1,16 +1,17 @@
 -- How a walk of the whole tree is taken.
-use Rattle.std.specs.Prelude.{◌≡◌, ℕ, Option, Some, None, [], ◌∷◌, ◌++◌, false, ◌+◌, ◌-◌, ◌*◌, ◌≤◌, ◌<◌, ◌⊎◌, ◌||◌, ◌&&◌, ◌==◌, not, true, false, List, slice_index_or, length, Bool, if◌then◌else◌, nat_lt}
+use Rattle.std.specs.Prelude.{◌≡◌, ℕ, Option, Some, None, [], ◌∷◌, ◌++◌, false, ◌+◌, ◌-◌, ◌*◌, ◌^◌, ◌≤◌, ◌<◌, ◌⊎◌, ◌||◌, ◌&&◌, ◌==◌, not, true, false, List, slice_index_or, length, Bool, if◌then◌else◌, nat_lt}
 use Rattle.std.specs.List.{list_any}
-use Rattle.mmdb_reader.specs.declared.walked.End.{End}
-use Rattle.mmdb_reader.specs.declared.walked.End.TheVariants.{Alias}
-use Rattle.mmdb_reader.specs.declared.tree.Nodes.{Nodes}
+use Rattle.mmdb_tree.specs.declared.record.TreeRecord.{TreeRecord}
+use Rattle.mmdb_tree.specs.declared.nodes.Nodes.{Nodes}
 use Rattle.mmdb_reader.specs.declared.walked.Point.{Point}
 use Rattle.mmdb_reader.specs.declared.walked.WalkEnd.{WalkEnd}
 use Rattle.mmdb_reader.specs.declared.walked.WalkEnd.TheVariants.{Whole, AtFault, TooMany}
 use Rattle.mmdb_reader.specs.File.{Database, tree_of, width, data_length}
-use Rattle.mmdb_reader.specs.Tree.{step, search_tree}
+use Rattle.mmdb_tree.specs.Nodes.{tree_in}
+use Rattle.mmdb_tree.specs.Tree.{step}
+use Rattle.mmdb_reader.specs.Lookup.{record_at}
 use Rattle.mmdb_reader.specs.Shown.{ipv4_start, has_ipv4_subtree}
-use Rattle.mmdb_reader.specs.Stops.{stops, offset_of, offsets, end_of_leaf, is_fault}
+use Rattle.mmdb_reader.specs.Stops.{stops, offset_of, offsets, at_stop, is_fault}
 use Rattle.mmdb_reader.specs.Whole.{HasWholeTree}
 use Rattle.mmdb_check.specs.Checking.{holds}
 
@@ -22,13 +23,14 @@ is_alias_of db number high =
 abbrev pub goes_on_from : Database → ℕ → Bool → Bool
 goes_on_from db number high = not (is_alias_of db number high) && nat_lt number db.metadata.node_count
 
-abbrev pub end_from : Database → ℕ → Bool → End
-end_from db number high = if is_alias_of db number high then Alias else end_of_leaf db number
+abbrev pub end_from : Database → ℕ → Bool → TreeRecord
+end_from db number high = at_stop (record_at db number) (is_alias_of db number high)
 
 -- what is kept at hand is the database's
 pub record AreLimits (db : Database) (nodes : Nodes) (bits : ℕ) (alias : Option ℕ) (len : ℕ) : Type 0 where
-  pub tree : search_tree nodes.bytes.now nodes.node_count nodes.record_size ≡ tree_of db
+  pub tree : tree_in nodes ≡ tree_of db
   pub count : nodes.node_count ≡ db.metadata.node_count
+  pub few : nodes.node_count < 2 ^ 32
   pub width : bits ≡ width db
   pub start : alias ≡ (if has_ipv4_subtree db && nat_lt 0 (ipv4_start db) then Some (ipv4_start db) else None)
   pub data_len : len ≡ data_length db

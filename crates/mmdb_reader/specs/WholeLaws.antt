@@ -4,12 +4,12 @@ use Rattle.std.specs.List.{Contains}
 use Rattle.std.specs.declared.net.ip_addr.IpAddr.{IpAddr}
 use Rattle.mmdb_format.specs.Unfolding.{Tree}
 use Rattle.mmdb_check.specs.Checking.{IsGood}
-use Rattle.mmdb_reader.specs.declared.walked.End.{End}
-use Rattle.mmdb_reader.specs.declared.walked.End.TheVariants.{Alias, Fault, Absent, Found}
+use Rattle.mmdb_tree.specs.declared.record.TreeRecord.{TreeRecord}
+use Rattle.mmdb_tree.specs.declared.record.TreeRecord.TheVariants.{Data, Empty, Invalid, Node}
 use Rattle.mmdb_reader.specs.File.{Database, tree_of, before_ipv4, data_section}
-use Rattle.mmdb_reader.specs.Tree.{walk}
+use Rattle.mmdb_tree.specs.Tree.{walk}
 use Rattle.mmdb_reader.specs.Leaves.{IsLeaf}
-use Rattle.mmdb_reader.specs.Lookup.{CanAsk, Answers, Offset, IsInvalidAt}
+use Rattle.mmdb_reader.specs.Lookup.{CanAsk, Answers, IsInvalidAt}
 use Rattle.mmdb_reader.specs.Alias.{IsAlias}
 use Rattle.mmdb_reader.specs.Listing.{HasValueAt, IsFaulty, Ascends}
 use Rattle.mmdb_reader.specs.Options.{default_options}
@@ -29,15 +29,15 @@ abbrev pub FewStopsAreTaken : Type 0
 FewStopsAreTaken = (db : Database) → AreFirst (most_stops db + 1) (stops db) (cut (most_stops db + 1) (stops db))
 
 -- what a leaf has: a fault, no data, or a value at an offset
-abbrev pub HasEnd : Database → List Bool → End → Type 0
-HasEnd db leaf Alias = ⊥
-HasEnd db leaf Fault = IsFaulty db default_options leaf
-HasEnd db leaf Absent = walk (tree_of db) leaf ≡ db.metadata.node_count
-HasEnd db leaf (Found offset) = HasValueAt db leaf offset
+abbrev pub HasEnd : Database → List Bool → TreeRecord → Type 0
+HasEnd db leaf (Node number) = ⊥
+HasEnd db leaf Invalid = IsFaulty db default_options leaf
+HasEnd db leaf Empty = walk (tree_of db) leaf ≡ db.metadata.node_count
+HasEnd db leaf (Data offset) = HasValueAt db leaf offset
 
 -- a topmost alias, or a walked leaf with what it has
 abbrev pub IsStop : Database → Stop → Type 0
-IsStop db m = (IsTopmost db m.bits × (m.end ≡ Alias)) ⊎ (IsWalked db m.bits × HasEnd db m.bits m.end)
+IsStop db m = (IsTopmost db m.bits × (m.end ≡ Node (walk (tree_of db) m.bits))) ⊎ (IsWalked db m.bits × HasEnd db m.bits m.end)
 
 -- exactly the topmost aliases and the walked leaves, ascending, each once
 pub record AreStops (db : Database) (ms : List Stop) : Type 0 where
@@ -60,12 +60,12 @@ LookupsSucceed = (db : Database) → HasNoFault db → (address : IpAddr) → Ca
 -- Each offset that a lookup answers is then one of the stops.
 abbrev pub AnsweredOffsetsAreWalked : Type 0
 AnsweredOffsetsAreWalked =
-    (db : Database) → HasNoFault db → (address : IpAddr) (leaf : List Bool) (offset : ℕ) → Answers db address leaf (Offset offset) → Contains (offsets (stops db)) offset
+    (db : Database) → HasNoFault db → (address : IpAddr) (leaf : List Bool) (offset : ℕ) → Answers db address leaf (Data offset) → Contains (offsets (stops db)) offset
 
 -- each lookup succeeds, and a tree of valid texts, not too deep, unfolds at each offset that a lookup answers
 pub record AnswersAll (db : Database) : Type 0 where
   pub lookups : (address : IpAddr) → CanAsk db address → ¬ IsInvalidAt db address
-  pub values : (address : IpAddr) (leaf : List Bool) (offset : ℕ) → Answers db address leaf (Offset offset) → (t : Tree) × IsGood (data_section db) offset t
+  pub values : (address : IpAddr) (leaf : List Bool) (offset : ℕ) → Answers db address leaf (Data offset) → (t : Tree) × IsGood (data_section db) offset t
 
 -- A whole file does so.
 abbrev pub WholeFilesAnswer : Type 0

@@ -17,8 +17,6 @@ mod path;
 mod positions;
 pub mod reader;
 mod steps;
-mod table;
-pub mod tree;
 mod verify;
 mod walked;
 mod within;
@@ -28,6 +26,8 @@ pub use lookup_result::LookupResult;
 pub use metadata::Metadata;
 pub use mmdb_net as geonet;
 pub use mmdb_net::{IpNetwork, IpNetworkError, Ipv4Network, Ipv6Network, mask_ip};
+pub use mmdb_tree as tree;
+pub use mmdb_tree::{Descent, Entry, Nodes, read_node};
 pub use mmdb_value as values;
 pub use mmdb_value::{
     Checked, Decode, DecodeResult, Decoder, Double, Entries, Float, Items, Kind, MaxMindDbError,
@@ -39,6 +39,4 @@ pub use options::WithinOptions;
 pub use path::{PathElement, render_path};
 pub use reader::{Kept, Reader};
 pub use steps::Steps;
-pub use table::Entry;
-pub use tree::{Descent, Nodes, read_node};
 pub use within::Within;

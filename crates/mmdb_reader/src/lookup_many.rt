@@ -3,9 +3,9 @@ ghost use Rattle.std.specs.Prelude.{◌≡◌, ℕ, ◌<◌, ◌≤◌, length, 
 ghost use Rattle.std.specs.declared.net.ip_addr.IpAddr.{IpAddr as SpecIpAddr};
 
 use crate::lookup_result::LookupResult;
-use crate::many::FoundLeaf;
 use crate::reader::Reader;
 use mmdb_format::error::MaxMindDbError;
+use mmdb_tree::FoundLeaf;
 use std::convert::AsSlice;
 use std::marker::Model;
 use std::net::IpAddr;

@@ -1,7 +1,6 @@
 //! Positions of a walk over the search tree.
-ghost use Rattle.std.specs.Prelude.{◌≡◌, MatchBool};
+ghost use Rattle.std.specs.Prelude.{◌≡◌};
 
-use crate::reader::Reader;
 use crate::walked::Walker;
 use std::convert::AsSlice;
 
@@ -22,14 +21,7 @@ pub(crate) const ROOT: Position = Position {
 };
 
 impl Position {
-    ghost use Rattle.mmdb_reader.specs.Positions.{IsAt, HasHalves, IsEnd, half_of, is_high_at};
-
-    /// Whether the walk goes on below this position.
-    pub(crate) fn has_halves<S: AsSlice<u8> + Drop>(&self, reader: &Reader<S>) -> bool
-        ensures { MatchBool result (HasHalves reader.now self.now) (IsEnd reader.now self.now) }
-    {
-        self.prefix < usize::from(reader.width()) && self.number < reader.nodes().node_count
-    }
+    ghost use Rattle.mmdb_reader.specs.Positions.{IsAt, HasHalves, half_of, is_high_at};
 
     /// Whether this is the node with a number, reached by bits that are an address of 2^32 or more.
     #[inline(always)]

@@ -1,5 +1,5 @@
 //! Readers, and lookups of addresses.
-ghost use Rattle.std.specs.Prelude.{◌≡◌, ℕ, ◌+◌, ◌^◌, ◌<◌, ◌≤◌, ◌⊎◌, ◌↔◌, Bool, List, IfOk, IfErr, IfSome, OnOk, MatchOption, MatchResult, length, slice_index};
+ghost use Rattle.std.specs.Prelude.{◌≡◌, ℕ, ◌+◌, ◌^◌, ◌<◌, ◌≤◌, ◌⊎◌, ◌↔◌, IfOk, IfErr, IfSome, OnOk, MatchOption, MatchResult, length, slice_index};
 ghost use Rattle.std.specs.Net.Addr.{is_ipv4};
 ghost use Rattle.mmdb_format.specs.Error.{OfDatabase, OfInput, kind_of, MemoryApart, FailsAs};
 ghost use Rattle.mmdb_net.specs.Address.{address_width};
@@ -10,17 +10,13 @@ use crate::lookup_result::{LookupResult, NumberedAddress};
 use crate::marker::MARKER;
 use crate::metadata::Metadata;
 use crate::steps::Steps;
-use crate::table::Entry;
-use crate::tree::Nodes;
 use mmdb_format::error::MaxMindDbError;
 use mmdb_format::message::{Message, Text};
+use mmdb_tree::{Entry, Nodes, SEPARATOR, TreeRecord};
 use std::alloc::Global;
 use std::convert::AsSlice;
 use std::marker::Model;
 use std::net::{IpAddr, Ipv6Addr};
-
-// The zero bytes between the tree and the data.
-pub(crate) const SEPARATOR: usize = 16;
 
 // A leaf as the network that shows it, with the number to which its walk leads.
 #[derive(Clone, Copy)]
@@ -76,13 +72,13 @@ impl<S: AsSlice<u8> + Drop> Model for Reader<S> {
 
 impl<S: AsSlice<u8> + Drop> Reader<S> {
     ghost use Rattle.mmdb_reader.specs.Found.{database_asked, leaf_of, offset_found, shown_as_ipv4};
-    ghost use Rattle.mmdb_reader.specs.Counting.{CountsNodes};
+    ghost use Rattle.mmdb_reader.specs.Counting.{CountsAnswer, CountsNodes};
     ghost use Rattle.mmdb_reader.specs.Kept.{IsReader};
-    ghost use Rattle.mmdb_reader.specs.Lookup.{CanAsk, Outcome, Answers, IsInvalidAt, IsLeafAt, Failed, outcome_of, outcome_at, block_at};
+    ghost use Rattle.mmdb_reader.specs.Lookup.{CanAsk, Answers, IsInvalidAt, IsLeafAt, outcome_of, outcome_at, record_at, block_at};
     ghost use Rattle.mmdb_reader.specs.Shown.{is_shown_as_ipv4, has_ipv4_subtree, ipv4_start};
-    ghost use Rattle.mmdb_reader.specs.Tree.{search_tree};
+    ghost use Rattle.mmdb_tree.specs.Nodes.{tree_in};
+    ghost use Rattle.mmdb_tree.specs.declared.record.TreeRecord.TheVariants.{Invalid};
     ghost use Rattle.mmdb_reader.specs.File.{tree_of, width, data_section};
-    ghost use Rattle.mmdb_reader.specs.Alias.{is_alias_at};
 
     /// A reader of a source whose marker stands at this place, and whose metadata are these.
     pub(crate) fn from_parts(
@@ -199,7 +195,7 @@ impl<S: AsSlice<u8> + Drop> Reader<S> {
     // The nodes of the search tree.
     #[inline(always)]
     pub(crate) fn nodes(&self) -> Nodes<'_>
-        ensures tree { search_tree result.bytes.now result.node_count result.record_size ≡ tree_of self.now }
+        ensures tree { tree_in result ≡ tree_of self.now }
         ensures count { result.node_count ≡ self.now.metadata.node_count }
         ensures few { result.node_count < 2 ^ 32 }
     {
@@ -220,14 +216,6 @@ impl<S: AsSlice<u8> + Drop> Reader<S> {
         } else {
             32
         }
-    }
-
-    // Whether bits that lead to this number, and spell this address with zeros after them, are an alias.
-    pub(crate) fn is_alias(&self, number: usize, address: u128) -> bool
-        ensures { result ≡ is_alias_at self.now number address }
-    {
-        let start = self.ipv4_start();
-        self.has_ipv4_subtree() && start != 0 && number == start && address >= 1 << 32
     }
 
     // Whether IPv4 begins on a node of an IPv6 database.
@@ -284,35 +272,29 @@ impl<S: AsSlice<u8> + Drop> Reader<S> {
         }
     }
 
-    // The offset in the data section that a number of the tree stands for, if it has data. None where the
-    // number leads nowhere.
-    #[tactic(auto, unfolding(crate::specs::Lookup::outcome_of))]
+    // Where a number of the tree leads.
     #[inline(always)]
-    pub(crate) fn place_of(&self, number: usize) -> Option<Option<usize>>
-        ensures { MatchOption result
-            (outcome_of self.now number ≡ Failed)
-            (λ offset. outcome_of self.now number ≡ outcome_at offset) }
+    pub(crate) fn record_at(&self, number: usize) -> TreeRecord
+        ensures { result ≡ record_at self.now number }
     {
-        let nodes = self.metadata.node_count as usize;
-        if number <= nodes {
-            return Some(None);
-        }
-        match number.checked_sub(nodes + SEPARATOR) {
-            Some(offset) if offset < self.marker - self.data_start => Some(Some(offset)),
-            _ => None,
-        }
+        let data_len = self.marker - self.data_start;
+        TreeRecord::of(number, self.metadata.node_count as usize, data_len)
     }
 
-    // The same, with the error for a number that leads nowhere.
+    // The offset in the data section to which a number of the tree leads, if it has data, or the error for a number
+    // that leads nowhere.
+    #[tactic(auto, unfolding(crate::specs::Lookup::outcome_of))]
     #[inline(always)]
     pub(crate) fn offset_at(&self, number: usize) -> Result<Option<usize>, MaxMindDbError>
         ensures { MatchResult result
             (λ offset. outcome_of self.now number ≡ outcome_at offset)
-            (λ e. (kind_of e ≡ OfDatabase) × (outcome_of self.now number ≡ Failed)) }
+            (λ e. (kind_of e ≡ OfDatabase) × (outcome_of self.now number ≡ Invalid)) }
     {
-        match self.place_of(number) {
-            Some(offset) => Ok(offset),
-            None => Err(MaxMindDbError::InvalidDatabase {
+        match self.record_at(number) {
+            TreeRecord::Node(_) => Ok(None),
+            TreeRecord::Empty => Ok(None),
+            TreeRecord::Data(offset) => Ok(Some(offset)),
+            TreeRecord::Invalid => Err(MaxMindDbError::InvalidDatabase {
                 message: Message::Fixed(Text::InvalidLocation),
                 offset: None,
             }),
@@ -336,7 +318,7 @@ impl<S: AsSlice<u8> + Drop> Reader<S> {
         ensures of_input { FailsAs OfInput result ↔ ¬ (CanAsk self.now address) }
         ensures of_database { FailsAs OfDatabase result ↔ IsInvalidAt self.now address }
         ensures no_other { IfErr result (λ e. (kind_of e ≡ OfInput) ⊎ (kind_of e ≡ OfDatabase)) }
-        ensures counted { (leaf : List Bool) (outcome : Outcome) → Answers self.now address leaf outcome → CountsNodes self.now address leaf steps.old steps.new }
+        ensures counted { CountsAnswer self.now address steps.old steps.new }
         ensures not_counted { ¬ (CanAsk self.now address) → steps.new ≡ steps.old }
     {
         let Some(leaf) = self.find_leaf(address, steps) else {

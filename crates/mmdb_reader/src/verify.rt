@@ -74,9 +74,10 @@ impl<S: AsSlice<u8> + Drop> Reader<S> {
         ensures rejected { IfErr result (λ e. MemoryApart e (steps.new ≡ steps.old + walk_cost self.now)) }
         ensures most { steps.new ≤ steps.old + walk_cost self.now }
     {
+        let walker = self.walker();
         let mut stack = Vec::with_capacity(alloc, usize::from(self.width()))?;
         let mut set = OffsetSet::new(alloc, self.data_len())?;
-        let walked = match self.sweep(&mut stack, &mut set) {
+        let walked = match walker.sweep(&mut stack, &mut set) {
             Some(taken) => Walked {
                 taken,
                 end: WalkEnd::Whole,
@@ -84,7 +85,7 @@ impl<S: AsSlice<u8> + Drop> Reader<S> {
             None => {
                 stack.clear();
                 set = OffsetSet::new(alloc, self.data_len())?;
-                self.walk(&mut stack, &mut set)
+                walker.walk(&mut stack, &mut set)
             }
         };
         steps.add(walked.taken);

@@ -4,22 +4,13 @@ ghost use Rattle.std.specs.Vec.{vec_capacity};
 ghost use Rattle.mmdb_check.specs.Checking.{holds};
 ghost use Rattle.mmdb_reader.specs.declared.walked.WalkEnd.TheVariants.{Whole};
 ghost use Rattle.mmdb_reader.specs.File.{width, data_length};
-ghost use Rattle.mmdb_reader.specs.Stops.{end_of_leaf as spec_end_of_leaf, is_fault, walk_cost};
+ghost use Rattle.mmdb_reader.specs.Stops.{is_fault, walk_cost};
 ghost use Rattle.mmdb_reader.specs.Walked.{AreLimits, Takes, GoesOn, IsStopped, half_of, end_from, is_alias_of, Keeps, IsVerdict};
 
-use crate::reader::{Reader, SEPARATOR};
-use crate::tree::Nodes;
+use crate::reader::Reader;
 use mmdb_check::offset_set::OffsetSet;
+use mmdb_tree::{Nodes, TreeRecord};
 use std::convert::AsSlice;
-
-/// What a walk stops at: an alias, or a leaf that is faulty, has no data, or has a value at an offset.
-#[derive(Clone, Copy)]
-pub(crate) enum End {
-    Alias,
-    Fault,
-    Absent,
-    Found(usize),
-}
 
 /// A number of the tree, how many bits lead to it, and whether they are high: whether one of the first 96
 /// bits of an IPv6 address is 1.
@@ -47,174 +38,6 @@ pub(crate) struct Walked {
 }
 
 impl<S: AsSlice<u8> + Drop> Reader<S> {
-    // Whether a number is reached by an alias, by bits that are high.
-    #[inline(always)]
-    fn is_alias_of(&self, number: usize, high: bool) -> bool
-        ensures { result ≡ is_alias_of self.now number high }
-    {
-        let start = self.ipv4_start();
-        self.has_ipv4_subtree() && start != 0 && number == start && high
-    }
-
-    // Whether the walk goes on below a point.
-    #[inline(always)]
-    fn goes_on(&self, point: Point) -> bool
-        ensures { MatchBool result (GoesOn self.now point) (IsStopped self.now point) }
-    {
-        point.prefix < self.width()
-            && point.number < self.nodes().node_count
-            && !self.is_alias_of(point.number, point.high)
-    }
-
-    // What a leaf has that leads to a number.
-    #[tactic(auto, unfolding(crate::specs::Stops::end_of_leaf))]
-    #[inline(always)]
-    fn end_of_leaf(&self, number: usize) -> End
-        ensures { result ≡ spec_end_of_leaf self.now number }
-    {
-        if number < self.nodes().node_count {
-            return End::Fault;
-        }
-        match self.place_of(number) {
-            None => End::Fault,
-            Some(None) => End::Absent,
-            Some(Some(offset)) => End::Found(offset),
-        }
-    }
-
-    // What the walk stops at.
-    #[inline(always)]
-    fn end_from(&self, point: Point) -> End
-        ensures { result ≡ end_from self.now point.number point.high }
-    {
-        if self.is_alias_of(point.number, point.high) {
-            return End::Alias;
-        }
-        self.end_of_leaf(point.number)
-    }
-
-    // The lower or the upper half of what lies below a point.
-    #[inline(always)]
-    fn half_of(&self, point: Point, right: bool) -> Point
-        requires { GoesOn self.now point }
-        ensures { result ≡ half_of self.now point right }
-    {
-        Point {
-            number: self.nodes().child(point.number, right),
-            prefix: point.prefix + 1,
-            high: point.high || right && point.prefix + 32 < self.width(),
-        }
-    }
-
-    // Puts the offset of what a walk stops at into the set, if it has one. Whether it is no fault.
-    #[tactic(auto, using(crate::proofs::Progress::adds_offset, crate::proofs::Progress::adds_none, crate::proofs::Progress::found_inside))]
-    #[inline(always)]
-    fn keep(&self, point: Point, set: &mut OffsetSet) -> bool
-        requires { length set.old ≡ data_length self.now }
-        ensures kept { result ≡ not (is_fault (end_from self.now point.number point.high)) }
-        ensures set { Keeps self.now point set.old set.new }
-        ensures length { length set.new ≡ length set.old }
-    {
-        match self.end_from(point) {
-            End::Fault => return false,
-            End::Found(offset) => set.insert(offset),
-            End::Alias | End::Absent => {}
-        }
-        true
-    }
-
-    // Walks the whole tree, from the root. `stack` keeps the upper halves that are still to come, and
-    // `set` the offsets that were found.
-    pub(crate) fn walk(&self, stack: &mut Vec<Point>, set: &mut OffsetSet) -> Walked
-        requires empty { stack.old.items ≡ [] }
-        requires room { width self.now ≤ vec_capacity stack.old }
-        requires set { length set.old ≡ data_length self.now }
-        requires none { (q : ℕ) → holds set.old q ≡ false }
-        ensures verdict { IsVerdict self.now set.new result.taken result.end }
-        ensures counted { result.taken ≡ walk_cost self.now }
-        ensures bound { result.taken ≤ 6 * self.now.metadata.node_count + 130 }
-        ensures length { length set.new ≡ length set.old }
-    {
-        let most = 3 * self.nodes().node_count;
-        let mut point = Point {
-            number: 0,
-            prefix: 0,
-            high: false,
-        };
-        let mut stops = 0usize;
-        let mut taken = 0usize;
-        loop {
-            taken += 1;
-            if self.goes_on(point) {
-                stack.push_reserved(self.half_of(point, true));
-                point = self.half_of(point, false);
-                continue;
-            }
-            stops += 1;
-            if !self.keep(point, set) {
-                return Walked {
-                    taken,
-                    end: WalkEnd::AtFault(point.number),
-                };
-            }
-            if stops > most {
-                return Walked {
-                    taken,
-                    end: WalkEnd::TooMany,
-                };
-            }
-            let Some(next) = stack.pop() else {
-                return Walked {
-                    taken,
-                    end: WalkEnd::Whole,
-                };
-            };
-            point = next;
-        }
-    }
-
-    // Walks the whole tree, a node at a time, and gives the positions that it took. Both halves of a node are looked
-    // at together, so the offsets come in another order than the leaves. None where the walk fails, or may fail:
-    // where it stops is then reported by `walk`.
-    pub(crate) fn sweep(&self, stack: &mut Vec<Point>, set: &mut OffsetSet) -> Option<usize>
-        requires empty { stack.old.items ≡ [] }
-        requires room { width self.now ≤ vec_capacity stack.old }
-        requires set { length set.old ≡ data_length self.now }
-        requires none { (q : ℕ) → holds set.old q ≡ false }
-        ensures whole { IfSome result (λ taken. IsVerdict self.now set.new taken Whole) }
-        ensures counted { IfSome result (λ taken. taken ≡ walk_cost self.now) }
-        ensures bound { IfSome result (λ taken. taken ≤ 6 * self.now.metadata.node_count) }
-        ensures kept { vec_capacity stack.new ≡ vec_capacity stack.old }
-    {
-        let walker = self.walker();
-        let mut point = Point {
-            number: 0,
-            prefix: 0,
-            high: false,
-        };
-        if !walker.goes_on(point) {
-            return None;
-        }
-        for nodes in 1..3 * walker.nodes.node_count {
-            let lower = walker.half_of(point, false);
-            if !walker.take(walker.half_of(point, true), stack, set) {
-                return None;
-            }
-            if walker.goes_on(lower) {
-                point = lower;
-                continue;
-            }
-            if !walker.keep(lower, set) {
-                return None;
-            }
-            let Some(next) = stack.pop() else {
-                return Some(2 * nodes + 1);
-            };
-            point = next;
-        }
-        None
-    }
-
     // What a walk asks at each point, at hand.
     pub(crate) fn walker(&self) -> Walker<'_, S>
         ensures { result.reader.now ≡ self.now }
@@ -281,31 +104,19 @@ impl<S: AsSlice<u8> + Drop> Walker<'_, S> {
         }
     }
 
-    // What the walk stops at. An alias is a node, so of the others nothing is asked.
-    #[tactic(auto, unfolding(crate::specs::Stops::end_of_leaf, crate::specs::Lookup::outcome_of))]
+    // What the walk stops at: the node to which an alias leads, or what a leaf has.
     #[inline(always)]
-    fn end_from(&self, point: Point) -> End
+    fn end_from(&self, point: Point) -> TreeRecord
         ensures { result ≡ end_from self.now.reader.now point.number point.high }
     {
-        if point.number < self.nodes.node_count {
-            return if self.is_alias(point) {
-                End::Alias
-            } else {
-                End::Fault
-            };
-        }
-        let past = point.number - self.nodes.node_count;
-        if past == 0 {
-            End::Absent
-        } else if past < SEPARATOR || past - SEPARATOR >= self.data_len {
-            End::Fault
-        } else {
-            End::Found(past - SEPARATOR)
+        match TreeRecord::of(point.number, self.nodes.node_count, self.data_len) {
+            TreeRecord::Node(_) if !self.is_alias(point) => TreeRecord::Invalid,
+            record => record,
         }
     }
 
     // Puts the offset of what the walk stops at into the set, if it has one. Whether it is no fault.
-    #[tactic(auto, using(crate::proofs::Progress::adds_offset, crate::proofs::Progress::adds_none, crate::proofs::Progress::found_inside))]
+    #[tactic(auto, using(crate::proofs::Progress::adds_offset, crate::proofs::Progress::adds_node, crate::proofs::Progress::adds_empty, crate::proofs::Progress::found_inside))]
     #[inline(always)]
     fn keep(&self, point: Point, set: &mut OffsetSet) -> bool
         requires { length set.old ≡ data_length self.now.reader.now }
@@ -314,9 +125,10 @@ impl<S: AsSlice<u8> + Drop> Walker<'_, S> {
         ensures length { length set.new ≡ length set.old }
     {
         match self.end_from(point) {
-            End::Fault => return false,
-            End::Found(offset) => set.insert(offset),
-            End::Alias | End::Absent => {}
+            TreeRecord::Invalid => return false,
+            TreeRecord::Data(offset) => set.insert(offset),
+            TreeRecord::Node(_) => {}
+            TreeRecord::Empty => {}
         }
         true
     }
@@ -336,5 +148,96 @@ impl<S: AsSlice<u8> + Drop> Walker<'_, S> {
             return true;
         }
         self.keep(point, set)
+    }
+
+    // Walks the whole tree, from the root. `stack` keeps the upper halves that are still to come, and
+    // `set` the offsets that were found.
+    pub(crate) fn walk(&self, stack: &mut Vec<Point>, set: &mut OffsetSet) -> Walked
+        requires empty { stack.old.items ≡ [] }
+        requires room { width self.now.reader.now ≤ vec_capacity stack.old }
+        requires set { length set.old ≡ data_length self.now.reader.now }
+        requires none { (q : ℕ) → holds set.old q ≡ false }
+        ensures verdict { IsVerdict self.now.reader.now set.new result.taken result.end }
+        ensures counted { result.taken ≡ walk_cost self.now.reader.now }
+        ensures bound { result.taken ≤ 6 * self.now.reader.now.metadata.node_count + 130 }
+        ensures length { length set.new ≡ length set.old }
+    {
+        let most = 3 * self.nodes.node_count;
+        let mut point = Point {
+            number: 0,
+            prefix: 0,
+            high: false,
+        };
+        let mut stops = 0usize;
+        let mut taken = 0usize;
+        loop {
+            taken += 1;
+            if self.goes_on(point) {
+                stack.push_reserved(self.half_of(point, true));
+                point = self.half_of(point, false);
+                continue;
+            }
+            stops += 1;
+            if !self.keep(point, set) {
+                return Walked {
+                    taken,
+                    end: WalkEnd::AtFault(point.number),
+                };
+            }
+            if stops > most {
+                return Walked {
+                    taken,
+                    end: WalkEnd::TooMany,
+                };
+            }
+            let Some(next) = stack.pop() else {
+                return Walked {
+                    taken,
+                    end: WalkEnd::Whole,
+                };
+            };
+            point = next;
+        }
+    }
+
+    // Walks the whole tree, a node at a time, and gives the positions that it took. Both halves of a node are looked
+    // at together, so the offsets come in another order than the leaves. None where the walk fails, or may fail:
+    // where it stops is then reported by `walk`.
+    pub(crate) fn sweep(&self, stack: &mut Vec<Point>, set: &mut OffsetSet) -> Option<usize>
+        requires empty { stack.old.items ≡ [] }
+        requires room { width self.now.reader.now ≤ vec_capacity stack.old }
+        requires set { length set.old ≡ data_length self.now.reader.now }
+        requires none { (q : ℕ) → holds set.old q ≡ false }
+        ensures whole { IfSome result (λ taken. IsVerdict self.now.reader.now set.new taken Whole) }
+        ensures counted { IfSome result (λ taken. taken ≡ walk_cost self.now.reader.now) }
+        ensures bound { IfSome result (λ taken. taken ≤ 6 * self.now.reader.now.metadata.node_count) }
+        ensures kept { vec_capacity stack.new ≡ vec_capacity stack.old }
+    {
+        let mut point = Point {
+            number: 0,
+            prefix: 0,
+            high: false,
+        };
+        if !self.goes_on(point) {
+            return None;
+        }
+        for nodes in 1..3 * self.nodes.node_count {
+            let lower = self.half_of(point, false);
+            if !self.take(self.half_of(point, true), stack, set) {
+                return None;
+            }
+            if self.goes_on(lower) {
+                point = lower;
+                continue;
+            }
+            if !self.keep(lower, set) {
+                return None;
+            }
+            let Some(next) = stack.pop() else {
+                return Some(2 * nodes + 1);
+            };
+            point = next;
+        }
+        None
     }
 }

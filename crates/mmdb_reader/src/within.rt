@@ -18,6 +18,7 @@ use mmdb_decode::peek::empty_container;
 use mmdb_format::error::MaxMindDbError;
 use mmdb_format::message::{Message, Text};
 use mmdb_net::IpNetwork;
+use mmdb_tree::TreeRecord;
 use std::alloc::Global;
 use std::convert::AsSlice;
 use std::net::{IpAddr, Ipv4Addr, Ipv6Addr};
@@ -45,7 +46,7 @@ struct Range {
 
 impl Range {
     // Whether a bit of the address is set, counted from the lowest.
-    fn has_bit(&self, place: u8) -> bool
+    fn has_bit(&self, place: usize) -> bool
         requires { place < 128 }
         ensures { result ≡ bit_of self.now.address place }
     {
@@ -65,7 +66,7 @@ pub(crate) fn invalid(text: Text) -> MaxMindDbError
 
 impl<S: AsSlice<u8> + Drop> Reader<S> {
     ghost use Rattle.mmdb_reader.specs.Items.{item_view, item_of_leaf, items_of};
-    ghost use Rattle.mmdb_reader.specs.Listing.{is_hidden, finding_at, listed};
+    ghost use Rattle.mmdb_reader.specs.Listing.{finding_at, listed};
     ghost use Rattle.mmdb_reader.specs.Positions.{IsAt, bits_to};
     ghost use Rattle.mmdb_reader.specs.Found.{database_asked, leaf_of, offset_found, shown_as_ipv4};
     ghost use Rattle.mmdb_reader.specs.ShownLeaf.{begins_with_zeros, is_leaf_shown_as_ipv4};
@@ -74,14 +75,6 @@ impl<S: AsSlice<u8> + Drop> Reader<S> {
     ghost use Rattle.mmdb_reader.specs.Enumeration.{database_walked, items_to_come, positions_reserved, ListsRange};
     ghost use Rattle.mmdb_reader.specs.Ranges.{IsRangeOf, positions_for};
     ghost use Rattle.mmdb_reader.specs.Findings.{finding_of_answer, FaultsAreOfDatabase};
-
-    // Whether nothing below a position is listed, since it is an alias.
-    fn hides(&self, position: Position, options: WithinOptions) -> bool
-        requires { IsAt self.now position }
-        ensures { result ≡ is_hidden self.now options (bits_to self.now position) }
-    {
-        !options.includes_aliased() && self.is_alias(position.number, position.address)
-    }
 
     // What a leaf that leads to a number is listed with, if it is listed: a fault, or the offset of its
     // value, if it has one.
@@ -94,26 +87,19 @@ impl<S: AsSlice<u8> + Drop> Reader<S> {
         ensures value { finding_of_answer result ≡ finding_at self.now options number }
         ensures faults { FaultsAreOfDatabase result }
     {
-        if number < self.nodes().node_count {
-            return Some(Err(invalid(Text::TreeTooDeep)));
-        }
-        let offset = match self.offset_at(number) {
-            Ok(offset) => offset,
-            Err(error) => return Some(Err(error)),
-        };
-        let Some(place) = offset else {
-            return if options.includes_without_data() {
-                Some(Ok(None))
-            } else {
-                None
-            };
+        let place = match self.record_at(number) {
+            TreeRecord::Node(_) => return Some(Err(invalid(Text::TreeTooDeep))),
+            TreeRecord::Invalid => return Some(Err(invalid(Text::InvalidLocation))),
+            TreeRecord::Empty if options.includes_without_data() => return Some(Ok(None)),
+            TreeRecord::Empty => return None,
+            TreeRecord::Data(place) => place,
         };
         if !options.skips_empty() {
-            return Some(Ok(offset));
+            return Some(Ok(Some(place)));
         }
         match empty_container(self.data_section(), place) {
             Ok(true) => None,
-            Ok(false) => Some(Ok(offset)),
+            Ok(false) => Some(Ok(Some(place))),
             Err(error) => Some(Err(counted_from_start(error, self.data_start()))),
         }
     }
@@ -222,11 +208,12 @@ impl<S: AsSlice<u8> + Drop> Reader<S> {
         };
         let mut stack = Vec::with_capacity(alloc, usize::from(self.width() - range.prefix) + 1)?;
         let walker = self.walker();
-        if let Some(position) = walker.start(range, options) {
+        let hidden = walker.hidden_number(options);
+        if let Some(position) = walker.start(range, options, hidden) {
             stack.push_reserved(position);
         }
         Ok(Within {
-            hidden: walker.hidden_number(options),
+            hidden,
             walker,
             options,
             stack,
@@ -259,8 +246,8 @@ impl<S: AsSlice<u8> + Drop> Walker<'_, S> {
     ghost use Rattle.mmdb_reader.specs.Listing.{listed};
     ghost use Rattle.mmdb_reader.specs.Positions.{IsLowest, IsNothing, IsStart};
 
-    // The node behind which nothing is listed where bits that are high lead to it: the number of nodes, which is none of
-    // them, where there is no such node.
+    // The node behind which nothing is listed where bits that are high lead to it: the number of nodes,
+    // which is none of them, where there is no such node.
     fn hidden_number(&self, options: WithinOptions) -> usize
         ensures { HidesAliases self.now.reader.now options result }
     {
@@ -275,22 +262,22 @@ impl<S: AsSlice<u8> + Drop> Walker<'_, S> {
 
     // Where the walk of a range begins: at the range, or at the leaf that holds it. None where an
     // alias leads to it.
-    fn start(&self, range: Range, options: WithinOptions) -> Option<Position>
-        requires { range.prefix ≤ width self.now.reader.now }
+    fn start(&self, range: Range, options: WithinOptions, hidden: usize) -> Option<Position>
+        requires within { range.prefix ≤ width self.now.reader.now }
+        requires hides { HidesAliases self.now.reader.now options hidden }
         ensures { let db = self.now.reader.now in
             let bits = take range.prefix (bits_of (width db) range.address) in
             MatchOption result (listed db options bits ≡ []) (IsStart db options bits) }
     {
-        let width = self.reader.width();
         let mut position = ROOT;
         while position.prefix < usize::from(range.prefix) {
-            if self.reader.hides(position, options) {
-                return None;
-            }
-            if !position.has_halves(self.reader) {
+            if position.number >= self.nodes.node_count {
                 return Some(position);
             }
-            let right = range.has_bit(width - position.prefix as u8 - 1);
+            if position.is_high_at(hidden) {
+                return None;
+            }
+            let right = range.has_bit(self.width - position.prefix - 1);
             position = position.half(self, right);
         }
         Some(position)

@@ -1,5 +1,5 @@
 use Rattle.std.proofs.Common.{refl}
-use Rattle.mmdb_reader.proofs.TableLemmas.{walked-from, taken-le}
+use Rattle.mmdb_tree.proofs.TableLemmas.{walked-from, taken-le}
 use Rattle.mmdb_c.specs.Opened.{tree}
 use Rattle.mmdb_c.proofs.db.Db.leaf_ipv4.Goals as goal
 

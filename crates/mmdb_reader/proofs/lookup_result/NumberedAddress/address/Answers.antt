@@ -1,4 +1,4 @@
-use Rattle.std.proofs.Common.{◌≡◌, ℕ, ◌<◌, ◌^◌, ap, arith}
+use Rattle.std.proofs.Common.{ℕ, ◌<◌, ◌^◌, ap, arith}
 use Rattle.std.proofs.lemmas.Bool.{ne_eqb}
 use Rattle.mmdb_net.proofs.AddressLaws.{ipv4_bits-of, ipv6_bits-of}
 use Rattle.mmdb_reader.proofs.NumberedLemmas.{short_block, long_block}

@@ -1,4 +1,4 @@
-use Rattle.std.proofs.Common.{◌-◌, ◌^◌, ◌∙◌, ℕ, ap, arith}
+use Rattle.std.proofs.Common.{◌-◌, ◌^◌, ℕ, ap, arith}
 use Rattle.mmdb_reader.proofs.PositionLemmas.{upper-fits}
 use Rattle.mmdb_reader.proofs.positions.Position.half.Goals as goal
 

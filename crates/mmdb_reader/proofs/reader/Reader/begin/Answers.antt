@@ -2,12 +2,12 @@ use Rattle.std.proofs.Common.{◌≡◌, ℕ, ◌/◌, ◌<◌, ◌^◌, Bool, L
 use Rattle.std.proofs.lemmas.Bool.{eq-eqb}
 use Rattle.std.specs.Net.Addr.{ipv4_bits}
 use Rattle.mmdb_net.specs.Bits.{bits_of}
-use Rattle.mmdb_reader.specs.declared.table.Entry.{Entry}
-use Rattle.mmdb_reader.specs.declared.many.FoundLeaf.{FoundLeaf}
+use Rattle.mmdb_tree.specs.declared.table.Entry.{Entry}
+use Rattle.mmdb_tree.specs.declared.group.FoundLeaf.{FoundLeaf}
 use Rattle.mmdb_reader.specs.File.{tree_of}
-use Rattle.mmdb_reader.specs.Descents.{Walks}
+use Rattle.mmdb_tree.specs.Descents.{Walks}
 use Rattle.mmdb_reader.proofs.LeafLemmas.{reader_of, start-is}
-use Rattle.mmdb_reader.proofs.ManyLemmas.{Walks-entry}
+use Rattle.mmdb_tree.proofs.GroupLemmas.{Walks-entry}
 use Rattle.mmdb_reader.proofs.reader.Reader.begin.Goals as goal
 use Rattle.mmdb_reader.proofs.reader.Reader.begin.Goals.{in_default-via-in-V4+else-self, in_default-via-in-V6+else-self-eq6}
 

@@ -2,7 +2,7 @@ use Rattle.std.proofs.Common.{◌≡◌, ◌<◌, ◌≤◌, ap, sym, arith, ref
 use Rattle.std.proofs.lemmas.Bool.{eq-eqb}
 use Rattle.mmdb_net.specs.Bits.{bits_of}
 use Rattle.mmdb_reader.specs.File.{tree_of}
-use Rattle.mmdb_reader.proofs.TableLemmas.{walked-from, read-from, taken-le}
+use Rattle.mmdb_tree.proofs.TableLemmas.{walked-from, read-from, taken-le}
 use Rattle.mmdb_reader.proofs.CountLemmas.{CountsNodes-v4, CountsNodes-v6, CountsNodes-none}
 use Rattle.mmdb_reader.proofs.LeafLemmas.{reader_of, depth-le, IsLeafAt-v4, IsLeafAt-v6, IsLeafAt-none, shown-none, shown-node, ipv6_bits-unspecified}
 use Rattle.mmdb_reader.proofs.reader.Reader.find_leaf.Goals as goal

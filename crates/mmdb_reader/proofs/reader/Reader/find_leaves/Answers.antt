@@ -1,10 +1,12 @@
 use Rattle.std.proofs.Common.{◌<◌, length, get_or, slice_set, arith, sym, refl, subst}
 use Rattle.std.proofs.lemmas.List.{length-set}
 use Rattle.mmdb_net.specs.Address.{bits_of_address}
-use Rattle.mmdb_reader.specs.Tree.{SearchTree}
-use Rattle.mmdb_reader.specs.Descents.{Walks}
-use Rattle.mmdb_reader.specs.Many.{HasEnded, first_number}
-use Rattle.mmdb_reader.proofs.ManyLemmas.{Begins, Begins-at, set-done}
+use Rattle.mmdb_tree.specs.Tree.{SearchTree}
+use Rattle.mmdb_tree.specs.Descents.{Walks}
+use Rattle.mmdb_tree.specs.Groups.{HasEnded}
+use Rattle.mmdb_reader.specs.Many.{first_number}
+use Rattle.mmdb_tree.proofs.GroupLemmas.{set-done}
+use Rattle.mmdb_reader.proofs.ManyLemmas.{Begins, Begins-at}
 use Rattle.mmdb_reader.proofs.reader.Reader.find_leaves.Goals as goal
 
 pub loop-i-preserved : goal.loop-i-preserved

@@ -1,5 +1,5 @@
 use Rattle.std.proofs.Common.{◌≡◌, ℕ, ◌<◌, length, slice_index_or}
-use Rattle.mmdb_reader.specs.declared.many.FoundLeaf.{FoundLeaf}
+use Rattle.mmdb_tree.specs.declared.group.FoundLeaf.{FoundLeaf}
 use Rattle.mmdb_reader.proofs.ManyLemmas.{Begins}
 use Rattle.mmdb_reader.proofs.reader.Reader.find_leaves.Given as goal
 

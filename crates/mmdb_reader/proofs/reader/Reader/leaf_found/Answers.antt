@@ -3,9 +3,9 @@ use Rattle.std.specs.Net.Addr.{ipv4_bits}
 use Rattle.std.specs.declared.net.ip_addr.IpAddr.{IpAddr}
 use Rattle.mmdb_net.specs.Bits.{bits_of}
 use Rattle.mmdb_reader.specs.File.{tree_of}
-use Rattle.mmdb_reader.specs.Descents.{Descends}
+use Rattle.mmdb_tree.specs.Descents.{Descends}
 use Rattle.mmdb_reader.specs.Many.{IsFoundFor}
-use Rattle.mmdb_reader.proofs.TableLemmas.{taken-le}
+use Rattle.mmdb_tree.proofs.TableLemmas.{taken-le}
 use Rattle.mmdb_reader.proofs.LeafLemmas.{reader_of, depth-le, start-is, IsLeafAt-v4, IsLeafAt-v6, IsLeafAt-none, shown-none, ipv6_bits-unspecified}
 use Rattle.mmdb_reader.proofs.reader.Reader.leaf_found.Goals as goal
 use Rattle.mmdb_reader.proofs.reader.Reader.leaf_found.Goals.{in_default-via-in-V4+else-self-nodes, in_default-via-in-V6+else-self-ne6}

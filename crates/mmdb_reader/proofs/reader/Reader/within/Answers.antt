@@ -25,7 +25,7 @@ invariant_of-result g c =
         | in-Some-start s ↦ rw s.stack-is (IsStack-one db _ _ _ c.in_ok-stack.stack.items s.in-Some-start.position s.push_reserved.ensures.items c.in_ok-stack.ensures.items (omega (arith, len, same, w, s.push_reserved.ensures.capacity, c.in_ok-stack.ensures.exact, c.from.ensures)) s.in-Some-start.ensures.placed)
         | in_default-start s ↦ rw s.stack-is (IsStack-none db _ _ c.in_ok-stack.ensures.items)
       ];
-      hides = c.hidden_number.ensures;
+      hides = c.hidden_number-hidden.ensures;
     }
 
 -- the positions that the list begins with give what is listed for the range

@@ -1,8 +1,8 @@
-use Rattle.std.proofs.Common.{◌≡◌, ◌<◌, ◌≤◌, ◌∷◌, ◌++◌, [], List, true, false, sym, ap, ◌∙◌, refl, subst, arith, inl, inr}
+use Rattle.std.proofs.Common.{◌≡◌, ◌<◌, ◌≤◌, ◌∷◌, ◌++◌, [], List, true, false, sym, ◌∙◌, refl, subst, arith, inl, inr}
 use Rattle.std.specs.Vec.{vec_capacity}
 use Rattle.mmdb_reader.specs.declared.positions.Position.{Position}
 use Rattle.mmdb_reader.specs.File.{width}
-use Rattle.mmdb_reader.specs.Positions.{GoesOn, half_of}
+use Rattle.mmdb_reader.specs.Positions.{ListsSame, half_of}
 use Rattle.mmdb_reader.proofs.PositionLemmas.{hidden-node, shown-off}
 use Rattle.mmdb_reader.proofs.StackLemmas.{goes_on-start, goes_on-hidden, goes_on-node, goes_on-leaf, top-placed}
 use Rattle.mmdb_reader.proofs.walked.Walker.go_down.Goals as goal
@@ -59,7 +59,7 @@ loop-position-preserved g c =
     (sym (hidden-node db c.args.options c.args.hidden p c.is_high_at.result c.requires.hides top.at on c.is_high_at.ensures) ∙ c.if-is_high_at.false) (on, inner) in
     let two : (xs ++ half_of db p true ∷ []) ++ half_of db p false ∷ [] ≡ c.push_reserved.new.self.items ++ c.half-position.result ∷ [] = cc (c.push_reserved.ensures.items, c.half.ensures, c.half-position.ensures) in
     record {
-      on = subst (GoesOn db c.args.options cap old) two next;
+      on = subst (ListsSame db c.args.options cap old) two next;
       capacity = c.push_reserved.ensures.capacity ∙ c.loop-position.invariant.capacity;
     }
 

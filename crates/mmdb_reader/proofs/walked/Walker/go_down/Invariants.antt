@@ -1,11 +1,11 @@
 use Rattle.std.proofs.Common.{◌≡◌, ◌+◌, ◌-◌, ◌∷◌, ◌++◌, []}
 use Rattle.std.specs.Vec.{vec_capacity}
-use Rattle.mmdb_reader.specs.Positions.{GoesOn}
+use Rattle.mmdb_reader.specs.Positions.{ListsSame}
 use Rattle.mmdb_reader.proofs.walked.Walker.go_down.Given as goal
 
 abbrev pub invariant-loop-position : goal.invariant-loop-position
 invariant-loop-position g l = record {
-  on : GoesOn l.self.reader.now l.fn.options (vec_capacity l.fn.stack) (l.fn.stack.items ++ l.fn.start ∷ []) (l.stack.items ++ l.position ∷ []);
+  on : ListsSame l.self.reader.now l.fn.options (vec_capacity l.fn.stack) (l.fn.stack.items ++ l.fn.start ∷ []) (l.stack.items ++ l.position ∷ []);
   capacity : vec_capacity l.stack ≡ vec_capacity l.fn.stack;
 }
 

@@ -1,5 +1,5 @@
 use Rattle.std.proofs.Common.{sym, ◌∙◌}
-use Rattle.mmdb_reader.proofs.PositionLemmas.{hides-some, hides-none, hides-listed}
+use Rattle.mmdb_reader.proofs.PositionLemmas.{hides-listed}
 use Rattle.mmdb_reader.proofs.walked.Walker.hidden_number.Goals as goal
 
 pub returns-then-includes_aliased : goal.returns-then-includes_aliased

@@ -1,13 +1,13 @@
-use Rattle.std.proofs.Common.{rules, ◌≡◌, ◌<◌, ◌++◌, ◌∷◌, [], Some, None, List, Option, ℕ, length, sym, ap, ◌∙◌, refl, subst, arith}
+use Rattle.std.proofs.Common.{rules, ◌≡◌, ◌++◌, ◌∷◌, [], Some, None, List, Option, ℕ, length, sym, ap, ◌∙◌, refl, subst, arith}
 use Rattle.std.specs.Vec.{vec_capacity}
 use Rattle.std.proofs.lemmas.List.{nil_from_length}
 use Rattle.mmdb_reader.specs.declared.options.WithinOptions.{WithinOptions}
 use Rattle.mmdb_reader.specs.declared.positions.Position.{Position}
-use Rattle.mmdb_reader.specs.File.{Database, width}
-use Rattle.mmdb_reader.specs.Listing.{Finding}
+use Rattle.mmdb_reader.specs.File.{Database}
+use Rattle.mmdb_tree.specs.declared.record.TreeRecord.{TreeRecord}
 use Rattle.mmdb_reader.specs.Items.{items_of, item_view}
 use Rattle.mmdb_reader.specs.Findings.{finding_of_answer}
-use Rattle.mmdb_reader.specs.Positions.{IsStack, bits_to, listed_of_stack, positions_left}
+use Rattle.mmdb_reader.specs.Positions.{IsStack, bits_to, listed_of_stack}
 use Rattle.mmdb_reader.specs.Enumeration.{items_to_come}
 use Rattle.mmdb_reader.proofs.ItemLemmas.{items-first}
 use Rattle.mmdb_reader.proofs.StackLemmas.{left-placed, lowest-at, lowest-smaller, lowest-lists}
@@ -56,7 +56,7 @@ unfolding items_to_come
 first_item g c =
     let db = c.loop-position.self.walker.reader.now in
     let options = c.loop-position.self.options in
-    let found : Option Finding = finding_of_answer (Some c.in-Some-finding.finding) in
+    let found : Option TreeRecord = finding_of_answer (Some c.in-Some-finding.finding) in
     let same = lowest-lists db options _ _ c.go_down-below.new.stack.items c.in-Some-below.leaf c.in-Some-below.ensures.lowest found c.in-Some-finding.ensures.value in
     let popped = ap (listed_of_stack db options) c.in-Some.ensures.items in
     sym c.loop-position.invariant.items ∙ ap (items_of db) (popped ∙ same) ∙ items-first db (bits_to db c.in-Some-below.leaf) found _ (listed_of_stack db options c.go_down-below.new.stack.items) c.item.ensures.value

@@ -1,0 +1,6 @@
+pub mod Tree
+pub mod Descents
+pub mod Table
+pub mod Nodes
+pub mod Records
+pub mod Groups

@@ -1,0 +1,102 @@
+//! Tables of the first sixteen bits of addresses.
+ghost use Rattle.std.specs.Prelude.{◌≡◌, ℕ, ◌+◌, ◌-◌, ◌^◌, ◌<◌, ◌≤◌, IfOk, length};
+ghost use Rattle.std.specs.Vec.{vec_len, vec_capacity};
+
+use crate::nodes::{Descent, Nodes};
+use std::alloc::{AllocError, Global};
+
+/// How many bits of an address a table is for.
+const TABLE_BITS: u8 = 16;
+
+/// Where the walk of an address stands after its first sixteen bits, or where it left the nodes, and
+/// after how many bits.
+#[repr(C)]
+#[derive(Clone, Copy)]
+pub struct Entry {
+    pub number: u32,
+    pub taken: u8,
+}
+
+impl Nodes<'_> {
+    ghost use Rattle.mmdb_tree.specs.Nodes.{tree_in, EndsByTable, ReadsByTable};
+    ghost use Rattle.mmdb_tree.specs.Table.{IsTable, Appends};
+    ghost use Rattle.mmdb_net.specs.Bits.{bits_of};
+
+    // Appends an entry for each string of the last `left` of the sixteen bits, where the bits before them
+    // led to this number. Below a node both halves follow, and below any other number all entries are
+    // the same.
+    fn push_entries(&self, table: &mut Vec<Entry>, number: usize, left: u8)
+        requires left { left ≤ 16 }
+        requires number { number < 2 ^ 32 }
+        requires room { vec_len table.old + 2 ^ left ≤ vec_capacity table.old }
+        ensures entries { let tree = tree_in self.now in
+            Appends tree left (16 - left) number table.old.items table.new.items }
+        ensures len { vec_len table.new ≡ vec_len table.old + 2 ^ left }
+        ensures capacity { vec_capacity table.new ≡ vec_capacity table.old }
+    {
+        if left == 0 || number >= self.node_count {
+            let entry = Entry {
+                number: number as u32,
+                taken: TABLE_BITS - left,
+            };
+            for _ in 0..1u32 << left {
+                table.push_reserved(entry);
+            }
+            return;
+        }
+        let lower = self.child(number, false);
+        let upper = self.child(number, true);
+        self.push_entries(table, lower, left - 1);
+        self.push_entries(table, upper, left - 1);
+    }
+
+    /// The table of the walks that begin at a number, where that is a node: 65536 entries, one for each string of
+    /// sixteen bits, in the order of the numbers that they give. Else an empty one. It fails only where there is no
+    /// memory.
+    pub fn table(&self, alloc: Global, start: usize) -> Result<Vec<Entry>, AllocError>
+        requires { self.now.node_count < 2 ^ 32 }
+        ensures { IfOk result (λ table. IsTable (tree_in self.now) start table.items) }
+    {
+        if start >= self.node_count {
+            return Ok(Vec::new(alloc));
+        }
+        let mut table = Vec::with_capacity(alloc, 1 << TABLE_BITS)?;
+        self.push_entries(&mut table, start, TABLE_BITS);
+        Ok(table)
+    }
+
+    /// Walks along the 32 bits of an IPv4 address, for whose first sixteen a table has where they lead ("Search
+    /// Lookup Algorithm" of the MaxMind DB File Format Specification 2.0). Of the nodes only those after the table's
+    /// entry are counted as read.
+    #[inline(always)]
+    pub fn descend_ipv4(&self, table: &[Entry], bits: u32) -> Descent
+        requires { length table.now ≡ 65536 }
+        ensures reached { EndsByTable (tree_in self.now) table.now (bits_of 32 bits) result }
+        ensures read { ReadsByTable (tree_in self.now) table.now result }
+    {
+        let entry = table[(bits >> 16) as usize];
+        let rest = self.descend(entry.number as usize, u64::from(bits), 16);
+        Descent {
+            number: rest.number,
+            taken: usize::from(entry.taken) + rest.taken,
+            read: rest.read,
+        }
+    }
+
+    /// The same along the 128 bits of an IPv6 address.
+    #[inline(always)]
+    pub fn descend_ipv6(&self, table: &[Entry], bits: u128) -> Descent
+        requires { length table.now ≡ 65536 }
+        ensures reached { EndsByTable (tree_in self.now) table.now (bits_of 128 bits) result }
+        ensures read { ReadsByTable (tree_in self.now) table.now result }
+    {
+        let entry = table[(bits >> 112) as usize];
+        let high = self.descend(entry.number as usize, (bits >> 64) as u64, 48);
+        let low = self.descend(high.number, (bits % (1 << 64)) as u64, 64);
+        Descent {
+            number: low.number,
+            taken: usize::from(entry.taken) + high.taken + low.taken,
+            read: high.read + low.read,
+        }
+    }
+}
