@@ -2,9 +2,10 @@
 use Rattle.std.proofs.Common.{◌≡◌, ℕ, ◌+◌, ◌-◌, ◌<◌, ◌≤◌, Bool, true, false, ◌&&◌, ◌==◌, nat_lt, if◌then◌else◌, List, [], ◌∷◌, ◌++◌, length, take, drop, get_or, Some, inl, inr, refl, sym, ap, ◌∙◌, subst, arith, take-append-drop, take-take, take_all, length-take-le, ltb-true, ltb-false, eqb-true}
 use Rattle.std.proofs.lemmas.List.{drop_more, drop_all, drop-append-le}
 use Rattle.json.specs.Json.{Json, null, object, Members, no_members, member, max_depth, document}
+use Rattle.json.specs.Lex.{tokens}
 use Rattle.json.specs.Print.{print}
 use Rattle.json.specs.Token.{Token, key, begin_object, end_object}
-use Rattle.json.specs.Tree.{json_tokens, depth, HasNumbers}
+use Rattle.json.specs.Tree.{json_tokens, depth}
 use Rattle.mmdb_reader.specs.File.{Database, data_section}
 use Rattle.mmdb_reader.specs.declared.path.PathElement.{PathElement}
 use Rattle.mmdb_filter.specs.Lines.{text_length, text_of, front_of, back_of, most_seen, seen_of, is_long, row_with}
@@ -20,13 +21,13 @@ use Rattle.mmdb_enrich.proofs.LongerLaws.{AllSpace, Brace, brace_and, last_brace
 
 -- ---- the tokens of the fields are those of an object
 
-value_of : (path : List PathElement) (s : List ℕ) (offset : ℕ) (tokens : List Token) → AreValue path s offset tokens → (j : Json) × (tokens ≡ json_tokens j)
-value_of path s offset tokens (false, none) = (null, none.1)
-value_of path s offset tokens (true, found) = (found.2.0, found.2.2)
+value_of : (path : List PathElement) (s : List ℕ) (offset : ℕ) (ts : List Token) → AreValue path s offset ts → (j : Json) × (ts ≡ json_tokens j)
+value_of path s offset ts (false, none) = (null, none.1)
+value_of path s offset ts (true, found) = (found.2.0, found.2.2)
 
-shown_of : (fields : List Field) (s : List ℕ) (offset : ℕ) (tokens : List Token) → AreFields fields s offset tokens → (shown : Members) × AreShown fields s offset shown × (tokens ≡ inner shown)
-shown_of [] s offset tokens none = (no_members, refl, none)
-shown_of (field ∷ fields) s offset tokens (here, rest, are, value, more) =
+shown_of : (fields : List Field) (s : List ℕ) (offset : ℕ) (ts : List Token) → AreFields fields s offset ts → (shown : Members) × AreShown fields s offset shown × (ts ≡ inner shown)
+shown_of [] s offset ts none = (no_members, refl, none)
+shown_of (field ∷ fields) s offset ts (here, rest, are, value, more) =
     let found = value_of field.path.items s offset here value in
     let others = shown_of fields s offset rest more in (
       member field.name.now found.0 others.0,
@@ -34,15 +35,15 @@ shown_of (field ∷ fields) s offset tokens (here, rest, are, value, more) =
       are ∙ (λ i. key field.name.now ∷ (found.1 i ++ others.2 i)),
     )
 
-member_is : (name : List ℕ) (tokens : List Token) (shown : Members) → tokens ≡ inner shown → member_tokens name tokens ≡ key name ∷ json_tokens (object shown)
-member_is name tokens shown e = ap (λ l. key name ∷ begin_object ∷ l) (ap (λ l. l ++ end_object ∷ []) e ∙ sym (inner-closed shown))
+member_is : (name : List ℕ) (ts : List Token) (shown : Members) → ts ≡ inner shown → member_tokens name ts ≡ key name ∷ json_tokens (object shown)
+member_is name ts shown e = ap (λ l. key name ∷ begin_object ∷ l) (ap (λ l. l ++ end_object ∷ []) e ∙ sym (inner-closed shown))
 
 -- ---- of any line that holds such a text
 
 module _ (db : Database) (path : List PathElement) (name : List ℕ) (fields : List Field) (text : List ℕ) (goes_on : Bool) (extra : List ℕ) (behind : ℕ) (line longer : List ℕ)
     (was : (ms : Members) → IsObject text goes_on ms behind → document line ≡ Some (object ms))
     (becomes : (ms shown : Members) → IsObject text goes_on ms behind → extra ≡ comma_behind (is_empty ms) ++ print (key name ∷ json_tokens (object shown))
-    → HasNumbers (object shown) → depth (object shown) < max_depth → document longer ≡ Some (object (and_last ms name (object shown)))) where
+    → tokens (print (key name ∷ json_tokens (object shown))) ≡ key name ∷ json_tokens (object shown) → depth (object shown) < max_depth → document longer ≡ Some (object (and_last ms name (object shown)))) where
   gains : AddsMember db path name fields text goes_on extra behind Found → GainsMember db path name fields line extra longer
   gains (inl (none, other, why)) = absurd (cc)
   gains (inr (inl (none, other, why))) = absurd (cc)
@@ -51,8 +52,10 @@ module _ (db : Database) (path : List PathElement) (name : List ℕ) (fields : L
   gains (inr (inr (ms, at, address, of, leads, inr (inr (leaf, offset, put, answers, made, extra_is, same, outcome))))) =
       let shown = shown_of fields (data_section db) offset made.0 made.1 in
       let here : IsObject text goes_on ms behind = subst (IsObject text goes_on ms) (sym same) of in
-      let added : extra ≡ comma_behind (is_empty ms) ++ print (key name ∷ json_tokens (object shown.0)) =
-      extra_is ∙ ap (λ l. comma_behind (is_empty ms) ++ l) (made.2 ∙ ap print (member_is name made.0 shown.0 shown.2)) in
+      let ts = key name ∷ json_tokens (object shown.0) in
+      let is = member_is name made.0 shown.0 shown.2 in
+      let printed : put ≡ print ts = made.2 ∙ ap print is in
+      let added : extra ≡ comma_behind (is_empty ms) ++ print ts = extra_is ∙ ap (λ l. comma_behind (is_empty ms) ++ l) printed in
       record {
         members = ms;
         was = was ms here;
@@ -64,19 +67,19 @@ module _ (db : Database) (path : List PathElement) (name : List ℕ) (fields : L
         shown = shown.0;
         shows = shown.1;
         added = added;
-        becomes = becomes ms shown.0 here added;
+        becomes = becomes ms shown.0 here added (ap tokens (sym printed) ∙ made.3 ∙ is);
       }
 
 -- ---- of the text itself
 
 text_longer : (name text : List ℕ) (goes_on : Bool) (extra : List ℕ) (behind : ℕ) (ms shown : Members) → IsObject text goes_on ms behind
-    → extra ≡ comma_behind (is_empty ms) ++ print (key name ∷ json_tokens (object shown)) → HasNumbers (object shown) → depth (object shown) < max_depth
+    → extra ≡ comma_behind (is_empty ms) ++ print (key name ∷ json_tokens (object shown)) → tokens (print (key name ∷ json_tokens (object shown))) ≡ key name ∷ json_tokens (object shown) → depth (object shown) < max_depth
     → document (put_in text extra behind) ≡ Some (object (and_last ms name (object shown)))
-text_longer name text goes_on extra behind ms shown of added numbers shallow =
+text_longer name text goes_on extra behind ms shown of added read shallow =
     let n = length text - behind in
     let b = last_brace text behind of.ends in
     ap (λ l. document (take n text ++ (l ++ drop n text))) added
-    ∙ object_longer (take n text) (drop n text) (drop n text) ms name (object shown) b b (ap document (take-append-drop n text) ∙ of.value) numbers shallow
+    ∙ object_longer (take n text) (drop n text) (drop n text) ms name (object shown) b b (ap document (take-append-drop n text) ∙ of.value) read shallow
 
 pub longer_text : LongerTextIsJson
 longer_text db path name fields text goes_on extra behind =
@@ -150,11 +153,11 @@ module _ (name row extra : List ℕ) (behind : ℕ) (ms : Members) (of : IsObjec
       let c = cut row behind of.whole in
       ap document (sym (take-append-drop (text_length row - behind) row) ∙ (λ i. sym c.front i ++ sym c.back i)) ∙ object_again front back whole_back ms brace whole_brace seen_was
 
-  row_longer : (shown : Members) → extra ≡ comma_behind (is_empty ms) ++ print (key name ∷ json_tokens (object shown)) → HasNumbers (object shown) → depth (object shown) < max_depth
+  row_longer : (shown : Members) → extra ≡ comma_behind (is_empty ms) ++ print (key name ∷ json_tokens (object shown)) → tokens (print (key name ∷ json_tokens (object shown))) ≡ key name ∷ json_tokens (object shown) → depth (object shown) < max_depth
       → document (row_with row extra behind) ≡ Some (object (and_last ms name (object shown)))
-  row_longer shown added numbers shallow =
+  row_longer shown added read shallow =
       let c = cut row behind of.whole in
-      ap document (λ i. sym c.front i ++ (added i ++ sym c.back i)) ∙ object_longer front back whole_back ms name (object shown) brace whole_brace seen_was numbers shallow
+      ap document (λ i. sym c.front i ++ (added i ++ sym c.back i)) ∙ object_longer front back whole_back ms name (object shown) brace whole_brace seen_was read shallow
 
 pub longer_row : LongerRowIsJson
 longer_row db path name fields row extra behind =

@@ -7,10 +7,8 @@ use Rattle.json.specs.Token.{Token, key, begin_object, end_object}
 use Rattle.json.specs.Word.{is_space, ends_word}
 use Rattle.json.specs.Lex.{Lexeme, token, comma, lex, between, tokens}
 use Rattle.json.specs.Json.{Json, object, Members, no_members, member, max_depth, document}
-use Rattle.json.specs.Print.{print, ArePrintable}
-use Rattle.json.specs.Tree.{json_tokens, depth, members_depth, HasNumbers}
-use Rattle.json.proofs.Printed.Tokens.{tokens-print}
-use Rattle.json.proofs.Printed.Trees.{ArePrintable-json_tokens}
+use Rattle.json.specs.Print.{print}
+use Rattle.json.specs.Tree.{json_tokens, depth, members_depth}
 use Rattle.json.proofs.Unique.Spelling.{tokens-document}
 use Rattle.mmdb_json.proofs.ReadingBack.{reads_back}
 use Rattle.mmdb_enrich.specs.Longer.{and_last}
@@ -118,10 +116,6 @@ lex_longer a text z (member k j ms) name value b opened added =
     opened (44 ∷ (text ++ z)) refl ∙ ap (λ l. lexemes_of false ts ++ (comma ∷ l)) (added z (ends_brace z b) ∙ closed_by (key name ∷ json_tokens value) z b)
     ∙ sym (lexemes_of-append false ts us ∙ ap (λ c. lexemes_of false ts ++ lexemes_of c us) (ended_member k j ms false))
 
-printable : (name : List ℕ) (value : Json) → HasNumbers value → ArePrintable (key name ∷ json_tokens value)
-unfolding ArePrintable
-printable name value h = (tt, ArePrintable-json_tokens value h)
-
 -- ---- and what it is
 
 -- the same object before any end that is a brace
@@ -132,14 +126,15 @@ object_again a r z ms b c was =
     object_before a r ms b (tokens-document (a ++ r) (object ms) was) z (ends_brace z c) ∙ closed_by ts z c ∙ ap (λ l. lexemes_of false (begin_object ∷ l)) (sym (inner-closed ms)) in
     reads_back (object ms) (a ++ z) (tokens_from_lexemes (a ++ z) (json_tokens (object ms)) (not_bad (object ms)) same) (depth_read (a ++ r) (object ms) was)
 
-pub object_longer : (a r z : List ℕ) (ms : Members) (name : List ℕ) (value : Json) → Brace r → Brace z → document (a ++ r) ≡ Some (object ms) → HasNumbers value → depth value < max_depth
+pub object_longer : (a r z : List ℕ) (ms : Members) (name : List ℕ) (value : Json) → Brace r → Brace z → document (a ++ r) ≡ Some (object ms)
+    → tokens (print (key name ∷ json_tokens value)) ≡ key name ∷ json_tokens value → depth value < max_depth
     → document (a ++ ((comma_behind (is_empty ms) ++ print (key name ∷ json_tokens value)) ++ z)) ≡ Some (object (and_last ms name value))
-object_longer a r z ms name value b c was numbers shallow =
+object_longer a r z ms name value b c was back shallow =
     let j = object (and_last ms name value) in
     let ts = key name ∷ json_tokens value in
     let longer = a ++ ((comma_behind (is_empty ms) ++ print ts) ++ z) in
     let opened = object_before a r ms b (tokens-document (a ++ r) (object ms) was) in
-    let added = text_before (print ts) ts (tt, not_bad value) (tokens-print ts (printable name value numbers)) in
+    let added = text_before (print ts) ts (tt, not_bad value) back in
     let same : lex between longer ≡ lexemes_of false (json_tokens j) =
     lex_longer a (print ts) z ms name value c opened added ∙ ap (λ l. lexemes_of false (begin_object ∷ l)) (sym (and_last-tokens ms name value)) in
     let deep : depth (object ms) ≤ max_depth = depth_read (a ++ r) (object ms) was in

@@ -4,7 +4,7 @@ use Rattle.std.specs.declared.net.ip_addr.IpAddr.{IpAddr}
 use Rattle.json.specs.Json.{Json, object, Members, no_members, member, max_depth, document}
 use Rattle.json.specs.Print.{print}
 use Rattle.json.specs.Token.{key}
-use Rattle.json.specs.Tree.{json_tokens, depth, HasNumbers}
+use Rattle.json.specs.Tree.{json_tokens, depth}
 use Rattle.mmdb_reader.specs.File.{Database, data_section}
 use Rattle.mmdb_reader.specs.Lookup.{Answers, outcome_at}
 use Rattle.mmdb_reader.specs.declared.path.PathElement.{PathElement}
@@ -33,7 +33,7 @@ AreShown (field ∷ fields) s offset shown =
 
 -- A line is an object, in which the path leads to an address. What is added is the text of a member, whose value is
 -- an object of the fields of that address's record. The longer line is the object with that member behind its own,
--- where each number of the value is one of JSON, and the value nests less deep than a reader goes.
+-- where the value nests less deep than a reader goes.
 pub record GainsMember (db : Database) (path : List PathElement) (name : List ℕ) (fields : List Field)
     (line extra longer : List ℕ) : Type 0 where
   pub members : Members
@@ -46,8 +46,7 @@ pub record GainsMember (db : Database) (path : List PathElement) (name : List �
   pub shown : Members
   pub shows : AreShown fields (data_section db) offset shown
   pub added : extra ≡ comma_behind (is_empty members) ++ print (key name ∷ json_tokens (object shown))
-  pub becomes : HasNumbers (object shown) → depth (object shown) < max_depth
-      → document longer ≡ Some (object (and_last members name (object shown)))
+  pub becomes : depth (object shown) < max_depth → document longer ≡ Some (object (and_last members name (object shown)))
 
 -- Where a member is added to a text, the text gains it.
 abbrev pub LongerTextIsJson : Type 0
