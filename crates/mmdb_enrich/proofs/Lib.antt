@@ -4,3 +4,10 @@ pub mod ColumnLaws
 pub mod AddedLaws
 pub mod MemberLaws
 pub mod ObjectLaws
+pub mod WordLaws
+pub mod StringLaws
+pub mod FrontLaws
+pub mod PlaceLaws
+pub mod ObjectTokens
+pub mod LongerLaws
+pub mod GainLaws

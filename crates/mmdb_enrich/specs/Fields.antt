@@ -1,5 +1,6 @@
 -- The member of an object that the fields of a record make.
 use Rattle.std.specs.Prelude.{◌≡◌, ◌⊎◌, ℕ, List, [], ◌∷◌, ◌++◌, Some, None, Bool}
+use Rattle.json.specs.Lex.{tokens as tokens_read}
 use Rattle.json.specs.Print.{print}
 use Rattle.json.specs.Token.{Token, key, begin_object, end_object}
 use Rattle.mmdb_reader.specs.File.{Database, data_section}
@@ -27,10 +28,11 @@ HasUnreadField (field ∷ fields) s offset = (read_at field.path.items s offset 
 abbrev pub member_tokens : List ℕ → List Token → List Token
 member_tokens name tokens = key name ∷ (begin_object ∷ (tokens ++ end_object ∷ []))
 
--- the text of a member with the fields of a record: its name, and an object
+-- the text of a member with the fields of a record: its name, and an object; a reader gets their tokens back
 abbrev pub IsMember : Database → List ℕ → List Field → ℕ → List ℕ → Type 0
 IsMember db name fields offset text =
     (tokens : List Token) × AreFields fields (data_section db) offset tokens × (text ≡ print (member_tokens name tokens))
+    × (tokens_read text ≡ member_tokens name tokens)
 
 -- tokens grow by the fields of the record at an offset
 abbrev pub PutsFields : List Field → List ℕ → ℕ → List Token → List Token → Type 0

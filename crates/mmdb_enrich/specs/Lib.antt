@@ -8,3 +8,4 @@ pub mod Wanted
 pub mod KeptCells
 pub mod Kept
 pub mod Rows
+pub mod Longer

@@ -7,6 +7,7 @@ mod columns;
 mod enrichment;
 mod json_enrichment;
 mod kept_cells;
+pub mod laws;
 mod members;
 mod objects;
 mod quotes;

@@ -1,0 +1,63 @@
+-- A line that gains a member: it is JSON again, the object that it was with one member more.
+use Rattle.std.specs.Prelude.{◌≡◌, ◌<◌, ◌-◌, ℕ, List, [], ◌∷◌, ◌++◌, Some, Bool, length, take, drop}
+use Rattle.std.specs.declared.net.ip_addr.IpAddr.{IpAddr}
+use Rattle.json.specs.Json.{Json, object, Members, no_members, member, max_depth, document}
+use Rattle.json.specs.Print.{print}
+use Rattle.json.specs.Token.{key}
+use Rattle.json.specs.Tree.{json_tokens, depth}
+use Rattle.mmdb_reader.specs.File.{Database, data_section}
+use Rattle.mmdb_reader.specs.Lookup.{Answers, outcome_at}
+use Rattle.mmdb_reader.specs.declared.path.PathElement.{PathElement}
+use Rattle.mmdb_filter.specs.Lines.{seen_of, is_long, row_with}
+use Rattle.mmdb_filter.specs.declared.counts.Outcome.TheVariants.{Found}
+use Rattle.mmdb_enrich.specs.Fields.{AreValue}
+use Rattle.mmdb_enrich.specs.Members.{comma_behind, AddsMember}
+use Rattle.mmdb_enrich.specs.Objects.{LeadsToAddress, is_empty}
+use Rattle.mmdb_enrich.specs.declared.members.Field.{Field}
+
+-- a text with bytes put in before so many of its last ones
+abbrev pub put_in : List ℕ → List ℕ → ℕ → List ℕ
+put_in text extra behind = take (length text - behind) text ++ (extra ++ drop (length text - behind) text)
+
+-- members, and behind them one more
+abbrev pub and_last : Members → List ℕ → Json → Members
+and_last no_members name value = member name value no_members
+and_last (member k j rest) name value = member k j (and_last rest name value)
+
+-- for each field a member of its name: JSON that shows what stands along its path, or `null` where nothing does
+abbrev pub AreShown : List Field → List ℕ → ℕ → Members → Type 0
+AreShown [] s offset shown = shown ≡ no_members
+AreShown (field ∷ fields) s offset shown =
+    (j : Json) × (rest : Members) × (shown ≡ member field.name.now j rest) × AreValue field.path.items s offset (json_tokens j)
+    × AreShown fields s offset rest
+
+-- A line is an object, in which the path leads to an address. What is added is the text of a member, whose value is
+-- an object of the fields of that address's record. The longer line is the object with that member behind its own,
+-- where the value nests less deep than a reader goes.
+pub record GainsMember (db : Database) (path : List PathElement) (name : List ℕ) (fields : List Field)
+    (line extra longer : List ℕ) : Type 0 where
+  pub members : Members
+  pub was : document line ≡ Some (object members)
+  pub address : IpAddr
+  pub leads : LeadsToAddress path members address
+  pub leaf : List Bool
+  pub offset : ℕ
+  pub answers : Answers db address leaf (outcome_at (Some offset))
+  pub shown : Members
+  pub shows : AreShown fields (data_section db) offset shown
+  pub added : extra ≡ comma_behind (is_empty members) ++ print (key name ∷ json_tokens (object shown))
+  pub becomes : depth (object shown) < max_depth → document longer ≡ Some (object (and_last members name (object shown)))
+
+-- Where a member is added to a text, the text gains it.
+abbrev pub LongerTextIsJson : Type 0
+LongerTextIsJson =
+    (db : Database) (path : List PathElement) (name : List ℕ) (fields : List Field) (text : List ℕ) (goes_on : Bool)
+    (extra : List ℕ) (behind : ℕ) → AddsMember db path name fields text goes_on extra behind Found
+    → GainsMember db path name fields text extra (put_in text extra behind)
+
+-- The same of a row with its end, as a filter writes it.
+abbrev pub LongerRowIsJson : Type 0
+LongerRowIsJson =
+    (db : Database) (path : List PathElement) (name : List ℕ) (fields : List Field) (row extra : List ℕ) (behind : ℕ)
+    → AddsMember db path name fields (seen_of row) (is_long row) extra behind Found
+    → GainsMember db path name fields row extra (row_with row extra behind)
