@@ -10,7 +10,7 @@ use std::alloc::{AllocError, Global};
 use std::convert::AsSlice;
 
 /// How many answers are kept.
-const PLACES: usize = 1 << 16;
+const PLACES: usize = 1 << 18;
 
 // Whether the record at an offset is chosen.
 #[derive(Clone, Copy)]
@@ -36,6 +36,12 @@ impl Answer {
     {
         offset.is_some() && self.offset == offset
     }
+}
+
+// The place at which the answer for the record at an offset is kept.
+#[inline(always)]
+fn place_of(offset: Option<usize>) -> usize {
+    offset.unwrap_or(0) % PLACES
 }
 
 // No answers.
@@ -87,7 +93,17 @@ impl<'a> Choice<'a> {
         Ok(true)
     }
 
+    /// What was answered for a network with the same record, where that is kept.
+    #[inline(always)]
+    pub fn kept<S: AsSlice<u8> + Drop>(&self, found: &LookupResult<'_, S>) -> Option<bool>
+        ensures { IsOf self.now found.now → IfSome result (SaysChosen self.now found.now) }
+    {
+        let offset = found.offset();
+        self.kept_at(place_of(offset), offset)
+    }
+
     // The answer that is kept for an offset.
+    #[inline(always)]
     fn kept_at(&self, place: usize, offset: Option<usize>) -> Option<bool>
         ensures { IfSome result (SaysKept self.now offset) }
     {
@@ -147,11 +163,9 @@ impl<'a> Choice<'a> {
         if self.conditions.is_empty() {
             return Ok(true);
         }
-        let offset = found.offset();
-        let place = offset.unwrap_or(0) % PLACES;
-        match self.kept_at(place, offset) {
+        match self.kept(found) {
             Some(is_chosen) => Ok(is_chosen),
-            None => self.answer(place, found),
+            None => self.answer(place_of(found.offset()), found),
         }
     }
 }

@@ -43,15 +43,15 @@ pub struct List<'a> {
     has_written: bool,
 }
 
-// Writes a text.
-fn put<O: Write>(text: &str, out: &mut O) -> Result<(), ListError> {
+/// Writes a text.
+pub(crate) fn put<O: Write>(text: &str, out: &mut O) -> Result<(), ListError> {
     match out.write_all(text.as_bytes()) {
         Ok(()) => Ok(()),
         Err(error) => Err(ListError::Write(error)),
     }
 }
 
-// The upper half of a block that has all addresses of a kind.
+// The lower and the upper half of a block that has all addresses of a kind.
 fn halves_of(block: Block) -> [Block; 2] {
     let prefix = block.prefix.saturating_add(1);
     [
@@ -107,8 +107,7 @@ impl<'a> List<'a> {
         let text = network.to_string(self.alloc)?;
         let is_first = !self.has_written;
         self.has_written = true;
-        let line = self.syntax.line(self.alloc, kind, is_first, text.as_str())?;
-        put(line.as_str(), out)
+        self.syntax.put_network(kind, is_first, text.as_str(), out)
     }
 
     // Writes a block, or its halves where it has all addresses and those may not be written as one.

@@ -1,6 +1,8 @@
 //! How a list of networks is written.
 use crate::kind::{Kind, Kinds};
+use crate::list::{ListError, put};
 use std::alloc::{AllocError, Global};
+use std::io::Write;
 
 /// The most bytes of a set's name: ipset takes 31, and the kind's name stands behind it.
 const MOST_NAME: usize = 26;
@@ -35,6 +37,14 @@ fn suffix(kind: Kind) -> &'static str {
         Kind::Ipv4 => "ipv4",
         Kind::Ipv6 => "ipv6",
     }
+}
+
+// Writes texts one behind another.
+fn put_all<O: Write>(texts: &[&str], out: &mut O) -> Result<(), ListError> {
+    for text in texts {
+        put(text, out)?;
+    }
+    Ok(())
 }
 
 // The lines that make a set for nft, if it is not there, and empty it.
@@ -112,21 +122,23 @@ impl Syntax<'_> {
         }
     }
 
-    /// A network of a kind, the first of its kind or another one.
-    pub(crate) fn line(
+    /// Writes a network of a kind, the first of its kind or another one.
+    pub(crate) fn put_network<O: Write>(
         &self,
-        alloc: Global,
         kind: Kind,
         is_first: bool,
         network: &str,
-    ) -> Result<String, AllocError> {
+        out: &mut O,
+    ) -> Result<(), ListError> {
         match self {
-            Syntax::Cidr => format!(in alloc; "{network}\n"),
-            Syntax::Nft { .. } if is_first => String::from_str(alloc, network),
-            Syntax::Nft { .. } => format!(in alloc; ",\n{network}"),
+            Syntax::Cidr => put_all(&[network, "\n"], out),
+            Syntax::Nft { .. } if is_first => put(network, out),
+            Syntax::Nft { .. } => put_all(&[",\n", network], out),
             Syntax::Ipset { name } => {
-                let set = suffix(kind);
-                format!(in alloc; "add {name}_{set} {network}\n")
+                put("add ", out)?;
+                put(*name, out)?;
+                put_all(&["_", suffix(kind), " "], out)?;
+                put_all(&[network, "\n"], out)
             }
         }
     }

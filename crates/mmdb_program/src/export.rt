@@ -188,25 +188,33 @@ impl Writing<'_> {
 
 /// An export of the chosen networks.
 #[derive(Drop)]
-pub(crate) struct Export<'a> {
+pub(crate) struct Export<'a, 'r> {
     choice: Choice<'a>,
     kinds: Kinds,
     writing: Writing<'a>,
-    /// Where a network comes that is not named.
-    next: Where,
+    /// What was found in the last network, chosen or not.
+    last: Option<Found<'r>>,
     /// How many networks could not be written.
     pub(crate) faults: u64,
 }
 
-impl<'a> Export<'a> {
+impl<'a, 'r> Export<'a, 'r> {
     /// Of no network yet.
-    pub(crate) fn new(choice: Choice<'a>, kinds: Kinds, writing: Writing<'a>) -> Export<'a> {
+    pub(crate) fn new(choice: Choice<'a>, kinds: Kinds, writing: Writing<'a>) -> Export<'a, 'r> {
         Export {
             choice,
             kinds,
             writing,
-            next: Where::First,
+            last: None,
             faults: 0,
+        }
+    }
+
+    // Where a network comes that is not named.
+    fn next(&self) -> Result<Where, MaxMindDbError> {
+        match &self.last {
+            Some(found) => Ok(Where::Behind(found.network()?)),
+            None => Ok(Where::First),
         }
     }
 
@@ -234,14 +242,24 @@ impl<'a> Export<'a> {
         self.writing.write(found, network, out)
     }
 
+    // Reports a network that is not named and can't be read.
+    #[inline(never)]
+    fn report_next<O: Write, E: Write>(
+        &mut self,
+        error: &MaxMindDbError,
+        console: &mut Console<'_, O, E>,
+    ) -> Result<(), ProgramError> {
+        self.report(self.next()?, error, console)
+    }
+
     // Writes the network of an answer, if it is chosen, or reports why it can't be.
+    #[inline(never)]
     fn write_found<O: Write, E: Write>(
         &mut self,
         found: &Found<'_>,
         console: &mut Console<'_, O, E>,
     ) -> Result<(), ProgramError> {
         let network = found.network()?;
-        self.next = Where::Behind(network);
         match self.write_chosen(found, network, console.out) {
             Err(ProgramError::Database(MaxMindDbError::Memory)) => Err(ProgramError::Memory),
             Err(ProgramError::Database(error)) => {
@@ -257,12 +275,18 @@ impl<'a> Export<'a> {
     /// Writes an item of a list of networks, if it is chosen, or reports why it can't be.
     pub(crate) fn write<O: Write, E: Write>(
         &mut self,
-        item: &Result<Found<'_>, MaxMindDbError>,
+        item: &Result<Found<'r>, MaxMindDbError>,
         console: &mut Console<'_, O, E>,
     ) -> Result<(), ProgramError> {
         match item {
-            Ok(found) => self.write_found(found, console),
-            Err(error) => self.report(self.next, error, console),
+            Ok(found) => {
+                self.last = Some(*found);
+                if self.choice.kept(found) == Some(false) {
+                    return Ok(());
+                }
+                self.write_found(found, console)
+            }
+            Err(error) => self.report_next(error, console),
         }
     }
 

@@ -35,9 +35,9 @@ fn report_faults<O: Write, E: Write>(
 }
 
 // Writes the chosen networks, and what stands behind them.
-fn export_all<O: Write, E: Write>(
-    networks: Networks<'_>,
-    export: &mut Export<'_>,
+fn export_all<'r, O: Write, E: Write>(
+    networks: Networks<'r>,
+    export: &mut Export<'_, 'r>,
     console: &mut Console<'_, O, E>,
 ) -> Result<(), ProgramError> {
     for item in networks {
@@ -72,11 +72,11 @@ fn begin_list<'a, O: Write>(
 }
 
 // Begins what is written.
-fn begin<'a, O: Write>(
+fn begin<'a, 'r, O: Write>(
     alloc: Global,
     task: &'a ExportTask<'a>,
     out: &mut O,
-) -> Result<Export<'a>, ProgramError> {
+) -> Result<Export<'a, 'r>, ProgramError> {
     let choice = Choice::new(alloc, task.conditions.as_slice())?;
     let writing = match &task.shape {
         Shape::Rows(layout) => begin_rows(alloc, layout, out),
