@@ -20,7 +20,7 @@ struct subject {
     size_t count, fewer; /* decoding takes longer than a lookup */
     struct sockaddr_in *ipv4;
     struct sockaddr_in6 *ipv6;
-    unsigned char *met; /* the offsets that a walk came to */
+    unsigned char *met; /* what is known of each offset that a walk came to */
     uint32_t *offsets;
     size_t offset_count;
 };
@@ -183,6 +183,23 @@ static void note(struct subject *subject, uint32_t offset) {
     subject->offsets[subject->offset_count++] = offset;
 }
 
+/* Whether the record at an offset has the code of the United States. It is read once a record. */
+static int is_american(struct subject *subject, uint32_t offset) {
+    static const char *const path[] = {"country", "iso_code", NULL};
+    enum { UNKNOWN, AMERICAN, OTHER };
+    if (subject->met[offset] == UNKNOWN) {
+        MMDB_entry_s entry = {&subject->database, offset};
+        MMDB_entry_data_s data;
+        int found = MMDB_aget_value(&entry, &data, path) == MMDB_SUCCESS && data.has_data;
+        found = found && data.data_size == 2 && memcmp(data.utf8_string, "US", 2) == 0;
+        subject->met[offset] = found ? AMERICAN : OTHER;
+    }
+    return subject->met[offset] == AMERICAN;
+}
+
+/* What is done with an offset that a walk comes to. */
+enum use { COUNT, NOTE, COUNT_AMERICAN };
+
 /* A subtree that is still to be walked. */
 struct position {
     uint64_t record;
@@ -190,8 +207,8 @@ struct position {
     int prefix;
 };
 
-/* How many networks have data, the other ways into the IPv4 networks passed by. */
-static uint64_t walk(struct subject *subject, int notes) {
+/* How many networks have data, or are of the United States, the other ways into the IPv4 networks passed by. */
+static uint64_t walk(struct subject *subject, enum use use) {
     MMDB_s *database = &subject->database;
     struct position stack[300];
     int depth = 0, bits = database->metadata.ip_version == 6 ? 128 : 32;
@@ -203,8 +220,9 @@ static uint64_t walk(struct subject *subject, int notes) {
         if (bits == 128 && start != 0 && at.record == start && at.address >> 32 != 0) continue;
         if (at.record == nodes) continue;
         if (at.record > nodes) {
-            sum++;
-            if (notes) note(subject, (uint32_t)(at.record - nodes - 16));
+            uint32_t offset = (uint32_t)(at.record - nodes - 16);
+            if (use == NOTE) note(subject, offset);
+            sum += use != COUNT_AMERICAN || is_american(subject, offset);
             continue;
         }
         MMDB_search_node_s halves;
@@ -217,13 +235,18 @@ static uint64_t walk(struct subject *subject, int notes) {
     return sum;
 }
 
-static uint64_t networks_walk(struct subject *subject) { return walk(subject, 0); }
+static uint64_t networks_walk(struct subject *subject) { return walk(subject, COUNT); }
+
+static uint64_t networks_walk_country(struct subject *subject) {
+    memset(subject->met, 0, subject->database.data_section_size + 1);
+    return walk(subject, COUNT_AMERICAN);
+}
 
 static uint64_t check(struct subject *subject) {
     uint64_t sum = 0;
     memset(subject->met, 0, subject->database.data_section_size + 1);
     subject->offset_count = 0;
-    walk(subject, 1);
+    walk(subject, NOTE);
     for (size_t i = 0; i < subject->offset_count; i++) {
         MMDB_entry_s entry = {&subject->database, subject->offsets[i]};
         MMDB_entry_data_list_s *list = NULL;
@@ -291,6 +314,7 @@ int main(int argc, char **argv) {
     show("lookup_nine_paths", subject.fewer, repeats, lookup_nine_paths, &subject);
     show("lookup_decode_value", subject.fewer, repeats, decode_value, &subject);
     show("networks_walk", 0, repeats, networks_walk, &subject);
+    show("networks_walk_country", 0, repeats, networks_walk_country, &subject);
     show("check", 0, repeats, check, &subject);
     return 0;
 }

@@ -201,6 +201,24 @@ fn walk_networks(reader: &Reader<Vec<u8>>) -> Answer {
     Ok(sum)
 }
 
+/// How many networks are of the United States. The code is read once a record.
+fn walk_country(reader: &Reader<Vec<u8>>, file_len: usize) -> Answer {
+    let path = path!["country", "iso_code"];
+    let mut known = vec![None; file_len];
+    let mut sum = 0;
+    for item in reader.networks(WithinOptions::default())? {
+        let found = item?;
+        let Some(offset) = found.offset() else { continue };
+        let answer = match known[offset] {
+            Some(answer) => answer,
+            None => found.decode_path::<&str>(&path)? == Some("US"),
+        };
+        known[offset] = Some(answer);
+        sum += u64::from(answer);
+    }
+    Ok(sum)
+}
+
 /// Runs the work so many times, and prints the best and the median: a rate where it looks `lookups`
 /// addresses up, else milliseconds.
 fn show(name: &str, lookups: Option<usize>, repeats: usize, mut work: impl FnMut() -> Answer) {
@@ -257,6 +275,9 @@ fn bench(file: &str, count: usize, repeats: usize) -> Result<(), MaxMindDbError>
     show("networks_walk_empty", None, repeats, || walk(&reader, empty()));
     let filled = || options().skip_empty_values();
     show("networks_walk_skip_empty_values", None, repeats, || walk(&reader, filled()));
+    if kind.contains("City") || kind.contains("Country") {
+        show("networks_walk_country", None, repeats, || walk_country(&reader, bytes.len()));
+    }
     show("verify", None, repeats, || reader.verify().map(|()| 1));
     Ok(())
 }

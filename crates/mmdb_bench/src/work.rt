@@ -25,12 +25,13 @@ pub(crate) enum Work {
     WalkNetwork,
     WalkEmpty,
     WalkSkipEmptyValues,
+    WalkCountry,
     Verify,
 }
 
 impl Work {
     /// All pieces of work, in the order in which they are done.
-    pub(crate) const ALL: [Work; 16] = [
+    pub(crate) const ALL: [Work; 17] = [
         Work::LoadFile,
         Work::LoadFromMemory,
         Work::LookupIpv4,
@@ -46,6 +47,7 @@ impl Work {
         Work::WalkNetwork,
         Work::WalkEmpty,
         Work::WalkSkipEmptyValues,
+        Work::WalkCountry,
         Work::Verify,
     ];
 
@@ -67,6 +69,7 @@ impl Work {
             Work::WalkNetwork => "networks_walk_network",
             Work::WalkEmpty => "networks_walk_empty",
             Work::WalkSkipEmptyValues => "networks_walk_skip_empty_values",
+            Work::WalkCountry => "networks_walk_country",
             Work::Verify => "verify",
         }
     }
@@ -75,7 +78,9 @@ impl Work {
     pub(crate) fn suits(self, subject: &Subject<'_>) -> bool {
         match self {
             Work::LookupIpv6 | Work::LookupIpv6Many => !subject.ipv6.is_empty(),
-            Work::DecodeCity | Work::DecodeCountry | Work::PathIsoCode => subject.has_places(),
+            Work::DecodeCity | Work::DecodeCountry | Work::PathIsoCode | Work::WalkCountry => {
+                subject.has_places()
+            }
             _ => true,
         }
     }
@@ -119,6 +124,7 @@ impl Work {
             Work::WalkNetwork => walk_networks(alloc, reader, options),
             Work::WalkEmpty => walk(alloc, reader, options.include_networks_without_data()),
             Work::WalkSkipEmptyValues => walk(alloc, reader, options.skip_empty_values()),
+            Work::WalkCountry => walk_country(alloc, subject),
             Work::Verify => reader.verify(alloc).map(|()| 1),
         }
     }
@@ -277,6 +283,42 @@ fn walk_networks(
     let mut sum = 0u64;
     for item in reader.networks(alloc, options)? {
         sum = sum.wrapping_add(prefix_term(&item?)?);
+    }
+    Ok(sum)
+}
+
+// What is known of a record.
+const UNKNOWN: u8 = 0;
+
+const AMERICAN: u8 = 1;
+
+const OTHER: u8 = 2;
+
+// Whether the record at an offset has the code of the United States, by what is known of each offset.
+fn is_american(
+    alloc: Global,
+    found: &LookupResult<'_, Vec<u8>>,
+    known: &mut [u8],
+) -> Result<bool, MaxMindDbError> {
+    let Some(kept) = known.get_mut(found.offset().unwrap_or(0)) else {
+        return Ok(false);
+    };
+    if *kept == UNKNOWN {
+        let code: Option<&str> = found.decode_path(alloc, &path!["country", "iso_code"])?;
+        *kept = if code == Some("US") { AMERICAN } else { OTHER };
+    }
+    Ok(*kept == AMERICAN)
+}
+
+// How many networks are of the United States. The code is read once a record.
+fn walk_country(alloc: Global, subject: &Subject<'_>) -> Result<u64, MaxMindDbError> {
+    let mut known = Vec::new(alloc);
+    known.resize(subject.bytes.len(), UNKNOWN)?;
+    let mut sum = 0u64;
+    for item in subject.reader.networks(alloc, WithinOptions::default())? {
+        if is_american(alloc, &item?, known.as_mut_slice())? {
+            sum = sum.wrapping_add(1);
+        }
     }
     Ok(sum)
 }
