@@ -3,8 +3,7 @@ ghost use Rattle.std.specs.Prelude.{◌≡◌, ◌++◌, ℕ, Option, Some, IfOk
 ghost use Rattle.mmdb_filter.specs.declared.rows.Rows.TheVariants.{Lines, Csv};
 ghost use Rattle.mmdb_format.specs.Unfolding.{Tree};
 ghost use Rattle.mmdb_value.specs.Values.{value_tree};
-ghost use Rattle.mmdb_reader.specs.Found.{offset_found};
-ghost use Rattle.mmdb_json.specs.Found.{section_asked};
+ghost use Rattle.mmdb_reader.specs.Found.{section_asked, offset_found};
 ghost use Rattle.mmdb_enrich.specs.Cells.{is_plain as spec_is_plain, PutsShown, PutsCell, PutsCellAlong, PutsCells, IsReadAs, blanks, are_read};
 
 use crate::columns::delimiter_of;

@@ -1,6 +1,5 @@
 -- The JSON of what a lookup found: of the part of its record that a path names.
 use Rattle.std.specs.Prelude.{◌≡◌, ℕ, List, [], ◌∷◌, ◌++◌, Option, Some, None, Bool, true, false}
-use Rattle.std.specs.declared.convert.AsSlice.{Ghosts}
 use Rattle.json.specs.Token.{Token}
 use Rattle.json.specs.Token as token
 use Rattle.mmdb_format.specs.Error.{MemoryApart}
@@ -9,18 +8,11 @@ use Rattle.mmdb_format.specs.Unfolding.{Tree, Unfolds}
 use Rattle.mmdb_decode.specs.Reading.{Reading}
 use Rattle.mmdb_value.specs.AnyValue.{value_at}
 use Rattle.mmdb_reader.specs.Decoding.{FailsToDecode}
-use Rattle.mmdb_reader.specs.File.{data_section}
-use Rattle.mmdb_reader.specs.Found.{database_asked}
 use Rattle.mmdb_reader.specs.Parts.{part_of}
 use Rattle.mmdb_reader.specs.Selecting.{selected, answer_along, HasNone}
-use Rattle.mmdb_reader.specs.declared.lookup_result.LookupResult.{LookupResult}
 use Rattle.mmdb_reader.specs.declared.path.PathElement.{PathElement}
 use Rattle.mmdb_json.specs.Shown.{WritesShown}
 use Rattle.mmdb_json.specs.Texts.{IsCompact}
-
--- the data section of the database that was asked
-abbrev pub section_asked : {S : Type 0} {G : Ghosts S ℕ} → LookupResult S G → List ℕ
-section_asked found = data_section (database_asked found)
 
 -- The path leads from the offset to a place, at which this tree unfolds; it is the part that the path names of
 -- whatever tree unfolds at the offset. With no step the place is the offset.

@@ -1,8 +1,8 @@
 //! The JSON of what a lookup found.
 ghost use Rattle.std.specs.Prelude.{◌≡◌, true, false, IfOk, IfErr, IfSome, IfNone};
-ghost use Rattle.mmdb_reader.specs.Found.{offset_found};
+ghost use Rattle.mmdb_reader.specs.Found.{section_asked, offset_found};
 ghost use Rattle.mmdb_reader.specs.Selecting.{HasNone};
-ghost use Rattle.mmdb_json.specs.Found.{section_asked, IsJsonAlong, WritesAlong, FailsAlong};
+ghost use Rattle.mmdb_json.specs.Found.{IsJsonAlong, WritesAlong, FailsAlong};
 
 use crate::sink::TokenSink;
 use crate::text::compact;

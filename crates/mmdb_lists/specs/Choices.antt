@@ -2,20 +2,20 @@
 use Rattle.std.specs.Prelude.{◌≡◌, ℕ, List, Option, Some, None, Bool}
 use Rattle.std.specs.List.{All}
 use Rattle.std.specs.declared.convert.AsSlice.{Ghosts}
-use Rattle.mmdb_reader.specs.Found.{offset_found}
+use Rattle.mmdb_reader.specs.Found.{section_asked, offset_found}
 use Rattle.mmdb_reader.specs.declared.lookup_result.LookupResult.{LookupResult}
-use Rattle.mmdb_lists.specs.Conditions.{SaysAllMetAt, HasUnreadAt, section_of}
+use Rattle.mmdb_lists.specs.Conditions.{SaysAllMetAt, HasUnreadAt}
 use Rattle.mmdb_lists.specs.declared.choice.Answer.{Answer}
 use Rattle.mmdb_lists.specs.declared.choice.Choice.{Choice}
 use Rattle.mmdb_lists.specs.declared.condition.Condition.{Condition}
 
 -- a Bool says whether all conditions of a choice are met by the record that a lookup found
 abbrev pub SaysChosen : {S : Type 0} {G : Ghosts S ℕ} → Choice → LookupResult S G → Bool → Type 0
-SaysChosen choice found b = SaysAllMetAt choice.conditions.now (section_of found) (offset_found found) b
+SaysChosen choice found b = SaysAllMetAt choice.conditions.now (section_asked found) (offset_found found) b
 
 -- what one of its conditions is on can't be read in that record, and those before it are met
 abbrev pub HasUnread : {S : Type 0} {G : Ghosts S ℕ} → Choice → LookupResult S G → Type 0
-HasUnread choice found = HasUnreadAt choice.conditions.now (section_of found) (offset_found found)
+HasUnread choice found = HasUnreadAt choice.conditions.now (section_asked found) (offset_found found)
 
 -- an answer is of no record
 abbrev pub IsOfNone : Answer → Type 0
@@ -31,7 +31,7 @@ IsOfSection choice s = All (IsKept choice.conditions.now s) choice.kept.items
 
 -- all that it keeps is of records of the database that was asked
 abbrev pub IsOf : {S : Type 0} {G : Ghosts S ℕ} → Choice → LookupResult S G → Type 0
-IsOf choice found = IsOfSection choice (section_of found)
+IsOf choice found = IsOfSection choice (section_asked found)
 
 -- a Bool that is kept for an offset says whether all conditions are met by the record there
 abbrev pub SaysKept : Choice → Option ℕ → Bool → Type 0

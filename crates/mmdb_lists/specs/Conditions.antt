@@ -5,8 +5,7 @@ use Rattle.std.specs.declared.convert.AsSlice.{Ghosts}
 use Rattle.mmdb_format.specs.Contents.{text}
 use Rattle.mmdb_format.specs.Unfolding.{Tree, scalar, array, table}
 use Rattle.mmdb_value.specs.AnyValue.{value_at}
-use Rattle.mmdb_reader.specs.File.{data_section}
-use Rattle.mmdb_reader.specs.Found.{database_asked, offset_found}
+use Rattle.mmdb_reader.specs.Found.{section_asked, offset_found}
 use Rattle.mmdb_reader.specs.Selecting.{answer_along}
 use Rattle.mmdb_reader.specs.declared.lookup_result.LookupResult.{LookupResult}
 use Rattle.mmdb_reader.specs.declared.path.PathElement.{PathElement}
@@ -88,18 +87,14 @@ HasUnreadAt [] s offset = ⊥
 HasUnreadAt (condition ∷ conditions) s offset =
     IsUnreadAt condition.path.items s offset ⊎ (SaysMetAt condition s offset true × HasUnreadAt conditions s offset)
 
--- the data section of the database that was asked
-abbrev pub section_of : {S : Type 0} {G : Ghosts S ℕ} → LookupResult S G → List ℕ
-section_of found = data_section (database_asked found)
-
 -- a Bool says whether the value along a condition's path, in the record that a lookup found, is one of its texts
 abbrev pub SaysFound : {S : Type 0} {G : Ghosts S ℕ} → Condition → LookupResult S G → Bool → Type 0
-SaysFound condition found b = SaysFoundAt condition.path.items (texts_of condition) (section_of found) (offset_found found) b
+SaysFound condition found b = SaysFoundAt condition.path.items (texts_of condition) (section_asked found) (offset_found found) b
 
 -- a Bool says whether a condition is met by the record that a lookup found
 abbrev pub SaysMet : {S : Type 0} {G : Ghosts S ℕ} → Condition → LookupResult S G → Bool → Type 0
-SaysMet condition found b = SaysMetAt condition (section_of found) (offset_found found) b
+SaysMet condition found b = SaysMetAt condition (section_asked found) (offset_found found) b
 
 -- what a condition is on can't be read in the record that a lookup found
 abbrev pub IsUnread : {S : Type 0} {G : Ghosts S ℕ} → Condition → LookupResult S G → Type 0
-IsUnread condition found = IsUnreadAt condition.path.items (section_of found) (offset_found found)
+IsUnread condition found = IsUnreadAt condition.path.items (section_asked found) (offset_found found)

@@ -2,12 +2,16 @@
 use Rattle.std.specs.Prelude.{ℕ, Bool, List, Option, nat_eq}
 use Rattle.std.specs.declared.convert.AsSlice.{Ghosts}
 use Rattle.mmdb_reader.specs.declared.lookup_result.LookupResult.{LookupResult}
-use Rattle.mmdb_reader.specs.File.{Database}
+use Rattle.mmdb_reader.specs.File.{Database, data_section}
 use Rattle.mmdb_reader.specs.Numbered.{numbered_block}
 
 -- the database that was asked
 abbrev pub database_asked : {S : Type 0} {G : Ghosts S ℕ} → LookupResult S G → Database
 database_asked r = r.reader.now
+
+-- its data section
+abbrev pub section_asked : {S : Type 0} {G : Ghosts S ℕ} → LookupResult S G → List ℕ
+section_asked r = data_section (database_asked r)
 
 -- the leaf that the result is of
 abbrev pub leaf_of : {S : Type 0} {G : Ghosts S ℕ} → LookupResult S G → List Bool

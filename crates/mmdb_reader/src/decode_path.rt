@@ -2,8 +2,7 @@
 ghost use Rattle.std.specs.Prelude.{◌≡◌, ℕ, true, Some, IfOk, IfErr, IfSome, IfNone, OnErr, IsSome, is_some, option_map};
 ghost use Rattle.mmdb_decode.specs.State.{State, begin, decoded};
 ghost use Rattle.mmdb_decode.specs.Errors.{Fails, answer};
-ghost use Rattle.mmdb_reader.specs.File.{data_section};
-ghost use Rattle.mmdb_reader.specs.Found.{database_asked, offset_found};
+ghost use Rattle.mmdb_reader.specs.Found.{section_asked, offset_found};
 ghost use Rattle.mmdb_reader.specs.Decoding.{DecodesTo, FailsToDecode};
 ghost use Rattle.mmdb_reader.specs.Selecting.{selected, read_along, answer_along, SelectsTo, Reaches, LeadsNowhere, HasNone};
 
@@ -25,8 +24,10 @@ fn decode_at<'de, T: Decode<'de>>(
     section: &'de [u8],
     offset: usize,
 ) -> DecodeResult<T>
-    ensures ok { IfOk result (λ v. T.exact ≡ true → answer T.starts T.meaning section.now offset ≡ Some (T.datum v)) }
-    ensures err { IfErr result (λ e. T.exact ≡ true → Fails T.free e (answer T.starts T.meaning section.now offset)) }
+    ensures ok { IfOk result (λ v. T.exact ≡ true
+        → answer T.starts T.meaning section.now offset ≡ Some (T.datum v)) }
+    ensures err { IfErr result (λ e. T.exact ≡ true
+        → Fails T.free e (answer T.starts T.meaning section.now offset)) }
     ensures also { IfOk result (λ v. (after : State) × T.also (begin section.now offset) v after) }
 {
     let mut d = Decoder::new(section, offset);
@@ -41,10 +42,15 @@ fn decode_along<'de, T: Decode<'de>>(
     offset: usize,
     path: &[PathElement<'_>],
 ) -> DecodeResult<Option<T>>
-    ensures ok { IfOk result (λ value. T.exact ≡ true → answer true (read_along path.now T.meaning) section.now offset ≡ Some (option_map T.datum value)) }
-    ensures err { IfErr result (λ e. T.exact ≡ true → Fails T.free e (answer true (read_along path.now T.meaning) section.now offset)) }
+    ensures ok { IfOk result (λ value. T.exact ≡ true
+        → answer true (read_along path.now T.meaning) section.now offset
+        ≡ Some (option_map T.datum value)) }
+    ensures err { IfErr result (λ e. T.exact ≡ true
+        → Fails T.free e (answer true (read_along path.now T.meaning) section.now offset)) }
     ensures none { IfOk result (λ value. IfNone value (LeadsNowhere path.now section.now offset)) }
-    ensures also { IfOk result (λ value. IfSome value (λ v. (there after : State) × (decoded true (selected path.now) (begin section.now offset) ≡ Some (true, there)) × T.also there v after)) }
+    ensures also { IfOk result (λ value. IfSome value (λ v. (there after : State)
+        × (decoded true (selected path.now) (begin section.now offset) ≡ Some (true, there))
+        × T.also there v after)) }
 {
     let mut d = Decoder::new(section, offset);
     d.begin_budget();
@@ -70,11 +76,15 @@ impl<'a, S: AsSlice<u8> + Drop> LookupResult<'a, S> {
     /// shape, `ResourceLimit` over a limit. Of a type whose meaning is not exact its own relation is known,
     /// and of Ok alone.
     pub fn decode<T: Decode<'a>>(&self, alloc: Global) -> Result<Option<T>, MaxMindDbError>
-        ensures ok { IfOk result (λ value. T.exact ≡ true → DecodesTo T.datum (answer T.starts T.meaning (data_section (database_asked self.now))) (offset_found self.now) value) }
-        ensures err { IfErr result (λ e. T.exact ≡ true → FailsToDecode T.free e (answer T.starts T.meaning (data_section (database_asked self.now))) (offset_found self.now)) }
+        ensures ok { IfOk result (λ value. T.exact ≡ true → DecodesTo T.datum
+            (answer T.starts T.meaning (section_asked self.now)) (offset_found self.now) value) }
+        ensures err { IfErr result (λ e. T.exact ≡ true → FailsToDecode T.free e
+            (answer T.starts T.meaning (section_asked self.now)) (offset_found self.now)) }
         ensures none { IfOk result (λ value. is_some value ≡ is_some (offset_found self.now)) }
         ensures of_data { OnErr result (IsSome (offset_found self.now)) }
-        ensures also { IfOk result (λ value. IfSome value (λ v. (offset : ℕ) × (after : State) × (offset_found self.now ≡ Some offset) × T.also (begin (data_section (database_asked self.now)) offset) v after)) }
+        ensures also { IfOk result (λ value. IfSome value (λ v. (offset : ℕ) × (after : State)
+            × (offset_found self.now ≡ Some offset)
+            × T.also (begin (section_asked self.now) offset) v after)) }
     {
         let Some(offset) = self.offset else {
             return Ok(None);
@@ -98,11 +108,16 @@ impl<'a, S: AsSlice<u8> + Drop> LookupResult<'a, S> {
         alloc: Global,
         path: &[PathElement<'_>],
     ) -> Result<Option<T>, MaxMindDbError>
-        ensures ok { IfOk result (λ value. T.exact ≡ true → SelectsTo T.datum (answer_along path.now T.starts T.meaning (data_section (database_asked self.now))) (offset_found self.now) value) }
-        ensures err { IfErr result (λ e. T.exact ≡ true → FailsToDecode T.free e (answer_along path.now T.starts T.meaning (data_section (database_asked self.now))) (offset_found self.now)) }
-        ensures none { IfOk result (λ value. IfNone value (HasNone path.now (data_section (database_asked self.now)) (offset_found self.now))) }
+        ensures ok { IfOk result (λ value. T.exact ≡ true → SelectsTo T.datum
+            (answer_along path.now T.starts T.meaning (section_asked self.now)) (offset_found self.now) value) }
+        ensures err { IfErr result (λ e. T.exact ≡ true → FailsToDecode T.free e
+            (answer_along path.now T.starts T.meaning (section_asked self.now)) (offset_found self.now)) }
+        ensures none { IfOk result (λ value. IfNone value
+            (HasNone path.now (section_asked self.now) (offset_found self.now))) }
         ensures of_data { OnErr result (IsSome (offset_found self.now)) }
-        ensures also { IfOk result (λ value. IfSome value (λ v. (offset : ℕ) × (there after : State) × (offset_found self.now ≡ Some offset) × Reaches path.now (data_section (database_asked self.now)) offset there × T.also there v after)) }
+        ensures also { IfOk result (λ value. IfSome value (λ v. (offset : ℕ) × (there after : State)
+            × (offset_found self.now ≡ Some offset)
+            × Reaches path.now (section_asked self.now) offset there × T.also there v after)) }
     {
         let Some(offset) = self.offset else {
             return Ok(None);

@@ -128,7 +128,8 @@ pub fn path_selects()
 
 /// Steps of a path are equal exactly where they are of one kind and have the same index or spelling.
 pub fn steps_equal_where_same()
-    ensures { (a b : SpecPathElement) → IsTrue (⟦<PathElement<'static> as PartialEq>⟧.eq a b) ↔ IsSameStep a b }
+    ensures { (a b : SpecPathElement)
+        → IsTrue (⟦<PathElement<'static> as PartialEq>⟧.eq a b) ↔ IsSameStep a b }
 {}
 
 /// A clone of options, or of a step of a path, is its source, and never fails.

@@ -27,7 +27,8 @@ impl NumberedAddress {
         ensures width { result.width ≡ address_width address }
         ensures kind { nat_eq result.width 32 ≡ is_ipv4 address }
         ensures fits { result.bits < 2 ^ result.width }
-        ensures block { (db : Database) (prefix : ℕ) → numbered_block db result.width result.bits prefix ≡ block_at db address prefix }
+        ensures block { (db : Database) (prefix : ℕ)
+            → numbered_block db result.width result.bits prefix ≡ block_at db address prefix }
     {
         match address {
             IpAddr::V4(address) => NumberedAddress {
@@ -47,7 +48,8 @@ impl NumberedAddress {
         requires fits { self.bits < 2 ^ self.width }
         ensures width { address_width result ≡ self.width }
         ensures kind { is_ipv4 result ≡ nat_eq self.width 32 }
-        ensures block { (db : Database) (prefix : ℕ) → block_at db result prefix ≡ numbered_block db self.width self.bits prefix }
+        ensures block { (db : Database) (prefix : ℕ)
+            → block_at db result prefix ≡ numbered_block db self.width self.bits prefix }
     {
         if self.width == 32 {
             IpAddr::V4(Ipv4Addr::from_bits(self.bits as u32))
@@ -104,7 +106,8 @@ impl<'a, S: AsSlice<u8> + Drop> LookupResult<'a, S> {
     /// For an IPv4 address it is an IPv4 network, save in an IPv6 database whose walk leaves the nodes
     /// among the 96 zero bits before IPv4: there it is the network `::/k` of the bits walked.
     pub fn network(&self) -> Result<IpNetwork, MaxMindDbError>
-        ensures { IsOkAnd result (IsShownBy (database_asked self.now) (leaf_of self.now) (shown_as_ipv4 self.now)) }
+        ensures { IsOkAnd result
+            (IsShownBy (database_asked self.now) (leaf_of self.now) (shown_as_ipv4 self.now)) }
     {
         let prefix = self.prefix as u8;
         let masked = mask_ip(self.address.address(), prefix);

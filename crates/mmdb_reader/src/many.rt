@@ -40,7 +40,8 @@ impl<S: AsSlice<u8> + Drop> Reader<S> {
     fn find_leaves(&self, addresses: &[IpAddr], leaves: &mut [FoundLeaf; 64])
         requires { length addresses.now ≤ 64 }
         ensures { (i : ℕ) (a : SpecIpAddr) (d : _) → i < length addresses.now
-            → IsFoundFor self.now (slice_index_or addresses.now i a) (slice_index_or leaves.new i d) }
+            → IsFoundFor self.now (slice_index_or addresses.now i a)
+            (slice_index_or leaves.new i d) }
     {
         for i in 0..addresses.len() {
             leaves[i] = self.begin(addresses[i]);
@@ -54,7 +55,8 @@ impl<S: AsSlice<u8> + Drop> Reader<S> {
         ensures few { result ≤ 64 }
         ensures within { result ≤ length addresses.now }
         ensures found { (i : ℕ) (a : SpecIpAddr) (d : _) → i < result
-            → IsFoundFor self.now (slice_index_or addresses.now i a) (slice_index_or leaves.new i d) }
+            → IsFoundFor self.now (slice_index_or addresses.now i a)
+            (slice_index_or leaves.new i d) }
     {
         let count = if addresses.len() < GROUP {
             addresses.len()
@@ -69,7 +71,8 @@ impl<S: AsSlice<u8> + Drop> Reader<S> {
     #[inline(always)]
     fn begin(&self, address: IpAddr) -> FoundLeaf
         ensures { HasWalk self.now address
-            → Walks (tree_of self.now) (first_number self.now address) (bits_of_address address) result.taken result.number }
+            → Walks (tree_of self.now) (first_number self.now address) (bits_of_address address)
+            result.taken result.number }
     {
         match address {
             IpAddr::V4(v4) if self.ipv4_start < self.metadata.node_count as usize => {
@@ -93,7 +96,8 @@ impl<S: AsSlice<u8> + Drop> Reader<S> {
         leaf: FoundLeaf,
     ) -> Result<LookupResult<'_, S>, MaxMindDbError>
         requires found { IsFoundFor self.now address leaf }
-        ensures answered { IfOk result (λ r. Answers self.now address (leaf_of r) (outcome_at (offset_found r))) }
+        ensures answered { IfOk result
+            (λ r. Answers self.now address (leaf_of r) (outcome_at (offset_found r))) }
         ensures shown { IfOk result (λ r. shown_as_ipv4 r ≡ is_shown_as_ipv4 self.now address) }
         ensures database { IfOk result (λ r. database_asked r ≡ self.now) }
         ensures of_input { FailsAs OfInput result ↔ ¬ (CanAsk self.now address) }
@@ -120,8 +124,10 @@ impl<S: AsSlice<u8> + Drop> Reader<S> {
         requires found { IsFoundFor self.now address found }
         ensures found { MatchOption result
             (¬ (CanAsk self.now address))
-            (λ leaf. IsLeafAt self.now address (block_at self.now leaf.address leaf.prefix) leaf.number) }
-        ensures shown { IfSome result (λ leaf. is_ipv4 leaf.address ≡ is_shown_as_ipv4 self.now address) }
+            (λ leaf. IsLeafAt self.now address
+            (block_at self.now leaf.address leaf.prefix) leaf.number) }
+        ensures shown { IfSome result
+            (λ leaf. is_ipv4 leaf.address ≡ is_shown_as_ipv4 self.now address) }
     {
         let nodes = self.nodes();
         match address {

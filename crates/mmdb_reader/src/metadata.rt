@@ -98,7 +98,9 @@ impl Metadata {
     /// Rejects what a reader does not read, each field in turn.
     pub(crate) fn check_supported(&self, alloc: Global) -> Result<(), MaxMindDbError>
         ensures supported { OnOk result (IsSupported (metadata_datum self.now)) }
-        ensures rejected { IfErr result (λ e. MemoryApart e ((kind_of e ≡ OfDatabase) × ¬ IsSupported (metadata_datum self.now))) }
+        ensures rejected { IfErr result
+            (λ e. MemoryApart e ((kind_of e ≡ OfDatabase)
+            × ¬ IsSupported (metadata_datum self.now))) }
     {
         let format = self.binary_format_major_version;
         if format != 2 {

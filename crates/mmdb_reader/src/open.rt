@@ -37,7 +37,8 @@ fn read_whole<R: Read>(
     file: &mut R,
     expected: usize,
 ) -> Result<Vec<u8>, MaxMindDbError>
-    ensures whole { IfOk result (λ bytes. IfSome (R.remaining file.old) (λ left. bytes.items ≡ left)) }
+    ensures whole { IfOk result
+        (λ bytes. IfSome (R.remaining file.old) (λ left. bytes.items ≡ left)) }
     ensures kinds { IfErr result (λ e. (kind_of e ≡ OfIo) ⊎ (kind_of e ≡ OfMemory)) }
 {
     let mut bytes = Vec::with_capacity(alloc, expected.saturating_add(1))?;

@@ -67,7 +67,8 @@ impl<S: AsSlice<u8> + Drop> Model for Reader<S> {
 
     ghost view = { λ r. database (S.items r.source) r.marker (metadata_datum r.metadata) };
 
-    ghost invariant = { λ r. IsReader (database (S.items r.source) r.marker (metadata_datum r.metadata)) r.data_start r.ipv4_start r.ipv4_depth r.ipv4_table.items r.ipv6_table.items };
+    ghost invariant = { λ r. IsReader
+        (database (S.items r.source) r.marker (metadata_datum r.metadata)) r.data_start r.ipv4_start r.ipv4_depth r.ipv4_table.items r.ipv6_table.items };
 }
 
 impl<S: AsSlice<u8> + Drop> Reader<S> {
@@ -88,10 +89,14 @@ impl<S: AsSlice<u8> + Drop> Reader<S> {
         metadata: Metadata,
     ) -> Result<Reader<S>, MaxMindDbError>
         requires within { marker + length marker_bytes ≤ length (S.items source) }
-        ensures reader { IfOk result (λ r. r ≡ database (S.items source) marker (metadata_datum metadata)) }
+        ensures reader { IfOk result
+            (λ r. r ≡ database (S.items source) marker (metadata_datum metadata)) }
         ensures supported { OnOk result (IsSupported (metadata_datum metadata)) }
-        ensures room { OnOk result (HasRoom (database (S.items source) marker (metadata_datum metadata))) }
-        ensures rejected { let db = database (S.items source) marker (metadata_datum metadata) in IfErr result (λ e. MemoryApart e ((kind_of e ≡ OfDatabase) × ¬ (IsSupported db.metadata × HasRoom db))) }
+        ensures room { OnOk result
+            (HasRoom (database (S.items source) marker (metadata_datum metadata))) }
+        ensures rejected { let db = database (S.items source) marker (metadata_datum metadata) in
+            IfErr result (λ e. MemoryApart e ((kind_of e ≡ OfDatabase)
+            × ¬ (IsSupported db.metadata × HasRoom db))) }
     {
         metadata.check_supported(alloc)?;
         let node_count = metadata.node_count as usize;
@@ -136,7 +141,8 @@ impl<S: AsSlice<u8> + Drop> Reader<S> {
     /// What it keeps beside its source, for lookups in the same bytes without a reader.
     pub fn kept(&self) -> Kept<'_>
         ensures marker { result.marker ≡ self.now.marker }
-        ensures kept { IsReader self.now result.data_start result.ipv4_start result.ipv4_depth result.ipv4_table.now result.ipv6_table.now }
+        ensures kept { IsReader self.now result.data_start result.ipv4_start result.ipv4_depth
+            result.ipv4_table.now result.ipv6_table.now }
     {
         Kept {
             data_start: self.data_start,
@@ -187,7 +193,8 @@ impl<S: AsSlice<u8> + Drop> Reader<S> {
     // The bytes between the tree and the data section.
     pub(crate) fn separator(&self) -> &[u8]
         ensures length { length result.now ≡ separator }
-        ensures bytes { (j : ℕ) → j < separator → slice_index result.now j ≡ slice_index self.now.bytes (tree_len self.now + j) }
+        ensures bytes { (j : ℕ) → j < separator
+            → slice_index result.now j ≡ slice_index self.now.bytes (tree_len self.now + j) }
     {
         &self.source.as_slice()[self.data_start - SEPARATOR..self.data_start]
     }
@@ -239,9 +246,13 @@ impl<S: AsSlice<u8> + Drop> Reader<S> {
         requires room { steps.old + 128 < 2 ^ 64 }
         ensures found { MatchOption result
             (¬ (CanAsk self.now address))
-            (λ leaf. IsLeafAt self.now address (block_at self.now leaf.address leaf.prefix) leaf.number) }
-        ensures shown { IfSome result (λ leaf. is_ipv4 leaf.address ≡ is_shown_as_ipv4 self.now address) }
-        ensures counted { MatchOption result (steps.new ≡ steps.old) (λ leaf. CountsNodes self.now address (block_at self.now leaf.address leaf.prefix) steps.old steps.new) }
+            (λ leaf. IsLeafAt self.now address
+            (block_at self.now leaf.address leaf.prefix) leaf.number) }
+        ensures shown { IfSome result
+            (λ leaf. is_ipv4 leaf.address ≡ is_shown_as_ipv4 self.now address) }
+        ensures counted { MatchOption result (steps.new ≡ steps.old)
+            (λ leaf. CountsNodes self.now address
+            (block_at self.now leaf.address leaf.prefix) steps.old steps.new) }
     {
         let nodes = self.nodes();
         match address {
@@ -312,7 +323,8 @@ impl<S: AsSlice<u8> + Drop> Reader<S> {
         steps: &mut Steps,
     ) -> Result<LookupResult<'_, S>, MaxMindDbError>
         requires room { steps.old + 128 < 2 ^ 64 }
-        ensures answered { IfOk result (λ r. Answers self.now address (leaf_of r) (outcome_at (offset_found r))) }
+        ensures answered { IfOk result
+            (λ r. Answers self.now address (leaf_of r) (outcome_at (offset_found r))) }
         ensures shown { IfOk result (λ r. shown_as_ipv4 r ≡ is_shown_as_ipv4 self.now address) }
         ensures database { IfOk result (λ r. database_asked r ≡ self.now) }
         ensures of_input { FailsAs OfInput result ↔ ¬ (CanAsk self.now address) }
@@ -341,7 +353,8 @@ impl<S: AsSlice<u8> + Drop> Reader<S> {
     /// the data section is `InvalidDatabase`. Nothing else fails.
     #[inline(always)]
     pub fn lookup(&self, address: IpAddr) -> Result<LookupResult<'_, S>, MaxMindDbError>
-        ensures answered { IfOk result (λ r. Answers self.now address (leaf_of r) (outcome_at (offset_found r))) }
+        ensures answered { IfOk result
+            (λ r. Answers self.now address (leaf_of r) (outcome_at (offset_found r))) }
         ensures shown { IfOk result (λ r. shown_as_ipv4 r ≡ is_shown_as_ipv4 self.now address) }
         ensures database { IfOk result (λ r. database_asked r ≡ self.now) }
         ensures of_input { FailsAs OfInput result ↔ ¬ (CanAsk self.now address) }

@@ -70,8 +70,10 @@ impl<S: AsSlice<u8> + Drop> Reader<S> {
         ensures ok { IfOk result (λ set. HasWholeTree self.now × HoldsOffsets self.now set) }
         ensures err { IfErr result (λ e. MemoryApart e (¬ HasWholeTree self.now)) }
         ensures bound { steps.new ≤ steps.old + (6 * self.now.metadata.node_count + 130) }
-        ensures counted { OnOk result ((steps.new ≡ steps.old + walk_cost self.now) × (steps.new + 1 ≡ steps.old + 2 * length (stops self.now))) }
-        ensures rejected { IfErr result (λ e. MemoryApart e (steps.new ≡ steps.old + walk_cost self.now)) }
+        ensures counted { OnOk result ((steps.new ≡ steps.old + walk_cost self.now)
+            × (steps.new + 1 ≡ steps.old + 2 * length (stops self.now))) }
+        ensures rejected { IfErr result
+            (λ e. MemoryApart e (steps.new ≡ steps.old + walk_cost self.now)) }
         ensures most { steps.new ≤ steps.old + walk_cost self.now }
     {
         let walker = self.walker();
@@ -115,8 +117,11 @@ impl<S: AsSlice<u8> + Drop> Reader<S> {
     // Whether the values at these set unfold together.
     fn verify_values(&self, alloc: Global, set: &OffsetSet) -> Result<(), MaxMindDbError>
         requires { HoldsOffsets self.now set.now }
-        ensures ok { OnOk result (CanAddAll (data_section self.now) none (offsets (stops self.now))) }
-        ensures err { IfErr result (λ e. MemoryApart e (¬ CanAddAll (data_section self.now) none (offsets (stops self.now)))) }
+        ensures ok { OnOk result
+            (CanAddAll (data_section self.now) none (offsets (stops self.now))) }
+        ensures err { IfErr result
+            (λ e. MemoryApart e (¬ CanAddAll (data_section self.now) none
+            (offsets (stops self.now)))) }
     {
         let mut checked = Checked::new(alloc, self.data_section())?;
         match check_offsets(alloc, &mut checked, set) {
@@ -139,8 +144,11 @@ impl<S: AsSlice<u8> + Drop> Reader<S> {
         ensures answers { OnOk result (AnswersAll self.now) }
         ensures rejected { IfErr result (λ e. MemoryApart e (¬ IsWhole self.now)) }
         ensures bound { steps.new ≤ steps.old + (6 * self.now.metadata.node_count + 130) }
-        ensures counted { OnOk result ((steps.new ≡ steps.old + walk_cost self.now) × (steps.new + 1 ≡ steps.old + 2 * length (stops self.now))) }
-        ensures counted_rejected { IfErr result (λ e. MemoryApart e (HasWholeMetadata self.now → steps.new ≡ steps.old + walk_cost self.now)) }
+        ensures counted { OnOk result ((steps.new ≡ steps.old + walk_cost self.now)
+            × (steps.new + 1 ≡ steps.old + 2 * length (stops self.now))) }
+        ensures counted_rejected { IfErr result
+            (λ e. MemoryApart e (HasWholeMetadata self.now
+            → steps.new ≡ steps.old + walk_cost self.now)) }
         ensures most { steps.new ≤ steps.old + walk_cost self.now }
     {
         self.verify_metadata(alloc)?;

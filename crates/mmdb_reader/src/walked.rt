@@ -84,7 +84,8 @@ impl<S: AsSlice<u8> + Drop> Walker<'_, S> {
     // Whether the walk goes on below a point.
     #[inline(always)]
     fn goes_on(&self, point: Point) -> bool
-        ensures { MatchBool result (GoesOn self.now.reader.now point) (IsStopped self.now.reader.now point) }
+        ensures { MatchBool result (GoesOn self.now.reader.now point)
+            (IsStopped self.now.reader.now point) }
     {
         usize::from(point.prefix) < self.width
             && point.number < self.nodes.node_count
@@ -120,7 +121,8 @@ impl<S: AsSlice<u8> + Drop> Walker<'_, S> {
     #[inline(always)]
     fn keep(&self, point: Point, set: &mut OffsetSet) -> bool
         requires { length set.old ≡ data_length self.now.reader.now }
-        ensures kept { result ≡ not (is_fault (end_from self.now.reader.now point.number point.high)) }
+        ensures kept { result
+            ≡ not (is_fault (end_from self.now.reader.now point.number point.high)) }
         ensures set { Keeps self.now.reader.now point set.old set.new }
         ensures length { length set.new ≡ length set.old }
     {
@@ -139,7 +141,8 @@ impl<S: AsSlice<u8> + Drop> Walker<'_, S> {
     fn take(&self, point: Point, stack: &mut Vec<Point>, set: &mut OffsetSet) -> bool
         requires room { vec_len stack.old < vec_capacity stack.old }
         requires set { length set.old ≡ data_length self.now.reader.now }
-        ensures taken { IsTrue result → Takes self.now.reader.now point stack.old.items stack.new.items set.old set.new }
+        ensures taken { IsTrue result
+            → Takes self.now.reader.now point stack.old.items stack.new.items set.old set.new }
         ensures room { vec_capacity stack.new ≡ vec_capacity stack.old }
         ensures length { length set.new ≡ length set.old }
     {
@@ -210,7 +213,8 @@ impl<S: AsSlice<u8> + Drop> Walker<'_, S> {
         requires none { (q : ℕ) → holds set.old q ≡ false }
         ensures whole { IfSome result (λ taken. IsVerdict self.now.reader.now set.new taken Whole) }
         ensures counted { IfSome result (λ taken. taken ≡ walk_cost self.now.reader.now) }
-        ensures bound { IfSome result (λ taken. taken ≤ 6 * self.now.reader.now.metadata.node_count) }
+        ensures bound { IfSome result
+            (λ taken. taken ≤ 6 * self.now.reader.now.metadata.node_count) }
         ensures kept { vec_capacity stack.new ≡ vec_capacity stack.old }
     {
         let mut point = Point {

@@ -127,7 +127,8 @@ impl<S: AsSlice<u8> + Drop> Reader<S> {
         ensures database { database_asked result ≡ self.now }
         ensures leaf { leaf_of result ≡ bits_to self.now position }
         ensures offset { offset_found result ≡ offset }
-        ensures shown { shown_as_ipv4 result ≡ is_leaf_shown_as_ipv4 self.now (bits_to self.now position) }
+        ensures shown { shown_as_ipv4 result
+            ≡ is_leaf_shown_as_ipv4 self.now (bits_to self.now position) }
     {
         if self.shows_as_ipv4(position) {
             return LookupResult {
@@ -159,7 +160,8 @@ impl<S: AsSlice<u8> + Drop> Reader<S> {
     ) -> Result<LookupResult<'_, S>, MaxMindDbError>
         requires at { IsAt self.now position }
         requires faults { FaultsAreOfDatabase (Some finding) }
-        ensures value { Some (item_view result) ≡ option_map (item_of_leaf self.now (bits_to self.now position)) (finding_of_answer (Some finding)) }
+        ensures value { Some (item_view result)
+            ≡ option_map (item_of_leaf self.now (bits_to self.now position)) (finding_of_answer (Some finding)) }
         ensures database { IfOk result (λ r. database_asked r ≡ self.now) }
     {
         Ok(self.leaf_at(position, finding?))
@@ -167,7 +169,8 @@ impl<S: AsSlice<u8> + Drop> Reader<S> {
 
     // The first bits of a range, unless it is an IPv6 range and the database has no IPv6.
     fn range_of(&self, network: IpNetwork) -> Option<Range>
-        ensures { MatchOption result (¬ CanAsk self.now (ip_of network)) (λ range. IsRangeOf self.now network range.address range.prefix) }
+        ensures { MatchOption result (¬ CanAsk self.now (ip_of network))
+            (λ range. IsRangeOf self.now network range.address range.prefix) }
     {
         let prefix = network.prefix();
         match network.ip() {
@@ -195,7 +198,9 @@ impl<S: AsSlice<u8> + Drop> Reader<S> {
         options: WithinOptions,
     ) -> Result<Within<'_, S>, MaxMindDbError>
         ensures listing { IfOk result (λ w. ListsRange w options (block_in self.now network)) }
-        ensures listed { IfOk result (λ w. items_to_come w ≡ items_of self.now (listed self.now options (block_in self.now network))) }
+        ensures listed { IfOk result
+            (λ w. items_to_come w
+            ≡ items_of self.now (listed self.now options (block_in self.now network))) }
         ensures database { IfOk result (λ w. database_walked w ≡ self.now) }
         ensures reserved { IfOk result (λ w. positions_reserved w ≡ positions_for network) }
         ensures of_input { FailsAs OfInput result ↔ ¬ CanAsk self.now (ip_of network) }
@@ -228,7 +233,8 @@ impl<S: AsSlice<u8> + Drop> Reader<S> {
         options: WithinOptions,
     ) -> Result<Within<'_, S>, MaxMindDbError>
         ensures listing { IfOk result (λ w. ListsRange w options []) }
-        ensures listed { IfOk result (λ w. items_to_come w ≡ items_of self.now (listed self.now options [])) }
+        ensures listed { IfOk result
+            (λ w. items_to_come w ≡ items_of self.now (listed self.now options [])) }
         ensures database { IfOk result (λ w. database_walked w ≡ self.now) }
         ensures reserved { IfOk result (λ w. positions_reserved w ≡ width self.now + 1) }
         ensures no_other { IfErr result (λ e. kind_of e ≡ OfMemory) }
@@ -293,7 +299,8 @@ impl<S: AsSlice<u8> + Drop> Walker<'_, S> {
         hidden: usize,
         stack: &mut Vec<Position>,
     ) -> Option<Position>
-        requires placed { IsStack self.now.reader.now (vec_capacity stack.old) (stack.old.items ++ start ∷ []) }
+        requires placed { IsStack self.now.reader.now (vec_capacity stack.old)
+            (stack.old.items ++ start ∷ []) }
         requires hides { HidesAliases self.now.reader.now options hidden }
         ensures lowest { let db = self.now.reader.now in
             let old = stack.old.items ++ start ∷ [] in
