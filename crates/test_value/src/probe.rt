@@ -79,7 +79,8 @@ impl<'de> Decode<'de> for Probe<'de> {
 
 /// The probe at the beginning of a section.
 pub fn read_probe<'de>(alloc: Global, section: &'de [u8]) -> DecodeResult<Probe<'de>>
-    ensures ok { IfOk result (λ v. answer true probe_at section.now 0 ≡ Some (record { a = v.a; k = option_map (λ s. s.now) v.k })) }
+    ensures ok { IfOk result (λ v. answer true probe_at section.now 0
+        ≡ Some (record { a = v.a; k = option_map (λ s. s.now) v.k })) }
     ensures err { IfErr result (λ e. Fails true e (answer true probe_at section.now 0)) }
 {
     fuzzing::decode::<Probe<'de>>(alloc, section)

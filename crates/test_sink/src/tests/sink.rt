@@ -47,7 +47,8 @@ impl OneByte {
     /// What is put where the sink had no fault so far.
     fn taken(&mut self, bytes: &[u8]) -> io::Result<usize>
         ensures bound { WritesAtMost result bytes.now }
-        ensures bytes { WriteAppends (Some self.old.bytes.items) (Some self.new.bytes.items) result bytes.now }
+        ensures bytes { WriteAppends (Some self.old.bytes.items) (Some self.new.bytes.items)
+            result bytes.now }
     {
         self.calls = self.calls.saturating_add(1);
         let Some(first) = bytes.first() else {
