@@ -16,6 +16,7 @@ mod options;
 mod path;
 mod positions;
 pub mod reader;
+mod sections;
 mod steps;
 mod verify;
 mod walked;
@@ -27,7 +28,7 @@ pub use metadata::Metadata;
 pub use mmdb_net as geonet;
 pub use mmdb_net::{IpNetwork, IpNetworkError, Ipv4Network, Ipv6Network, mask_ip};
 pub use mmdb_tree as tree;
-pub use mmdb_tree::{Descent, Entry, Nodes, read_node};
+pub use mmdb_tree::{Descent, Entry, FoundLeaf, Nodes, read_node};
 pub use mmdb_value as values;
 pub use mmdb_value::{
     Checked, Decode, DecodeResult, Decoder, Double, Entries, Float, Items, Kind, MaxMindDbError,
@@ -38,5 +39,6 @@ pub use mmdb_value::{
 pub use options::WithinOptions;
 pub use path::{PathElement, render_path};
 pub use reader::{Kept, Reader};
+pub use sections::Sections;
 pub use steps::Steps;
 pub use within::Within;

@@ -77,7 +77,7 @@ impl<'r, 'a, S: AsSlice<u8> + Drop> Iterator for LookupMany<'r, 'a, S> {
             self.next = 0;
         }
         let reader = self.reader;
-        let answer = reader.lookup_at(*first, self.leaves[self.next]);
+        let answer = reader.lookup_found(*first, self.leaves[self.next]);
         self.left = rest;
         self.next += 1;
         Some((*first, answer))

@@ -37,7 +37,7 @@ impl<S: AsSlice<u8> + Drop> Reader<S> {
     ghost use Rattle.mmdb_reader.specs.Many.{HasWalk, IsFoundFor, first_number};
 
     // Where the walks of up to 64 addresses end.
-    fn find_leaves(&self, addresses: &[IpAddr], leaves: &mut [FoundLeaf; 64])
+    fn walk_group(&self, addresses: &[IpAddr], leaves: &mut [FoundLeaf; 64])
         requires { length addresses.now ≤ 64 }
         ensures { (i : ℕ) (a : SpecIpAddr) (d : _) → i < length addresses.now
             → IsFoundFor self.now (slice_index_or addresses.now i a)
@@ -63,8 +63,26 @@ impl<S: AsSlice<u8> + Drop> Reader<S> {
         } else {
             GROUP
         };
-        self.find_leaves(&addresses[..count], leaves);
+        self.walk_group(&addresses[..count], leaves);
         count
+    }
+
+    /// Where the walks of addresses end, for `lookup_found`: each in its place of `leaves`. Both kinds may be mixed. Up to
+    /// 64 of them are walked together, side by side where one is of IPv4, and no memory is taken.
+    pub fn find_leaves(&self, addresses: &[IpAddr], leaves: &mut [FoundLeaf])
+        requires { length leaves.old ≡ length addresses.now }
+        ensures length { length leaves.new ≡ length leaves.old }
+        ensures found { (i : ℕ) (a : SpecIpAddr) (d : _) → i < length addresses.now
+            → IsFoundFor self.now (slice_index_or addresses.now i a)
+            (slice_index_or leaves.new i d) }
+    {
+        let mut group = [FoundLeaf::default(); GROUP];
+        let mut done = 0;
+        while done < addresses.len() {
+            let count = self.find_group(&addresses[done..], &mut group);
+            leaves[done..done + count].copy_from_slice(&group[..count]);
+            done += count;
+        }
     }
 
     // Where the first sixteen bits of an address lead, from a table.
@@ -90,7 +108,7 @@ impl<S: AsSlice<u8> + Drop> Reader<S> {
 
     /// What `lookup` answers for an address, from where its walk was found to end.
     #[inline(always)]
-    pub(crate) fn lookup_at(
+    pub fn lookup_found(
         &self,
         address: IpAddr,
         leaf: FoundLeaf,

@@ -1,5 +1,6 @@
 //! Lookups of several addresses at once.
 use super::answers::{BASE, File, address, found_text, reader_of};
+use mmdb_reader::tree::FoundLeaf;
 use mmdb_reader::{LookupResult, MaxMindDbError, Reader};
 use mmdb_vectors::answer::{OK, reported};
 use mmdb_vectors::base::low;
@@ -95,11 +96,23 @@ fn expect_many(
     failures.expect(&("answers", answered), answered == count);
 }
 
+// Asks for the same addresses, over and over, by where their walks end.
+fn expect_found(failures: &mut Failures, alloc: Global, reader: &Reader<Vec<u8>>, rows: &[Row]) {
+    let addresses = addresses_of(rows);
+    let mut leaves = [FoundLeaf::default(); MOST];
+    reader.find_leaves(&addresses, &mut leaves);
+    for (at, row) in (0..MOST).zip(rows.iter().cycle()) {
+        let answer = reader.lookup_found(addresses[at], leaves[at]);
+        expect_answer(failures, alloc, addresses[at], answer, row);
+    }
+}
+
 // The same with counts around those of the lookups that go side by side.
 fn expect_counts(failures: &mut Failures, alloc: Global, reader: &Reader<Vec<u8>>, rows: &[Row]) {
     for count in [0, 1, 2, 63, 64, 65, 128, 129, MOST] {
         expect_many(failures, alloc, reader, rows, count);
     }
+    expect_found(failures, alloc, reader, rows);
 }
 
 // The same of a file that may be rejected.

@@ -3,8 +3,8 @@ use Rattle.mmdb_reader.proofs.ManyLemmas.{IsGroup-new, IsGroup-first, IsGroup-re
 use Rattle.mmdb_reader.proofs.lookup_many.LookupManyIterator.next.Goals as goal
 use Rattle.mmdb_reader.proofs.lookup_many.LookupManyIterator.next.Goals.{then-self, else-self}
 
-pub lookup_at-answer-requires : goal.lookup_at-answer-requires
-lookup_at-answer-requires g c =
+pub lookup_found-answer-requires : goal.lookup_found-answer-requires
+lookup_found-answer-requires g c =
     let db = c.self.inside.reader.now in
     let left = c.self.inside.left.now in
     let first = c.in_ok-first.first.now in

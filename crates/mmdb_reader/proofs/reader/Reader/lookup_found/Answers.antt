@@ -1,5 +1,5 @@
 use Rattle.mmdb_reader.proofs.LawLemmas.{not_rejected}
-use Rattle.mmdb_reader.proofs.reader.Reader.lookup_at.Goals as goal
+use Rattle.mmdb_reader.proofs.reader.Reader.lookup_found.Goals as goal
 
 pub returns-clause-of_database : goal.returns-clause-of_database
 returns-clause-of_database g c =
