@@ -7,24 +7,45 @@
 #include <string.h>
 #include <sys/socket.h>
 
-static void look_up(const struct mmdb_c_db *db, const struct sockaddr *address, struct mmdb_c_found *found) {
+static struct mmdb_c_address address_of(const struct sockaddr *address) {
     if (address->sa_family == AF_INET6) {
         uint64_t halves[2];
         memcpy(halves, ((const struct sockaddr_in6 *)address)->sin6_addr.s6_addr, sizeof halves);
-        mmdb_c_lookup_v6(db, be64toh(halves[0]), be64toh(halves[1]), found);
-    } else {
-        mmdb_c_lookup_v4(db, ntohl(((const struct sockaddr_in *)address)->sin_addr.s_addr), found);
+        return (struct mmdb_c_address){.high = be64toh(halves[0]), .low = be64toh(halves[1]), .is_ipv6 = true};
     }
+    return (struct mmdb_c_address){.low = ntohl(((const struct sockaddr_in *)address)->sin_addr.s_addr)};
+}
+
+static MMDB_lookup_result_s result_of(const MMDB_s *m, const struct mmdb_c_found *found, int *error) {
+    *error = found->status == MMDB_C_NO_DATA ? MMDB_SUCCESS : (int)found->status;
+    return (MMDB_lookup_result_s){.found_entry = found->status == MMDB_SUCCESS,
+                                  .netmask = (uint16_t)found->netmask,
+                                  .entry = {.mmdb = m, .offset = (uint32_t)found->offset}};
 }
 
 MMDB_lookup_result_s MMDB_lookup_sockaddr(const MMDB_s *const m, const struct sockaddr *const address,
                                           int *const error) {
+    const struct mmdb_c_db *db = &state_of(m)->db;
+    struct mmdb_c_address bits = address_of(address);
     struct mmdb_c_found found;
-    look_up(&state_of(m)->db, address, &found);
-    *error = found.status == MMDB_C_NO_DATA ? MMDB_SUCCESS : (int)found.status;
-    return (MMDB_lookup_result_s){.found_entry = found.status == MMDB_SUCCESS,
-                                  .netmask = (uint16_t)found.netmask,
-                                  .entry = {.mmdb = m, .offset = (uint32_t)found.offset}};
+    if (bits.is_ipv6)
+        mmdb_c_lookup_v6(db, bits.high, bits.low, &found);
+    else
+        mmdb_c_lookup_v4(db, (uint32_t)bits.low, &found);
+    return result_of(m, &found, error);
+}
+
+void mmdb_lookup_many(const MMDB_s *m, const struct sockaddr *const *addresses, size_t count,
+                      MMDB_lookup_result_s *results, int *errors) {
+    struct mmdb_c_address bits[MMDB_C_GROUP];
+    struct mmdb_c_found found[MMDB_C_GROUP];
+    while (count > 0) {
+        size_t now = count < MMDB_C_GROUP ? count : MMDB_C_GROUP;
+        for (size_t i = 0; i < now; i++) bits[i] = address_of(addresses[i]);
+        mmdb_c_lookup_many(&state_of(m)->db, bits, now, found, now);
+        for (size_t i = 0; i < now; i++) results[i] = result_of(m, &found[i], &errors[i]);
+        addresses += now, results += now, errors += now, count -= now;
+    }
 }
 
 MMDB_lookup_result_s MMDB_lookup_string(const MMDB_s *const m, const char *const text, int *const gai_error,

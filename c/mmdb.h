@@ -11,6 +11,9 @@
  * Any number of threads may look up and read values in one open database at once. */
 #ifndef VIEDOLIVE_MMDB_H
 #define VIEDOLIVE_MMDB_H
+#include <maxminddb.h>
+#include <stddef.h>
+#include <sys/socket.h>
 #ifdef __cplusplus
 extern "C" {
 #endif
@@ -19,6 +22,12 @@ extern "C" {
  * separator is zero, and the values of all networks end and have valid texts. 0 (MMDB_SUCCESS) where it is; else a
  * status code of maxminddb.h says why not. So a damaged update can be rejected before it is opened. */
 extern int mmdb_verify(const char *filename);
+
+/* Looks up many addresses at once. Each has in its place of `results` what MMDB_lookup_sockaddr returns for it, and in
+ * its place of `errors` the status code; one that fails stops no other. The lookups of 64 addresses go on side by side,
+ * so that none waits for what another one reads: faster where the search tree is larger than the processor's caches. */
+extern void mmdb_lookup_many(const MMDB_s *mmdb, const struct sockaddr *const *addresses, size_t count,
+                             MMDB_lookup_result_s *results, int *errors);
 
 #ifdef __cplusplus
 }

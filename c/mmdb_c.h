@@ -7,6 +7,9 @@
 
 #define MMDB_C_TABLE 65536
 
+/* How many addresses are looked up at once. */
+#define MMDB_C_GROUP 64
+
 /* Status codes beside those of maxminddb.h: what a lookup without data has, and a key that is not UTF-8. */
 #define MMDB_C_NO_DATA 1
 #define MMDB_C_NOT_UTF8 8
@@ -39,6 +42,12 @@ struct mmdb_c_found {
     size_t offset;
 };
 
+/* An address of IPv4 has the lowest 32 bits. */
+struct mmdb_c_address {
+    uint64_t high, low;
+    bool is_ipv6;
+};
+
 struct mmdb_c_item {
     uint32_t kind, size;
     size_t offset, body, next;
@@ -57,6 +66,8 @@ uint32_t mmdb_c_open(const uint8_t *file, size_t file_len, struct mmdb_c_entry *
 uint32_t mmdb_c_verify(const uint8_t *file, size_t file_len);
 void mmdb_c_lookup_v4(const struct mmdb_c_db *db, uint32_t bits, struct mmdb_c_found *found);
 void mmdb_c_lookup_v6(const struct mmdb_c_db *db, uint64_t high, uint64_t low, struct mmdb_c_found *found);
+void mmdb_c_lookup_many(const struct mmdb_c_db *db, const struct mmdb_c_address *addresses, size_t count,
+                        struct mmdb_c_found *found, size_t room);
 size_t mmdb_c_child(const struct mmdb_c_db *db, size_t node, bool right);
 bool mmdb_c_value(const uint8_t *section, size_t len, size_t offset, struct mmdb_c_item *item);
 uint32_t mmdb_c_to_key(const uint8_t *section, size_t len, size_t offset, const char *key, size_t key_len,

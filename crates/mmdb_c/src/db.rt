@@ -59,7 +59,7 @@ struct Leaf {
 
 impl Db<'_> {
     #[inline(always)]
-    fn nodes(&self) -> Nodes<'_>
+    pub(crate) fn nodes(&self) -> Nodes<'_>
         ensures tree { tree_in result ≡ tree self.now.file.now self.now.facts }
         ensures count { result.node_count ≡ self.now.facts.node_count }
     {
@@ -103,7 +103,7 @@ impl Db<'_> {
 
     // How many zero bits stand before an IPv4 address.
     #[inline(always)]
-    fn before_ipv4(&self) -> u32
+    pub(crate) fn before_ipv4(&self) -> u32
         ensures value { result ≡ (if self.now.facts.ip_version == 6 then 96 else 0) }
         ensures few { result ≤ 96 }
     {
@@ -113,7 +113,7 @@ impl Db<'_> {
     // What a number of the tree stands for.
     #[inline(always)]
     #[tactic(auto, unfolding(mmdb_reader::specs::Lookup::outcome_of))]
-    fn found(&self, number: usize, netmask: u32) -> Found
+    pub(crate) fn found(&self, number: usize, netmask: u32) -> Found
         ensures status { result.status ≤ 2 }
         ensures outcome { (db : Database) →
             IsOf db self.now.facts → outcome_reported result ≡ outcome_of db number }

@@ -5,6 +5,7 @@
 mod db;
 mod item;
 mod list;
+mod many;
 mod open;
 mod path;
 mod status;
