@@ -101,9 +101,11 @@ fn expect_found(failures: &mut Failures, alloc: Global, reader: &Reader<Vec<u8>>
     let addresses = addresses_of(rows);
     let mut leaves = [FoundLeaf::default(); MOST];
     reader.find_leaves(&addresses, &mut leaves);
-    for (at, row) in (0..MOST).zip(rows.iter().cycle()) {
+    for at in 0..MOST {
         let answer = reader.lookup_found(addresses[at], leaves[at]);
-        expect_answer(failures, alloc, addresses[at], answer, row);
+        if let Some(row) = rows.get(at % rows.len().max(1)) {
+            expect_answer(failures, alloc, addresses[at], answer, row);
+        }
     }
 }
 

@@ -72,6 +72,25 @@ fn accepted_and_refused(rt: HostRuntime) -> Result<(), Failures> {
     failures.verdict()
 }
 
+// How many bytes the tree, the data section and the metadata section have.
+fn sizes_of(reader: &Reader<Vec<u8>>) -> (usize, usize, usize) {
+    let sections = reader.sections();
+    (
+        sections.tree_bytes,
+        sections.data_bytes,
+        sections.metadata_bytes,
+    )
+}
+
+// The base file has 199 bytes, of which 16 stand behind the tree and 14 before the metadata.
+#[test]
+fn sections_of_the_base_file(rt: HostRuntime) -> Result<(), Failures> {
+    let mut failures = Failures::new(rt.alloc());
+    let sizes = reader_of(rt.alloc(), &BASE).map(|reader| sizes_of(&reader));
+    failures.expect(&"the base file", sizes.ok() == Some((6, 2, 161)));
+    failures.verdict()
+}
+
 /// The first bytes of the base file, and the error. The marker ends at 38, and the metadata begin there:
 /// what stands in them has its place in the file.
 #[rattlefmt::skip]
