@@ -1,5 +1,5 @@
 -- How far a walk over a tree has come.
-use Rattle.std.proofs.Common.{◌≡◌, ℕ, ◌+◌, ◌-◌, ◌<◌, ◌≤◌, zero, suc, Bool, true, false, List, [], ◌∷◌, ◌++◌, length, arith, sym, ap, ◌∙◌, refl, length-append, append_assoc, ◌⊎◌, inl, inr, ◌||◌, ◌==◌}
+use Rattle.std.proofs.Common.{◌≡◌, ℕ, ◌+◌, ◌-◌, ◌<◌, ◌≤◌, zero, suc, Bool, true, false, not, List, [], ◌∷◌, ◌++◌, length, arith, sym, ap, ◌∙◌, refl, length-append, append_assoc, ◌⊎◌, inl, inr, ◌||◌, ◌==◌}
 use Rattle.std.proofs.lemmas.List.{append-nil}
 use Rattle.std.specs.List.{list_any}
 use Rattle.mmdb_reader.specs.File.{Database, width, data_length}
@@ -8,7 +8,7 @@ use Rattle.mmdb_tree.specs.declared.record.TreeRecord.TheVariants.{Data, Empty, 
 use Rattle.mmdb_reader.specs.Lookup.{record_at}
 use Rattle.mmdb_tree.proofs.LeadLemmas.{data-inside}
 use Rattle.mmdb_reader.specs.Stops.{stops, cut, is_fault, offset_of, offsets, most_stops, walk_cost, at_stop}
-use Rattle.mmdb_reader.specs.Walked.{half_of, GoesOn, IsStopped, is_alias_of, end_from}
+use Rattle.mmdb_reader.specs.Walked.{half_of, GoesOn, IsStopped, end_from}
 use Rattle.mmdb_reader.specs.declared.walked.Point.{Point}
 use Rattle.mmdb_reader.proofs.Visits.{Visit, visit, with_lead, with_lead-zero, visits_below, total, cut_visits, offsets_of, has_fault, visits_of, total-visits_of, length-visits_of, offsets-visits_of, fault-visits_of, cut-visits_of, visits-stops}
 use Rattle.mmdb_reader.proofs.Points.{visits_of_stack, step-node, step-stop}
@@ -245,23 +245,24 @@ or_none true = refl
 or_none false = refl
 
 -- what an insertion into the set adds
-pub adds_offset : (end : TreeRecord) (offset q : ℕ) (old : Bool) → end ≡ Data offset → (old || (offset == q)) ≡ (old || list_any (λ o. o == q) (offset_of end))
-adds_offset end offset q old e = ap (λ b. old || b) (or_none (offset == q)) ∙ ap (λ (e : TreeRecord). old || list_any (λ o. o == q) (offset_of e)) (sym e)
+pub adds_offset : (x : TreeRecord) (aliased : Bool) (offset q : ℕ) (old : Bool) → x ≡ Data offset → (old || (offset == q)) ≡ (old || list_any (λ o. o == q) (offset_of (at_stop x aliased)))
+adds_offset x aliased offset q old e = ap (λ b. old || b) (or_none (offset == q)) ∙ ap (λ (x : TreeRecord). old || list_any (λ o. o == q) (offset_of (at_stop x aliased))) (sym e)
 
-pub adds_node : (end : TreeRecord) (number q : ℕ) (old : Bool) → end ≡ Node number → old ≡ (old || list_any (λ o. o == q) (offset_of end))
-adds_node end number q old e = rw e (or_none old)
+pub adds_node : (x : TreeRecord) (aliased : Bool) (number q : ℕ) (old : Bool) → x ≡ Node number → old ≡ (old || list_any (λ o. o == q) (offset_of (at_stop x aliased)))
+adds_node x true number q old e = rw e (or_none old)
+adds_node x false number q old e = rw e (or_none old)
 
-pub adds_empty : (end : TreeRecord) (q : ℕ) (old : Bool) → end ≡ Empty → old ≡ (old || list_any (λ o. o == q) (offset_of end))
-adds_empty end q old e = rw e (or_none old)
+pub adds_empty : (x : TreeRecord) (aliased : Bool) (q : ℕ) (old : Bool) → x ≡ Empty → old ≡ (old || list_any (λ o. o == q) (offset_of (at_stop x aliased)))
+adds_empty x aliased q old e = rw e (or_none old)
 
--- an offset that is found is one of the data section
-of_stop : (x : TreeRecord) (aliased : Bool) (offset : ℕ) → at_stop x aliased ≡ Data offset → x ≡ Data offset
-of_stop (Node number) true offset e = absurd (cc)
-of_stop (Node number) false offset e = absurd (cc)
-of_stop Empty aliased offset e = absurd (cc)
-of_stop (Data n) aliased offset e = e
-of_stop Invalid aliased offset e = absurd (cc)
+pub adds_nothing : (x : TreeRecord) (aliased : Bool) (q : ℕ) (old : Bool) → x ≡ Invalid → old ≡ (old || list_any (λ o. o == q) (offset_of (at_stop x aliased)))
+adds_nothing x aliased q old e = rw e (or_none old)
 
-pub found_inside : (db : Database) (number : ℕ) (high : Bool) (offset : ℕ) → end_from db number high ≡ Data offset → offset < data_length db
-found_inside db number high offset e =
-    data-inside db.metadata.node_count (data_length db) number offset (of_stop (record_at db number) (is_alias_of db number high) offset e)
+-- a node is no fault where an alias leads to it
+pub node_fault : (x : TreeRecord) (aliased : Bool) (number : ℕ) → x ≡ Node number → aliased ≡ not (is_fault (at_stop x aliased))
+node_fault x true number e = rw e refl
+node_fault x false number e = rw e refl
+
+-- an offset to which a number leads is one of the data section
+pub found_inside : (db : Database) (x : TreeRecord) (number offset : ℕ) → x ≡ record_at db number → x ≡ Data offset → offset < data_length db
+found_inside db x number offset is e = data-inside db.metadata.node_count (data_length db) number offset (sym is ∙ e)

@@ -105,19 +105,8 @@ impl<S: AsSlice<u8> + Drop> Walker<'_, S> {
         }
     }
 
-    // What the walk stops at: the node to which an alias leads, or what a leaf has.
-    #[inline(always)]
-    fn end_from(&self, point: Point) -> TreeRecord
-        ensures { result ≡ end_from self.now.reader.now point.number point.high }
-    {
-        match TreeRecord::of(point.number, self.nodes.node_count, self.data_len) {
-            TreeRecord::Node(_) if !self.is_alias(point) => TreeRecord::Invalid,
-            record => record,
-        }
-    }
-
     // Puts the offset of what the walk stops at into the set, if it has one. Whether it is no fault.
-    #[tactic(auto, using(crate::proofs::Progress::adds_offset, crate::proofs::Progress::adds_node, crate::proofs::Progress::adds_empty, crate::proofs::Progress::found_inside))]
+    #[tactic(auto, using(crate::proofs::Progress::adds_offset, crate::proofs::Progress::adds_node, crate::proofs::Progress::adds_empty, crate::proofs::Progress::adds_nothing, crate::proofs::Progress::node_fault, crate::proofs::Progress::found_inside))]
     #[inline(always)]
     fn keep(&self, point: Point, set: &mut OffsetSet) -> bool
         requires { length set.old ≡ data_length self.now.reader.now }
@@ -126,13 +115,15 @@ impl<S: AsSlice<u8> + Drop> Walker<'_, S> {
         ensures set { Keeps self.now.reader.now point set.old set.new }
         ensures length { length set.new ≡ length set.old }
     {
-        match self.end_from(point) {
-            TreeRecord::Invalid => return false,
-            TreeRecord::Data(offset) => set.insert(offset),
-            TreeRecord::Node(_) => {}
-            TreeRecord::Empty => {}
+        match TreeRecord::of(point.number, self.nodes.node_count, self.data_len) {
+            TreeRecord::Node(_) => self.is_alias(point),
+            TreeRecord::Empty => true,
+            TreeRecord::Data(offset) => {
+                set.insert(offset);
+                true
+            }
+            TreeRecord::Invalid => false,
         }
-        true
     }
 
     // Puts a point on the stack, where the walk goes on below it, and else keeps what it stops at. Whether that is

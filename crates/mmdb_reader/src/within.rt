@@ -79,6 +79,7 @@ impl<S: AsSlice<u8> + Drop> Reader<S> {
     // What a leaf that leads to a number is listed with, if it is listed: a fault, or the offset of its
     // value, if it has one.
     #[tactic(auto, unfolding(crate::specs::Listing::finding_at))]
+    #[inline(always)]
     fn finding(
         &self,
         number: usize,
