@@ -3,7 +3,8 @@ use Rattle.std.proofs.Common.{◌≡◌, ◌≢◌, ◌⊎◌, ℕ, zero, suc, �
 use Rattle.std.proofs.lemmas.Bool.{or_cases, cases_eq, eqb-true, false≢true}
 use Rattle.mmdb_check.specs.declared.inline.Inline.TheVariants.{Scalar, Parts, Pointer}
 use Rattle.mmdb_check.specs.Inline.{inline_at}
-use Rattle.mmdb_check.specs.Checking.{Costs, holds}
+use Rattle.mmdb_check.specs.Checking.{Costs}
+use Rattle.mmdb_offsets.specs.OffsetSet.{holds}
 use Rattle.mmdb_check.specs.Values.{Values, End, ScalarThen, PartsThen, PointerThen, Stand, count, own, work_of}
 use Rattle.mmdb_check.specs.Memory.{mark, is_good, Sound, Passed, Ready}
 use Rattle.mmdb_check.specs.Halting.{Passes, none_passed, scalar_passed, parts_passed, pointer_passed, EndsAtPointer, Part, GoesOn, IsWay, is_under, Halted, HaltedAt, Halts, IsHalted}

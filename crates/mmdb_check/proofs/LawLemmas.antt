@@ -6,7 +6,8 @@ use Rattle.mmdb_check.specs.Checking.{leads_to}
 use Rattle.mmdb_check.specs.Laws.{NoPlaceIsMetAgain, OrderIsFree}
 use Rattle.mmdb_check.specs.Values.{End, reaches}
 use Rattle.mmdb_check.proofs.Costs.{stands_alone}
-use Rattle.mmdb_check.proofs.Members.{In, contains-in, can_add_fewer}
+use Rattle.mmdb_offsets.proofs.Members.{In}
+use Rattle.mmdb_check.proofs.Members.{contains-in, can_add_fewer}
 use Rattle.mmdb_check.proofs.Trees.{inside, no_cycle, same_values}
 use Rattle.mmdb_check.proofs.Unfoldings.{then, count-then, reaches-then, or_none}
 

@@ -13,4 +13,3 @@ pub mod Several
 pub mod Members
 pub mod LawLemmas
 pub mod Halting
-pub mod Words

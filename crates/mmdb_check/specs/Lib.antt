@@ -3,6 +3,5 @@ pub mod Inline
 pub mod Values
 pub mod Memory
 pub mod Halting
-pub mod OffsetSet
 pub mod Laws
 pub mod Working

@@ -1,7 +1,8 @@
 //! A check with a memory.
 ghost use Rattle.std.specs.Prelude.{◌≡◌, ◌↔◌, ℕ, ◌-◌, ◌*◌, length, IfOk, IfErr, OnOk, OnErr, IsOk, map, leb, true, false};
 ghost use Rattle.mmdb_format.specs.Error.{OfInput, OfMemory, kind_of, FailsAs};
-ghost use Rattle.mmdb_check.specs.Checking.{Seen, holds, IsAllowed, CanAdd, Added, Costs};
+ghost use Rattle.mmdb_check.specs.Checking.{Seen, IsAllowed, CanAdd, CanAddAll, Added, Costs};
+ghost use Rattle.mmdb_offsets.specs.OffsetSet.{holds, offsets_of};
 ghost use Rattle.mmdb_check.specs.Halting.{IsHalted};
 ghost use Rattle.mmdb_check.specs.Memory.{Ready};
 
@@ -9,6 +10,7 @@ use crate::work::{Failure, UNSEEN, Work};
 use mmdb_format::decode_error_kind::DecodeErrorKind;
 use mmdb_format::error::MaxMindDbError;
 use mmdb_format::message::{Message, Text};
+use mmdb_offsets::OffsetSet;
 use std::alloc::Global;
 use std::marker::Model;
 
@@ -112,4 +114,23 @@ impl Checked<'_> {
         // It does nothing: a proof knows the invariant where a field is read.
         let _failed = self.failed;
     }
+}
+
+/// Checks the values at the offsets of a set, ascending, with one memory of good offsets. It fails as the
+/// first `check_value` that is.
+pub fn check_offsets(
+    alloc: Global,
+    c: &mut Checked,
+    offsets: &OffsetSet,
+) -> Result<(), MaxMindDbError>
+    requires { c.old.failed ≡ false }
+    ensures { IsOk result ↔ CanAddAll c.old.section (holds c.old.good) (offsets_of offsets.now) }
+{
+    let mut next = 0;
+    while let Some(offset) = offsets.next_from(next) {
+        check_value(alloc, c, offset)?;
+        next = offset + 1;
+    }
+    c.keeps_allowance();
+    Ok(())
 }

@@ -6,5 +6,4 @@ pub mod checked;
 pub mod fuzzing;
 mod inline;
 pub mod laws;
-pub mod offset_set;
 mod work;

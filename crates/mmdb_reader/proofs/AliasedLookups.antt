@@ -13,14 +13,16 @@ use Rattle.mmdb_reader.specs.Lookup.{Answers, address_bits, outcome_of}
 use Rattle.mmdb_reader.specs.Shown.{ipv4_start}
 use Rattle.mmdb_reader.specs.Alias.{IsAlias}
 use Rattle.mmdb_reader.specs.Listing.{HasValueAt}
-use Rattle.mmdb_reader.specs.Stops.{stop, end_at}
+use Rattle.mmdb_tree.specs.Stops.{stop, end_at}
+use Rattle.mmdb_reader.specs.Stops.{walked_tree}
 use Rattle.mmdb_reader.specs.Whole.{IsWalked, IsTopmost, HasNoFault}
 use Rattle.mmdb_reader.specs.WholeLaws.{LookupsSucceed, AnsweredOffsetsAreWalked, WholeFilesAnswer, GoesOnAsIpv4, AliasesEndAsIpv4}
 use Rattle.mmdb_tree.proofs.WalkLemmas.{walk-append, walk-inner, walk-past}
 use Rattle.mmdb_reader.proofs.NumberLemmas.{number-below}
 use Rattle.mmdb_reader.proofs.LawLemmas.{length-address_bits, answer-walk}
 use Rattle.mmdb_reader.proofs.FindingLemmas.{OnNode, AtEnd, Nowhere, Value, kind_of_leaf, outcome-offset, outcome-end}
-use Rattle.mmdb_reader.proofs.StopLemmas.{end_on, stop_of_end}
+use Rattle.mmdb_tree.proofs.StopLemmas.{end_on}
+use Rattle.mmdb_reader.proofs.StopLemmas.{stop_of_end}
 use Rattle.mmdb_reader.proofs.WholeLemmas.{offsets_are_exact, value_good}
 
 -- ---- bits before IPv4 are no alias
@@ -66,8 +68,8 @@ past_nodes db leaf good walked = elim (cases_lt (walk (tree_of db) leaf) db.meta
 -- each full string begins with a topmost alias or a walked leaf
 stop_on : (db : Database) (s : List Bool) → length s ≡ width db → (t : List Bool) × (r : List Bool) × (s ≡ t ++ r) × (IsTopmost db t ⊎ IsWalked db t)
 stop_on db s full =
-    let w = end_on db (width db) [] s full in
-    let is = stop_of_end db (stop w.0 (end_at db w.0)) w.3 in
+    let w = end_on (walked_tree db) (width db) [] s full in
+    let is = stop_of_end db (stop w.0 (end_at (walked_tree db) w.0)) w.3 in
     (w.0, w.1, w.2, elim is [ inl alias ↦ inl alias.0 | inr leaf ↦ inr leaf.0 ])
 
 -- of two beginnings of one string, one begins the other

@@ -19,15 +19,9 @@ pub mod AliasLemmas
 pub mod ListingLemmas
 pub mod AgreementLemmas
 pub mod EqualityLemmas
-pub mod HighBits
-pub mod Visits
-pub mod Points
-pub mod Progress
 pub mod StopLemmas
 pub mod WholeLemmas
 pub mod AliasedLookups
-pub mod Narrow
 pub mod PathLemmas
 pub mod PartLemmas
-pub mod Sweeps
 pub mod MetadataNames

@@ -3,16 +3,11 @@ use Rattle.std.proofs.Common.{◌≡◌, ℕ, zero, suc, ◌+◌, ◌-◌, ◌*�
 use Rattle.std.proofs.lemmas.Nat.{div-mul-add}
 use Rattle.std.proofs.lemmas.Nat.Bits.{bit_at_cat_low}
 use Rattle.std.proofs.Math.Nat.{two-pow-succ}
-use Rattle.std.proofs.Math.Pow.{pow_pos, pow_mono}
+use Rattle.std.proofs.Math.Pow.{pow_mono}
 use Rattle.mmdb_net.specs.Bits.{bit_of, bits_of}
 use Rattle.mmdb_net.specs.Bits.{number_of}
 use Rattle.mmdb_reader.specs.ShownLeaf.{begins_with_zeros}
-
-pub number-below : (rest : ℕ) (s : List Bool) → number_of rest s < 2 ^ rest
-number-below rest [] = pow_pos rest
-number-below zero (x ∷ s) = pow_pos 0
-number-below (suc rest) (true ∷ s) = let h = number-below rest s in omega (arith, h, two-pow-succ rest)
-number-below (suc rest) (false ∷ s) = let h = number-below rest s in omega (arith, h, two-pow-succ rest)
+pub use Rattle.mmdb_tree.proofs.HighBits.{number-below}
 
 -- room is left for the bits that follow
 pub number-room : (rest : ℕ) (s : List Bool) → length s ≤ rest → number_of rest s + 2 ^ (rest - length s) ≤ 2 ^ rest

@@ -1,137 +1,59 @@
 -- The stops of a tree are exactly the walked leaves and the topmost aliases.
-use Rattle.std.proofs.Common.{◌≡◌, ℕ, ◌<◌, ◌≤◌, ◌⊎◌, ◌↔◌, zero, suc, Bool, true, false, not, List, [], ◌∷◌, ◌++◌, map, length, arith, sym, ap, ◌∙◌, refl, subst, inl, inr, append_assoc, length-append}
+use Rattle.std.proofs.Common.{◌≡◌, ℕ, ◌<◌, ◌≤◌, ◌⊎◌, ◌↔◌, ◌^◌, ◌&&◌, ◌==◌, nat_le, nat_lt, if◌then◌else◌, zero, suc, Bool, true, false, not, Some, None, List, [], ◌∷◌, ◌++◌, map, length, arith, sym, ap, ◌∙◌, refl, subst, inl, inr, length-append}
 use Rattle.std.specs.List.{Contains}
 use Rattle.std.proofs.lemmas.Bool.{cases_Bool, ltb-true, ltb-false, lt-ltb, le-ltb, and_parts, and_from, and_cases, and_left, and_right, not-true, not-false, both_ways}
 use Rattle.std.proofs.lemmas.List.{append-nil, map-append}
-use Rattle.std.proofs.lemmas.List.Elements.{Contains-append_left, Contains-append_right, Contains-append_cases}
+use Rattle.std.proofs.lemmas.List.Elements.{Contains-append_cases}
 use Rattle.mmdb_tree.specs.declared.record.TreeRecord.{TreeRecord}
 use Rattle.mmdb_tree.specs.declared.record.TreeRecord.TheVariants.{Data, Empty, Invalid, Node}
-use Rattle.mmdb_reader.specs.File.{Database, tree_of, width, data_length}
+use Rattle.mmdb_reader.specs.File.{Database, tree_of, width, has_ipv6, data_length}
 use Rattle.mmdb_tree.specs.Tree.{walk}
 use Rattle.mmdb_reader.specs.Lookup.{record_at}
 use Rattle.mmdb_reader.specs.Alias.{IsAlias, is_alias}
 use Rattle.mmdb_reader.specs.Listing.{HasValueAt, LeadsNowhere, Ascends, ComesBefore}
-use Rattle.mmdb_reader.specs.Stops.{Stop, stop, at_stop, end_of_leaf, end_at, goes_on, stops_below, stops}
+use Rattle.mmdb_tree.specs.Stops.{Stop, at_stop, is_ipv4_start, is_alias_in, end_at, goes_on, stops_below}
+use Rattle.mmdb_reader.specs.Stops.{walked_tree, stops}
+use Rattle.mmdb_reader.specs.Shown.{ipv4_start, has_ipv4_subtree}
+use Rattle.mmdb_net.specs.Bits.{number_of}
 use Rattle.mmdb_reader.specs.WholeLaws.{HasEnd, IsStop, StopsAreExact}
 use Rattle.mmdb_tree.proofs.WalkLemmas.{walk-inner}
 use Rattle.mmdb_tree.proofs.LeadLemmas.{record-node, record-empty, record-data, record-invalid}
 use Rattle.mmdb_reader.proofs.PositionLemmas.{width-le}
 use Rattle.mmdb_reader.proofs.AliasLemmas.{alias-sound, alias-complete}
 use Rattle.mmdb_reader.proofs.FindingLemmas.{OnNode, AtEnd, Nowhere, Value, kind_of_leaf}
-use Rattle.mmdb_reader.proofs.Visits.{stops-node, stops-end}
+use Rattle.mmdb_tree.proofs.Visits.{stops-node, stops-end}
+use Rattle.mmdb_tree.proofs.StopLemmas.{EndsBelow, sound, complete, shifted}
 
--- The bits `s` behind `bits` are where a walk stops that goes on from `bits`.
-pub record EndsBelow (db : Database) (left : ℕ) (bits s : List Bool) (end : TreeRecord) : Type 0 where
-  pub inner : (c : List Bool) (x : Bool) (d : List Bool) → s ≡ c ++ x ∷ d → goes_on db (bits ++ c) ≡ true
-  pub short : length s ≤ left
-  pub ended : (goes_on db (bits ++ s) ≡ false) ⊎ (length s ≡ left)
-  pub end_is : end ≡ end_at db (bits ++ s)
+-- ---- aliases
 
-no_end : (c : List Bool) (x : Bool) (d : List Bool) → [] ≡ c ++ x ∷ d → ⊥
-no_end [] x d e = cc
-no_end (y ∷ c) x d e = cc
+and_assoc : (a b c : Bool) → (a && (b && c)) ≡ ((a && b) && c)
+and_assoc true b c = refl
+and_assoc false b c = refl
 
-shifted : (bits : List Bool) (x : Bool) (c : List Bool) → (bits ++ x ∷ []) ++ c ≡ bits ++ x ∷ c
-shifted bits x c = append_assoc bits (x ∷ []) c
+start-test : (b : Bool) (start number : ℕ) (c : Bool) → (is_ipv4_start (if b then Some start else None) number && c) ≡ (b && (number == start && c))
+start-test true start number c = refl
+start-test false start number c = refl
 
-one_of : (m n : Stop) → Contains (m ∷ []) n → m ≡ n
-one_of m n (zero, below, is) = is
-one_of m n (suc k, below, is) = absurd (omega arith)
+no_six : (a b c d : Bool) → a ≡ false → (((a && b) && c) && d) ≡ false
+no_six true b c d e = cc
+no_six false b c d e = refl
 
-the_one : (m n : Stop) → m ≡ n → Contains (m ∷ []) n
-the_one m n e = (0, omega arith, e)
-
-module _ (db : Database) where
-  here : (left : ℕ) (bits : List Bool) → ((left ≡ 0) ⊎ (goes_on db bits ≡ false)) → EndsBelow db left bits [] (end_at db bits)
-  here left bits ended = record {
-    inner = λ c x d e. absurd (no_end c x d e);
-    short = omega arith;
-    ended = elim ended [ inl full ↦ inr (sym full) | inr off ↦ inl (ap (goes_on db) (append-nil bits) ∙ off) ];
-    end_is = ap (end_at db) (sym (append-nil bits));
-  }
-
-  lift_inner : (left : ℕ) (bits : List Bool) (y : Bool) (s : List Bool) (end : TreeRecord) → goes_on db bits ≡ true → EndsBelow db left (bits ++ y ∷ []) s end
-      → (c : List Bool) (x : Bool) (d : List Bool) → y ∷ s ≡ c ++ x ∷ d → goes_on db (bits ++ c) ≡ true
-  lift_inner left bits y s end on h [] x d e = ap (goes_on db) (append-nil bits) ∙ on
-  lift_inner left bits y s end on h (z ∷ c) x d e =
-      let first : y ≡ z = cc in
-      let others : s ≡ c ++ x ∷ d = cc in
-      ap (λ (w : Bool). goes_on db (bits ++ w ∷ c)) (sym first) ∙ sym (ap (goes_on db) (shifted bits y c)) ∙ h.inner c x d others
-
-  lift : (left : ℕ) (bits : List Bool) (y : Bool) (s : List Bool) (end : TreeRecord) → goes_on db bits ≡ true → EndsBelow db left (bits ++ y ∷ []) s end → EndsBelow db (suc left) bits (y ∷ s) end
-  lift left bits y s end on h = record {
-    inner = lift_inner left bits y s end on h;
-    short = let short = h.short in omega (arith, short);
-    ended = elim h.ended [ inl off ↦ inl (sym (ap (goes_on db) (shifted bits y s)) ∙ off) | inr full ↦ inr (omega (arith, full)) ];
-    end_is = h.end_is ∙ ap (end_at db) (shifted bits y s);
-  }
-
-  unlift : (left : ℕ) (bits : List Bool) (y : Bool) (s : List Bool) (end : TreeRecord) → EndsBelow db (suc left) bits (y ∷ s) end → EndsBelow db left (bits ++ y ∷ []) s end
-  unlift left bits y s end h = record {
-    inner = λ c x d e. ap (goes_on db) (shifted bits y c) ∙ h.inner (y ∷ c) x d (ap (λ (t : List Bool). y ∷ t) e);
-    short = let short = h.short in omega (arith, short);
-    ended = elim h.ended [ inl off ↦ inl (ap (goes_on db) (shifted bits y s) ∙ off) | inr full ↦ inr (omega (arith, full)) ];
-    end_is = h.end_is ∙ sym (ap (end_at db) (shifted bits y s));
-  }
-
-  on_here : (left : ℕ) (bits : List Bool) (y : Bool) (s : List Bool) (end : TreeRecord) → EndsBelow db left bits (y ∷ s) end → goes_on db bits ≡ true
-  on_here left bits y s end h = sym (ap (goes_on db) (append-nil bits)) ∙ h.inner [] y s refl
-
-  off_here : (left : ℕ) (bits : List Bool) (end : TreeRecord) → EndsBelow db (suc left) bits [] end → goes_on db bits ≡ false
-  off_here left bits end h = elim h.ended [ inl off ↦ sym (ap (goes_on db) (append-nil bits)) ∙ off | inr full ↦ absurd (omega (arith, full)) ]
-
-  -- what stands in the list
-  abbrev Stands : ℕ → List Bool → Stop → Type 0
-  Stands left bits m = (s : List Bool) × (m.bits ≡ bits ++ s) × EndsBelow db left bits s m.end
-
-  one_stands : (left : ℕ) (bits : List Bool) (m : Stop) → ((left ≡ 0) ⊎ (goes_on db bits ≡ false)) → Contains (stops_below db left bits) m → Stands left bits m
-  one_stands left bits m ended h =
-      let is = one_of (stop bits (end_at db bits)) m (subst (λ (ms : List Stop). Contains ms m) (stops-end db left bits ended) h) in
-      ([], ap (λ (n : Stop). n.bits) (sym is) ∙ sym (append-nil bits), subst (λ (n : Stop). EndsBelow db left bits [] n.end) is (here left bits ended))
-
-  half_stands : (left : ℕ) (bits : List Bool) (y : Bool) (m : Stop) → goes_on db bits ≡ true → Stands left (bits ++ y ∷ []) m → Stands (suc left) bits m
-  half_stands left bits y m on h = (y ∷ h.0, h.1 ∙ shifted bits y h.0, lift left bits y h.0 m.end on h.2)
-
-  pub sound : (left : ℕ) (bits : List Bool) (m : Stop) → Contains (stops_below db left bits) m → Stands left bits m
-  sound zero bits m h = one_stands zero bits m (inl refl) h
-  sound (suc left) bits m h = elim (cases_Bool (goes_on db bits)) [
-    | inr off ↦ one_stands (suc left) bits m (inr off) h
-    | inl on ↦ elim (Contains-append_cases _ _ m (subst (λ (ms : List Stop). Contains ms m) (stops-node db left bits on) h)) [
-      | inl low ↦ half_stands left bits false m on (sound left (bits ++ false ∷ []) m low)
-      | inr high ↦ half_stands left bits true m on (sound left (bits ++ true ∷ []) m high)
+-- an alias of the tree is one of the database
+pub alias-same : (db : Database) (s : List Bool) → is_alias_in (walked_tree db) s ≡ is_alias db s
+unfolding is_alias_in is_alias
+alias-same db s =
+    let both : Bool = has_ipv4_subtree db && nat_lt 0 (ipv4_start db) in
+    let test : ℕ → Bool = λ n. walk (tree_of db) s == ipv4_start db && nat_le (2 ^ 32) (number_of n s) in
+    let first = start-test both (ipv4_start db) (walk (tree_of db) s) (nat_le (2 ^ 32) (number_of (width db) s)) in
+    let last = and_assoc (has_ipv4_subtree db) (nat_lt 0 (ipv4_start db)) (test 128) in
+    elim (cases_Bool (has_ipv6 db)) [
+      | inl six ↦ let wide : width db ≡ 128 = rw six refl in first ∙ ap (λ n. both && test n) wide ∙ sym last
+      | inr four ↦ first ∙ no_six (has_ipv6 db) _ _ (test (width db)) four ∙ sym (no_six (has_ipv6 db) _ _ (test 128) four) ∙ sym last
     ]
-  ]
 
-  one_contains : (left : ℕ) (bits : List Bool) (end : TreeRecord) → ((left ≡ 0) ⊎ (goes_on db bits ≡ false)) → EndsBelow db left bits [] end → Contains (stops_below db left bits) (stop (bits ++ []) end)
-  one_contains left bits end ended h =
-      let same : stop bits (end_at db bits) ≡ stop (bits ++ []) end = ap (λ (b : List Bool). stop b (end_at db b)) (sym (append-nil bits)) ∙ ap (stop (bits ++ [])) (sym h.end_is) in
-      subst (λ (ms : List Stop). Contains ms (stop (bits ++ []) end)) (sym (stops-end db left bits ended)) (the_one _ _ same)
-
-  half_contains : (ms : List Stop) (bits : List Bool) (y : Bool) (s : List Bool) (end : TreeRecord) → Contains ms (stop ((bits ++ y ∷ []) ++ s) end) → Contains ms (stop (bits ++ y ∷ s) end)
-  half_contains ms bits y s end h = subst (λ (b : List Bool). Contains ms (stop b end)) (shifted bits y s) h
-
-  pub complete : (left : ℕ) (bits s : List Bool) (end : TreeRecord) → EndsBelow db left bits s end → Contains (stops_below db left bits) (stop (bits ++ s) end)
-  complete zero bits [] end h = one_contains zero bits end (inl refl) h
-  complete zero bits (y ∷ s) end h = let short = h.short in absurd (omega (arith, short))
-  complete (suc left) bits [] end h = one_contains (suc left) bits end (inr (off_here left bits end h)) h
-  complete (suc left) bits (false ∷ s) end h =
-      subst (λ (ms : List Stop). Contains ms (stop (bits ++ false ∷ s) end)) (sym (stops-node db left bits (on_here (suc left) bits false s end h)))
-      (Contains-append_left _ _ _ (half_contains _ bits false s end (complete left (bits ++ false ∷ []) s end (unlift left bits false s end h))))
-  complete (suc left) bits (true ∷ s) end h =
-      subst (λ (ms : List Stop). Contains ms (stop (bits ++ true ∷ s) end)) (sym (stops-node db left bits (on_here (suc left) bits true s end h)))
-      (Contains-append_right _ _ _ (half_contains _ bits true s end (complete left (bits ++ true ∷ []) s end (unlift left bits true s end h))))
-
-  -- each full string has a stop on its way
-  pub end_on : (left : ℕ) (bits s : List Bool) → length s ≡ left → (t : List Bool) × (r : List Bool) × (s ≡ t ++ r) × EndsBelow db left bits t (end_at db (bits ++ t))
-  end_on zero bits [] full = ([], [], refl, subst (EndsBelow db zero bits []) (ap (end_at db) (sym (append-nil bits))) (here zero bits (inl refl)))
-  end_on zero bits (x ∷ s) full = absurd (omega arith)
-  end_on (suc left) bits [] full = absurd (omega arith)
-  end_on (suc left) bits (x ∷ s) full = elim (cases_Bool (goes_on db bits)) [
-    | inr off ↦ ([], x ∷ s, refl, subst (EndsBelow db (suc left) bits []) (ap (end_at db) (sym (append-nil bits))) (here (suc left) bits (inr off)))
-    | inl on ↦
-        let w = end_on left (bits ++ x ∷ []) s (omega arith) in
-        (x ∷ w.0, w.1, ap (λ (t : List Bool). x ∷ t) w.2, subst (EndsBelow db (suc left) bits (x ∷ w.0)) (ap (end_at db) (shifted bits x w.0)) (lift left bits x w.0 _ on w.3))
-  ]
+-- what a leaf has that leads to this number
+unfoldable pub end_of_leaf : Database → ℕ → TreeRecord
+end_of_leaf db number = at_stop (record_at db number) false
 
 -- ---- what a leaf has
 
@@ -153,13 +75,13 @@ unfolding end_of_leaf
 absent-end db leaf is = ap (λ (x : TreeRecord). at_stop x false) (record-empty db.metadata.node_count (data_length db) (walk (tree_of db) leaf) is)
 
 -- what a walk stops at, by an alias and by none
-end-aliased : (db : Database) (bits : List Bool) → is_alias db bits ≡ true → walk (tree_of db) bits < db.metadata.node_count → end_at db bits ≡ Node (walk (tree_of db) bits)
+end-aliased : (db : Database) (bits : List Bool) → is_alias db bits ≡ true → walk (tree_of db) bits < db.metadata.node_count → end_at (walked_tree db) bits ≡ Node (walk (tree_of db) bits)
 end-aliased db bits aliased on =
-    ap (at_stop (record_at db (walk (tree_of db) bits))) aliased ∙ ap (λ (x : TreeRecord). at_stop x true) (record-node db.metadata.node_count (data_length db) (walk (tree_of db) bits) on)
+    ap (at_stop (record_at db (walk (tree_of db) bits))) (alias-same db bits ∙ aliased) ∙ ap (λ (x : TreeRecord). at_stop x true) (record-node db.metadata.node_count (data_length db) (walk (tree_of db) bits) on)
 
-end-unaliased : (db : Database) (bits : List Bool) → is_alias db bits ≡ false → end_at db bits ≡ end_of_leaf db (walk (tree_of db) bits)
+end-unaliased : (db : Database) (bits : List Bool) → is_alias db bits ≡ false → end_at (walked_tree db) bits ≡ end_of_leaf db (walk (tree_of db) bits)
 unfolding end_of_leaf
-end-unaliased db bits unaliased = ap (at_stop (record_at db (walk (tree_of db) bits))) unaliased
+end-unaliased db bits unaliased = ap (at_stop (record_at db (walk (tree_of db) bits))) (alias-same db bits ∙ unaliased)
 
 pub has-end : (db : Database) (leaf : List Bool) → HasEnd db leaf (end_of_leaf db (walk (tree_of db) leaf))
 has-end db leaf = elim (kind_of_leaf db leaf) [
@@ -183,11 +105,11 @@ end-has db leaf (Data offset) h = value-end db leaf offset h
 -- ---- at the root
 
 module _ (db : Database) where
-  goes_parts : (c : List Bool) → goes_on db c ≡ true → (is_alias db c ≡ false) × (walk (tree_of db) c < db.metadata.node_count)
-  goes_parts c h = let both = and_parts (not (is_alias db c)) _ h in (not-true _ both.0, ltb-true _ _ both.1)
+  goes_parts : (c : List Bool) → goes_on (walked_tree db) c ≡ true → (is_alias db c ≡ false) × (walk (tree_of db) c < db.metadata.node_count)
+  goes_parts c h = let both = and_parts (not (is_alias_in (walked_tree db) c)) _ h in (sym (alias-same db c) ∙ not-true _ both.0, ltb-true _ _ both.1)
 
-  goes : (c : List Bool) → is_alias db c ≡ false → walk (tree_of db) c < db.metadata.node_count → goes_on db c ≡ true
-  goes c unaliased on = and_from _ _ (ap not unaliased) (lt-ltb _ _ on)
+  goes : (c : List Bool) → is_alias db c ≡ false → walk (tree_of db) c < db.metadata.node_count → goes_on (walked_tree db) c ≡ true
+  goes c unaliased on = and_from _ _ (ap not (alias-same db c ∙ unaliased)) (lt-ltb _ _ on)
 
   no_test : (c : List Bool) → is_alias db c ≡ false → ¬ IsAlias db c
   no_test c unaliased h = both_ways _ unaliased (alias-complete db c h)
@@ -199,7 +121,7 @@ module _ (db : Database) where
   any_prefix s c [] e whole proper = let same : s ≡ c = e ∙ append-nil c in subst (λ (t : List Bool). ¬ IsAlias db t) same whole
   any_prefix s c (x ∷ q) e whole proper = proper x q e
 
-  pub stop_of_end : (m : Stop) → EndsBelow db (width db) [] m.bits m.end → IsStop db m
+  pub stop_of_end : (m : Stop) → EndsBelow (walked_tree db) (width db) [] m.bits m.end → IsStop db m
   stop_of_end m h =
       let proper : (c : List Bool) (x : Bool) (d : List Bool) → m.bits ≡ c ++ x ∷ d → ¬ IsAlias db c = λ c x d e. no_test c (goes_parts c (h.inner c x d e)).0 in
       let short = h.short in
@@ -213,8 +135,8 @@ module _ (db : Database) where
               inner = λ c x d e. (goes_parts c (h.inner c x d e)).1;
               short = short;
               ended = elim h.ended [
-                | inl off ↦ elim (and_cases (not (is_alias db m.bits)) _ off) [
-                  | inl alias ↦ absurd (both_ways _ unaliased (not-false _ alias))
+                | inl off ↦ elim (and_cases (not (is_alias_in (walked_tree db) m.bits)) _ off) [
+                  | inl alias ↦ absurd (both_ways _ unaliased (sym (alias-same db m.bits) ∙ not-false _ alias))
                   | inr out ↦ inl (ltb-false _ _ out)
                 ]
                 | inr full ↦ inr full
@@ -226,7 +148,7 @@ module _ (db : Database) where
         )
       ]
 
-  pub end_of_stop : (m : Stop) → IsStop db m → EndsBelow db (width db) [] m.bits m.end
+  pub end_of_stop : (m : Stop) → IsStop db m → EndsBelow (walked_tree db) (width db) [] m.bits m.end
   end_of_stop m (inl (h, is)) =
       let alias = h.alias in
       let aliased = alias-complete db m.bits alias in
@@ -239,7 +161,7 @@ module _ (db : Database) where
         inner = λ c x d e. goes c (test_no c (omega (arith, most, ap length e, length-append c (x ∷ d))) (h.clear c x d e))
             (walk-inner (tree_of db) 0 c (x ∷ d) (omega (arith, ap (walk (tree_of db)) (sym e), same, node)));
         short = short;
-        ended = inl (and_left (not (is_alias db m.bits)) _ (ap not aliased));
+        ended = inl (and_left (not (is_alias_in (walked_tree db) m.bits)) _ (ap not (alias-same db m.bits ∙ aliased)));
         end_is = is ∙ sym (end-aliased db m.bits aliased (omega (arith, same, node)));
       }
   end_of_stop m (inr (h, is)) =
@@ -249,7 +171,7 @@ module _ (db : Database) where
         inner = λ c x d e. goes c (test_no c (omega (arith, short, ap length e, length-append c (x ∷ d), width-le db)) (h.clear c (x ∷ d, e))) (h.is_leaf.inner c x d e);
         short = short;
         ended = elim h.is_leaf.ended [
-          | inl out ↦ inl (and_right (not (is_alias db m.bits)) _ (le-ltb _ _ out))
+          | inl out ↦ inl (and_right (not (is_alias_in (walked_tree db) m.bits)) _ (le-ltb _ _ out))
           | inr full ↦ inr full
         ];
         end_is = sym (end-has db m.bits m.end is) ∙ sym (end-unaliased db m.bits unaliased);
@@ -278,12 +200,12 @@ ascends-append (x ∷ xs) ys p q before = (
 )
 
 module _ (db : Database) where
-  halves-before : (left : ℕ) (bits a b : List Bool) → Contains (bits_of_stops (stops_below db left (bits ++ false ∷ []))) a → Contains (bits_of_stops (stops_below db left (bits ++ true ∷ []))) b → ComesBefore a b
+  halves-before : (left : ℕ) (bits a b : List Bool) → Contains (bits_of_stops (stops_below (walked_tree db) left (bits ++ false ∷ []))) a → Contains (bits_of_stops (stops_below (walked_tree db) left (bits ++ true ∷ []))) b → ComesBefore a b
   halves-before left bits a b in_low in_high =
       let low = in_stops _ a in_low in
       let high = in_stops _ b in_high in
-      let s = sound db left (bits ++ false ∷ []) low.0 low.1 in
-      let t = sound db left (bits ++ true ∷ []) high.0 high.1 in
+      let s = sound (walked_tree db) left (bits ++ false ∷ []) low.0 low.1 in
+      let t = sound (walked_tree db) left (bits ++ true ∷ []) high.0 high.1 in
       record {
         shared = bits;
         rest_of_a = s.0;
@@ -292,24 +214,24 @@ module _ (db : Database) where
         high = sym high.2 ∙ t.1 ∙ shifted bits true t.0;
       }
 
-  ascends-one : (left : ℕ) (bits : List Bool) → ((left ≡ 0) ⊎ (goes_on db bits ≡ false)) → Ascends (bits_of_stops (stops_below db left bits))
-  ascends-one left bits ended = subst (λ (ms : List Stop). Ascends (bits_of_stops ms)) (sym (stops-end db left bits ended)) ((λ other h. absurd (let below = h.1 in omega (arith, below))), tt)
+  ascends-one : (left : ℕ) (bits : List Bool) → ((left ≡ 0) ⊎ (goes_on (walked_tree db) bits ≡ false)) → Ascends (bits_of_stops (stops_below (walked_tree db) left bits))
+  ascends-one left bits ended = subst (λ (ms : List Stop). Ascends (bits_of_stops ms)) (sym (stops-end (walked_tree db) left bits ended)) ((λ other h. absurd (let below = h.1 in omega (arith, below))), tt)
 
-  ascends-below : (left : ℕ) (bits : List Bool) → Ascends (bits_of_stops (stops_below db left bits))
+  ascends-below : (left : ℕ) (bits : List Bool) → Ascends (bits_of_stops (stops_below (walked_tree db) left bits))
   ascends-below zero bits = ascends-one zero bits (inl refl)
-  ascends-below (suc left) bits = elim (cases_Bool (goes_on db bits)) [
+  ascends-below (suc left) bits = elim (cases_Bool (goes_on (walked_tree db) bits)) [
     | inr off ↦ ascends-one (suc left) bits (inr off)
-    | inl on ↦ subst (λ (ms : List Stop). Ascends (bits_of_stops ms)) (sym (stops-node db left bits on))
-        (subst Ascends (sym (map-append (λ (m : Stop). m.bits) (stops_below db left (bits ++ false ∷ [])) (stops_below db left (bits ++ true ∷ []))))
+    | inl on ↦ subst (λ (ms : List Stop). Ascends (bits_of_stops ms)) (sym (stops-node (walked_tree db) left bits on))
+        (subst Ascends (sym (map-append (λ (m : Stop). m.bits) (stops_below (walked_tree db) left (bits ++ false ∷ [])) (stops_below (walked_tree db) left (bits ++ true ∷ []))))
         (ascends-append _ _ (ascends-below left (bits ++ false ∷ [])) (ascends-below left (bits ++ true ∷ [])) (halves-before left bits)))
   ]
 
 pub stops_exact : (db : Database) (m : Stop) → Contains (stops db) m ↔ IsStop db m
 stops_exact db m = (
   (λ h.
-      let w = sound db (width db) [] m h in
-      stop_of_end db m (subst (λ (s : List Bool). EndsBelow db (width db) [] s m.end) (sym w.1) w.2)),
-  λ h. complete db (width db) [] m.bits m.end (end_of_stop db m h),
+      let w = sound (walked_tree db) (width db) [] m h in
+      stop_of_end db m (subst (λ (s : List Bool). EndsBelow (walked_tree db) (width db) [] s m.end) (sym w.1) w.2)),
+  λ h. complete (walked_tree db) (width db) [] m.bits m.end (end_of_stop db m h),
 )
 
 pub stops_are_exact : StopsAreExact

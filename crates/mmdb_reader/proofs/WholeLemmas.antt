@@ -1,5 +1,5 @@
 -- What a walk without faults and the check of values say of a file.
-use Rattle.std.proofs.Common.{◌≡◌, ℕ, ◌≤◌, ◌↔◌, zero, suc, Bool, true, false, List, [], ◌∷◌, ◌++◌, length, arith, sym, ap, ◌∙◌, refl, subst, inl, inr}
+use Rattle.std.proofs.Common.{◌≡◌, ℕ, ◌↔◌, zero, suc, Bool, true, false, List, [], ◌∷◌, ◌++◌, arith, sym, ap, ◌∙◌, refl, subst, inl, inr}
 use Rattle.std.specs.List.{Contains, list_any}
 use Rattle.std.proofs.lemmas.Bool.{cases_Bool, both_ways}
 use Rattle.std.proofs.lemmas.List.Elements.{Contains-append_left, Contains-append_right, Contains-append_cases}
@@ -7,14 +7,17 @@ use Rattle.mmdb_format.specs.Unfolding.{Tree}
 use Rattle.mmdb_format.specs.Error.{MemoryApart}
 use Rattle.mmdb_format.specs.declared.error.MaxMindDbError.{MaxMindDbError}
 use Rattle.mmdb_format.specs.declared.error.MaxMindDbError.TheVariants.{InvalidDatabase, Io, Decoding, ResourceLimit, InvalidNetwork, InvalidInput, Memory}
-use Rattle.mmdb_check.specs.Checking.{holds, none, IsGood, CanAddAll}
-use Rattle.mmdb_check.specs.OffsetSet.{offsets_of}
+use Rattle.mmdb_check.specs.Checking.{none, IsGood, CanAddAll}
+use Rattle.mmdb_offsets.specs.OffsetSet.{holds, offsets_of}
 use Rattle.mmdb_check.proofs.Members.{can_add_places, can_add_at, good_tree}
 use Rattle.mmdb_tree.specs.declared.record.TreeRecord.{TreeRecord}
 use Rattle.mmdb_tree.specs.declared.record.TreeRecord.TheVariants.{Data, Empty, Invalid, Node}
 use Rattle.mmdb_reader.specs.File.{Database, data_section}
-use Rattle.mmdb_reader.specs.Stops.{Stop, stop, stops, is_fault, offset_of, offsets, most_stops}
-use Rattle.mmdb_reader.specs.Walked.{HoldsOffsets}
+use Rattle.mmdb_tree.specs.declared.walked.WalkEnd.{WalkEnd}
+use Rattle.mmdb_tree.specs.declared.walked.WalkEnd.TheVariants.{Whole}
+use Rattle.mmdb_tree.specs.Stops.{WalkedTree, Stop, stop, is_fault, offset_of, offsets, IsClean}
+use Rattle.mmdb_tree.specs.Walked.{IsVerdict}
+use Rattle.mmdb_reader.specs.Stops.{walked_tree, stops, HoldsOffsets}
 use Rattle.mmdb_reader.specs.Whole.{HasWholeTree}
 use Rattle.mmdb_reader.specs.WholeLaws.{HasEnd, OffsetsAreExact}
 use Rattle.mmdb_reader.proofs.StopLemmas.{stops_exact}
@@ -56,12 +59,7 @@ the_fault (Data offset) h = absurd (cc)
 no_alias_fault : (end : TreeRecord) (number : ℕ) → end ≡ Node number → end ≡ Invalid → ⊥
 no_alias_fault end number a b = let e : Node number ≡ Invalid = sym a ∙ b in cc
 
--- no stop is a fault, and there are not too many
-pub record IsClean (db : Database) : Type 0 where
-  pub faultless : list_any (λ m. is_fault m.end) (stops db) ≡ false
-  pub few : length (stops db) ≤ most_stops db
-
-pub tree_of_clean : (db : Database) → IsClean db → HasWholeTree db
+pub tree_of_clean : (db : Database) → IsClean (walked_tree db) → HasWholeTree db
 tree_of_clean db clean = record {
   faultless = λ leaf walked faulty.
       let there = (stops_exact db (stop leaf Invalid)).1 (inr (walked, faulty)) in
@@ -69,7 +67,7 @@ tree_of_clean db clean = record {
   few = clean.few;
 }
 
-pub clean_of_tree : (db : Database) → HasWholeTree db → IsClean db
+pub clean_of_tree : (db : Database) → HasWholeTree db → IsClean (walked_tree db)
 clean_of_tree db h = record {
   faultless = free_fault (stops db) (λ m there. elim (cases_Bool (is_fault m.end)) [
     | inr fine ↦ fine
@@ -82,6 +80,14 @@ clean_of_tree db h = record {
   ]);
   few = h.few;
 }
+
+-- what a walk of a database's tree says where it has stopped everywhere
+pub whole_by : (db : Database) (tree : WalkedTree) (set : List Bool) (taken : ℕ) (end : WalkEnd) → IsVerdict tree set taken end → end ≡ Whole → tree ≡ walked_tree db
+    → HasWholeTree db × HoldsOffsets db set
+whole_by db tree set taken end verdict is same =
+    let said : IsVerdict tree set taken Whole = subst (IsVerdict tree set taken) is verdict in
+    let there : IsVerdict (walked_tree db) set taken Whole = subst (λ (t : WalkedTree). IsVerdict t set taken Whole) same said in
+    (tree_of_clean db there.0, there.1.0)
 
 -- ---- offsets
 

@@ -6,7 +6,8 @@ use Rattle.mmdb_reader.specs.Leaves.{IsLeaf}
 use Rattle.mmdb_reader.specs.Alias.{IsAlias}
 use Rattle.mmdb_reader.specs.Listing.{IsClear, IsFaulty}
 use Rattle.mmdb_reader.specs.Options.{default_options}
-use Rattle.mmdb_reader.specs.Stops.{stops, offsets, most_stops}
+use Rattle.mmdb_tree.specs.Stops.{offsets}
+use Rattle.mmdb_reader.specs.Stops.{stops, most_stops}
 
 -- A leaf is walked if no beginning of it is an alias.
 pub record IsWalked (db : Database) (leaf : List Bool) : Type 0 where

@@ -13,7 +13,8 @@ use Rattle.mmdb_reader.specs.Lookup.{CanAsk, Answers, IsInvalidAt}
 use Rattle.mmdb_reader.specs.Alias.{IsAlias}
 use Rattle.mmdb_reader.specs.Listing.{HasValueAt, IsFaulty, Ascends}
 use Rattle.mmdb_reader.specs.Options.{default_options}
-use Rattle.mmdb_reader.specs.Stops.{Stop, stops, offsets, cost, cut, AreFirst, most_stops}
+use Rattle.mmdb_tree.specs.Stops.{Stop, offsets, cost, cut, AreFirst}
+use Rattle.mmdb_reader.specs.Stops.{stops, most_stops}
 use Rattle.mmdb_reader.specs.Whole.{IsWalked, IsTopmost, HasNoFault, IsWhole}
 
 -- How many inner nodes a walk has taken when it comes to the stop that follows the first n.

@@ -1,7 +1,7 @@
 //! Positions of a walk over the search tree.
 ghost use Rattle.std.specs.Prelude.{◌≡◌};
 
-use crate::walked::Walker;
+use crate::walked::DatabaseWalker;
 use std::convert::AsSlice;
 
 /// A number of the tree, with the bits that lead to it: the first `prefix` bits of an address whose
@@ -33,19 +33,23 @@ impl Position {
 
     /// The lower or the upper half of the addresses of this position.
     #[inline(always)]
-    pub(crate) fn half<S: AsSlice<u8> + Drop>(self, walker: &Walker<'_, S>, right: bool) -> Position
+    pub(crate) fn half<S: AsSlice<u8> + Drop>(
+        self,
+        walker: &DatabaseWalker<'_, S>,
+        right: bool,
+    ) -> Position
         requires at { IsAt walker.now.reader.now self }
         requires halves { HasHalves walker.now.reader.now self }
         ensures { result ≡ half_of walker.now.reader.now self right }
     {
-        let size = 1u128 << (walker.width - self.prefix - 1);
+        let size = 1u128 << (walker.tree.width - self.prefix - 1);
         Position {
             address: if right {
                 self.address + size
             } else {
                 self.address
             },
-            number: walker.nodes.child(self.number, right),
+            number: walker.tree.nodes.child(self.number, right),
             prefix: self.prefix + 1,
         }
     }

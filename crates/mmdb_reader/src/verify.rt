@@ -3,21 +3,21 @@ ghost use Rattle.std.specs.Prelude.{◌≡◌, ◌≤◌, ◌<◌, ◌+◌, ◌*
 ghost use Rattle.mmdb_format.specs.Error.{OfDatabase, MemoryApart, IsOfOrMemory};
 ghost use Rattle.mmdb_check.specs.Checking.{CanAddAll, none};
 ghost use Rattle.mmdb_reader.specs.File.{data_section};
-ghost use Rattle.mmdb_reader.specs.Stops.{stops, offsets, walk_cost};
-ghost use Rattle.mmdb_reader.specs.Walked.{HoldsOffsets};
+ghost use Rattle.mmdb_tree.specs.Stops.{offsets};
+ghost use Rattle.mmdb_reader.specs.Stops.{stops, walk_cost, HoldsOffsets};
 ghost use Rattle.mmdb_reader.specs.Whole.{HasWholeMetadata, HasWholeTree, HasZeroSeparator, IsWhole};
 ghost use Rattle.mmdb_reader.specs.WholeLaws.{AnswersAll};
 
 use crate::offsets::counted_from_start;
 use crate::reader::Reader;
 use crate::steps::Steps;
-use crate::walked::{WalkEnd, Walked};
 use crate::within::invalid;
-use mmdb_check::checked::Checked;
+use mmdb_check::checked::{Checked, check_offsets};
 use mmdb_check::fuzzing;
-use mmdb_check::offset_set::{OffsetSet, check_offsets};
 use mmdb_format::error::MaxMindDbError;
 use mmdb_format::message::{Message, Text};
+use mmdb_offsets::OffsetSet;
+use mmdb_tree::{WalkEnd, Walked};
 use std::alloc::{AllocError, Global};
 use std::convert::AsSlice;
 
@@ -65,6 +65,7 @@ impl<S: AsSlice<u8> + Drop> Reader<S> {
     }
 
     // The offsets of walked leaves, if no walked leaf is faulty and there are not too many stops.
+    #[tactic(auto, using(crate::proofs::WholeLemmas::clean_of_tree))]
     fn walk_tree(&self, alloc: Global, steps: &mut Steps) -> Result<OffsetSet, MaxMindDbError>
         requires { steps.old + (6 * self.now.metadata.node_count + 130) < 2 ^ 64 }
         ensures ok { IfOk result (λ set. HasWholeTree self.now × HoldsOffsets self.now set) }
@@ -76,7 +77,7 @@ impl<S: AsSlice<u8> + Drop> Reader<S> {
             (λ e. MemoryApart e (steps.new ≡ steps.old + walk_cost self.now)) }
         ensures most { steps.new ≤ steps.old + walk_cost self.now }
     {
-        let walker = self.walker();
+        let walker = self.tree_walker();
         let mut stack = Vec::with_capacity(alloc, usize::from(self.width()))?;
         let mut set = OffsetSet::new(alloc, self.data_len())?;
         let walked = match walker.sweep(&mut stack, &mut set) {

@@ -1,50 +1,21 @@
-//! The walk of a whole tree.
-ghost use Rattle.std.specs.Prelude.{◌≡◌, ℕ, ◌≤◌, ◌<◌, ◌+◌, ◌*◌, [], vec_len, length, MatchBool, IfSome, IsTrue, false, not};
-ghost use Rattle.std.specs.Vec.{vec_capacity};
-ghost use Rattle.mmdb_check.specs.Checking.{holds};
-ghost use Rattle.mmdb_reader.specs.declared.walked.WalkEnd.TheVariants.{Whole};
-ghost use Rattle.mmdb_reader.specs.File.{width, data_length};
-ghost use Rattle.mmdb_reader.specs.Stops.{is_fault, walk_cost};
-ghost use Rattle.mmdb_reader.specs.Walked.{AreLimits, Takes, GoesOn, IsStopped, half_of, end_from, is_alias_of, Keeps, IsVerdict};
+//! The tree of a database, at hand for walks.
+ghost use Rattle.std.specs.Prelude.{◌≡◌};
+ghost use Rattle.mmdb_tree.specs.Walked.{walked_by};
+ghost use Rattle.mmdb_reader.specs.Stops.{walked_tree};
+ghost use Rattle.mmdb_reader.specs.Walked.{IsWalkerOf};
 
 use crate::reader::Reader;
-use mmdb_check::offset_set::OffsetSet;
-use mmdb_tree::{Nodes, TreeRecord};
+use mmdb_tree::Walker;
 use std::convert::AsSlice;
 
-/// A number of the tree, how many bits lead to it, and whether they are high: whether one of the first 96
-/// bits of an IPv6 address is 1.
-#[derive(Clone, Copy)]
-pub(crate) struct Point {
-    pub(crate) number: usize,
-    pub(crate) prefix: u8,
-    pub(crate) high: bool,
-}
-
-/// How a walk ended: it has stopped everywhere, or failed at a faulty leaf that leads to a number, or
-/// since it has stopped too often.
-#[derive(Clone, Copy)]
-pub(crate) enum WalkEnd {
-    Whole,
-    AtFault(usize),
-    TooMany,
-}
-
-/// How a walk ended, and how many positions it took.
-#[derive(Clone, Copy)]
-pub(crate) struct Walked {
-    pub(crate) taken: usize,
-    pub(crate) end: WalkEnd,
-}
-
 impl<S: AsSlice<u8> + Drop> Reader<S> {
-    // What a walk asks at each point, at hand.
-    pub(crate) fn walker(&self) -> Walker<'_, S>
-        ensures { result.reader.now ≡ self.now }
+    // What a walk of the tree asks at each point, at hand.
+    pub(crate) fn tree_walker(&self) -> Walker<'_>
+        ensures walks { walked_by result ≡ walked_tree self.now }
+        ensures are { IsWalkerOf self.now result }
     {
         let start = self.ipv4_start();
         Walker {
-            reader: self,
             nodes: self.nodes(),
             width: usize::from(self.width()),
             ipv4_start: if self.has_ipv4_subtree() && start != 0 {
@@ -55,193 +26,22 @@ impl<S: AsSlice<u8> + Drop> Reader<S> {
             data_len: self.data_len(),
         }
     }
+
+    // The same, with the reader.
+    pub(crate) fn walker(&self) -> DatabaseWalker<'_, S>
+        ensures { result.reader.now ≡ self.now }
+    {
+        DatabaseWalker {
+            reader: self,
+            tree: self.tree_walker(),
+        }
+    }
 }
 
-// What a walk asks of a database at each point, at hand: its nodes, how many bits a full address has, where aliases
-// lead, if there are any, and how many bytes the data section has.
+// A reader, and what a walk of its tree asks at each position, at hand.
 #[derive(Drop)]
-pub(crate) struct Walker<'a, S: AsSlice<u8> + Drop> {
+pub(crate) struct DatabaseWalker<'a, S: AsSlice<u8> + Drop> {
     pub(crate) reader: &'a Reader<S>,
-    pub(crate) nodes: Nodes<'a>,
-    pub(crate) width: usize,
-    pub(crate) ipv4_start: Option<usize>,
-    data_len: usize,
-    pub(crate) ghost are: { AreLimits reader.now nodes width ipv4_start data_len },
-}
-
-impl<S: AsSlice<u8> + Drop> Walker<'_, S> {
-    // Whether a point is reached by an alias.
-    #[inline(always)]
-    fn is_alias(&self, point: Point) -> bool
-        ensures { result ≡ is_alias_of self.now.reader.now point.number point.high }
-    {
-        match self.ipv4_start {
-            Some(start) => point.number == start && point.high,
-            None => false,
-        }
-    }
-
-    // Whether the walk goes on below a point.
-    #[inline(always)]
-    fn goes_on(&self, point: Point) -> bool
-        ensures { MatchBool result (GoesOn self.now.reader.now point)
-            (IsStopped self.now.reader.now point) }
-    {
-        usize::from(point.prefix) < self.width
-            && point.number < self.nodes.node_count
-            && !self.is_alias(point)
-    }
-
-    // The lower or the upper half of what lies below a point.
-    #[inline(always)]
-    fn half_of(&self, point: Point, right: bool) -> Point
-        requires { GoesOn self.now.reader.now point }
-        ensures { result ≡ half_of self.now.reader.now point right }
-    {
-        Point {
-            number: self.nodes.child(point.number, right),
-            prefix: point.prefix + 1,
-            high: point.high || right && usize::from(point.prefix) + 32 < self.width,
-        }
-    }
-
-    // What the walk stops at: the node to which an alias leads, or what a leaf has.
-    #[inline(always)]
-    fn end_from(&self, point: Point) -> TreeRecord
-        ensures { result ≡ end_from self.now.reader.now point.number point.high }
-    {
-        match TreeRecord::of(point.number, self.nodes.node_count, self.data_len) {
-            TreeRecord::Node(_) if !self.is_alias(point) => TreeRecord::Invalid,
-            record => record,
-        }
-    }
-
-    // Puts the offset of what the walk stops at into the set, if it has one. Whether it is no fault.
-    #[tactic(auto, using(crate::proofs::Progress::adds_offset, crate::proofs::Progress::adds_node, crate::proofs::Progress::adds_empty, crate::proofs::Progress::found_inside))]
-    #[inline(always)]
-    fn keep(&self, point: Point, set: &mut OffsetSet) -> bool
-        requires { length set.old ≡ data_length self.now.reader.now }
-        ensures kept { result
-            ≡ not (is_fault (end_from self.now.reader.now point.number point.high)) }
-        ensures set { Keeps self.now.reader.now point set.old set.new }
-        ensures length { length set.new ≡ length set.old }
-    {
-        match self.end_from(point) {
-            TreeRecord::Invalid => return false,
-            TreeRecord::Data(offset) => set.insert(offset),
-            TreeRecord::Node(_) => {}
-            TreeRecord::Empty => {}
-        }
-        true
-    }
-
-    // Puts a point on the stack, where the walk goes on below it, and else keeps what it stops at. Whether that is
-    // no fault.
-    #[inline(always)]
-    fn take(&self, point: Point, stack: &mut Vec<Point>, set: &mut OffsetSet) -> bool
-        requires room { vec_len stack.old < vec_capacity stack.old }
-        requires set { length set.old ≡ data_length self.now.reader.now }
-        ensures taken { IsTrue result
-            → Takes self.now.reader.now point stack.old.items stack.new.items set.old set.new }
-        ensures room { vec_capacity stack.new ≡ vec_capacity stack.old }
-        ensures length { length set.new ≡ length set.old }
-    {
-        if self.goes_on(point) {
-            stack.push_reserved(point);
-            return true;
-        }
-        self.keep(point, set)
-    }
-
-    // Walks the whole tree, from the root. `stack` keeps the upper halves that are still to come, and
-    // `set` the offsets that were found.
-    pub(crate) fn walk(&self, stack: &mut Vec<Point>, set: &mut OffsetSet) -> Walked
-        requires empty { stack.old.items ≡ [] }
-        requires room { width self.now.reader.now ≤ vec_capacity stack.old }
-        requires set { length set.old ≡ data_length self.now.reader.now }
-        requires none { (q : ℕ) → holds set.old q ≡ false }
-        ensures verdict { IsVerdict self.now.reader.now set.new result.taken result.end }
-        ensures counted { result.taken ≡ walk_cost self.now.reader.now }
-        ensures bound { result.taken ≤ 6 * self.now.reader.now.metadata.node_count + 130 }
-        ensures length { length set.new ≡ length set.old }
-    {
-        let most = 3 * self.nodes.node_count;
-        let mut point = Point {
-            number: 0,
-            prefix: 0,
-            high: false,
-        };
-        let mut stops = 0usize;
-        let mut taken = 0usize;
-        loop {
-            taken += 1;
-            if self.goes_on(point) {
-                stack.push_reserved(self.half_of(point, true));
-                point = self.half_of(point, false);
-                continue;
-            }
-            stops += 1;
-            if !self.keep(point, set) {
-                return Walked {
-                    taken,
-                    end: WalkEnd::AtFault(point.number),
-                };
-            }
-            if stops > most {
-                return Walked {
-                    taken,
-                    end: WalkEnd::TooMany,
-                };
-            }
-            let Some(next) = stack.pop() else {
-                return Walked {
-                    taken,
-                    end: WalkEnd::Whole,
-                };
-            };
-            point = next;
-        }
-    }
-
-    // Walks the whole tree, a node at a time, and gives the positions that it took. Both halves of a node are looked
-    // at together, so the offsets come in another order than the leaves. None where the walk fails, or may fail:
-    // where it stops is then reported by `walk`.
-    pub(crate) fn sweep(&self, stack: &mut Vec<Point>, set: &mut OffsetSet) -> Option<usize>
-        requires empty { stack.old.items ≡ [] }
-        requires room { width self.now.reader.now ≤ vec_capacity stack.old }
-        requires set { length set.old ≡ data_length self.now.reader.now }
-        requires none { (q : ℕ) → holds set.old q ≡ false }
-        ensures whole { IfSome result (λ taken. IsVerdict self.now.reader.now set.new taken Whole) }
-        ensures counted { IfSome result (λ taken. taken ≡ walk_cost self.now.reader.now) }
-        ensures bound { IfSome result
-            (λ taken. taken ≤ 6 * self.now.reader.now.metadata.node_count) }
-        ensures kept { vec_capacity stack.new ≡ vec_capacity stack.old }
-    {
-        let mut point = Point {
-            number: 0,
-            prefix: 0,
-            high: false,
-        };
-        if !self.goes_on(point) {
-            return None;
-        }
-        for nodes in 1..3 * self.nodes.node_count {
-            let lower = self.half_of(point, false);
-            if !self.take(self.half_of(point, true), stack, set) {
-                return None;
-            }
-            if self.goes_on(lower) {
-                point = lower;
-                continue;
-            }
-            if !self.keep(lower, set) {
-                return None;
-            }
-            let Some(next) = stack.pop() else {
-                return Some(2 * nodes + 1);
-            };
-            point = next;
-        }
-        None
-    }
+    pub(crate) tree: Walker<'a>,
+    pub(crate) ghost are: { IsWalkerOf reader.now tree },
 }

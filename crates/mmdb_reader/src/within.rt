@@ -13,7 +13,7 @@ use crate::offsets::counted_from_start;
 use crate::options::WithinOptions;
 use crate::positions::{Position, ROOT};
 use crate::reader::Reader;
-use crate::walked::Walker;
+use crate::walked::DatabaseWalker;
 use mmdb_decode::peek::empty_container;
 use mmdb_format::error::MaxMindDbError;
 use mmdb_format::message::{Message, Text};
@@ -29,7 +29,7 @@ use std::net::{IpAddr, Ipv4Addr, Ipv6Addr};
 /// takes memory.
 #[derive(Drop)]
 pub struct Within<'de, S: AsSlice<u8> + Drop> {
-    pub(crate) walker: Walker<'de, S>,
+    pub(crate) walker: DatabaseWalker<'de, S>,
     pub(crate) options: WithinOptions,
     pub(crate) hidden: usize,
     pub(crate) stack: Vec<Position>,
@@ -79,6 +79,7 @@ impl<S: AsSlice<u8> + Drop> Reader<S> {
     // What a leaf that leads to a number is listed with, if it is listed: a fault, or the offset of its
     // value, if it has one.
     #[tactic(auto, unfolding(crate::specs::Listing::finding_at))]
+    #[inline(always)]
     fn finding(
         &self,
         number: usize,
@@ -248,7 +249,7 @@ impl<S: AsSlice<u8> + Drop> Reader<S> {
     }
 }
 
-impl<S: AsSlice<u8> + Drop> Walker<'_, S> {
+impl<S: AsSlice<u8> + Drop> DatabaseWalker<'_, S> {
     ghost use Rattle.mmdb_reader.specs.Listing.{listed};
     ghost use Rattle.mmdb_reader.specs.Positions.{IsLowest, IsNothing, IsStart};
 
@@ -258,11 +259,11 @@ impl<S: AsSlice<u8> + Drop> Walker<'_, S> {
         ensures { HidesAliases self.now.reader.now options result }
     {
         if options.includes_aliased() {
-            return self.nodes.node_count;
+            return self.tree.nodes.node_count;
         }
-        match self.ipv4_start {
+        match self.tree.ipv4_start {
             Some(start) => start,
-            None => self.nodes.node_count,
+            None => self.tree.nodes.node_count,
         }
     }
 
@@ -277,13 +278,13 @@ impl<S: AsSlice<u8> + Drop> Walker<'_, S> {
     {
         let mut position = ROOT;
         while position.prefix < usize::from(range.prefix) {
-            if position.number >= self.nodes.node_count {
+            if position.number >= self.tree.nodes.node_count {
                 return Some(position);
             }
             if position.is_high_at(hidden) {
                 return None;
             }
-            let right = range.has_bit(self.width - position.prefix - 1);
+            let right = range.has_bit(self.tree.width - position.prefix - 1);
             position = position.half(self, right);
         }
         Some(position)
@@ -310,11 +311,11 @@ impl<S: AsSlice<u8> + Drop> Walker<'_, S> {
         ensures capacity { vec_capacity stack.new ≡ vec_capacity stack.old }
     {
         let mut position = start;
-        while position.number < self.nodes.node_count {
+        while position.number < self.tree.nodes.node_count {
             if position.is_high_at(hidden) {
                 return None;
             }
-            if position.prefix >= self.width {
+            if position.prefix >= self.tree.width {
                 return Some(position);
             }
             stack.push_reserved(position.half(self, true));

@@ -4,3 +4,10 @@ pub mod TableLemmas
 pub mod GroupLemmas
 pub mod RecordLemmas
 pub mod LeadLemmas
+pub mod HighBits
+pub mod Visits
+pub mod Points
+pub mod Progress
+pub mod Sweeps
+pub mod StopLemmas
+pub mod Narrow

@@ -4,3 +4,5 @@ pub mod Table
 pub mod Nodes
 pub mod Records
 pub mod Groups
+pub mod Stops
+pub mod Walked

@@ -3,7 +3,8 @@ use Rattle.std.proofs.lemmas.Result.{err_from_is_err_and}
 use Rattle.mmdb_format.specs.declared.error.MaxMindDbError.{MaxMindDbError}
 use Rattle.mmdb_check.specs.Checking.{CanAddAll, none}
 use Rattle.mmdb_reader.specs.File.{data_section}
-use Rattle.mmdb_reader.specs.Stops.{stops, offsets}
+use Rattle.mmdb_tree.specs.Stops.{offsets}
+use Rattle.mmdb_reader.specs.Stops.{stops}
 use Rattle.mmdb_reader.specs.Whole.{IsWhole}
 use Rattle.mmdb_reader.proofs.Sources.{apart}
 use Rattle.mmdb_reader.proofs.AliasedLookups.{whole_files_answer}

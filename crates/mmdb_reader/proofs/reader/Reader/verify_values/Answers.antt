@@ -2,7 +2,8 @@ use Rattle.std.proofs.Common.{refl, ◌∙◌}
 use Rattle.std.proofs.lemmas.Bool.{false≢true}
 use Rattle.mmdb_check.specs.Checking.{CanAddAll, none}
 use Rattle.mmdb_reader.specs.File.{data_section}
-use Rattle.mmdb_reader.specs.Stops.{stops, offsets}
+use Rattle.mmdb_tree.specs.Stops.{offsets}
+use Rattle.mmdb_reader.specs.Stops.{stops}
 use Rattle.mmdb_reader.proofs.WholeLemmas.{apart_from, values_checked}
 use Rattle.mmdb_reader.proofs.reader.Reader.verify_values.Goals as goal
 
