@@ -6,7 +6,8 @@ use Rattle.std.proofs.lemmas.Bool.{cases_lt}
 use Rattle.std.specs.List.{AllByRecursion}
 use Rattle.mmdb_blocks.specs.declared.block.Block.{Block}
 use Rattle.mmdb_blocks.specs.Blocks.{size, end, IsBlock, IsWithin, IsIn, SameAddresses, AscendsFrom, whole, AreHalves, IsApart, HasNoHalves, IsJoined}
-use Rattle.mmdb_blocks.specs.Joining.{IsSealed, IsJoining, IsAfter, AtLast, IsAtEnd, IsNoHalf, DeepensFrom, IsReady, TakesHalf, IsPending, most_waiting}
+use Rattle.mmdb_blocks.specs.Joining.{IsSealed, IsJoining, IsAfter, DeepensFrom, IsReady, most_waiting}
+use Rattle.mmdb_blocks.specs.Working.{AtLast, IsAtEnd, IsNoHalf, TakesHalf, IsPending}
 use Rattle.mmdb_blocks.proofs.NumberLaws.{right-half-level, doubled}
 use Rattle.mmdb_blocks.proofs.UniqueLaws.{level, after-start}
 

@@ -2,7 +2,7 @@
 use Rattle.std.specs.Prelude.{◌≡◌, ℕ, suc, ◌+◌, ◌<◌, ◌≤◌, List, [], ◌∷◌, ◌++◌}
 use Rattle.std.specs.List.{AllByRecursion}
 use Rattle.mmdb_blocks.specs.declared.block.Block.{Block}
-use Rattle.mmdb_blocks.specs.Blocks.{IsBlock, IsIn, SameAddresses, AscendsFrom, AreHalves, HasNoHalves, IsJoined, whole}
+use Rattle.mmdb_blocks.specs.Blocks.{IsBlock, IsIn, HasNoHalves, IsJoined}
 
 -- What was handed out ends apart from whatever grows from the waiting blocks: no block that begins where they do is
 -- the other half of its last one. Where none waits, none was handed out.
@@ -32,19 +32,6 @@ IsAfter blocks block = (address : ℕ) → IsIn address blocks → address < blo
 abbrev pub most_waiting : ℕ
 most_waiting = 129
 
--- it holds of the last block, if there is one
-abbrev pub AtLast : (Block → Type 0) → List Block → Type 0
-AtLast P [] = Unit {0}
-AtLast P (block ∷ []) = P block
-AtLast P (block ∷ next ∷ blocks) = AtLast P (next ∷ blocks)
-
--- the block is the last one
-abbrev pub IsAtEnd : Block → List Block → Type 0
-IsAtEnd block blocks = (front : List Block) × (blocks ≡ front ++ block ∷ [])
-
-abbrev pub IsNoHalf : Block → Block → Type 0
-IsNoHalf left right = AreHalves left right → ⊥
-
 -- each prefix is longer than the one before
 abbrev pub DeepensFrom : ℕ → List Block → Type 0
 DeepensFrom from [] = Unit {0}
@@ -53,18 +40,3 @@ DeepensFrom from (block ∷ blocks) = (from ≤ block.prefix) × DeepensFrom (su
 pub record IsReady (waiting : List Block) : Type 0 where
   pub each : AllByRecursion IsBlock waiting
   pub deepens : DeepensFrom 0 waiting
-
--- the last block was taken, as the left half of a larger one
-pub record TakesHalf (old new : List Block) (right larger : Block) : Type 0 where
-  pub left : Block
-  pub old_is : old ≡ new ++ left ∷ []
-  pub halves : AreHalves left right
-  pub larger_is : larger ≡ whole left
-
--- a block is about to join those that wait
-pub record IsPending (pushed handed waiting : List Block) (block : Block) : Type 0 where
-  pub covers : SameAddresses pushed (handed ++ (waiting ++ block ∷ []))
-  pub each : AllByRecursion IsBlock (handed ++ (waiting ++ block ∷ []))
-  pub ascends : AscendsFrom 0 (handed ++ (waiting ++ block ∷ []))
-  pub apart : HasNoHalves (handed ++ waiting)
-  pub sealed : IsSealed handed (waiting ++ block ∷ [])

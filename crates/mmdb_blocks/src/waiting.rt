@@ -2,7 +2,8 @@
 ghost use Rattle.std.specs.Prelude.{◌≡◌, ◌<◌, ◌≤◌, ◌↔◌, List, [], ◌∷◌, ◌++◌, IsTrue, MatchOption, vec_len};
 ghost use Rattle.std.specs.Vec.{vec_capacity};
 ghost use Rattle.mmdb_blocks.specs.Blocks.{IsBlock, AreHalves, end, whole};
-ghost use Rattle.mmdb_blocks.specs.Joining.{AtLast, IsAtEnd, IsReady, IsPending, IsJoining, IsNoHalf, TakesHalf, most_waiting};
+ghost use Rattle.mmdb_blocks.specs.Joining.{IsReady, IsJoining, most_waiting};
+ghost use Rattle.mmdb_blocks.specs.Working.{AtLast, IsAtEnd, IsPending, IsNoHalf, TakesHalf};
 ghost use Rattle.mmdb_blocks.specs.declared.block.Block.{Block as SpecBlock};
 
 use crate::block::Block;

@@ -6,7 +6,8 @@ use Rattle.mmdb_format.specs.Header.{◌>>=◌}
 use Rattle.mmdb_format.specs.Contents.{Scalar, content_at}
 use Rattle.mmdb_c.specs.declared.list.Part.{Part}
 use Rattle.mmdb_c.specs.declared.list.Place.{Place}
-use Rattle.mmdb_c.specs.List.{Written, in_series, joined, listed, place_at, parts_of, scalar_parts, scalar_parts_at, container_part, container_parts, is_container, count_of, end_of, Passes, IsListed}
+use Rattle.mmdb_c.specs.List.{in_series, joined, listed, place_at, parts_of, scalar_parts, scalar_parts_at, container_part, container_parts, is_container, count_of, end_of, Passes}
+use Rattle.mmdb_c.specs.Working.{Written, IsListed}
 
 -- a whole series is the parts that are written and then what is left
 pub record Goes (whole left : Option (List Part × ℕ)) (first after : ℕ) (old new : List Part) : Type 0 where

@@ -7,7 +7,8 @@ use Rattle.std.specs.declared.net.ip_addr.IpAddr.TheVariants.{V4, V6}
 use Rattle.mmdb_net.specs.Bits.{bits_of}
 use Rattle.mmdb_net.specs.Address.{bits_of_address}
 use Rattle.mmdb_c.specs.declared.many.Address.{Address}
-use Rattle.mmdb_c.specs.Many.{IsIpOf, ipv4_given, ipv6_given}
+use Rattle.mmdb_c.specs.Many.{ipv4_given, ipv6_given}
+use Rattle.mmdb_c.specs.Working.{IsIpOf}
 
 -- some address
 abbrev pub some_ip : IpAddr

@@ -87,20 +87,6 @@ unfoldable pub listed : ℕ → List ℕ → ℕ → Option (List Part × ℕ)
 listed zero s p = None
 listed (suc n) s p = place_at s p >>= parts_of (listed n s) s
 
--- From one place to another the memory has these parts; it is as it was before them and beyond them.
-pub record Written (parts : List Part) (first after : ℕ) (old new : List Part) : Type 0 where
-  pub count : after ≡ first + length parts
-  pub room : after ≤ length old
-  pub len : length new ≡ length old
-  pub written : take after new ≡ take first old ++ parts
-  pub beyond : drop after new ≡ drop after old
-
--- the list is there, and it is written
-pub record IsListed (found : Option (List Part × ℕ)) (first after next : ℕ) (old new : List Part) : Type 0 where
-  pub parts : List Part
-  pub found_is : found ≡ Some (parts, next)
-  pub written : Written parts first after old new
-
 -- if there is a list, then it passes the memory from a place on
 abbrev pub Passes : Option (List Part × ℕ) → ℕ → List Part → Type 0
 Passes found first room = (parts : List Part) (next : ℕ) → found ≡ Some (parts, next) → length room < first + length parts

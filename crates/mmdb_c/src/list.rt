@@ -4,7 +4,8 @@ ghost use Rattle.std.specs.Prelude.{◌≡◌, ◌<◌, ◌≤◌, ◌%◌, ◌^
 ghost use Rattle.std.specs.Result.{result_ok};
 ghost use Rattle.mmdb_format.specs.Views.{content_view};
 ghost use Rattle.mmdb_c.specs.Items.{high_of};
-ghost use Rattle.mmdb_c.specs.List.{place_at as spec_place_at, part, part_low, part_size, is_container, count_of as spec_count_of, scalar_parts_at, listed, list_at, IsListed, Passes, HasList, HasNoRoom};
+ghost use Rattle.mmdb_c.specs.List.{place_at as spec_place_at, part, part_low, part_size, is_container, count_of as spec_count_of, scalar_parts_at, listed, list_at, Passes, HasList, HasNoRoom};
+ghost use Rattle.mmdb_c.specs.Working.{IsListed};
 
 use mmdb_format::content::{Content, content_at, content_end};
 use mmdb_format::header::{Header, header_at, pointer_at};

@@ -1,10 +1,11 @@
 //! Lookups of several addresses, whose walks go on side by side.
 ghost use Rattle.std.specs.Prelude.{◌≡◌, ◌≤◌, ◌+◌, ◌*◌, ◌%◌, ◌^◌, length};
-ghost use Rattle.mmdb_c.specs.Many.{IsIpOf, AreIpsOf, HasBegun, HasEnded, HaveBegun, HaveEnded, ReportsGiven, ReportsEach};
+ghost use Rattle.mmdb_c.specs.Many.{ReportsGiven, ReportsEach};
+ghost use Rattle.mmdb_c.specs.Working.{IsIpOf, AreIpsOf, HasBegun, HasEnded, HaveBegun, HaveEnded};
 
 use crate::db::{Db, Found};
 use crate::status::IPV6_IN_IPV4;
-use mmdb_tree::{Entry, FoundLeaf};
+use mmdb_tree::FoundLeaf;
 use std::net::{IpAddr, Ipv4Addr, Ipv6Addr};
 
 /// How many addresses are walked side by side.
@@ -57,18 +58,6 @@ fn ips_of(addresses: &[Address], ips: &mut [IpAddr; 64])
     }
 }
 
-// Where a walk stands by an entry of a table.
-#[inline(always)]
-fn entered(entry: Entry) -> FoundLeaf
-    ensures number { result.number ≡ entry.number }
-    ensures taken { result.taken ≡ entry.taken }
-{
-    FoundLeaf {
-        number: entry.number,
-        taken: u32::from(entry.taken),
-    }
-}
-
 impl Db<'_> {
     // Where the first sixteen bits of an address lead.
     #[inline(always)]
@@ -77,10 +66,10 @@ impl Db<'_> {
     {
         if address.is_ipv6 {
             if self.facts.ip_version == 6 {
-                return entered(self.ipv6_table[(ipv6_bits(address) >> 112) as usize]);
+                return FoundLeaf::entered(self.ipv6_table[(ipv6_bits(address) >> 112) as usize]);
             }
         } else if self.facts.ipv4_start < self.facts.node_count {
-            return entered(self.ipv4_table[(ipv4_bits(address) >> 16) as usize]);
+            return FoundLeaf::entered(self.ipv4_table[(ipv4_bits(address) >> 16) as usize]);
         }
         FoundLeaf::default()
     }

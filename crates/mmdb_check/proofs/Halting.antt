@@ -5,9 +5,10 @@ use Rattle.mmdb_check.specs.declared.inline.Inline.TheVariants.{Scalar, Parts, P
 use Rattle.mmdb_check.specs.Inline.{inline_at}
 use Rattle.mmdb_check.specs.Checking.{Costs}
 use Rattle.mmdb_offsets.specs.OffsetSet.{holds}
-use Rattle.mmdb_check.specs.Values.{Values, End, ScalarThen, PartsThen, PointerThen, Stand, count, own, work_of}
-use Rattle.mmdb_check.specs.Memory.{mark, is_good, Sound, Passed, Ready}
-use Rattle.mmdb_check.specs.Halting.{Passes, none_passed, scalar_passed, parts_passed, pointer_passed, EndsAtPointer, Part, GoesOn, IsWay, is_under, Halted, HaltedAt, Halts, IsHalted}
+use Rattle.mmdb_check.specs.Values.{Values, End, ScalarThen, PartsThen, PointerThen, Stand, count, work_of}
+use Rattle.mmdb_check.specs.Working.{own, Passed, Halted, HaltedAt, Halts}
+use Rattle.mmdb_check.specs.Memory.{mark, is_good, Sound, Ready}
+use Rattle.mmdb_check.specs.Halting.{Passes, none_passed, scalar_passed, parts_passed, pointer_passed, EndsAtPointer, Part, GoesOn, IsWay, is_under, IsHalted}
 use Rattle.mmdb_check.proofs.Checks.{marked}
 use Rattle.mmdb_check.proofs.Costs.{cost_is_work, allowed_same, good_allowed}
 use Rattle.mmdb_check.proofs.Marks.{mark_same, mark_other, good_when, bad_when, under_work, not_true}

@@ -3,8 +3,6 @@ use Rattle.std.specs.Prelude.{◌≡◌, ◌⊎◌, ℕ, suc, ◌+◌, ◌≤◌
 use Rattle.mmdb_check.specs.declared.inline.Inline.TheVariants.{Scalar, Parts, Pointer}
 use Rattle.mmdb_check.specs.Inline.{inline_at}
 use Rattle.mmdb_check.specs.Checking.{Costs}
-use Rattle.mmdb_check.specs.Values.{work_of}
-use Rattle.mmdb_check.specs.Memory.{mark, is_good, Sound}
 
 -- Of n values that stand one after the other from p, a part was passed in the order of the file: up to the offset q,
 -- where so many values are still to come. It costs one for each value and pointer, and one for each byte of a text.
@@ -66,26 +64,3 @@ pub record IsHalted (s : List ℕ) (good : ℕ → Bool) (p charged : ℕ) : Typ
   pub cost : ℕ
   pub good_cost : Costs s good cost
   pub total : charged ≡ cost + parts_cost parts
-
--- The same between two memories, where so much was charged that no offset under check was charged for.
-pub record Halted (s m : List ℕ) (l cost : ℕ) (m' : List ℕ) (l' : ℕ) : Type 0 where
-  pub parts : List Part
-  pub passed : ArePassed s parts
-  pub once : Once parts
-  pub fresh : (q : ℕ) → is_under parts q ≡ true → mark m q ≡ 0
-  pub under : (q : ℕ) → is_under parts q ≡ true → mark m' q ≡ 1
-  pub kept : (q : ℕ) → 1 ≤ mark m q → mark m' q ≡ mark m q
-  pub sound : Sound s m'
-  pub spent : l' + (cost + parts_cost parts) + work_of s (is_good m') ≡ l + work_of s (is_good m)
-
--- the same of the check of the offset p
-pub record HaltedAt (s m : List ℕ) (l p : ℕ) (m' : List ℕ) (l' : ℕ) : Type 0 where
-  pub rest : Halted s m l 0 m' l'
-  pub way : IsWay s ((1 ≤ mark m p) ⊎ (length s ≤ p)) p rest.parts
-
--- n values from p were being passed
-pub record Halts (s m : List ℕ) (l n p : ℕ) (m' : List ℕ) (l' : ℕ) : Type 0 where
-  pub cost : ℕ
-  pub part : CostOfPart s p n cost
-  pub rest : Halted s m l cost m' l'
-  pub way : GoesOn s p n cost rest.parts

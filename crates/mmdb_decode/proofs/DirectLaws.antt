@@ -11,7 +11,7 @@ use Rattle.mmdb_format.specs.Contents.{Scalar, content_at, content_end, end_of}
 use Rattle.mmdb_format.specs.Unfolding.{Tree, scalar, pointer, Unfolds, scalar_here, pointer_here}
 use Rattle.mmdb_decode.specs.Reading.{Reading, Meaning}
 use Rattle.mmdb_decode.specs.Scalars.{direct_of}
-use Rattle.mmdb_decode.specs.TypedReads.{ScalarStands}
+use Rattle.mmdb_decode.specs.ScalarReads.{ScalarStands}
 use Rattle.mmdb_decode.proofs.Options.{if_bind, if_cond, if_is}
 
 -- a header that is no pointer, directly

@@ -8,7 +8,7 @@ use Rattle.mmdb_format.specs.Header.{◌>>=◌, bytes_at}
 use Rattle.mmdb_format.specs.Contents.{Scalar, text, bytes, boolean, signed32, number16, number32, number64, number128, double_bits, float_bits, content_at, content_end, scalar_payload, scalar_is_text, variable_width_integer, fixed_width_integer, truth_of}
 use Rattle.mmdb_decode.specs.Reading.{Reading, Meaning}
 use Rattle.mmdb_decode.specs.Scalars.{number_of, bits_of, bytes_of, bool_at, u16_at, u32_at, u64_at, u128_at, i32_at, double_at, float_at, text_at, byte_string_at, if_text}
-use Rattle.mmdb_decode.specs.TypedReads.{ScalarStands, ReadsScalars}
+use Rattle.mmdb_decode.specs.ScalarReads.{ScalarStands, ReadsScalars}
 use Rattle.mmdb_decode.proofs.Options.{if_is}
 use Rattle.mmdb_decode.proofs.DirectLaws.{typed, typed_sound, typed_complete}
 use Rattle.mmdb_decode.proofs.ContentLaws.{content_is, text_content, bytes_content, bool_content, content_of_16, content_of_32, content_of_64, content_of_128, signed_content, double_content, float_content}

@@ -1,18 +1,16 @@
 -- Skipping, level by level.
 use Rattle.std.specs.Option.{IsSome}
 use Rattle.std.proofs.Common.{Result, Ok, Err}
-use Rattle.mmdb_format.specs.declared.error.MaxMindDbError.{MaxMindDbError}
 use Rattle.mmdb_format.specs.Contents.{passed_end}
 use Rattle.mmdb_format.specs.Header.{◌>>=◌, header_at}
 use Rattle.mmdb_decode.specs.Reading.{Reading, Meaning, given}
 use Rattle.mmdb_decode.specs.Scalars.{free_of_charge}
-use Rattle.mmdb_decode.specs.Records.{FieldRead, skipped}
-use Rattle.mmdb_decode.specs.Errors.{Reads, Takes, Kept}
-use Rattle.mmdb_decode.specs.Skipping.{skip_at, parts_of, passes, counted, skip_within, scalar_passed, entered_inline}
+use Rattle.mmdb_decode.specs.Errors.{Takes, Kept}
+use Rattle.mmdb_decode.specs.Skipping.{skip_at, parts_of, passes, counted, skip_within}
+use Rattle.mmdb_decode.specs.Working.{scalar_passed, entered_inline}
 use Rattle.mmdb_decode.specs.State.{State, charged, spent_of, begun, settled, after, decoded, Within, NoneBack, GivenUp}
-use Rattle.mmdb_decode.proofs.StepLaws.{still_begun, kept_decoded, fails, decoded_begun}
-use Rattle.mmdb_decode.proofs.ReadingLaws.{decoded-mapped, seen}
-use Rattle.std.proofs.Common.{◌≡◌, ℕ, suc, zero, List, Option, Some, None, Bool, true, false, option_map, refl, sym, ap, ◌∙◌, subst}
+use Rattle.mmdb_decode.proofs.StepLaws.{still_begun, kept_decoded, decoded_begun}
+use Rattle.std.proofs.Common.{◌≡◌, ℕ, ◌*◌, nat_eq, if◌then◌else◌, sym, suc, zero, List, Option, Some, None, true, false, option_map, refl, ◌∙◌, subst}
 use Rattle.mmdb_decode.specs.declared.budget.Charges.{Charges}
 use Rattle.mmdb_format.specs.declared.header.Header.{Header}
 use Rattle.mmdb_decode.proofs.StepLaws.{state, read_free, some_back, none_back, given_up_trans}
@@ -110,6 +108,11 @@ pub plain_takes : {E : Type 0} (n : ℕ) (σ τ : State) (header : Header) (r : 
 plain_takes n σ τ header (Ok x) w h k e = skip_plain n σ header w h k ∙ e
 plain_takes n σ τ header (Err x) w h k e = (e.0, skip_plain n σ header w h k ∙ e.1)
 
+-- a pointer has no parts
+pub pointer_alone : (header : Header) → header.kind ≡ 1 → parts_of header ≡ None
+unfolding parts_of
+pointer_alone header k = subst (λ kind. (if nat_eq kind 7 then Some (2 * header.size) else (if nat_eq kind 11 then Some header.size else None)) ≡ None) (sym k) refl
+
 pub parts_are : (n m : ℕ) (σ τ : State) (header : Header) (parts : ℕ) → n ≡ suc m → header_at σ.section σ.offset ≡ Some header → parts_of header ≡ Some parts → entered_inline σ header parts ≡ Some (tt, τ) → decoded false (skip_within n) σ ≡ decoded false (passes (skip_within m) parts) τ
 parts_are n m σ τ header parts z h k e = rw z (skip_parts m σ header parts h k ∙ rw e refl)
 
@@ -150,15 +153,6 @@ skip_read read σ τ ρ e h = decoded_begins read σ ∙ (rw (← e) h)
 
 pub skip_rejected : (read : Meaning (Unit {0})) (σ τ ρ : State) → τ ≡ begins σ → decoded false read τ ≡ None → GivenUp τ ρ → GivenUp σ ρ × (decoded true read σ ≡ None)
 skip_rejected read σ τ ρ e h g = (given_up_trans σ (begins σ) ρ (begins_kept σ) (rw e at g), decoded_begins read σ ∙ (rw (← e) h))
-
-skipped_as : {P : Type 0} (p : P) (σ : State) → IsSome σ.budget → decoded false (skipped p) σ ≡ seen (λ x. p) (decoded true skip_at σ)
-unfolding skipped
-skipped_as p σ s = decoded-mapped false (λ (x : Unit {0}). p) skip_at σ ∙ ap (seen (λ x. p)) (sym (decoded_begun true skip_at σ s))
-
--- an unknown field, which is skipped
-pub skipped_read : {P : Type 0} (free : Bool) (p : P) (σ τ : State) (r : Result (Unit {0}) MaxMindDbError) → IsSome σ.budget → Reads (λ x. tt) true (decoded true skip_at σ) σ τ r → FieldRead free (decoded false (skipped p) σ) p σ τ r
-skipped_read free p σ τ (Ok x) s h = record { ok = skipped_as p σ s ∙ rw h refl; err = tt; given_up = tt }
-skipped_read free p σ τ (Err e) s h = record { ok = tt; err = fails free e (decoded false (skipped p) σ) (skipped_as p σ s ∙ rw h.1 refl); given_up = h.0 }
 
 -- a budget that had begun has still begun
 pub skip_begun : {E : Type 0} (σ τ : State) (r : Result (Unit {0}) E) → Takes (λ x. tt) (decoded true skip_at σ) σ τ r → IsSome σ.budget → IsSome τ.budget

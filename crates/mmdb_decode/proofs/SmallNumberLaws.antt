@@ -12,7 +12,7 @@ use Rattle.mmdb_format.specs.Unfolding.{Tree, scalar, pointer, Unfolds, scalar_h
 use Rattle.mmdb_format.proofs.UnfoldingLaws.{no_content_of_pointer}
 use Rattle.mmdb_decode.specs.Reading.{Reading}
 use Rattle.mmdb_decode.specs.SmallNumbers.{whole_number, whole_here, whole_within, whole_at, if_between}
-use Rattle.mmdb_decode.specs.TypedReads.{ReadsSmallNumbers}
+use Rattle.mmdb_decode.specs.ScalarReads.{ReadsSmallNumbers}
 use Rattle.mmdb_decode.proofs.Options.{if_bind, if_cond, if_is}
 use Rattle.mmdb_decode.proofs.SmallLaws.{whole_plain, whole_behind, between_yes}
 

@@ -1,3 +1,4 @@
+-- What has to be believed: what contracts of public items name.
 pub mod Reading
 pub mod State
 pub mod Errors
@@ -6,14 +7,11 @@ pub mod SmallNumbers
 pub mod Peeking
 pub mod Arrays
 pub mod Maps
-pub mod Records
+pub mod Names
 pub mod Skipping
 pub mod Selecting
 pub mod Levels
-pub mod FieldShapes
-pub mod Tables
-pub mod TableReads
-pub mod Memos
-pub mod Limits
-pub mod Shapes
-pub mod TypedReads
+pub mod Repeats
+pub mod ScalarReads
+-- What only contracts of private functions and proofs name.
+pub mod Working

@@ -7,7 +7,6 @@ use Rattle.mmdb_format.specs.declared.header.Pointer.{Pointer}
 use Rattle.mmdb_format.specs.Pointer.{pointer_at}
 use Rattle.mmdb_format.specs.Contents.{Scalar, content_at, content_end, passed_end}
 use Rattle.mmdb_decode.specs.Reading.{Reading, Meaning, given, followed}
-use Rattle.mmdb_decode.specs.State.{State, spent_of}
 
 -- the most containers that nest in a value that is skipped
 abbrev pub most_nested : ℕ
@@ -65,14 +64,3 @@ abbrev pub SkippingIsPassing : Type 0
 SkippingIsPassing =
     (s : List ℕ) (p d q c b : ℕ) →
     (skip_at s p d ≡ Some (record { value = tt; next = q; values = c; bytes = b })) ↔ ((h : ℕ) × Skips s p h c q × (h ≤ most_nested) × (b ≡ 0))
-
--- the decoder behind a scalar, and at the first part of a container
-unfoldable pub scalar_passed : State → Header → Option (Unit {0} × State)
-scalar_passed σ header =
-    passed_end σ.section header >>= λ next.
-    Some (tt, record { section = σ.section; offset = next; levels = σ.levels; budget = σ.budget })
-
-unfoldable pub entered_inline : State → Header → ℕ → Option (Unit {0} × State)
-entered_inline σ header parts =
-    spent_of σ.budget parts 0 >>= λ left.
-    Some (tt, record { section = σ.section; offset = header.body; levels = σ.levels; budget = left })

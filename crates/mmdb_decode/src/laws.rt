@@ -1,43 +1,16 @@
 //! Laws of the format: each is the contract of a function that does nothing.
-ghost use Rattle.std.specs.Prelude.{◌≡◌, true, Some, map, option_map, pos, neg_ℤ};
-ghost use Rattle.std.specs.String.{string_bytes};
-ghost use Rattle.mmdb_format.specs.Equality.{IsEqualityOf};
-ghost use Rattle.mmdb_decode.specs.Arrays.{list_at};
-ghost use Rattle.mmdb_decode.specs.Maps.{text_map_at};
-ghost use Rattle.mmdb_decode.specs.Reading.{mapped};
 ghost use Rattle.mmdb_decode.specs.Scalars.{u16_at, u32_at, u64_at, u128_at, i32_at, bool_at, double_at, float_at, text_at, byte_string_at};
-ghost use Rattle.mmdb_decode.specs.SmallNumbers.{small_at};
 ghost use Rattle.mmdb_decode.specs.State.{Within};
-ghost use Rattle.mmdb_decode.specs.Limits.{AnswerIsWithinLimits, OneReading};
-ghost use Rattle.mmdb_decode.specs.Shapes.{decoding, IsShape, IsScalarShape, IsSmallShape, IsOwnedShape, IsContainerShape};
 ghost use Rattle.mmdb_format.specs.Contents.{text, bytes, boolean, signed32, number16, number32, number64, number128, double_bits, float_bits};
-ghost use Rattle.mmdb_decode.specs.TypedReads.{ReadsScalars, ScalarsUnfold, ReadsSmallNumbers, ReadsLists, ListsUnfold, ReadsTextMaps, TextMapsUnfold, LastPairStays, KeysAscend, ReadsRecords, ReadsWholeRecords, ReadsTables, KnownNamesStandOnce, FieldNamesStandOnce};
-ghost use Rattle.mmdb_decode.specs.Tables.{fields_of, no_parts};
+ghost use Rattle.mmdb_decode.specs.ScalarReads.{ReadsScalars, ReadsSmallNumbers};
 ghost use Rattle.mmdb_decode.specs.Skipping.{SkippingIsPassing};
 
-use crate::decode::{Decode, OwnedBytes};
 use crate::decoder::Decoder;
-use crate::fields::Fields;
-use crate::record::Record;
-use mmdb_format::content::{Double, Float};
 pub use mmdb_format::laws::{one_tree_unfolds, scalars_equal_where_same};
-use std::collections::BTreeMap;
 
 /// Skipping a value is passing it in the words of the format.
 pub fn skipping_is_passing()
     ensures { SkippingIsPassing }
-{}
-
-/// An answer that begins a budget is a reading of at most 65,536 values and 2,097,152 bytes of texts and
-/// byte strings, and each such reading is an answer.
-pub fn answer_is_within_limits<'de, T: Decode<'de>>()
-    ensures { AnswerIsWithinLimits T.Datum }
-{}
-
-/// At one offset of a section at most one value of a type stands, with one end and one cost: equal offsets
-/// are read as equal data, or both fail.
-pub fn same_offset_same_result<'de, T: Decode<'de>>()
-    ensures { OneReading T.meaning }
 {}
 
 /// What a decoder under a budget has charged never passes the limits, after an error too.
@@ -47,62 +20,6 @@ pub fn values_bounded(d: &Decoder<'_>)
 {
     d.stays_within();
 }
-
-/// Scalars, and texts and byte strings that are lent, say themselves and are read as the one type of the
-/// format, exactly, under no budget at the start, and without memory.
-pub fn how_scalars_are_read()
-    ensures boolean { IsScalarShape (decoding ⟦<bool as Decode<'static>>⟧) (λ v. v) bool_at }
-    ensures u16 { IsScalarShape (decoding ⟦<u16 as Decode<'static>>⟧) (λ v. v) u16_at }
-    ensures u32 { IsScalarShape (decoding ⟦<u32 as Decode<'static>>⟧) (λ v. v) u32_at }
-    ensures u64 { IsScalarShape (decoding ⟦<u64 as Decode<'static>>⟧) (λ v. v) u64_at }
-    ensures u128 { IsScalarShape (decoding ⟦<u128 as Decode<'static>>⟧) (λ v. v) u128_at }
-    ensures i32 { IsScalarShape (decoding ⟦<i32 as Decode<'static>>⟧) (λ v. v) i32_at }
-    ensures text { IsScalarShape (decoding ⟦<&'static str as Decode<'static>>⟧)
-        (λ v. v.now) text_at }
-    ensures bytes { IsScalarShape (decoding ⟦<&'static [u8] as Decode<'static>>⟧)
-        (λ v. v.now) byte_string_at }
-    ensures double { IsScalarShape (decoding ⟦<Double as Decode<'static>>⟧)
-        (λ v. v.bits) double_at }
-    ensures float { IsScalarShape (decoding ⟦<Float as Decode<'static>>⟧) (λ v. v.bits) float_at }
-{}
-
-/// Small numbers say themselves and are read as an integer of any type that fits them, exactly and
-/// without memory, and begin a budget.
-pub fn how_small_numbers_are_read()
-    ensures u8 { IsSmallShape (decoding ⟦<u8 as Decode<'static>>⟧)
-        pos (small_at (pos 0) (pos 255)) }
-    ensures i8 { IsSmallShape (decoding ⟦<i8 as Decode<'static>>⟧)
-        (λ v. v) (small_at (neg_ℤ (pos 128)) (pos 127)) }
-    ensures i16 { IsSmallShape (decoding ⟦<i16 as Decode<'static>>⟧)
-        (λ v. v) (small_at (neg_ℤ (pos 32768)) (pos 32767)) }
-    ensures i64 { IsSmallShape (decoding ⟦<i64 as Decode<'static>>⟧)
-        (λ v. v) (small_at (neg_ℤ (pos 9223372036854775808)) (pos 9223372036854775807)) }
-{}
-
-/// Texts and byte strings of one's own say their bytes, and are read as those that are lent, but take
-/// memory.
-pub fn how_owned_bytes_are_read()
-    ensures string { IsOwnedShape (decoding ⟦<String as Decode<'static>>⟧) string_bytes text_at }
-    ensures owned_bytes { IsOwnedShape (decoding ⟦<OwnedBytes as Decode<'static>>⟧)
-        (λ v. v.0.items) byte_string_at }
-{}
-
-/// Containers of a type that is read exactly are too: a list of what its elements say, and a map of what
-/// its values say by the bytes of their keys. An optional value is read as its type.
-pub fn how_containers_are_read<'de, T: Decode<'de>>()
-    requires { T.exact ≡ true }
-    ensures optional { IsShape (decoding ⟦<Option<T> as Decode<'de>>⟧)
-        (option_map T.datum) (mapped Some T.meaning) T.starts T.free }
-    ensures list { IsContainerShape (decoding ⟦<Vec<T> as Decode<'de>>⟧)
-        (λ v. map T.datum v.items) (list_at T.meaning) }
-    ensures text_map { IsContainerShape (decoding ⟦<BTreeMap<String, T> as Decode<'de>>⟧)
-        (λ m. map (λ e. (string_bytes e.0, T.datum e.1)) m.entries) (text_map_at T.meaning) }
-{}
-
-/// `==` of byte strings of one's own is equality of their bytes.
-pub fn owned_bytes_equal_where_same()
-    ensures { IsEqualityOf ⟦<OwnedBytes as PartialEq>⟧.eq (λ x. x.0.items) }
-{}
 
 /// What is read as a scalar, a text or a byte string is what unfolds there, directly or behind one pointer.
 pub fn scalar_is_what_stands()
@@ -118,47 +35,8 @@ pub fn scalar_is_what_stands()
     ensures bytes { ReadsScalars byte_string_at bytes }
 {}
 
-/// What is read as a scalar unfolds to that scalar, its pointer dropped; so lists and maps of such values
-/// unfold too.
-pub fn scalars_unfold<'de, T: Decode<'de>>()
-    ensures { ScalarsUnfold T.meaning }
-{}
-
 /// What is read as a small number is the integer that unfolds there, behind any number of pointers
 /// within the levels.
 pub fn small_number_is_what_stands()
     ensures { ReadsSmallNumbers }
-{}
-
-/// What is read as a list is the array that stands there, directly or behind one pointer: its elements in
-/// turn.
-pub fn list_is_what_stands<'de, T: Decode<'de>>()
-    ensures read { ReadsLists T.meaning }
-    ensures unfolds { ListsUnfold T.meaning }
-{}
-
-/// What is read as a map with keys of text is the map that stands there, directly or behind one pointer:
-/// its pairs in turn, of which the last one with a key gives its value. Its keys ascend.
-pub fn text_map_is_what_stands<'de, T: Decode<'de>>()
-    ensures read { ReadsTextMaps T.meaning }
-    ensures unfolds { TextMapsUnfold T.meaning }
-    ensures last { LastPairStays T.Datum }
-    ensures ascend { KeysAscend T.Datum }
-{}
-
-/// What is read as a record is the map that stands there, directly or behind one pointer: its fields in
-/// turn. A name of which the record says whether it has stood, and that is an error then, stands at most
-/// once.
-pub fn record_is_what_stands<'de, R: Record<'de>>()
-    ensures read { ReadsRecords R.fields R.none }
-    ensures whole { ReadsWholeRecords R.fields R.none R.whole }
-    ensures known_names { KnownNamesStandOnce R.fields R.none }
-{}
-
-/// What is read as a record that a table describes is the map that stands there, directly or behind one
-/// pointer: its fields in turn, by the rows of the table. The name of each row stands at most once.
-pub fn table_is_what_stands<'de, R: Fields<'de>>()
-    ensures read { ReadsTables R.table }
-    ensures known_names { KnownNamesStandOnce (fields_of R.table) (no_parts R.table) }
-    ensures field_names { FieldNamesStandOnce R.table }
 {}

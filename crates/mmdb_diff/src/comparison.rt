@@ -4,7 +4,7 @@ ghost use Rattle.mmdb_blocks.specs.Blocks.{IsBlock, end};
 ghost use Rattle.mmdb_diff.specs.Parts.{IsNextPart, start_of};
 
 use crate::blocks::largest_block;
-use crate::walk::{Fault, Here, Walk};
+use crate::walk::{Here, UnreadLeaf, Walk};
 use mmdb_blocks::Block;
 use mmdb_reader::{IpNetwork, LookupResult, MaxMindDbError, Reader};
 use std::alloc::Global;
@@ -32,7 +32,7 @@ pub struct Stretch {
 pub enum Part {
     Stretch(Stretch),
     /// A leaf of one of them can't be read. What that database has up to its next network is not compared.
-    Fault { side: Side, fault: Fault },
+    Unread { side: Side, leaf: UnreadLeaf },
 }
 
 /// Two databases side by side. Memory is taken by `new` alone.
@@ -101,16 +101,16 @@ impl<'a, S: AsSlice<u8> + Drop> Comparison<'a, S> {
         ensures some { MatchOption result Unit
             (λ part. IsNextPart self.entry.now self.exit.now part) }
     {
-        if let Some(fault) = self.old.go_to(at) {
-            return Some(Part::Fault {
+        if let Some(leaf) = self.old.go_to(at) {
+            return Some(Part::Unread {
                 side: Side::Old,
-                fault,
+                leaf,
             });
         }
-        let fault = self.new.go_to(at)?;
-        Some(Part::Fault {
+        let leaf = self.new.go_to(at)?;
+        Some(Part::Unread {
             side: Side::New,
-            fault,
+            leaf,
         })
     }
 
@@ -172,9 +172,9 @@ impl<'a, S: AsSlice<u8> + Drop> Comparison<'a, S> {
     {
         for _ in 0..u64::MAX {
             let at = self.at?;
-            let fault = self.go_to(at);
-            if fault.is_some() {
-                return fault;
+            let unread = self.go_to(at);
+            if unread.is_some() {
+                return unread;
             }
             let part = self.part_at(at);
             if part.is_some() {

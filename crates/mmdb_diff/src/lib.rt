@@ -6,4 +6,4 @@ mod comparison;
 mod walk;
 
 pub use comparison::{Comparison, Part, Side, Stretch};
-pub use walk::Fault;
+pub use walk::UnreadLeaf;

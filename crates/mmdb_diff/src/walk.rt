@@ -9,14 +9,14 @@ use std::convert::AsSlice;
 
 /// A leaf that can't be read, and the network behind which it comes, if there is one.
 #[derive(Drop)]
-pub struct Fault {
+pub struct UnreadLeaf {
     pub behind: Option<IpNetwork>,
     pub error: MaxMindDbError,
 }
 
 // A network with what was found there, as much of it as lies in the range.
 #[derive(Drop)]
-struct Piece<'a, S: AsSlice<u8> + Drop> {
+struct FoundNetwork<'a, S: AsSlice<u8> + Drop> {
     block: Block,
     last: u128,
     is_ipv4: bool,
@@ -31,7 +31,7 @@ pub(crate) struct Walk<'a, S: AsSlice<u8> + Drop> {
     range: IpNetwork,
     /// The prefix of the range's block.
     range_prefix: u8,
-    here: Option<Piece<'a, S>>,
+    here: Option<FoundNetwork<'a, S>>,
     /// The network behind which the last leaf came that can't be read.
     behind: Option<IpNetwork>,
     /// Whether a leaf that can't be read came before `here`: what the database has there is not known.
@@ -83,7 +83,7 @@ impl<'a, S: AsSlice<u8> + Drop> Walk<'a, S> {
     // Stands at what was found in a network.
     fn stand_at(&mut self, network: IpNetwork, found: LookupResult<'a, S>) {
         let block = self.block_of(network);
-        self.here = Some(Piece {
+        self.here = Some(FoundNetwork {
             block,
             last: block.last(),
             is_ipv4: matches!(network, IpNetwork::V4(_)),
@@ -91,22 +91,22 @@ impl<'a, S: AsSlice<u8> + Drop> Walk<'a, S> {
         });
     }
 
-    // Gives a leaf behind the piece that can't be read.
+    // Gives a leaf behind the network that stands here, which can't be read.
     #[inline(never)]
-    fn give(&mut self, error: MaxMindDbError) -> Option<Fault> {
-        if let Some(piece) = &self.here {
-            self.behind = piece.found.network().ok();
+    fn give(&mut self, error: MaxMindDbError) -> Option<UnreadLeaf> {
+        if let Some(here) = &self.here {
+            self.behind = here.found.network().ok();
         }
         self.here = None;
         self.is_unknown = true;
-        Some(Fault {
+        Some(UnreadLeaf {
             behind: self.behind,
             error,
         })
     }
 
-    // Takes what was found as the next piece, or gives why it can't be.
-    fn take(&mut self, found: LookupResult<'a, S>) -> Option<Fault> {
+    // Takes what was found as the next network, or gives why it can't be.
+    fn take(&mut self, found: LookupResult<'a, S>) -> Option<UnreadLeaf> {
         match found.network() {
             Ok(network) => {
                 self.stand_at(network, found);
@@ -117,7 +117,7 @@ impl<'a, S: AsSlice<u8> + Drop> Walk<'a, S> {
     }
 
     // Takes the next network, or gives why it can't be read.
-    fn advance(&mut self) -> Option<Fault> {
+    fn advance(&mut self) -> Option<UnreadLeaf> {
         match self.networks.next() {
             Some(Ok(found)) => self.take(found),
             Some(Err(error)) => self.give(error),
@@ -129,16 +129,16 @@ impl<'a, S: AsSlice<u8> + Drop> Walk<'a, S> {
         }
     }
 
-    // Whether the piece ends before an address, or there is none yet.
+    // Whether the network that stands here ends before an address, or there is none yet.
     fn is_behind(&self, at: u128) -> bool {
         match &self.here {
-            Some(piece) => piece.last < at,
+            Some(here) => here.last < at,
             None => !self.is_over,
         }
     }
 
     /// Goes on to the network that holds an address, or to the next one, or gives a leaf before it that can't be read.
-    pub(crate) fn go_to(&mut self, at: u128) -> Option<Fault> {
+    pub(crate) fn go_to(&mut self, at: u128) -> Option<UnreadLeaf> {
         for _ in 0..u64::MAX {
             if !self.is_behind(at) {
                 return None;
@@ -146,9 +146,9 @@ impl<'a, S: AsSlice<u8> + Drop> Walk<'a, S> {
             if self.here.is_some() {
                 self.is_unknown = false;
             }
-            let fault = self.advance();
-            if fault.is_some() {
-                return fault;
+            let unread = self.advance();
+            if unread.is_some() {
+                return unread;
             }
         }
         None
@@ -157,8 +157,8 @@ impl<'a, S: AsSlice<u8> + Drop> Walk<'a, S> {
     /// What the database has at an address.
     pub(crate) fn at(&self, at: u128) -> Here {
         let until = match &self.here {
-            Some(piece) if piece.block.first <= at => return Here::Record(piece.last),
-            Some(piece) => piece.block.first.saturating_sub(1),
+            Some(here) if here.block.first <= at => return Here::Record(here.last),
+            Some(here) => here.block.first.saturating_sub(1),
             None => u128::MAX,
         };
         if self.is_unknown {
@@ -173,7 +173,7 @@ impl<'a, S: AsSlice<u8> + Drop> Walk<'a, S> {
         ensures { MatchOption result Unit (λ block. IsBlock block) }
     {
         match &self.here {
-            Some(piece) => Some(piece.block),
+            Some(here) => Some(here.block),
             None => None,
         }
     }
@@ -181,7 +181,7 @@ impl<'a, S: AsSlice<u8> + Drop> Walk<'a, S> {
     /// What was found in the network that the walk stands at.
     pub(crate) fn found(&self) -> Option<&LookupResult<'a, S>> {
         match &self.here {
-            Some(piece) => Some(&piece.found),
+            Some(here) => Some(&here.found),
             None => None,
         }
     }
@@ -189,7 +189,7 @@ impl<'a, S: AsSlice<u8> + Drop> Walk<'a, S> {
     /// Whether that is a network of IPv4.
     pub(crate) fn is_ipv4(&self) -> bool {
         match &self.here {
-            Some(piece) => piece.is_ipv4,
+            Some(here) => here.is_ipv4,
             None => false,
         }
     }

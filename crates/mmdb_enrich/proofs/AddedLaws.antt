@@ -11,7 +11,8 @@ use Rattle.mmdb_filter.specs.declared.counts.Outcome.TheVariants.{Absent, Found,
 use Rattle.mmdb_filter.specs.declared.rows.Rows.{Rows}
 use Rattle.mmdb_enrich.specs.Added.{AddsAt}
 use Rattle.mmdb_enrich.specs.Cells.{blanks, AreCells, are_read}
-use Rattle.mmdb_enrich.specs.Rows.{paths_of, AddsAtTo, AddsForTo}
+use Rattle.mmdb_enrich.specs.Rows.{paths_of}
+use Rattle.mmdb_enrich.specs.Working.{AddsAtTo, AddsForTo}
 
 pub found_added : (db : Database) (rows : Rows) (fields : Vec (Vec PathElement)) (address : IpAddr) (leaf : List Bool) (offset o : Option ℕ) (outcome : Outcome) (old new : Vec ℕ)
     → Answers db address leaf (outcome_at o) → o ≡ offset → AddsAtTo db rows fields offset outcome old new → AddsForTo db rows fields (Some address) outcome old new

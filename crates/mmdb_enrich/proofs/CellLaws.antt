@@ -9,7 +9,8 @@ use Rattle.mmdb_reader.specs.Selecting.{answer_along, SelectsTo}
 use Rattle.mmdb_reader.specs.declared.path.PathElement.{PathElement}
 use Rattle.mmdb_filter.specs.declared.rows.Rows.{Rows}
 use Rattle.mmdb_enrich.specs.Columns.{delimiter_of}
-use Rattle.mmdb_enrich.specs.Cells.{read_at, IsReadAs, IsCell, AreCells, are_read}
+use Rattle.mmdb_enrich.specs.Cells.{read_at, IsCell, AreCells, are_read}
+use Rattle.mmdb_enrich.specs.Working.{IsReadAs}
 
 -- what decoding along a path gave, where there is data
 pub read_as : (path : List PathElement) (s : List ℕ) (found : Option ℕ) (offset : ℕ) (r : Result (Option Value) MaxMindDbError) → found ≡ Some offset

@@ -2,6 +2,7 @@ pub mod CellLaws
 pub mod KeptLaws
 pub mod ColumnLaws
 pub mod AddedLaws
+pub mod AheadLaws
 pub mod MemberLaws
 pub mod ObjectLaws
 pub mod WordLaws

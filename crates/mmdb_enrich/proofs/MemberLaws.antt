@@ -17,7 +17,8 @@ use Rattle.mmdb_filter.specs.declared.counts.Outcome.TheVariants.{Found, Absent,
 use Rattle.mmdb_filter.specs.declared.filter.Added.{Added}
 use Rattle.mmdb_enrich.specs.Cells.{read_at}
 use Rattle.mmdb_enrich.specs.Fields.{AreValue, AreFields, HasUnreadField, IsMember}
-use Rattle.mmdb_enrich.specs.Members.{HasUnreadMember, PutsMember, PutsMemberFor, comma_behind}
+use Rattle.mmdb_enrich.specs.Members.{HasUnreadMember, PutsMember, comma_behind}
+use Rattle.mmdb_enrich.specs.Working.{PutsMemberFor}
 use Rattle.mmdb_enrich.specs.Wanted.{MemberAt}
 use Rattle.mmdb_enrich.specs.declared.members.Field.{Field}
 use Rattle.mmdb_enrich.specs.declared.objects.Line.{Line}

@@ -5,7 +5,8 @@ use Rattle.json.specs.Find.{BeginsWith, InMembers, NextMember, as_object}
 use Rattle.json.specs.Json.{Json, object, Members, member, document}
 use Rattle.json.specs.Token.{Token}
 use Rattle.mmdb_reader.specs.declared.path.PathElement.{PathElement}
-use Rattle.mmdb_enrich.specs.Objects.{EndsWithBrace, ReadsLine, ReadsValue, is_empty}
+use Rattle.mmdb_enrich.specs.Objects.{EndsWithBrace, is_empty}
+use Rattle.mmdb_enrich.specs.Working.{ReadsLine, ReadsValue}
 use Rattle.mmdb_enrich.specs.declared.objects.ReadLine.{ReadLine}
 use Rattle.mmdb_enrich.specs.declared.objects.ReadLine.TheVariants.{NoObject, NoAddress, Object}
 

@@ -1,13 +1,9 @@
 -- The cells of a record: for each path the text of the value to which it leads.
-use Rattle.std.specs.Prelude.{◌≡◌, ℕ, List, [], ◌∷◌, ◌++◌, Option, Some, None, option_map, Bool, true, false, ◌&&◌, ◌||◌, ◌==◌, nat_lt, is_some, if◌then◌else◌, Result, Ok, Err}
+use Rattle.std.specs.Prelude.{◌≡◌, ℕ, List, [], ◌∷◌, ◌++◌, Option, Some, None, Bool, true, false, ◌&&◌, ◌||◌, ◌==◌, nat_lt, is_some, if◌then◌else◌}
 use Rattle.std.specs.Bool.{MatchBool}
 use Rattle.mmdb_format.specs.Contents.{text}
 use Rattle.mmdb_format.specs.Unfolding.{Tree, scalar}
-use Rattle.mmdb_format.specs.declared.error.MaxMindDbError.{MaxMindDbError}
-use Rattle.mmdb_decode.specs.Errors.{Fails}
 use Rattle.mmdb_value.specs.AnyValue.{value_at}
-use Rattle.mmdb_value.specs.Values.{value_tree}
-use Rattle.mmdb_value.specs.declared.any_value.Value.{Value}
 use Rattle.mmdb_reader.specs.Selecting.{answer_along}
 use Rattle.mmdb_reader.specs.declared.path.PathElement.{PathElement}
 use Rattle.mmdb_json.specs.Texts.{IsCompact}
@@ -55,12 +51,6 @@ ShowsCell (Csv delimiter) v cell = (value : List ℕ) × MatchBool (is_any_text 
 abbrev pub read_at : List PathElement → List ℕ → ℕ → Option (Option Tree)
 read_at path s offset = answer_along path true (value_at true) s offset
 
--- What a reading gave is this answer: the tree of the value, nothing where the path leads nowhere, and no answer where
--- the way or the value failed. Out of memory is any answer.
-abbrev pub IsReadAs : Option (Option Tree) → Result (Option Value) MaxMindDbError → Type 0
-IsReadAs answer (Ok value) = answer ≡ Some (option_map value_tree value)
-IsReadAs answer (Err e) = Fails false e answer
-
 -- the cell of what was read: empty where nothing is there, or the way or the value failed
 abbrev pub IsCell : Rows → Option (Option Tree) → List ℕ → Type 0
 IsCell rows None cell = cell ≡ []
@@ -81,24 +71,3 @@ blanks rows (path ∷ paths) = delimiter_of rows ∷ blanks rows paths
 abbrev pub are_read : List (List PathElement) → List ℕ → ℕ → Bool
 are_read [] s offset = true
 are_read (path ∷ paths) s offset = is_some (read_at path s offset) && are_read paths s offset
-
--- bytes grow by the cell that shows a value
-abbrev pub PutsShown : Rows → Tree → List ℕ → List ℕ → Type 0
-PutsShown rows v old new = (cell : List ℕ) × ShowsCell rows v cell × (new ≡ old ++ cell)
-
--- bytes grow by the cell of an answer, and it is said whether there is one
-abbrev pub PutsCell : Rows → Option (Option Tree) → Bool → List ℕ → List ℕ → Type 0
-PutsCell rows answer is_read old new =
-    (cell : List ℕ) × IsCell rows answer cell × (new ≡ old ++ cell) × (is_read ≡ is_some answer)
-
--- bytes grow by a delimiter and the cell of what is read along a path
-abbrev pub PutsCellAlong : Rows → List PathElement → List ℕ → ℕ → Bool → List ℕ → List ℕ → Type 0
-PutsCellAlong rows path s offset is_read old new =
-    (cell : List ℕ) × IsCell rows (read_at path s offset) cell
-    × (new ≡ old ++ (delimiter_of rows ∷ cell)) × (is_read ≡ is_some (read_at path s offset))
-
--- bytes grow by a delimiter and a cell for each path
-abbrev pub PutsCells : Rows → List (List PathElement) → List ℕ → ℕ → Bool → List ℕ → List ℕ → Type 0
-PutsCells rows paths s offset is_read old new =
-    (cells : List ℕ) × AreCells rows paths s offset cells
-    × (new ≡ old ++ cells) × (is_read ≡ are_read paths s offset)

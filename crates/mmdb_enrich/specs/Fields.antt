@@ -33,13 +33,3 @@ abbrev pub IsMember : Database → List ℕ → List Field → ℕ → List ℕ 
 IsMember db name fields offset text =
     (tokens : List Token) × AreFields fields (data_section db) offset tokens × (text ≡ print (member_tokens name tokens))
     × (tokens_read text ≡ member_tokens name tokens)
-
--- tokens grow by the fields of the record at an offset
-abbrev pub PutsFields : List Field → List ℕ → ℕ → List Token → List Token → Type 0
-PutsFields fields s offset old new =
-    (tokens : List Token) × AreFields fields s offset tokens × (new ≡ old ++ tokens)
-
--- tokens grow by a member with these fields
-abbrev pub PutsFieldsOf : List ℕ → List Field → List ℕ → ℕ → List Token → List Token → Type 0
-PutsFieldsOf name fields s offset old new =
-    (tokens : List Token) × AreFields fields s offset tokens × (new ≡ old ++ member_tokens name tokens)

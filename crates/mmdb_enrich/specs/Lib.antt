@@ -1,3 +1,4 @@
+-- What has to be believed: what contracts of public items name.
 pub mod Columns
 pub mod Cells
 pub mod Added
@@ -9,3 +10,8 @@ pub mod KeptCells
 pub mod Kept
 pub mod Rows
 pub mod Longer
+pub mod Spelling
+pub mod Ahead
+pub mod Remembers
+-- What only contracts of private functions and proofs name.
+pub mod Working

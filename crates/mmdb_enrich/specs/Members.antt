@@ -8,7 +8,6 @@ use Rattle.mmdb_reader.specs.declared.path.PathElement.{PathElement}
 use Rattle.mmdb_filter.specs.declared.counts.Outcome.{Outcome}
 use Rattle.mmdb_filter.specs.declared.counts.Outcome.TheVariants.{Found, Absent, Unreadable, Malformed, Failed}
 use Rattle.mmdb_enrich.specs.Fields.{IsMember, HasUnreadField}
-use Rattle.mmdb_enrich.specs.Wanted.{MemberAt}
 use Rattle.mmdb_enrich.specs.Objects.{IsObject, LeadsToAddress, is_empty}
 use Rattle.mmdb_enrich.specs.declared.members.Field.{Field}
 use Rattle.mmdb_enrich.specs.declared.objects.Line.{Line}
@@ -47,15 +46,3 @@ AddsMember db path name fields text goes_on extra behind outcome =
 abbrev pub PutsMember : Line → List ℕ → Outcome → Added → List ℕ → List ℕ → Type 0
 PutsMember line text Found addition old new = (addition.outcome ≡ Found) × (addition.behind ≡ line.behind) × (new ≡ old ++ (comma_behind line.is_empty ++ text))
 PutsMember line text outcome addition old new = (addition.outcome ≡ outcome) × (addition.behind ≡ 0) × (new ≡ old)
-
--- Bytes grow by the member of the record at an offset.
-abbrev pub PutsMemberAt : Database → List ℕ → List Field → ℕ → Line → Added → List ℕ → List ℕ →
-    Type 0
-PutsMemberAt db name fields offset line addition old new =
-    (text : List ℕ) × (outcome : Outcome) × MemberAt db name fields offset text outcome
-    × PutsMember line text outcome addition old new
-
--- Bytes grow by what is added to an object for its address.
-abbrev pub PutsMemberFor : Database → List ℕ → List Field → Line → Added → List ℕ → List ℕ → Type 0
-PutsMemberFor db name fields line addition old new =
-    (extra : List ℕ) × AddsMemberFor db name fields line.is_empty line.behind line.address extra addition.behind addition.outcome × (new ≡ old ++ extra)

@@ -1,5 +1,5 @@
 -- Lines that are objects of JSON, and the address that one has.
-use Rattle.std.specs.Prelude.{◌≡◌, ◌≢◌, ◌<◌, ◌≤◌, ◌-◌, ℕ, List, [], ◌∷◌, Option, Some, None, option_and_then, Bool, true, false, length, slice_index}
+use Rattle.std.specs.Prelude.{◌≡◌, ◌<◌, ◌≤◌, ◌-◌, ℕ, List, [], ◌∷◌, Option, Some, None, option_and_then, Bool, true, false, length, slice_index}
 use Rattle.std.specs.Net.Grammar.{IsIpText}
 use Rattle.std.specs.Str.{IsUtf8}
 use Rattle.std.specs.declared.net.ip_addr.IpAddr.{IpAddr}
@@ -8,8 +8,6 @@ use Rattle.json.specs.Json.{Json, object, Members, no_members, member, document}
 use Rattle.json.specs.Word.{is_space}
 use Rattle.mmdb_reader.specs.declared.path.PathElement.{PathElement}
 use Rattle.mmdb_reader.specs.declared.path.PathElement.TheVariants.{Key, Index, IndexFromEnd}
-use Rattle.mmdb_enrich.specs.declared.objects.ReadLine.{ReadLine}
-use Rattle.mmdb_enrich.specs.declared.objects.ReadLine.TheVariants.{NoObject, NoAddress, Object}
 
 -- one step into a value: by a key, or by an index from the front; an index from the end leads nowhere
 abbrev pub step_in : PathElement → Json → Option Json
@@ -43,18 +41,3 @@ LeadsToAddress path members address = (spelled : List ℕ) × (text_along path (
 abbrev pub is_empty : Members → Bool
 is_empty no_members = true
 is_empty (member _ _ _) = false
-
--- What a line is: an object in which the path leads to an address, an object in which it leads to none, or no object.
-abbrev pub ReadsLine : List ℕ → Bool → List PathElement → ReadLine → Type 0
-ReadsLine text goes_on path NoObject = (members : Members) (behind : ℕ) → ¬ IsObject text goes_on members behind
-ReadsLine text goes_on path NoAddress =
-    (members : Members) × (behind : ℕ) × IsObject text goes_on members behind × ((address : IpAddr) → ¬ LeadsToAddress path members address)
-ReadsLine text goes_on path (Object line) =
-    (members : Members) × IsObject text goes_on members line.behind × LeadsToAddress path members line.address × (line.is_empty ≡ is_empty members)
-
--- What a value is, from whose last brace on so many bytes stand.
-abbrev pub ReadsValue : Json → ℕ → List PathElement → ReadLine → Type 0
-ReadsValue j behind path NoObject = (members : Members) → j ≢ object members
-ReadsValue j behind path NoAddress = (members : Members) × (j ≡ object members) × ((address : IpAddr) → ¬ LeadsToAddress path members address)
-ReadsValue j behind path (Object line) =
-    (members : Members) × (j ≡ object members) × LeadsToAddress path members line.address × (line.is_empty ≡ is_empty members) × (line.behind ≡ behind)

@@ -4,7 +4,8 @@ ghost use Rattle.mmdb_filter.specs.declared.rows.Rows.TheVariants.{Lines, Csv};
 ghost use Rattle.mmdb_format.specs.Unfolding.{Tree};
 ghost use Rattle.mmdb_value.specs.Values.{value_tree};
 ghost use Rattle.mmdb_reader.specs.Found.{section_asked, offset_found};
-ghost use Rattle.mmdb_enrich.specs.Cells.{is_plain as spec_is_plain, PutsShown, PutsCell, PutsCellAlong, PutsCells, IsReadAs, blanks, are_read};
+ghost use Rattle.mmdb_enrich.specs.Cells.{is_plain as spec_is_plain, blanks, are_read};
+ghost use Rattle.mmdb_enrich.specs.Working.{PutsShown, PutsCell, PutsCellAlong, PutsCells, IsReadAs};
 
 use crate::columns::delimiter_of;
 use crate::quotes::put_csv_cell;

@@ -1,11 +1,10 @@
 //! The address in a row.
 ghost use Rattle.std.specs.Prelude.{◌≡◌, ◌≤◌, length, option_map};
 ghost use Rattle.mmdb_filter.specs.declared.rows.Position.TheVariants.{Cell};
-ghost use Rattle.mmdb_enrich.specs.Columns.{delimiter_of as spec_delimiter_of, cell_length as spec_cell_length, column_of as spec_column_of, value_of as spec_value_of, ReadsAddress};
+ghost use Rattle.mmdb_enrich.specs.Columns.{delimiter_of as spec_delimiter_of, cell_length as spec_cell_length, column_of as spec_column_of, value_of as spec_value_of};
 
 use memchr::memchr;
 use mmdb_filter::{Position, Rows};
-use std::net::IpAddr;
 
 /// What stands between cells: tabs between those of a line.
 #[inline(always)]
@@ -80,16 +79,13 @@ fn value_of(rows: Rows, cell: &[u8]) -> &[u8]
     }
 }
 
-/// The address that a column spells.
-pub(crate) fn address_of(rows: Rows, text: &[u8], goes_on: bool, column: usize) -> Option<IpAddr>
-    ensures { ReadsAddress
-        (option_map (spec_value_of rows) (spec_column_of rows goes_on column text.now)) result }
+/// What the cell of a column holds.
+pub(crate) fn cell_of(rows: Rows, text: &[u8], goes_on: bool, column: usize) -> Option<&[u8]>
+    ensures { option_map (λ s. s.now) result
+        ≡ option_map (spec_value_of rows) (spec_column_of rows goes_on column text.now) }
 {
     match column_of(rows, text, goes_on, column) {
-        Some(cell) => match IpAddr::parse_ascii(value_of(rows, cell)) {
-            Ok(address) => Some(address),
-            Err(_) => None,
-        },
+        Some(cell) => Some(value_of(rows, cell)),
         None => None,
     }
 }

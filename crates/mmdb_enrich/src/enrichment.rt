@@ -1,19 +1,25 @@
 //! What is added to a row.
-ghost use Rattle.std.specs.Prelude.{◌≡◌, ◌++◌, Some, IfOk, if◌then◌else◌};
+ghost use Rattle.std.specs.Prelude.{◌≡◌, ◌++◌, ◌⊎◌, ◌↔◌, Some, IfOk, IfErr, IfSome, option_map, if◌then◌else◌};
 ghost use Rattle.mmdb_filter.specs.declared.counts.Outcome.TheVariants.{Found, Failed};
+ghost use Rattle.mmdb_format.specs.Error.{OfDatabase, OfInput, kind_of, FailsAs};
+ghost use Rattle.mmdb_reader.specs.Lookup.{CanAsk, Answers, IsInvalidAt, outcome_at};
+ghost use Rattle.mmdb_reader.specs.Many.{IsFoundFor};
 ghost use Rattle.mmdb_enrich.specs.Added.{AddsTo};
+ghost use Rattle.mmdb_enrich.specs.Ahead.{IsAhead};
+ghost use Rattle.mmdb_enrich.specs.Columns.{column_of, value_of, ReadsAddress};
 ghost use Rattle.mmdb_enrich.specs.Cells.{blanks};
 ghost use Rattle.mmdb_enrich.specs.Rows.{paths_of, AreKeptFor};
 
+use crate::ahead::{Ahead, Asked};
 use crate::cache::{Cache, Kept};
 use crate::cells::{put_blanks, put_cells};
-use crate::columns::address_of;
+use crate::columns::cell_of;
+use crate::row_memory::RowMemory;
 use mmdb_filter::{Added, Additions, Outcome, Rows};
-use mmdb_reader::{LookupResult, PathElement, Reader};
+use mmdb_reader::{LookupResult, MaxMindDbError, PathElement, Reader};
 use std::alloc::{AllocError, Global};
 use std::convert::AsSlice;
 use std::io;
-use std::net::IpAddr;
 
 /// Fields of the record of the address in a column, as columns behind each row.
 #[derive(Drop)]
@@ -51,8 +57,8 @@ fn put_kept(kept: Kept<'_>, out: &mut Vec<u8>) -> Result<Outcome, AllocError>
 }
 
 impl<'a, 'f, S: AsSlice<u8> + Drop> Enrichment<'a, 'f, S> {
-    ghost use Rattle.mmdb_reader.specs.Found.{database_asked, offset_found};
-    ghost use Rattle.mmdb_enrich.specs.Rows.{AddsAtTo, AddsForTo};
+    ghost use Rattle.mmdb_reader.specs.Found.{database_asked, leaf_of, offset_found};
+    ghost use Rattle.mmdb_enrich.specs.Working.{AddsAtTo, AddsForTo};
 
     // Adds the cells of a record that was not kept, and keeps them.
     #[inline(never)]
@@ -86,19 +92,38 @@ impl<'a, 'f, S: AsSlice<u8> + Drop> Enrichment<'a, 'f, S> {
         Ok(outcome)
     }
 
+    // What is answered for an address.
+    #[inline(always)]
+    fn answer(&self, asked: Asked) -> Result<LookupResult<'a, S>, MaxMindDbError>
+        requires found { IfSome asked.leaf (IsFoundFor self.now.reader.now asked.address) }
+        ensures answered { IfOk result (λ r.
+            Answers self.now.reader.now asked.address (leaf_of r) (outcome_at (offset_found r))) }
+        ensures database { IfOk result (λ r. database_asked r ≡ self.now.reader.now) }
+        ensures of_input { FailsAs OfInput result ↔ ¬ (CanAsk self.now.reader.now asked.address) }
+        ensures of_database { FailsAs OfDatabase result
+            ↔ IsInvalidAt self.now.reader.now asked.address }
+        ensures no_other { IfErr result (λ e. (kind_of e ≡ OfInput) ⊎ (kind_of e ≡ OfDatabase)) }
+    {
+        match asked.leaf {
+            Some(leaf) => self.reader.lookup_found(asked.address, leaf),
+            None => self.reader.lookup(asked.address),
+        }
+    }
+
     // Adds the cells of an address.
     fn put_address(
         &self,
-        address: IpAddr,
+        asked: Asked,
         cache: &mut Cache,
         out: &mut Vec<u8>,
     ) -> Result<Outcome, AllocError>
-        requires { AreKeptFor self.now.reader.now self.now.rows self.now.paths cache.old }
+        requires kept { AreKeptFor self.now.reader.now self.now.rows self.now.paths cache.old }
+        requires found { IfSome asked.leaf (IsFoundFor self.now.reader.now asked.address) }
         ensures added { IfOk result (λ outcome. AddsForTo self.now.reader.now self.now.rows
-            self.now.paths (Some address) outcome out.old out.new) }
+            self.now.paths (Some asked.address) outcome out.old out.new) }
         ensures kept { AreKeptFor self.now.reader.now self.now.rows self.now.paths cache.new }
     {
-        let Ok(found) = self.reader.lookup(address) else {
+        let Ok(found) = self.answer(asked) else {
             return self.put_none(Outcome::Failed, out);
         };
         let Some(offset) = found.offset() else {
@@ -109,27 +134,55 @@ impl<'a, 'f, S: AsSlice<u8> + Drop> Enrichment<'a, 'f, S> {
             None => self.put_record(&found, offset, cache, out),
         }
     }
+
+    // The address in a row's column.
+    #[inline(always)]
+    fn address_in(&self, text: &[u8], is_long: bool, ahead: &mut Ahead) -> Option<Asked>
+        requires { IsAhead self.now.reader.now ahead.old }
+        ensures spelled { ReadsAddress
+            (option_map (value_of self.now.rows)
+            (column_of self.now.rows is_long self.now.column text.now))
+            (option_map (λ asked. asked.address) result) }
+        ensures found { IfSome result (λ asked.
+            IfSome asked.leaf (IsFoundFor self.now.reader.now asked.address)) }
+        ensures kept { IsAhead self.now.reader.now ahead.new }
+    {
+        match cell_of(self.rows, text, is_long, self.column) {
+            Some(cell) => ahead.read(cell),
+            None => None,
+        }
+    }
 }
 
 impl<'a, 'f, S: AsSlice<u8> + Drop> Additions for Enrichment<'a, 'f, S> {
-    type Memory = Cache;
+    ghost use Rattle.mmdb_enrich.specs.Remembers.{Remembers};
+    ghost use Rattle.mmdb_enrich.specs.Wanted.{cells};
+
+    type Memory = RowMemory;
 
     ghost adds = { λ e text goes_on extra behind outcome. (behind ≡ 0)
         × AddsTo e.reader.now e.rows e.column (paths_of e.paths) text goes_on extra outcome };
 
-    ghost fits = { λ e cache. AreKeptFor e.reader.now e.rows e.paths cache };
+    ghost fits = { λ e memory.
+        Remembers e.reader.now (cells e.reader.now e.rows (paths_of e.paths)) memory };
 
     fn add(
         &self,
-        cache: &mut Cache,
+        memory: &mut RowMemory,
         text: &[u8],
         is_long: bool,
         out: &mut Vec<u8>,
     ) -> io::Result<Added> {
-        let outcome = match address_of(self.rows, text, is_long, self.column) {
-            Some(address) => self.put_address(address, cache, out)?,
+        let outcome = match self.address_in(text, is_long, &mut memory.ahead) {
+            Some(asked) => self.put_address(asked, &mut memory.cache, out)?,
             None => self.put_none(Outcome::Unreadable, out)?,
         };
         Ok(Added { outcome, behind: 0 })
+    }
+
+    fn foresee(&self, memory: &mut RowMemory, bytes: &[u8]) {
+        memory
+            .ahead
+            .look(self.reader, self.rows, self.column, bytes);
     }
 }

@@ -95,7 +95,7 @@ impl<'a, 'f, S: AsSlice<u8> + Drop> JsonEnrichment<'a, 'f, S> {
     ghost use Rattle.mmdb_reader.specs.Found.{database_asked, offset_found};
     ghost use Rattle.mmdb_enrich.specs.Kept.{AreKept};
     ghost use Rattle.mmdb_enrich.specs.Wanted.{member as spec_member};
-    ghost use Rattle.mmdb_enrich.specs.Members.{PutsMemberAt, PutsMemberFor};
+    ghost use Rattle.mmdb_enrich.specs.Working.{PutsMemberAt, PutsMemberFor};
 
     // Adds the member of a record that was not kept, and keeps it.
     #[inline(never)]
@@ -177,4 +177,6 @@ impl<'a, 'f, S: AsSlice<u8> + Drop> Additions for JsonEnrichment<'a, 'f, S> {
             ReadLine::NoObject => Ok(nothing(Outcome::Malformed)),
         }
     }
+
+    fn foresee(&self, _memory: &mut JsonMemory, _bytes: &[u8]) {}
 }

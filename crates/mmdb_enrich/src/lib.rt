@@ -1,6 +1,8 @@
 //! Fields of records behind rows that have addresses.
 #![tactic(auto)]
 
+mod address_text;
+mod ahead;
 mod cache;
 mod cells;
 mod columns;
@@ -11,10 +13,11 @@ pub mod laws;
 mod members;
 mod objects;
 mod quotes;
+mod row_memory;
 
-pub use cache::Cache;
 pub use columns::delimiter_of;
 pub use enrichment::Enrichment;
 pub use json_enrichment::{JsonEnrichment, JsonMemory};
 pub use members::Field;
 pub use quotes::put_csv_cell;
+pub use row_memory::RowMemory;

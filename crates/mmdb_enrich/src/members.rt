@@ -1,7 +1,8 @@
 //! The member that is added to an object.
 ghost use Rattle.std.specs.Prelude.{◌≡◌, ℕ, Some, OnOk, IfOk, IfErr, IfSome, IfNone};
 ghost use Rattle.mmdb_reader.specs.Found.{database_asked, section_asked, offset_found};
-ghost use Rattle.mmdb_enrich.specs.Fields.{PutsFields, PutsFieldsOf, HasUnreadField, IsMember};
+ghost use Rattle.mmdb_enrich.specs.Fields.{HasUnreadField, IsMember};
+ghost use Rattle.mmdb_enrich.specs.Working.{PutsFields, PutsFieldsOf};
 ghost use Rattle.mmdb_format.specs.Error.{MemoryApart};
 
 use json::{Token, Writer};

@@ -3,7 +3,8 @@ ghost use Rattle.std.specs.Prelude.{◌≡◌, ◌≤◌, ℕ, true, false, IfOk
 ghost use Rattle.json.specs.Find.{BeginsWith, Finds};
 ghost use Rattle.json.specs.Json.{Json, Members, object};
 ghost use Rattle.json.specs.Word.{is_space as spec_is_space};
-ghost use Rattle.mmdb_enrich.specs.Objects.{EndsWithBrace, step_in as spec_step_in, text_along as spec_text_along, ReadsLine, ReadsValue};
+ghost use Rattle.mmdb_enrich.specs.Objects.{EndsWithBrace, step_in as spec_step_in, text_along as spec_text_along};
+ghost use Rattle.mmdb_enrich.specs.Working.{ReadsLine, ReadsValue};
 ghost use Rattle.mmdb_enrich.specs.Columns.{ReadsAddress};
 
 use json::{Element, Error, Scratch, Tape};

@@ -5,7 +5,7 @@ use Rattle.std.proofs.KnownBytes.{Appends-nil, Appends-trans}
 use Rattle.mmdb_filter.specs.Counting.{nothing_counted, count_one}
 use Rattle.mmdb_filter.specs.Rows.{row_from, rows_after, Leads}
 use Rattle.mmdb_filter.specs.Lines.{MayAdd, Line, AreLines, IsAdded, StandsBehind, seen_of, is_long, row_with, written, counted, IsFiltered, IsBegun}
-use Rattle.mmdb_filter.specs.Passing.{Passes, PassesFront}
+use Rattle.mmdb_filter.specs.Working.{Passes, PassesFront}
 use Rattle.mmdb_filter.specs.declared.counts.Counts.{Counts}
 use Rattle.mmdb_filter.specs.declared.counts.Outcome.{Outcome}
 use Rattle.mmdb_filter.specs.declared.rows.Rows.{Rows}

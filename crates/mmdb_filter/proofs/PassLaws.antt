@@ -4,7 +4,7 @@ use Rattle.std.specs.Io.KnownBytes.{Appends, IsAtEnd}
 use Rattle.std.proofs.KnownBytes.{Appends-nil, Appends-trans}
 use Rattle.mmdb_filter.specs.Rows.{row_from, rows_after, Leads}
 use Rattle.mmdb_filter.specs.Lines.{row_with, AppendsFront}
-use Rattle.mmdb_filter.specs.Passing.{Passes, PassesFront}
+use Rattle.mmdb_filter.specs.Working.{Passes, PassesFront}
 use Rattle.mmdb_filter.specs.declared.rows.Rows.{Rows}
 use Rattle.mmdb_filter.specs.declared.rows.Position.{Position}
 use Rattle.mmdb_filter.specs.declared.rows.Position.TheVariants.{Cell, Plain, Quoted, Closing, Ended}

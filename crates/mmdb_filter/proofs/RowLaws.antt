@@ -1,6 +1,6 @@
 -- How some bytes lead on in a row.
-use Rattle.std.proofs.Common.{◌≡◌, ◌≢◌, ℕ, zero, suc, ◌+◌, ◌<◌, ◌≤◌, List, [], ◌∷◌, ◌++◌, length, take, drop, get_or, Option, Some, None, true, false, ◌==◌, if◌then◌else◌, refl, sym, ap, ◌∙◌, subst, append_assoc, arith, eqb-true, eq-eqb, ne_eqb, take-append-drop, take-take, IfSome}
-use Rattle.std.proofs.lemmas.List.{drop_more, take_more, append_cancel_left}
+use Rattle.std.proofs.Common.{◌≡◌, ◌≢◌, ℕ, zero, suc, ◌+◌, ◌<◌, ◌≤◌, List, [], ◌∷◌, ◌++◌, length, take, drop, get_or, Option, Some, None, true, false, ◌==◌, if◌then◌else◌, refl, sym, ap, ◌∙◌, subst, append_assoc, arith, eqb-true, eq-eqb, ne_eqb, take-append-drop, take-take, append-nil, IfSome, OnSome}
+use Rattle.std.proofs.lemmas.List.{drop_all, drop_more, take_more, append_cancel_left}
 use Rattle.std.proofs.KnownBytes.{starts_with_rest}
 use Rattle.std.specs.Io.{StartsWith}
 use Rattle.std.specs.Io.KnownBytes.{Keeps, Consumes}
@@ -92,6 +92,19 @@ goes_through p at bytes ys e l h is =
     let before = goes_plain p at bytes ys e (omega arith) h in
     subst (λ q. Goes Lines p (bytes ++ ys) (take (at + 1) bytes) q (drop (at + 1) bytes ++ ys)) (line_feed p (get_or bytes at 0) (eqb-true _ _ is)) (goes_one Lines p p at bytes ys (bytes ++ ys) l e before)
 
+-- the row that is first in some bytes
+pub goes_within : (rows : Rows) (p q : Position) (n : ℕ) (bytes : List ℕ) → ((ys : List ℕ) → Goes rows p (bytes ++ ys) (take n bytes) q (drop n bytes ++ ys)) → Goes rows p bytes (take n bytes) q (drop n bytes)
+goes_within rows p q n bytes g = subst (λ t. Goes rows p t (take n bytes) q (drop n bytes)) (append-nil bytes) (subst (λ t. Goes rows p (bytes ++ []) (take n bytes) q t) (append-nil (drop n bytes)) (g []))
+
+pub first_ended : (rows : Rows) (q : Position) (n : ℕ) (bytes : List ℕ) → q ≡ Ended → Goes rows Cell bytes (take n bytes) q (drop n bytes)
+    → (row_from rows Cell bytes ≡ take n bytes) × (rows_after rows Cell bytes ≡ drop n bytes)
+first_ended rows q n bytes e g =
+    let ended = subst (λ q. Goes rows Cell bytes (take n bytes) q (drop n bytes)) e g in
+    (ended.0 ∙ ap (λ r. take n bytes ++ r) (row_from_ended rows (drop n bytes)) ∙ append-nil (take n bytes), ended.1 ∙ rows_after_ended rows (drop n bytes))
+
+pub first_goes_on : (rows : Rows) (q : Position) (n : ℕ) (bytes : List ℕ) → n ≡ length bytes → Goes rows Cell bytes (take n bytes) q (drop n bytes) → rows_after rows Cell bytes ≡ []
+first_goes_on rows q n bytes e g = g.1 ∙ ap (rows_after rows q) (drop_all n bytes (omega (arith, e))) ∙ rows_after_nothing rows q
+
 -- the same where bytes may be unknown
 pub leads_nowhere : (rows : Rows) (p : Position) (left : Option (List ℕ)) → Leads rows p left [] p left
 leads_nowhere rows p None = tt
@@ -108,6 +121,18 @@ leads_kept rows p q None b c bs g k = tt
 leads_kept rows p q (Some xs) None c bs g k = absurd g
 leads_kept rows p q (Some xs) (Some ys) None bs g k = absurd k
 leads_kept rows p q (Some xs) (Some ys) (Some zs) bs g k = subst (λ t. Goes rows p xs bs q t) (sym k) g
+
+pub leads_behind : (rows : Rows) (p q : Position) (a b c : Option (List ℕ)) (bs : List ℕ) → Keeps a b → Leads rows p b bs q c → Leads rows p a bs q c
+leads_behind rows p q None b c bs k g = tt
+leads_behind rows p q (Some xs) None c bs k g = absurd k
+leads_behind rows p q (Some xs) (Some ys) None bs k g = absurd g
+leads_behind rows p q (Some xs) (Some ys) (Some zs) bs k g = subst (λ t. Goes rows p t bs q zs) k g
+
+-- the end of an input that was kept
+pub end_behind : (a b : Option (List ℕ)) (P : Type 0) → Keeps a b → OnSome b P → OnSome a P
+end_behind None b P k h = tt
+end_behind (Some xs) None P k h = absurd k
+end_behind (Some xs) (Some ys) P k h = h
 
 -- what was consumed of the bytes that the input showed
 pub leads_shown : (rows : Rows) (p q : Position) (a c : Option (List ℕ)) (shown : List ℕ) (room n : ℕ) → n ≤ room → IfSome a (λ xs. StartsWith xs shown) → Consumes a c (take n shown)

@@ -1,5 +1,7 @@
+-- What has to be believed: what contracts of public items name.
 pub mod Counting
 pub mod Lines
-pub mod Passing
 pub mod Rows
 pub mod Equality
+-- What only contracts of private functions and proofs name.
+pub mod Working

@@ -8,7 +8,7 @@ use crate::rows::{Position, Rows, scan};
 use std::io::{self, BufRead, ErrorKind};
 
 /// How many bytes of a row are held at most.
-pub(crate) const PIECE: usize = 65_539;
+pub(crate) const CHUNK: usize = 65_539;
 
 // Appends what the input has at hand of a row, as far as there is room, or nothing where it was interrupted.
 #[inline(always)]
@@ -38,7 +38,7 @@ fn read_some<R: BufRead>(
             };
         }
     };
-    let room = PIECE.saturating_sub(chunk.len()).min(shown.len());
+    let room = CHUNK.saturating_sub(chunk.len()).min(shown.len());
     let (len, next) = scan(rows, position, &shown[..room]);
     chunk.extend_from_slice(&shown[..len])?;
     input.consume(len);
@@ -63,7 +63,7 @@ pub fn read_chunk<R: BufRead>(
     let mut now = position;
     for _ in 0..u64::MAX {
         let before = chunk.len();
-        if now == Position::Ended || before >= PIECE {
+        if now == Position::Ended || before >= CHUNK {
             return Ok(now);
         }
         if let Some(next) = read_some(input, rows, now, chunk)? {

@@ -27,7 +27,8 @@ pub struct Counts {
 }
 
 impl Counts {
-    ghost use Rattle.mmdb_filter.specs.Counting.{nothing_counted, count_one, total};
+    ghost use Rattle.mmdb_filter.specs.Counting.{nothing_counted, count_one};
+    ghost use Rattle.mmdb_filter.specs.Working.{total};
 
     /// Of no line.
     pub(crate) fn new() -> Counts

@@ -1,7 +1,10 @@
 //! The filter.
-ghost use Rattle.std.specs.Prelude.{◌≡◌, ◌++◌, List, ℕ, Bool, IfOk, OnErr};
+ghost use Rattle.std.specs.Prelude.{◌≡◌, ◌≢◌, ◌<◌, ◌++◌, List, ℕ, Bool, IfOk, OnOk, OnErr, OnSome, true, length};
+ghost use Rattle.std.specs.Io.KnownBytes.{Keeps, IsAtEnd};
 ghost use Rattle.mmdb_filter.specs.Lines.{StandsBehind, IsFiltered, IsBegun};
+ghost use Rattle.mmdb_filter.specs.Rows.{GrowsAlong};
 ghost use Rattle.mmdb_filter.specs.declared.counts.Outcome.{Outcome as SpecOutcome};
+ghost use Rattle.mmdb_filter.specs.declared.rows.Position.TheVariants.{Cell, Ended};
 
 use crate::chunk::read_chunk;
 use crate::counts::{Counts, Outcome};
@@ -47,6 +50,12 @@ pub trait Additions {
             × (out.new.items ≡ out.old.items ++ extra)) }
         ensures behind { IfOk result (λ addition. StandsBehind text.now is_long addition.behind) }
         ensures fits { fits self.now memory.new };
+
+    /// What it may remember of the next bytes of the input, at which rows begin and of which the last one may be cut
+    /// off. It is a hint: nothing that is added depends on it.
+    fn foresee(&self, memory: &mut Self::Memory, bytes: &[u8])
+        requires { fits self.now memory.old }
+        ensures { fits self.now memory.new };
 }
 
 /// Who is shown how far the filter is.
@@ -57,6 +66,68 @@ pub trait Progress {
 
 /// After so many rows it is given how many passed.
 const STEP: u64 = 65_536;
+
+/// After so many rows additions are shown what comes.
+const AHEAD: u64 = 64;
+
+// Shows additions the bytes that the input has at hand, before the first of each 64 rows, and says whether the input was
+// found to be at its end. It waits where the read of the row would, and fails as that would; where it was interrupted
+// nothing is shown.
+fn look_ahead<A: Additions, R: BufRead>(
+    additions: &A,
+    memory: &mut A::Memory,
+    passed: u64,
+    input: &mut R,
+) -> io::Result<bool>
+    requires { A.fits additions.now memory.old }
+    ensures kept { OnOk result (Keeps (R.remaining input.old) (R.remaining input.new)) }
+    ensures end { IfOk result (λ is_end. is_end ≡ true
+        → OnSome (R.remaining input.old) (IsAtEnd (R.remaining input.new))) }
+    ensures fits { A.fits additions.now memory.new }
+{
+    if passed % AHEAD != 0 {
+        return Ok(false);
+    }
+    match input.fill_buf() {
+        Ok(shown) => {
+            additions.foresee(memory, shown);
+            Ok(shown.is_empty())
+        }
+        Err(error) => {
+            if error.kind() == ErrorKind::Interrupted {
+                Ok(false)
+            } else {
+                Err(error)
+            }
+        }
+    }
+}
+
+// Appends the bytes of a row, or those of its first chunk, and says the position behind them. Additions may look ahead
+// first; an input that has come to its end then is not read again.
+#[inline(always)]
+fn begin_row<A: Additions, R: BufRead>(
+    rows: Rows,
+    additions: &A,
+    memory: &mut A::Memory,
+    passed: u64,
+    input: &mut R,
+    chunk: &mut Vec<u8>,
+) -> io::Result<Position>
+    requires { A.fits additions.now memory.old }
+    ensures leads { IfOk result (λ next.
+        GrowsAlong rows Cell next chunk.old.items chunk.new.items
+        (R.remaining input.old) (R.remaining input.new)) }
+    ensures end { IfOk result (λ next. next ≢ Ended
+        → length chunk.new.items < 65539
+        → OnSome (R.remaining input.old) (IsAtEnd (R.remaining input.new))) }
+    ensures fits { A.fits additions.now memory.new }
+{
+    if look_ahead(additions, memory, passed, input)? {
+        return Ok(Position::Cell);
+    }
+    read_chunk(input, rows, Position::Cell, chunk)
+}
 
 /// Copies all rows, with what is added to each before its last bytes, and counts how they fared. A last row without
 /// an end stays without. A long row passes in chunks. `out` is not flushed.
@@ -86,7 +157,7 @@ pub fn filter_rows<A: Additions, R: BufRead, W: Write, P: Progress>(
             progress.passed(passed);
         }
         chunk.clear();
-        let position = read_chunk(input, rows, Position::Cell, &mut chunk)?;
+        let position = begin_row(rows, additions, memory, passed, input, &mut chunk)?;
         if chunk.is_empty() {
             return Ok(counts);
         }

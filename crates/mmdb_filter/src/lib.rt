@@ -13,5 +13,5 @@ mod text;
 pub use chunk::read_chunk;
 pub use counts::{Counts, Outcome};
 pub use filter::{Added, Additions, Progress, filter_rows};
-pub use rows::{Position, Rows};
+pub use rows::{Position, Rows, first_row};
 pub use text::MOST_SEEN;

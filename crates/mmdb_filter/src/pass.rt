@@ -2,10 +2,10 @@
 ghost use Rattle.std.specs.Prelude.{◌≡◌, ◌-◌, ◌<◌, ◌≤◌, OnOk, OnErr, length, take, drop};
 ghost use Rattle.std.specs.Io.KnownBytes.{Appends};
 ghost use Rattle.mmdb_filter.specs.Lines.{AppendsFront};
-ghost use Rattle.mmdb_filter.specs.Passing.{EndsWithInput, Passes, PassesFront};
+ghost use Rattle.mmdb_filter.specs.Working.{EndsWithInput, Passes, PassesFront};
 ghost use Rattle.mmdb_filter.specs.declared.rows.Position.TheVariants as spec_position;
 
-use crate::chunk::{PIECE, read_chunk};
+use crate::chunk::{CHUNK, read_chunk};
 use crate::put::{put_all, put_row};
 use crate::rows::{Position, Rows};
 use std::io::{self, BufRead, ErrorKind, Write};
@@ -49,7 +49,7 @@ pub(crate) fn pass_on<R: BufRead, W: Write>(
 {
     let mut now = position;
     for _ in 0..u64::MAX {
-        if now == Position::Ended || chunk.len() < PIECE {
+        if now == Position::Ended || chunk.len() < CHUNK {
             return put_row(out, chunk, added, behind);
         }
         put_front(out, chunk)?;

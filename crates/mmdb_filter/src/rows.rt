@@ -1,8 +1,10 @@
 //! Where rows end.
-ghost use Rattle.std.specs.Prelude.{◌≡◌, ◌≢◌, ◌<◌, ◌≤◌, ◌++◌, ℕ, List, length, take, drop};
-ghost use Rattle.mmdb_filter.specs.Rows.{position_after, Goes};
+ghost use Rattle.std.specs.Prelude.{◌≡◌, ◌≢◌, ◌<◌, ◌≤◌, ◌++◌, [], ℕ, List, None, IfSome, length, take, drop};
+ghost use Rattle.mmdb_filter.specs.Lines.{text_of};
+ghost use Rattle.mmdb_filter.specs.Rows.{position_after, row_from, rows_after, Goes};
 ghost use Rattle.mmdb_filter.specs.declared.rows.Position.TheVariants as spec_position;
 
+use crate::text::text_length;
 use memchr::memchr;
 
 /// What a row is. Each ends with a line feed, or with the text.
@@ -89,4 +91,20 @@ pub(crate) fn scan(rows: Rows, position: Position, bytes: &[u8]) -> (usize, Posi
         },
         Rows::Csv { .. } => scan_quotes(rows, position, bytes),
     }
+}
+
+/// The text of the row that is first in some bytes, without its end, and the bytes after it; none where it may go on
+/// behind them.
+pub fn first_row(rows: Rows, bytes: &[u8]) -> Option<(&[u8], &[u8])>
+    ensures text { IfSome result (λ r. r.0.now
+        ≡ text_of (row_from rows spec_position.Cell bytes.now)) }
+    ensures rest { IfSome result (λ r. r.1.now ≡ rows_after rows spec_position.Cell bytes.now) }
+    ensures last { result ≡ None → rows_after rows spec_position.Cell bytes.now ≡ [] }
+{
+    let (len, next) = scan(rows, Position::Cell, bytes);
+    if next != Position::Ended {
+        return None;
+    }
+    let (row, rest) = bytes.split_at(len);
+    Some((&row[..text_length(row)], rest))
 }

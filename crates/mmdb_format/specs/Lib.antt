@@ -1,3 +1,4 @@
+-- What has to be believed: what contracts of public items name.
 pub mod Header
 pub mod Pointer
 pub mod Kinds
@@ -8,3 +9,5 @@ pub mod Contents
 pub mod Views
 pub mod Unfolding
 pub mod Equality
+-- What only contracts of private functions and proofs name.
+pub mod Working

@@ -68,53 +68,37 @@ impl DecodeErrorKind {
         let text = match self {
             DecodeErrorKind::SizeOf(kind, size) => {
                 let name = kind.name();
-                return Message::of_text(alloc, format!(in alloc; "{name} of size {size}")?);
+                format!(in alloc; "{name} of size {size}")?
             }
-            DecodeErrorKind::PointerSize(size) => {
-                return Message::of_text(alloc, format!(in alloc; "pointer of size {size}")?);
-            }
+            DecodeErrorKind::PointerSize(size) => format!(in alloc; "pointer of size {size}")?,
             DecodeErrorKind::UnknownType(number) => {
-                return Message::of_text(alloc, format!(in alloc; "unknown data type: {number}")?);
+                format!(in alloc; "unknown data type: {number}")?
             }
             DecodeErrorKind::KeyOfType(number) => {
-                return Message::of_text(
-                    alloc,
-                    format!(in alloc; "expected string, got type {number}")?,
-                );
+                format!(in alloc; "expected string, got type {number}")?
             }
             DecodeErrorKind::Cycle(offset) => {
-                return Message::of_text(
-                    alloc,
-                    format!(in alloc; "cyclic data pointer references offset {offset}")?,
-                );
+                format!(in alloc; "cyclic data pointer references offset {offset}")?
             }
             DecodeErrorKind::Unexpected(wanted, found) => {
                 let name = wanted.name();
-                return Message::of_text(
-                    alloc,
-                    format!(in alloc; "expected {name}, got type {found}")?,
-                );
+                format!(in alloc; "expected {name}, got type {found}")?
             }
-            DecodeErrorKind::WrongLength(wanted, found) => {
-                return Message::of_text(
-                    alloc,
-                    format!(in alloc;
-                        "expected tuple of length {wanted}, got array of length {found}"
-                    )?,
-                );
-            }
-            DecodeErrorKind::EndOfBuffer => Text::EndOfBuffer,
-            DecodeErrorKind::KeyTooLong => Text::KeyTooLong,
-            DecodeErrorKind::InvalidUtf8 => Text::InvalidUtf8,
-            DecodeErrorKind::PointerToPointer => Text::PointerToPointer,
-            DecodeErrorKind::TooDeep => Text::TooDeep,
-            DecodeErrorKind::OutOfRange => Text::OutOfRange,
-            DecodeErrorKind::NotWhole => Text::NotWhole,
-            DecodeErrorKind::TooManyValues => Text::TooManyValues,
-            DecodeErrorKind::TooManyBytes => Text::TooManyBytes,
-            DecodeErrorKind::TooMuchWork => Text::TooMuchWork,
+            DecodeErrorKind::WrongLength(wanted, found) => format!(in alloc;
+                "expected tuple of length {wanted}, got array of length {found}"
+            )?,
+            DecodeErrorKind::EndOfBuffer => return Ok(Message::Fixed(Text::EndOfBuffer)),
+            DecodeErrorKind::KeyTooLong => return Ok(Message::Fixed(Text::KeyTooLong)),
+            DecodeErrorKind::InvalidUtf8 => return Ok(Message::Fixed(Text::InvalidUtf8)),
+            DecodeErrorKind::PointerToPointer => return Ok(Message::Fixed(Text::PointerToPointer)),
+            DecodeErrorKind::TooDeep => return Ok(Message::Fixed(Text::TooDeep)),
+            DecodeErrorKind::OutOfRange => return Ok(Message::Fixed(Text::OutOfRange)),
+            DecodeErrorKind::NotWhole => return Ok(Message::Fixed(Text::NotWhole)),
+            DecodeErrorKind::TooManyValues => return Ok(Message::Fixed(Text::TooManyValues)),
+            DecodeErrorKind::TooManyBytes => return Ok(Message::Fixed(Text::TooManyBytes)),
+            DecodeErrorKind::TooMuchWork => return Ok(Message::Fixed(Text::TooMuchWork)),
         };
-        Ok(Message::Fixed(text))
+        Message::of_text(alloc, text)
     }
 
     /// The error that reports this fault at an offset, or `Memory` where its text holds a number

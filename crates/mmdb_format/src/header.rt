@@ -1,7 +1,8 @@
 //! Headers and pointers.
 ghost use Rattle.std.specs.Prelude.{◌≡◌, ℕ, ◌<◌, ◌≤◌, ◌^◌, ◌+◌, ◌-◌, length, Some, slice_get, IfSome, IfOk, option_map};
 ghost use Rattle.std.specs.Result.{result_ok};
-ghost use Rattle.mmdb_format.specs.Header.{bytes_at as spec_bytes_at, big_endian as spec_big_endian, number_at as spec_number_at, size_at as spec_size_at, with_length_end, sized_header as spec_sized_header, header_at as spec_header_at};
+ghost use Rattle.mmdb_format.specs.Header.{bytes_at as spec_bytes_at, big_endian as spec_big_endian, number_at as spec_number_at, size_at as spec_size_at, sized_header as spec_sized_header, header_at as spec_header_at};
+ghost use Rattle.mmdb_format.specs.Working.{with_length_end};
 ghost use Rattle.mmdb_format.specs.Pointer.{pointer_at as spec_pointer_at, direct_at as spec_direct_at, behind as spec_behind};
 
 use crate::decode_error_kind::DecodeErrorKind;

@@ -1,4 +1,4 @@
-pub mod Cap
+-- What has to be believed: what contracts of public items name.
 pub mod PlainRecords
 pub mod NamesTable
 pub mod CountryTables
@@ -7,3 +7,5 @@ pub mod EnterpriseTables
 pub mod NetworkTables
 pub mod RecordTables
 pub mod RecordShapes
+-- What only contracts of private functions and proofs name.
+pub mod Working

@@ -1,7 +1,7 @@
 -- How a record is decoded.
 use Rattle.std.specs.Prelude.{true, false}
-use Rattle.mmdb_decode.specs.Shapes.{Decoding, IsShape}
-use Rattle.mmdb_decode.specs.Tables.{Table, Data, data_of, record_of}
+use Rattle.mmdb_record.specs.Shapes.{Decoding, IsShape}
+use Rattle.mmdb_record.specs.Tables.{Table, Data, data_of, record_of}
 
 -- A record says the data of its table's fields and is read by its table, exactly. It begins a budget; a
 -- success takes no memory, since its texts are lent.

@@ -1,17 +1,17 @@
 //! The parts of an enterprise record.
-#![tactic(auto, unfolding(mmdb_decode::specs::Tables::fields_of, mmdb_decode::specs::Tables::part_field, mmdb_decode::specs::State::decoded, mmdb_decode::specs::Records::named, mmdb_decode::specs::Records::field, mmdb_decode::specs::Records::skipped, crate::specs::NamesTable::names_table, crate::specs::EnterpriseTables::enterprise_city_table, crate::specs::EnterpriseTables::enterprise_country_table, crate::specs::EnterpriseTables::enterprise_postal_table, crate::specs::EnterpriseTables::enterprise_subdivision_table, crate::specs::EnterpriseTables::enterprise_traits_table))]
+#![tactic(auto, unfolding(mmdb_record::specs::Tables::fields_of, mmdb_record::specs::Tables::part_field, mmdb_decode::specs::State::decoded, mmdb_decode::specs::Names::named, mmdb_record::specs::Records::field, mmdb_record::specs::Records::skipped, crate::specs::NamesTable::names_table, crate::specs::EnterpriseTables::enterprise_city_table, crate::specs::EnterpriseTables::enterprise_country_table, crate::specs::EnterpriseTables::enterprise_postal_table, crate::specs::EnterpriseTables::enterprise_subdivision_table, crate::specs::EnterpriseTables::enterprise_traits_table))]
 
 ghost use Rattle.std.specs.Prelude.{◌≡◌};
-ghost use Rattle.mmdb_decode.specs.Tables.{absent};
+ghost use Rattle.mmdb_record.specs.Tables.{absent};
 ghost use Rattle.mmdb_geoip2.specs.EnterpriseTables.{enterprise_city_table, enterprise_country_table, enterprise_postal_table, enterprise_subdivision_table, enterprise_traits_table};
 
 use crate::fields::fields_by_name;
 use crate::names::Names;
 use mmdb_decode::decoder::Decoder;
 use mmdb_decode::failed::Failed;
-use mmdb_decode::fields::{EachByItself, Fields, FieldsSeen, read_part};
-use mmdb_decode::record::named;
-use mmdb_decode::try_decode::try_once;
+use mmdb_record::fields::{EachByItself, Fields, FieldsSeen, read_part};
+use mmdb_record::record::named;
+use mmdb_record::try_decode::try_once;
 use std::alloc::Global;
 
 /// A city.

@@ -3,12 +3,12 @@ ghost use Rattle.std.specs.Prelude.{true, false, IfOk, IfErr, OnOk, OnErr, IsSom
 ghost use Rattle.mmdb_decode.specs.Arrays.{few_at};
 ghost use Rattle.mmdb_decode.specs.State.{decoded, GivenUp};
 ghost use Rattle.mmdb_decode.specs.Errors.{IsRead, Declines, Kept};
-ghost use Rattle.mmdb_decode.specs.TableReads.{TakesPart};
-ghost use Rattle.mmdb_geoip2.specs.Cap.{FailsEarly};
+ghost use Rattle.mmdb_record.specs.TableReads.{TakesPart};
+ghost use Rattle.mmdb_geoip2.specs.Working.{FailsEarly};
 
 use mmdb_decode::decoder::Decoder;
 use mmdb_decode::failed::Failed;
-use mmdb_decode::try_decode::{TryDecode, try_items};
+use mmdb_record::try_decode::{TryDecode, try_items};
 use std::alloc::Global;
 
 // Reads the value after a name: a row for each field. What no row names is skipped by the last.

@@ -1,5 +1,5 @@
 //! Records of networks.
-#![tactic(auto, unfolding(mmdb_decode::specs::Tables::fields_of, mmdb_decode::specs::Tables::part_field, mmdb_decode::specs::State::decoded, mmdb_decode::specs::Records::named, mmdb_decode::specs::Records::field, mmdb_decode::specs::Records::skipped, crate::specs::NetworkTables::isp_table, crate::specs::NetworkTables::connection_type_table, crate::specs::NetworkTables::anonymous_ip_table, crate::specs::NetworkTables::density_income_table, crate::specs::NetworkTables::domain_table, crate::specs::NetworkTables::asn_table))]
+#![tactic(auto, unfolding(mmdb_record::specs::Tables::fields_of, mmdb_record::specs::Tables::part_field, mmdb_decode::specs::State::decoded, mmdb_decode::specs::Names::named, mmdb_record::specs::Records::field, mmdb_record::specs::Records::skipped, crate::specs::NetworkTables::isp_table, crate::specs::NetworkTables::connection_type_table, crate::specs::NetworkTables::anonymous_ip_table, crate::specs::NetworkTables::density_income_table, crate::specs::NetworkTables::domain_table, crate::specs::NetworkTables::asn_table))]
 
 ghost use Rattle.std.specs.Prelude.{◌≡◌};
 ghost use Rattle.mmdb_geoip2.specs.NetworkTables.{isp_table, connection_type_table, anonymous_ip_table, density_income_table, domain_table, asn_table};
@@ -7,9 +7,9 @@ ghost use Rattle.mmdb_geoip2.specs.NetworkTables.{isp_table, connection_type_tab
 use crate::fields::fields_by_name;
 use mmdb_decode::decoder::Decoder;
 use mmdb_decode::failed::Failed;
-use mmdb_decode::fields::{EachByItself, Fields, FieldsSeen};
-use mmdb_decode::record::named;
-use mmdb_decode::try_decode::try_once;
+use mmdb_record::fields::{EachByItself, Fields, FieldsSeen};
+use mmdb_record::record::named;
+use mmdb_record::try_decode::try_once;
 use std::alloc::Global;
 
 /// The provider of an address.

@@ -1,19 +1,19 @@
 //! The records of whole databases.
-#![tactic(auto, unfolding(mmdb_decode::specs::Tables::fields_of, mmdb_decode::specs::Tables::part_field, mmdb_decode::specs::State::decoded, mmdb_decode::specs::Records::named, mmdb_decode::specs::Records::field, mmdb_decode::specs::Records::skipped, crate::specs::RecordTables::top_country_table, crate::specs::RecordTables::top_city_table, crate::specs::RecordTables::top_enterprise_table))]
+#![tactic(auto, unfolding(mmdb_record::specs::Tables::fields_of, mmdb_record::specs::Tables::part_field, mmdb_decode::specs::State::decoded, mmdb_decode::specs::Names::named, mmdb_record::specs::Records::field, mmdb_record::specs::Records::skipped, crate::specs::RecordTables::top_country_table, crate::specs::RecordTables::top_city_table, crate::specs::RecordTables::top_enterprise_table))]
 
 ghost use Rattle.std.specs.Prelude.{◌≡◌, false};
 ghost use Rattle.std.specs.Vec.{vec_capacity};
-ghost use Rattle.mmdb_decode.specs.Tables.{data_of, no_data};
+ghost use Rattle.mmdb_record.specs.Tables.{data_of, no_data};
 ghost use Rattle.mmdb_geoip2.specs.RecordTables.{top_country_table, top_city_table, top_enterprise_table};
 
 use crate::fields::{fields_by_name, read_few_once};
 use crate::{city, country, enterprise};
 use mmdb_decode::decoder::Decoder;
 use mmdb_decode::failed::Failed;
-use mmdb_decode::fields::{Fields, FieldsSeen, TryFields, read_part};
 use mmdb_decode::items::Entries;
-use mmdb_decode::memo::{Memo, Recalls, read_part_or_reuse, read_reusing};
-use mmdb_decode::record::named;
+use mmdb_record::fields::{Fields, FieldsSeen, TryFields, read_part};
+use mmdb_record::memo::{Memo, Recalls, read_part_or_reuse, read_reusing};
+use mmdb_record::record::named;
 use std::alloc::Global;
 
 /// The country of an address.

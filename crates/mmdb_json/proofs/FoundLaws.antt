@@ -7,7 +7,7 @@ use Rattle.mmdb_format.specs.Unfolding.{Tree, scalar, array, table, pointer, Tre
 use Rattle.mmdb_format.proofs.UnfoldingLaws.{one_tree_unfolds}
 use Rattle.mmdb_decode.specs.Reading.{Reading, plus}
 use Rattle.mmdb_decode.specs.Errors.{answer}
-use Rattle.mmdb_decode.proofs.LimitLaws.{answer_within}
+use Rattle.mmdb_record.proofs.LimitLaws.{answer_within}
 use Rattle.mmdb_value.specs.AnyValue.{value_at}
 use Rattle.mmdb_value.specs.Values.{value_tree}
 use Rattle.mmdb_value.specs.declared.any_value.Value.{Value}

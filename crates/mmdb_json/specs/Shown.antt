@@ -2,6 +2,8 @@
 -- a string, bytes are a string of base64, a number is a number, and a map is an object, with its keys in the
 -- file's order, repeated ones too. The digits of a double or a float read back as it; one that is no number,
 -- or infinite, is null. A pointer shows what stands behind it.
+use Rattle.mmdb_format.specs.Contents as contents
+use Rattle.mmdb_format.specs.Unfolding as unfolding_words
 use Rattle.std.specs.Prelude.{◌≡◌, ℕ, List, [], ◌++◌, Some, decimal, from_bits}
 use Rattle.std.specs.Bool.{MatchBool}
 use Rattle.std.specs.Float.{Format, binary32, binary64, float_is_finite}
@@ -13,9 +15,7 @@ use Rattle.json.specs.Token.{Token}
 use Rattle.json.specs.Json.{Json, null, boolean, number, string, array, object, Items, no_items, item, Members, no_members, member}
 use Rattle.json.specs.Tree.{json_tokens}
 use Rattle.mmdb_format.specs.Contents.{Scalar, text, bytes, signed32, number16, number32, number64, number128, double_bits, float_bits}
-use Rattle.mmdb_format.specs.Contents as contents
 use Rattle.mmdb_format.specs.Unfolding.{Tree, scalar, table, pointer, Trees, no_trees, tree, Pairs, no_pairs, pair}
-use Rattle.mmdb_format.specs.Unfolding as unfolding_words
 
 -- digits that read back as the number
 abbrev pub ShowsFloat : Format → ℕ → Json → Type 0
@@ -60,7 +60,3 @@ abbrev mutual
 -- tokens grow by those of JSON that shows the tree
 abbrev pub WritesShown : Tree → List Token → List Token → Type 0
 WritesShown t old new = (j : Json) × Shows t j × (new ≡ old ++ json_tokens j)
-
--- the same of a value that holds no other
-abbrev pub WritesScalar : Scalar → List Token → List Token → Type 0
-WritesScalar c old new = (j : Json) × ShowsScalar c j × (new ≡ old ++ json_tokens j)

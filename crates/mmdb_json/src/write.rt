@@ -2,7 +2,8 @@
 ghost use Rattle.std.specs.Prelude.{◌≡◌, OnOk};
 ghost use Rattle.mmdb_format.specs.Contents.{bytes as byte_string, signed32, number64, number128, double_bits, float_bits};
 ghost use Rattle.mmdb_value.specs.Values.{value_tree};
-ghost use Rattle.mmdb_json.specs.Shown.{WritesShown, WritesScalar};
+ghost use Rattle.mmdb_json.specs.Shown.{WritesShown};
+ghost use Rattle.mmdb_json.specs.Working.{WritesScalar};
 
 use crate::sink::TokenSink;
 use base64::engine::general_purpose::STANDARD;
@@ -62,7 +63,7 @@ fn write_double<W: TokenSink>(double: Double, out: &mut W) -> Result<(), AllocEr
     out.token(Token::Number(buffer.format_finite(x)))
 }
 
-// The same of single precision.
+// A number of single precision, by digits that read back as it; null where it is none.
 fn write_float<W: TokenSink>(float: Float, out: &mut W) -> Result<(), AllocError>
     ensures shown { OnOk result (WritesScalar (float_bits float.bits)
         (W.tokens out.old) (W.tokens out.new)) }

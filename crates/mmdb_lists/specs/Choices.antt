@@ -1,5 +1,5 @@
 -- What a choice says of records, and what it keeps of that.
-use Rattle.std.specs.Prelude.{◌≡◌, ℕ, List, Option, Some, None, Bool}
+use Rattle.std.specs.Prelude.{◌≡◌, ℕ, List, Some, Bool}
 use Rattle.std.specs.List.{All}
 use Rattle.std.specs.declared.convert.AsSlice.{Ghosts}
 use Rattle.mmdb_reader.specs.Found.{section_asked, offset_found}
@@ -17,10 +17,6 @@ SaysChosen choice found b = SaysAllMetAt choice.conditions.now (section_asked fo
 abbrev pub HasUnread : {S : Type 0} {G : Ghosts S ℕ} → Choice → LookupResult S G → Type 0
 HasUnread choice found = HasUnreadAt choice.conditions.now (section_asked found) (offset_found found)
 
--- an answer is of no record
-abbrev pub IsOfNone : Answer → Type 0
-IsOfNone answer = answer.offset ≡ None
-
 -- what is kept of a record of a data section is whether it meets all conditions
 abbrev pub IsKept : List Condition → List ℕ → Answer → Type 0
 IsKept conditions s answer = (offset : ℕ) → answer.offset ≡ Some offset → SaysAllMetAt conditions s (Some offset) answer.is_chosen
@@ -32,11 +28,3 @@ IsOfSection choice s = All (IsKept choice.conditions.now s) choice.kept.items
 -- all that it keeps is of records of the database that was asked
 abbrev pub IsOf : {S : Type 0} {G : Ghosts S ℕ} → Choice → LookupResult S G → Type 0
 IsOf choice found = IsOfSection choice (section_asked found)
-
--- a Bool that is kept for an offset says whether all conditions are met by the record there
-abbrev pub SaysKept : Choice → Option ℕ → Bool → Type 0
-SaysKept choice offset b = (s : List ℕ) → IsOfSection choice s → SaysAllMetAt choice.conditions.now s offset b
-
--- with one more answer a choice is of the data section that it was of, if the answer is
-abbrev pub Keeps : Choice → Answer → Choice → Type 0
-Keeps old answer new = (s : List ℕ) → IsKept old.conditions.now s answer → IsOfSection old s → IsOfSection new s

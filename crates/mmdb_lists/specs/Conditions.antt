@@ -23,17 +23,6 @@ abbrev pub SaysOneOf : List ℕ → List (List ℕ) → Bool → Type 0
 SaysOneOf own texts true = IsOneOf own texts
 SaysOneOf own texts false = ¬ IsOneOf own texts
 
--- the text that a value is, if it is one
-abbrev pub text_of : Tree → Option (List ℕ)
-text_of (scalar (text own)) = Some own
-text_of _ = None
-
--- a value is an array or a map
-abbrev pub is_container : Tree → Bool
-is_container (array _) = true
-is_container (table _) = true
-is_container _ = false
-
 -- A Bool says whether a value is one of the texts: a text as it stands, and any other scalar by its JSON. An array or a
 -- map is none of them.
 abbrev pub SaysAmong : Tree → List (List ℕ) → Bool → Type 0
@@ -86,10 +75,6 @@ abbrev pub HasUnreadAt : List Condition → List ℕ → Option ℕ → Type 0
 HasUnreadAt [] s offset = ⊥
 HasUnreadAt (condition ∷ conditions) s offset =
     IsUnreadAt condition.path.items s offset ⊎ (SaysMetAt condition s offset true × HasUnreadAt conditions s offset)
-
--- a Bool says whether the value along a condition's path, in the record that a lookup found, is one of its texts
-abbrev pub SaysFound : {S : Type 0} {G : Ghosts S ℕ} → Condition → LookupResult S G → Bool → Type 0
-SaysFound condition found b = SaysFoundAt condition.path.items (texts_of condition) (section_asked found) (offset_found found) b
 
 -- a Bool says whether a condition is met by the record that a lookup found
 abbrev pub SaysMet : {S : Type 0} {G : Ghosts S ℕ} → Condition → LookupResult S G → Bool → Type 0

@@ -2,7 +2,8 @@
 ghost use Rattle.std.specs.Prelude.{◌≡◌, ℕ, List, true, IfOk, IfErr, IfSome, is_some};
 ghost use Rattle.std.specs.List.{All};
 ghost use Rattle.mmdb_format.specs.Error.{MemoryApart};
-ghost use Rattle.mmdb_lists.specs.Choices.{SaysChosen, HasUnread, IsOfNone, IsOfSection, IsOf, SaysKept, Keeps};
+ghost use Rattle.mmdb_lists.specs.Choices.{SaysChosen, HasUnread, IsOfSection, IsOf};
+ghost use Rattle.mmdb_lists.specs.Working.{IsOfNone, SaysKept, Keeps};
 
 use crate::condition::Condition;
 use mmdb_reader::{LookupResult, MaxMindDbError};

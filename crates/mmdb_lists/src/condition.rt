@@ -2,7 +2,8 @@
 ghost use Rattle.std.specs.Prelude.{◌≡◌, IfOk, IfErr, map, option_map};
 ghost use Rattle.mmdb_format.specs.Error.{MemoryApart};
 ghost use Rattle.mmdb_value.specs.Values.{value_tree};
-ghost use Rattle.mmdb_lists.specs.Conditions.{SaysOneOf, text_of as spec_text_of, is_container as spec_is_container, SaysAmong, SaysFound, wants as spec_wants, SaysMet, IsUnread};
+ghost use Rattle.mmdb_lists.specs.Conditions.{SaysOneOf, SaysAmong, wants as spec_wants, SaysMet, IsUnread};
+ghost use Rattle.mmdb_lists.specs.Working.{text_of as spec_text_of, is_container as spec_is_container, SaysFound};
 
 use mmdb_json::compact;
 use mmdb_reader::{LookupResult, MaxMindDbError, PathElement, Value};

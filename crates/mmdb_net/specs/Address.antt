@@ -1,5 +1,5 @@
 -- Addresses of either kind as bit strings, and addresses with their last bits cleared.
-use Rattle.std.specs.Prelude.{◌≡◌, ℕ, ◌-◌, ◌*◌, ◌/◌, ◌^◌, Bool, List, ◌++◌, take}
+use Rattle.std.specs.Prelude.{◌≡◌, ℕ, ◌-◌, Bool, List, ◌++◌, take}
 use Rattle.std.specs.declared.net.ip_addr.IpAddr.{IpAddr}
 use Rattle.std.specs.declared.net.ip_addr.IpAddr.TheVariants.{V4, V6}
 use Rattle.std.specs.Net.Addr.{is_ipv4, ipv4_bits, ipv6_bits}
@@ -18,10 +18,6 @@ bits_of_address (V6 a) = bits_of 128 (ipv6_bits a)
 -- both addresses are IPv4, or both are IPv6
 abbrev pub IsSameKind : IpAddr → IpAddr → Type 0
 IsSameKind a b = is_ipv4 a ≡ is_ipv4 b
-
--- a number of that many bits, with those after its first `prefix` ones cleared
-abbrev pub masked_bits : ℕ → ℕ → ℕ → ℕ
-masked_bits width prefix bits = bits / 2 ^ (width - prefix) * 2 ^ (width - prefix)
 
 -- the masked address has the first `prefix` bits of the address, and zeros after them
 pub record IsMaskedIp (address : IpAddr) (prefix : ℕ) (masked : IpAddr) : Type 0 where

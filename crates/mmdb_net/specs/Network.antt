@@ -1,13 +1,12 @@
 -- What contracts see of a network: its address as given, its prefix, and its block, which is the bits
 -- that all addresses of the network begin with.
+use Rattle.std.specs.declared.net.ip_addr.IpAddr.TheVariants as Ip
 pub use Rattle.mmdb_net.specs.Address.{address_width, bits_of_address, IsSameKind, IsMaskedIp}
 use Rattle.std.specs.Prelude.{ℕ, Bool, List, ◌++◌, take}
 use Rattle.std.specs.declared.net.ip_addr.IpAddr.{IpAddr}
-use Rattle.std.specs.declared.net.ip_addr.IpAddr.TheVariants as Ip
 use Rattle.std.specs.declared.net.ipv4_addr.Ipv4Addr.{Ipv4Addr}
 use Rattle.std.specs.declared.net.ipv6_addr.Ipv6Addr.{Ipv6Addr}
 use Rattle.std.specs.Net.Text.{ip_text}
-use Rattle.mmdb_net.specs.NetworkText.{IsNetworkText}
 use Rattle.mmdb_net.specs.FullText.{prefix_text, ipv4_full_text, ipv6_full_text}
 use Rattle.mmdb_net.specs.declared.network.Ipv4Network.{Ipv4Network}
 use Rattle.mmdb_net.specs.declared.network.Ipv6Network.{Ipv6Network}
@@ -68,7 +67,3 @@ ipv6_short_text_of n = ip_text (Ip.V6 (ipv6_ip_of n)) ++ prefix_text (ipv6_prefi
 
 abbrev pub short_text_of : IpNetwork → List ℕ
 short_text_of n = ip_text (ip_of n) ++ prefix_text (prefix_of n)
-
--- a text that this network is read from
-abbrev pub IsTextOf : List ℕ → IpNetwork → Type 0
-IsTextOf text n = IsNetworkText text (ip_of n) (prefix_of n)

@@ -1,6 +1,7 @@
 ghost use Rattle.std.specs.Prelude.{◌≡◌, ◌-◌, ◌*◌, ◌/◌, ◌^◌, ◌≤◌, ◌<◌};
 ghost use Rattle.std.specs.Net.Addr.{ipv4_bits, ipv6_bits, IsIpv4OfBits, IsIpv6OfBits};
-ghost use Rattle.mmdb_net.specs.Address.{address_width, masked_bits, IsMaskedIp};
+ghost use Rattle.mmdb_net.specs.Address.{address_width, IsMaskedIp};
+ghost use Rattle.mmdb_net.specs.Working.{masked_bits};
 
 use std::net::{IpAddr, Ipv4Addr, Ipv6Addr};
 
@@ -17,7 +18,7 @@ pub(crate) fn ipv4_first_bits(address: Ipv4Addr, prefix: u8) -> u32
     bits >> (32 - prefix)
 }
 
-// The same of an IPv6 address.
+// The first `prefix` bits of an IPv6 address, as a number.
 pub(crate) fn ipv6_first_bits(address: Ipv6Addr, prefix: u8) -> u128
     requires { prefix ≤ 128 }
     ensures value { result ≡ ipv6_bits address / 2 ^ (128 - prefix) }
@@ -45,7 +46,7 @@ pub(crate) fn mask_ipv4(address: Ipv4Addr, prefix: u8) -> Ipv4Addr
     Ipv4Addr::from_bits(bits)
 }
 
-// The same of an IPv6 address.
+// The IPv6 address with the bits after the prefix cleared.
 pub(crate) fn mask_ipv6(address: Ipv6Addr, prefix: u8) -> Ipv6Addr
     requires { prefix ≤ 128 }
     ensures made { IsIpv6OfBits result (masked_bits 128 prefix (ipv6_bits address)) }

@@ -344,7 +344,7 @@ impl Display for IpNetwork {
 }
 
 impl FromStr for IpNetwork {
-    ghost use Rattle.mmdb_net.specs.Network.{IsTextOf};
+    ghost use Rattle.mmdb_net.specs.Working.{IsTextOf};
 
     type Err = IpNetworkError;
 

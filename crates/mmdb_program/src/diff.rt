@@ -7,7 +7,7 @@ use crate::error::ProgramError;
 use crate::export::Where;
 use crate::output::{Console, DIFFERENT, DONE, FAILED};
 use crate::task::DiffTask;
-use mmdb_diff::{Comparison, Fault, Part, Side, Stretch};
+use mmdb_diff::{Comparison, Part, Side, Stretch, UnreadLeaf};
 use mmdb_reader::{IpNetwork, MaxMindDbError};
 use std::io::Write;
 use std::net::{IpAddr, Ipv4Addr, Ipv6Addr};
@@ -52,16 +52,16 @@ fn report_at<O: Write, E: Write>(
 #[inline(never)]
 fn report_leaf<O: Write, E: Write>(
     file: &str,
-    fault: &Fault,
+    leaf: &UnreadLeaf,
     so_far: &mut SoFar<'_, '_>,
     console: &mut Console<'_, O, E>,
 ) -> Result<(), ProgramError> {
     so_far.begin_fault(console.out)?;
-    let place = match fault.behind {
+    let place = match leaf.behind {
         Some(network) => Where::Behind(network),
         None => Where::First,
     };
-    report_at(file, place, &fault.error, console)
+    report_at(file, place, &leaf.error, console)
 }
 
 // Reports a value that can't be read, unless memory is out, behind what waits.
@@ -110,7 +110,7 @@ fn compare_part<'r, O: Write, E: Write>(
     console: &mut Console<'_, O, E>,
 ) -> Result<(), ProgramError> {
     match part {
-        Part::Fault { side, fault } => report_leaf(file_of(task, *side), fault, so_far, console),
+        Part::Unread { side, leaf } => report_leaf(file_of(task, *side), leaf, so_far, console),
         Part::Stretch(stretch) => {
             let answers = Answers {
                 old: comparison.found_in_old(*stretch),

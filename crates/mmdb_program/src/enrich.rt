@@ -5,7 +5,7 @@ use crate::output::{Console, DONE};
 use crate::progress::ProgressLine;
 use crate::task::{Column, EnrichTask, JsonTask};
 use csv::{ByteRecord, ReaderBuilder};
-use mmdb_enrich::{Cache, Enrichment, JsonEnrichment, JsonMemory, delimiter_of, put_csv_cell};
+use mmdb_enrich::{Enrichment, JsonEnrichment, JsonMemory, RowMemory, delimiter_of, put_csv_cell};
 use mmdb_filter::{Additions, Counts, MOST_SEEN, Position, Rows, filter_rows, read_chunk};
 use std::alloc::{AllocError, Global};
 use std::io::{BufRead, Write};
@@ -207,9 +207,9 @@ fn enrich_rows<I: BufRead, O: Write, E: Write>(
     input: &mut I,
     console: &mut Console<'_, O, E>,
 ) -> Result<u8, ProgramError> {
-    let mut cache = Cache::new(console.alloc)?;
-    let counts = copy_rows(enrichment.rows, enrichment, &mut cache, input, console);
-    drop(cache);
+    let mut memory = RowMemory::new(console.alloc)?;
+    let counts = copy_rows(enrichment.rows, enrichment, &mut memory, input, console);
+    drop(memory);
     console.note(text_of_rows(console.alloc, counts?));
     Ok(DONE)
 }

@@ -192,7 +192,7 @@ impl Layout<'_> {
         Ok(out.token(Token::EndObject)?)
     }
 
-    // The same as a line.
+    // The row of a record as a line with an object, with an empty network.
     fn object(&self, alloc: Global, found: &Found<'_>) -> Result<Vec<u8>, MaxMindDbError> {
         let mut out = Writer::new(Vec::with_capacity(alloc, 256)?);
         self.write_object(alloc, found, &mut out)?;

@@ -3,39 +3,14 @@ use crate::error::ProgramError;
 use crate::output::{Console, DONE, line_of};
 use jiff::Timestamp;
 use json::{Pretty, Token};
-use memchr::memmem;
 use mmdb_arguments::{InfoArguments, shown_text};
 use mmdb_json::write_value;
-use mmdb_reader::{MaxMindDbError, Metadata, Reader, Value};
+use mmdb_reader::{MaxMindDbError, Metadata, Reader, Sections, Value};
 use std::alloc::{AllocError, Global};
 use std::collections::BTreeMap;
 use std::fs::File;
 use std::io::{Read, Write};
 use std::rt::Files;
-
-/// What stands before the metadata.
-const MARKER: &[u8] = b"\xAB\xCD\xEFMaxMind.com";
-
-/// The zero bytes between the tree and the data.
-const SEPARATOR: usize = 16;
-
-/// How many bytes the sections of a file have.
-#[derive(Clone, Copy)]
-struct Sizes {
-    tree: u64,
-    data: u64,
-    metadata: u64,
-}
-
-// The sections of a file of this length whose last marker stands here.
-fn sizes_of(len: usize, marker: usize, metadata: &Metadata) -> Sizes {
-    let tree = u64::from(metadata.node_count) * u64::from(metadata.record_size / 4);
-    Sizes {
-        tree,
-        data: (marker as u64).saturating_sub(tree.saturating_add(SEPARATOR as u64)),
-        metadata: (len as u64).saturating_sub((marker as u64).saturating_add(MARKER.len() as u64)),
-    }
-}
 
 // The date of a number of seconds since 1970, where it has one.
 fn date_of(alloc: Global, seconds: u64) -> Result<Option<String>, AllocError> {
@@ -114,7 +89,7 @@ fn add_texts(alloc: Global, metadata: &Metadata, lines: &mut Lines) {
 }
 
 // Adds what numbers the metadata has, and the sizes.
-fn add_numbers(alloc: Global, metadata: &Metadata, sizes: Sizes, lines: &mut Lines) {
+fn add_numbers(alloc: Global, metadata: &Metadata, sections: &Sections, lines: &mut Lines) {
     let ip = metadata.ip_version;
     lines.add(format!(in alloc; "\nIP version:  {ip}\nbuilt:       "));
     lines.add(built_text(alloc, metadata.build_epoch));
@@ -124,21 +99,18 @@ fn add_numbers(alloc: Global, metadata: &Metadata, sizes: Sizes, lines: &mut Lin
     lines.add(format!(in alloc;
         "\nformat:      {major}.{minor}\nnodes:       {nodes}\nrecord size: {bits} bits\n"
     ));
-    let Sizes {
-        tree,
-        data,
-        metadata,
-    } = sizes;
+    let (tree, data) = (sections.tree_bytes, sections.data_bytes);
+    let metadata = sections.metadata_bytes;
     lines.add(format!(in alloc;
         "tree:        {tree} bytes\ndata:        {data} bytes\nmetadata:    {metadata} bytes\n"
     ));
 }
 
 // The lines that a person reads.
-fn text_of(alloc: Global, metadata: &Metadata, sizes: Sizes) -> Result<String, AllocError> {
+fn text_of(alloc: Global, metadata: &Metadata, sections: &Sections) -> Result<String, AllocError> {
     let mut lines = Lines::new(alloc);
     add_texts(alloc, metadata, &mut lines);
-    add_numbers(alloc, metadata, sizes, &mut lines);
+    add_numbers(alloc, metadata, sections, &mut lines);
     lines.finish()
 }
 
@@ -196,7 +168,7 @@ fn put_numbers(
     alloc: Global,
     out: &mut Pretty,
     metadata: &Metadata,
-    sizes: Sizes,
+    sections: &Sections,
 ) -> Result<(), AllocError> {
     for (key, number) in [
         ("build_epoch", metadata.build_epoch),
@@ -211,9 +183,9 @@ fn put_numbers(
         ("ip_version", u64::from(metadata.ip_version)),
         ("node_count", u64::from(metadata.node_count)),
         ("record_size", u64::from(metadata.record_size)),
-        ("tree_bytes", sizes.tree),
-        ("data_bytes", sizes.data),
-        ("metadata_bytes", sizes.metadata),
+        ("tree_bytes", sections.tree_bytes as u64),
+        ("data_bytes", sections.data_bytes as u64),
+        ("metadata_bytes", sections.metadata_bytes as u64),
     ] {
         put_number(alloc, out, key, number)?;
     }
@@ -225,18 +197,18 @@ fn put_object(
     alloc: Global,
     out: &mut Pretty,
     metadata: &Metadata,
-    sizes: Sizes,
+    sections: &Sections,
 ) -> Result<(), AllocError> {
     out.token(Token::BeginObject)?;
     put_texts(alloc, out, metadata)?;
-    put_numbers(alloc, out, metadata, sizes)?;
+    put_numbers(alloc, out, metadata, sections)?;
     out.token(Token::EndObject)
 }
 
 // The text of that object.
-fn json_of(alloc: Global, metadata: &Metadata, sizes: Sizes) -> Result<Vec<u8>, AllocError> {
+fn json_of(alloc: Global, metadata: &Metadata, sections: &Sections) -> Result<Vec<u8>, AllocError> {
     let mut out = Pretty::new(alloc);
-    put_object(alloc, &mut out, metadata, sizes)?;
+    put_object(alloc, &mut out, metadata, sections)?;
     let mut text = out.into_inner();
     text.push(b'\n')?;
     Ok(text)
@@ -246,23 +218,21 @@ fn json_of(alloc: Global, metadata: &Metadata, sizes: Sizes) -> Result<Vec<u8>, 
 fn info_text(
     alloc: Global,
     metadata: &Metadata,
-    sizes: Sizes,
+    sections: &Sections,
     json: bool,
 ) -> Result<Vec<u8>, AllocError> {
     if json {
-        json_of(alloc, metadata, sizes)
+        json_of(alloc, metadata, sections)
     } else {
-        Ok(text_of(alloc, metadata, sizes)?.into_bytes())
+        Ok(text_of(alloc, metadata, sections)?.into_bytes())
     }
 }
 
 /// What the file of these bytes says of itself, and the sizes of its sections: as lines, or as an object.
 pub fn info(alloc: Global, bytes: &[u8], json: bool) -> Result<Vec<u8>, ProgramError> {
     let reader = Reader::from_source(alloc, bytes)?;
-    let metadata = reader.metadata();
-    let marker = memmem::rfind(bytes, MARKER).unwrap_or(0);
-    let sizes = sizes_of(bytes.len(), marker, metadata);
-    Ok(info_text(alloc, metadata, sizes, json)?)
+    let (metadata, sections) = (reader.metadata(), reader.sections());
+    Ok(info_text(alloc, metadata, &sections, json)?)
 }
 
 // All bytes of a file.

@@ -98,7 +98,7 @@ impl<'c, O: Write, E: Write> Console<'c, O, E> {
         let _ = self.errors.write_all(text.as_bytes());
     }
 
-    /// The same behind what was written, if there was memory for the name of what it is of.
+    /// Reports what went wrong behind what was written so far, if there was memory for the name of what it is of.
     pub(crate) fn report_behind<D: Display>(
         &mut self,
         of: Result<String, AllocError>,

@@ -11,7 +11,8 @@ use Rattle.mmdb_net.proofs.BitLaws.{length-bits_of}
 use Rattle.mmdb_reader.specs.File.{Database, tree_of, before_ipv4}
 use Rattle.mmdb_tree.specs.Descents.{Descends}
 use Rattle.mmdb_tree.specs.declared.record.TreeRecord.{TreeRecord}
-use Rattle.mmdb_reader.specs.Lookup.{Answers, IsLeafAt, block_at, address_bits}
+use Rattle.mmdb_reader.specs.Lookup.{Answers, block_at, address_bits}
+use Rattle.mmdb_reader.specs.Working.{IsLeafAt}
 use Rattle.mmdb_reader.specs.Counting.{CountsNodes}
 use Rattle.mmdb_reader.proofs.LeafLemmas.{start-is}
 use Rattle.mmdb_reader.proofs.LawLemmas.{one_leaf}

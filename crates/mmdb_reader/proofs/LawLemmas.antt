@@ -12,7 +12,8 @@ use Rattle.mmdb_tree.specs.Tree.{walk}
 use Rattle.mmdb_reader.specs.Leaves.{IsLeaf}
 use Rattle.mmdb_tree.specs.declared.record.TreeRecord.{TreeRecord}
 use Rattle.mmdb_tree.specs.declared.record.TreeRecord.TheVariants.{Invalid}
-use Rattle.mmdb_reader.specs.Lookup.{CanAsk, Answers, IsInvalidAt, IsLeafAt, address_bits, outcome_of, outcome_at}
+use Rattle.mmdb_reader.specs.Lookup.{CanAsk, Answers, IsInvalidAt, address_bits, outcome_of, outcome_at}
+use Rattle.mmdb_reader.specs.Working.{IsLeafAt}
 use Rattle.mmdb_tree.specs.Descents.{Descends}
 use Rattle.mmdb_reader.specs.Laws.{LeavesAreDisjoint, EachAddressHasOneLeaf, EachAddressIsAnswered, AnswersAreUnique, SameLeafSameAnswer}
 use Rattle.mmdb_tree.proofs.WalkLemmas.{walk-nil, walk-past}

@@ -14,7 +14,8 @@ use Rattle.mmdb_tree.specs.declared.table.Entry.{Entry}
 use Rattle.mmdb_tree.specs.Tree.{walk_from, walk}
 use Rattle.mmdb_reader.specs.File.{Database, tree_of, has_ipv6, width, before_ipv4}
 use Rattle.mmdb_reader.specs.Leaves.{IsLeaf}
-use Rattle.mmdb_reader.specs.Lookup.{IsLeafAt, block_at}
+use Rattle.mmdb_reader.specs.Lookup.{block_at}
+use Rattle.mmdb_reader.specs.Working.{IsLeafAt}
 use Rattle.mmdb_reader.specs.Shown.{ipv4_start, is_shown_as_ipv4}
 use Rattle.mmdb_tree.specs.Descents.{Walks, Descends}
 use Rattle.mmdb_reader.specs.Kept.{IsReader}

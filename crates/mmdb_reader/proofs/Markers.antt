@@ -4,7 +4,7 @@ use Rattle.std.specs.Option.{MatchOption}
 use Rattle.std.proofs.lemmas.Bool.{cases_lt}
 use Rattle.memchr.specs.Find.{FindsLastNeedle, OccursAt}
 use Rattle.mmdb_reader.specs.File.{marker_bytes, IsMarkerAt, IsLastMarker}
-use Rattle.mmdb_reader.specs.Source.{HasNoMarker}
+use Rattle.mmdb_reader.specs.Working.{HasNoMarker}
 
 occurs : (file : List ℕ) (offset : ℕ) → IsMarkerAt file offset → OccursAt file marker_bytes offset
 occurs file offset h = record { fits = h.fits; reads = h.reads }

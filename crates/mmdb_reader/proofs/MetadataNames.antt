@@ -3,10 +3,11 @@ use Rattle.std.proofs.Common.{◌≡◌, ℕ, List, Some, Bool, true, false, if�
 use Rattle.mmdb_decode.specs.Arrays.{list_at}
 use Rattle.mmdb_decode.specs.Maps.{text_map_at}
 use Rattle.mmdb_decode.specs.Reading.{Reading, Meaning}
-use Rattle.mmdb_decode.specs.Records.{named, field, skipped}
+use Rattle.mmdb_decode.specs.Names.{named}
+use Rattle.mmdb_record.specs.Records.{field, skipped}
 use Rattle.mmdb_decode.specs.Scalars.{u16_at, u32_at, u64_at, text_at}
-use Rattle.mmdb_decode.specs.TypedReads.{IsKnown}
-use Rattle.mmdb_decode.proofs.RecordStandingLaws.{known_names_stand_once, field_fills, field_rejected, skipped_keeps}
+use Rattle.mmdb_record.specs.TypedReads.{IsKnown}
+use Rattle.mmdb_record.proofs.RecordStandingLaws.{known_names_stand_once, field_fills, field_rejected, skipped_keeps}
 use Rattle.mmdb_reader.specs.MetadataShape.{MetadataFields, no_metadata_fields, metadata_fields, MetadataNamesStandOnce}
 
 -- no field that has stood is emptied

@@ -12,7 +12,7 @@ use Rattle.mmdb_decode.specs.declared.direct.Entered.{Entered}
 use Rattle.mmdb_decode.specs.Arrays.{container_at, array_at}
 use Rattle.mmdb_decode.specs.Maps.{map_at, raw_key_at}
 use Rattle.mmdb_decode.specs.Reading.{Reading, Meaning, plus, given, followed}
-use Rattle.mmdb_decode.specs.Records.{named}
+use Rattle.mmdb_decode.specs.Names.{named}
 use Rattle.mmdb_decode.specs.Scalars.{direct_of}
 use Rattle.mmdb_decode.specs.Selecting.{inside_map, inside_array, into_map, into_array, to_key, to_element, from_front, from_end}
 use Rattle.mmdb_decode.specs.Skipping.{parts_of, passes, skip_within, skip_at, Skips, passed_scalar, passed_pointer, passed_container, AllSkip, none_passed, one_more_passed}

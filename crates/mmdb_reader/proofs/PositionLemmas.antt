@@ -11,7 +11,8 @@ use Rattle.mmdb_reader.specs.File.{Database, tree_of, width, has_ipv6}
 use Rattle.mmdb_tree.specs.Tree.{walk, step}
 use Rattle.mmdb_net.specs.Bits.{number_of}
 use Rattle.mmdb_reader.specs.Alias.{is_alias, is_alias_at}
-use Rattle.mmdb_reader.specs.Positions.{IsAt, HidesAliases, bits_to, half_of, is_high_at}
+use Rattle.mmdb_reader.specs.Positions.{IsAt, HidesAliases, bits_to, is_high_at}
+use Rattle.mmdb_reader.specs.Working.{half_of}
 use Rattle.mmdb_reader.specs.Listing.{is_hidden}
 use Rattle.mmdb_reader.specs.Options.{includes_aliased}
 use Rattle.mmdb_reader.specs.Shown.{ipv4_start, has_ipv4_subtree}

@@ -9,7 +9,8 @@ use Rattle.mmdb_reader.specs.declared.positions.Position.{Position}
 use Rattle.mmdb_reader.specs.File.{Database, tree_of, width}
 use Rattle.mmdb_tree.specs.Tree.{walk}
 use Rattle.mmdb_reader.specs.Listing.{Listed, listed, listed_along, is_hidden}
-use Rattle.mmdb_reader.specs.Positions.{IsAt, HasHalves, IsEnd, IsStart, bits_to, half_of, listed_from, listed_of_stack}
+use Rattle.mmdb_reader.specs.Positions.{IsAt, bits_to, listed_from, listed_of_stack}
+use Rattle.mmdb_reader.specs.Working.{HasHalves, IsEnd, IsStart, half_of}
 use Rattle.mmdb_reader.proofs.ListingSteps.{along-there, along-full, along-hidden, along-node, along-leaf}
 use Rattle.mmdb_reader.proofs.PositionLemmas.{root, IsAt-root, bits_to-half, IsAt-half}
 use Rattle.mmdb_reader.proofs.StackLemmas.{stack-push}

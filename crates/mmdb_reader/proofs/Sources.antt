@@ -6,7 +6,8 @@ use Rattle.mmdb_format.specs.declared.error.MaxMindDbError.TheVariants.{InvalidD
 use Rattle.mmdb_decode.specs.Errors.{Fails}
 use Rattle.mmdb_reader.specs.Metadata.{MetadataDatum}
 use Rattle.mmdb_reader.specs.File.{Database, database, IsLastMarker, IsSupported, HasRoom, metadata_section}
-use Rattle.mmdb_reader.specs.Source.{metadata_read, IsDatabaseOf, IsNoDatabase, HasNoMarker}
+use Rattle.mmdb_reader.specs.Source.{metadata_read, IsDatabaseOf, IsNoDatabase}
+use Rattle.mmdb_reader.specs.Working.{HasNoMarker}
 
 -- what follows from what is claimed memory apart, is claimed so too
 pub apart : (e : MaxMindDbError) (P Q : Type 0) → (P → Q) → MemoryApart e P → MemoryApart e Q

@@ -9,7 +9,8 @@ use Rattle.mmdb_reader.specs.File.{Database, tree_of, width}
 use Rattle.mmdb_tree.specs.Tree.{walk}
 use Rattle.mmdb_tree.specs.declared.record.TreeRecord.{TreeRecord}
 use Rattle.mmdb_reader.specs.Listing.{Listed, listed_below, list_if, is_hidden, finding_at}
-use Rattle.mmdb_reader.specs.Positions.{IsAt, HasHalves, IsEnd, IsPlaced, IsStack, ListsSame, IsLowest, IsNothing, bits_to, half_of, listed_from, listed_of_stack, positions_below, positions_left}
+use Rattle.mmdb_reader.specs.Positions.{IsAt, IsPlaced, IsStack, bits_to, listed_from, listed_of_stack}
+use Rattle.mmdb_reader.specs.Working.{HasHalves, IsEnd, ListsSame, IsLowest, IsNothing, half_of, positions_below, positions_left}
 use Rattle.mmdb_reader.proofs.ListingSteps.{below-hidden, below-node, below-full, below-leaf}
 use Rattle.mmdb_reader.proofs.PositionLemmas.{bits_to-half, IsAt-half}
 

@@ -17,7 +17,8 @@ use Rattle.mmdb_tree.specs.declared.walked.WalkEnd.{WalkEnd}
 use Rattle.mmdb_tree.specs.declared.walked.WalkEnd.TheVariants.{Whole}
 use Rattle.mmdb_tree.specs.Stops.{WalkedTree, Stop, stop, is_fault, offset_of, offsets, IsClean}
 use Rattle.mmdb_tree.specs.Walked.{IsVerdict}
-use Rattle.mmdb_reader.specs.Stops.{walked_tree, stops, HoldsOffsets}
+use Rattle.mmdb_reader.specs.Stops.{walked_tree, stops}
+use Rattle.mmdb_reader.specs.Working.{HoldsOffsets}
 use Rattle.mmdb_reader.specs.Whole.{HasWholeTree}
 use Rattle.mmdb_reader.specs.WholeLaws.{HasEnd, OffsetsAreExact}
 use Rattle.mmdb_reader.proofs.StopLemmas.{stops_exact}

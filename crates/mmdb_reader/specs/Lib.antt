@@ -1,3 +1,4 @@
+-- What has to be believed: what contracts of public items name.
 pub mod Metadata
 pub mod File
 pub mod Leaves
@@ -24,11 +25,11 @@ pub mod Items
 pub mod Positions
 pub mod Ranges
 pub mod Enumeration
-pub mod LookupMany
 pub mod ListingLaws
-pub mod Findings
 pub mod Agreement
 pub mod Stops
 pub mod Walked
 pub mod Whole
 pub mod WholeLaws
+-- What only contracts of private functions and proofs name.
+pub mod Working

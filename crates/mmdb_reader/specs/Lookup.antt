@@ -45,13 +45,6 @@ pub record Answers (db : Database) (address : IpAddr) (leaf : List Bool) (outcom
   pub on_address : IsPrefix leaf (address_bits db address)
   pub outcome_is : outcome_of db (walk (tree_of db) leaf) ≡ outcome
 
--- the leaf is the one on the address's bits, and its walk leads to that number
-pub record IsLeafAt (db : Database) (address : IpAddr) (leaf : List Bool) (number : ℕ) : Type 0 where
-  pub can_ask : CanAsk db address
-  pub is_leaf : IsLeaf db leaf
-  pub on_address : IsPrefix leaf (address_bits db address)
-  pub reached : walk (tree_of db) leaf ≡ number
-
 -- the leaf on the address's bits has a number that is no place of the data section
 abbrev pub IsInvalidAt : Database → IpAddr → Type 0
 IsInvalidAt db address = (leaf : List Bool) × Answers db address leaf Invalid

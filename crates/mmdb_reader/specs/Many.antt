@@ -35,6 +35,3 @@ pub record IsGroup (db : Database) (left : List IpAddr) (leaves : List FoundLeaf
 pub record LookupsLeft : Type 0 where
   pub database : Database
   pub addresses : List IpAddr
-
-abbrev pub addresses_left : LookupsLeft → List IpAddr
-addresses_left l = l.addresses

@@ -6,8 +6,9 @@ use Rattle.mmdb_decode.specs.Reading.{Meaning}
 use Rattle.mmdb_decode.specs.Scalars.{u16_at, u32_at, u64_at, text_at}
 use Rattle.mmdb_decode.specs.Arrays.{list_at}
 use Rattle.mmdb_decode.specs.Maps.{Fields, text_map_at}
-use Rattle.mmdb_decode.specs.Records.{field, named, skipped, record_at, finished}
-use Rattle.mmdb_decode.specs.TypedReads.{RecordStands, StandsOnce}
+use Rattle.mmdb_decode.specs.Names.{named}
+use Rattle.mmdb_record.specs.Records.{field, skipped, record_at, finished}
+use Rattle.mmdb_record.specs.TypedReads.{RecordStands, StandsOnce}
 use Rattle.mmdb_reader.specs.Metadata.{MetadataDatum}
 
 -- the fields that were met so far

@@ -4,7 +4,7 @@ use Rattle.mmdb_format.specs.Contents.{text}
 use Rattle.mmdb_format.specs.Header.{◌>>=◌}
 use Rattle.mmdb_format.specs.Unfolding.{Tree, scalar, array, table, pointer, Trees, no_trees, tree, Pairs, no_pairs, pair, Unfolds}
 use Rattle.mmdb_decode.specs.Reading.{Reading}
-use Rattle.mmdb_decode.specs.Records.{named}
+use Rattle.mmdb_decode.specs.Names.{named}
 use Rattle.mmdb_decode.specs.Selecting.{from_front, from_end}
 use Rattle.mmdb_reader.specs.Selecting.{selected}
 use Rattle.mmdb_reader.specs.declared.path.PathElement.{PathElement}

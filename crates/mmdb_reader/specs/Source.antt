@@ -4,7 +4,7 @@ use Rattle.std.specs.Prelude.{◌≡◌, ℕ, true, List, Option, Some}
 use Rattle.mmdb_decode.specs.Errors.{answer}
 use Rattle.mmdb_reader.specs.Metadata.{MetadataDatum}
 use Rattle.mmdb_reader.specs.MetadataShape.{metadata_at}
-use Rattle.mmdb_reader.specs.File.{Database, IsMarkerAt, IsLastMarker, IsSupported, HasRoom, metadata_section}
+use Rattle.mmdb_reader.specs.File.{Database, IsLastMarker, IsSupported, HasRoom, metadata_section}
 
 -- what is read at the beginning of a metadata section, within the limits of reading
 abbrev pub metadata_read : List ℕ → Option MetadataDatum
@@ -23,10 +23,6 @@ pub record IsDatabaseOf (file : List ℕ) (db : Database) : Type 0 where
   pub marker : IsLastMarker file db.marker
   pub metadata : IsValidMetadata (metadata_section file db.marker) db.metadata
   pub room : HasRoom db
-
--- no marker stands in the file
-abbrev pub HasNoMarker : List ℕ → Type 0
-HasNoMarker file = (offset : ℕ) → ¬ IsMarkerAt file offset
 
 -- the file is no database
 abbrev pub IsNoDatabase : List ℕ → Type 0

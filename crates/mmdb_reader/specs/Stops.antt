@@ -1,8 +1,7 @@
 -- The tree of a database, as it is walked as a whole ("Binary Search Tree Section" and "IPv4 addresses in an IPv6 tree"
 -- of the MaxMind DB File Format Specification 2.0).
-use Rattle.std.specs.Prelude.{ℕ, ◌*◌, Bool, ◌&&◌, List, Option, Some, None, if◌then◌else◌, nat_lt}
+use Rattle.std.specs.Prelude.{ℕ, ◌*◌, ◌&&◌, List, Option, Some, None, if◌then◌else◌, nat_lt}
 use Rattle.mmdb_tree.specs.Stops.{WalkedTree, Stop, stops_of, walk_cost_of}
-use Rattle.mmdb_tree.specs.Walked.{HoldsOffsetsOf}
 use Rattle.mmdb_reader.specs.File.{Database, tree_of, width, data_length}
 use Rattle.mmdb_reader.specs.Shown.{ipv4_start, has_ipv4_subtree}
 
@@ -24,7 +23,3 @@ most_stops db = 3 * db.metadata.node_count
 -- What the walk costs: all stops, or those up to the one at which it fails.
 abbrev pub walk_cost : Database → ℕ
 walk_cost db = walk_cost_of (walked_tree db)
-
--- the set holds exactly the offsets of the stops
-abbrev pub HoldsOffsets : Database → List Bool → Type 0
-HoldsOffsets db set = HoldsOffsetsOf (walked_tree db) set

@@ -10,11 +10,11 @@ use crate::go_along::{go_along, with_path};
 use crate::lookup_result::LookupResult;
 use crate::offsets::counted_from_start;
 use crate::path::PathElement;
-use mmdb_decode::decode::Decode;
 use mmdb_decode::decoder::Decoder;
 use mmdb_decode::laws::values_bounded;
 use mmdb_decode::steps::Steps;
 use mmdb_format::error::{DecodeResult, MaxMindDbError};
+use mmdb_record::decode::Decode;
 use std::alloc::Global;
 use std::convert::AsSlice;
 

@@ -9,30 +9,19 @@ use crate::lookup_result::{LookupResult, NumberedAddress};
 use crate::reader::{Leaf, Reader};
 use mmdb_format::error::MaxMindDbError;
 use mmdb_format::message::{Message, Text};
-use mmdb_tree::{Entry, FoundLeaf};
+use mmdb_tree::FoundLeaf;
 use std::convert::AsSlice;
 use std::net::{IpAddr, Ipv6Addr};
 
 // How many addresses are walked side by side.
 const GROUP: usize = 64;
 
-// Where a walk stands by an entry of a table.
-#[inline(always)]
-fn entered(entry: Entry) -> FoundLeaf
-    ensures number { result.number ≡ entry.number }
-    ensures taken { result.taken ≡ entry.taken }
-{
-    FoundLeaf {
-        number: entry.number,
-        taken: u32::from(entry.taken),
-    }
-}
-
 impl<S: AsSlice<u8> + Drop> Reader<S> {
     ghost use Rattle.mmdb_reader.specs.Found.{database_asked, leaf_of, offset_found, shown_as_ipv4};
     ghost use Rattle.mmdb_reader.specs.File.{tree_of};
     ghost use Rattle.mmdb_tree.specs.Descents.{Walks};
-    ghost use Rattle.mmdb_reader.specs.Lookup.{CanAsk, Answers, IsInvalidAt, IsLeafAt, outcome_at, block_at};
+    ghost use Rattle.mmdb_reader.specs.Lookup.{CanAsk, Answers, IsInvalidAt, outcome_at, block_at};
+    ghost use Rattle.mmdb_reader.specs.Working.{IsLeafAt};
     ghost use Rattle.mmdb_reader.specs.Shown.{is_shown_as_ipv4};
     ghost use Rattle.mmdb_reader.specs.Many.{HasWalk, IsFoundFor, first_number};
 
@@ -94,10 +83,10 @@ impl<S: AsSlice<u8> + Drop> Reader<S> {
     {
         match address {
             IpAddr::V4(v4) if self.ipv4_start < self.metadata.node_count as usize => {
-                entered(self.ipv4_table[(v4.to_bits() >> 16) as usize])
+                FoundLeaf::entered(self.ipv4_table[(v4.to_bits() >> 16) as usize])
             }
             IpAddr::V6(v6) if self.metadata.ip_version == 6 => {
-                entered(self.ipv6_table[(v6.to_bits() >> 112) as usize])
+                FoundLeaf::entered(self.ipv6_table[(v6.to_bits() >> 112) as usize])
             }
             _ => FoundLeaf {
                 number: self.metadata.node_count,

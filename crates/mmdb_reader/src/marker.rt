@@ -1,7 +1,7 @@
 //! Where the metadata of a file begin.
 ghost use Rattle.std.specs.Prelude.{MatchOption};
 ghost use Rattle.mmdb_reader.specs.File.{IsLastMarker};
-ghost use Rattle.mmdb_reader.specs.Source.{HasNoMarker};
+ghost use Rattle.mmdb_reader.specs.Working.{HasNoMarker};
 
 use memchr::memmem;
 

@@ -1,13 +1,14 @@
 //! Metadata as a record that is read field by field.
-ghost use Rattle.std.specs.Prelude.{◌≡◌, true, false, Some, map, option_map, string_bytes};
+ghost use Rattle.std.specs.Prelude.{◌≡◌, true, false, Some, IfOk, IfErr, map, option_map, string_bytes};
+ghost use Rattle.mmdb_decode.specs.Errors.{Fails};
 ghost use Rattle.mmdb_reader.specs.Metadata.{MetadataDatum, metadata_datum};
 ghost use Rattle.mmdb_reader.specs.MetadataShape.{MetadataFields as SpecFields, no_metadata_fields, metadata_fields, whole_metadata, metadata_at};
 
 use crate::metadata::Metadata;
-use mmdb_decode::decode::Decode;
 use mmdb_decode::decoder::Decoder;
-use mmdb_decode::record::{Record, missing_field, named, read_once, read_record};
 use mmdb_format::error::DecodeResult;
+use mmdb_record::decode::Decode;
+use mmdb_record::record::{Record, missing_field, named, read_once, read_record};
 use std::alloc::Global;
 use std::collections::BTreeMap;
 
@@ -23,6 +24,26 @@ struct MetadataFields {
     languages: Option<Vec<String>>,
     node_count: Option<u32>,
     record_size: Option<u16>,
+}
+
+// The end of a map that has been read.
+#[derive(Clone, Copy)]
+struct MapEnd {
+    alloc: Global,
+    offset: usize,
+}
+
+impl MapEnd {
+    // The value of a field that has to be there.
+    fn required<T: Drop>(&self, name: &str, field: Option<T>) -> DecodeResult<T>
+        ensures ok { IfOk result (λ v. field ≡ Some v) }
+        ensures err { IfErr result (λ e. Fails false e field) }
+    {
+        match field {
+            Some(value) => Ok(value),
+            None => Err(missing_field(self.alloc, name, self.offset)),
+        }
+    }
 }
 
 impl<'de> Record<'de> for MetadataFields {
@@ -68,7 +89,7 @@ impl<'de> Record<'de> for MetadataFields {
         }
     }
 
-    #[tactic(auto, unfolding(crate::specs::MetadataShape::metadata_fields, mmdb_decode::specs::State::decoded, mmdb_decode::specs::Records::named, mmdb_decode::specs::Records::field, mmdb_decode::specs::Records::skipped))]
+    #[tactic(auto, unfolding(crate::specs::MetadataShape::metadata_fields, mmdb_decode::specs::State::decoded, mmdb_decode::specs::Names::named, mmdb_record::specs::Records::field, mmdb_record::specs::Records::skipped))]
     fn read_field(
         &mut self,
         alloc: Global,
@@ -110,54 +131,23 @@ impl<'de> Record<'de> for MetadataFields {
 
     #[tactic(auto, unfolding(crate::specs::MetadataShape::whole_metadata))]
     fn finish(self, alloc: Global, offset: usize) -> DecodeResult<Metadata> {
-        let MetadataFields {
-            binary_format_major_version,
-            binary_format_minor_version,
-            build_epoch,
-            database_type,
-            description,
-            ip_version,
-            languages,
-            node_count,
-            record_size,
-        } = self;
-        let Some(binary_format_major_version) = binary_format_major_version else {
-            return Err(missing_field(alloc, "binary_format_major_version", offset));
-        };
-        let Some(binary_format_minor_version) = binary_format_minor_version else {
-            return Err(missing_field(alloc, "binary_format_minor_version", offset));
-        };
-        let Some(build_epoch) = build_epoch else {
-            return Err(missing_field(alloc, "build_epoch", offset));
-        };
-        let Some(database_type) = database_type else {
-            return Err(missing_field(alloc, "database_type", offset));
-        };
-        let Some(description) = description else {
-            return Err(missing_field(alloc, "description", offset));
-        };
-        let Some(ip_version) = ip_version else {
-            return Err(missing_field(alloc, "ip_version", offset));
-        };
-        let Some(languages) = languages else {
-            return Err(missing_field(alloc, "languages", offset));
-        };
-        let Some(node_count) = node_count else {
-            return Err(missing_field(alloc, "node_count", offset));
-        };
-        let Some(record_size) = record_size else {
-            return Err(missing_field(alloc, "record_size", offset));
-        };
+        let end = MapEnd { alloc, offset };
         Ok(Metadata {
-            binary_format_major_version,
-            binary_format_minor_version,
-            build_epoch,
-            database_type,
-            description,
-            ip_version,
-            languages,
-            node_count,
-            record_size,
+            binary_format_major_version: end.required(
+                "binary_format_major_version",
+                self.binary_format_major_version,
+            )?,
+            binary_format_minor_version: end.required(
+                "binary_format_minor_version",
+                self.binary_format_minor_version,
+            )?,
+            build_epoch: end.required("build_epoch", self.build_epoch)?,
+            database_type: end.required("database_type", self.database_type)?,
+            description: end.required("description", self.description)?,
+            ip_version: end.required("ip_version", self.ip_version)?,
+            languages: end.required("languages", self.languages)?,
+            node_count: end.required("node_count", self.node_count)?,
+            record_size: end.required("record_size", self.record_size)?,
         })
     }
 }

@@ -21,7 +21,8 @@ pub(crate) const ROOT: Position = Position {
 };
 
 impl Position {
-    ghost use Rattle.mmdb_reader.specs.Positions.{IsAt, HasHalves, half_of, is_high_at};
+    ghost use Rattle.mmdb_reader.specs.Positions.{IsAt, is_high_at};
+    ghost use Rattle.mmdb_reader.specs.Working.{HasHalves, half_of};
 
     /// Whether this is the node with a number, reached by bits that are an address of 2^32 or more.
     #[inline(always)]

@@ -75,7 +75,8 @@ impl<S: AsSlice<u8> + Drop> Reader<S> {
     ghost use Rattle.mmdb_reader.specs.Found.{database_asked, leaf_of, offset_found, shown_as_ipv4};
     ghost use Rattle.mmdb_reader.specs.Counting.{CountsAnswer, CountsNodes};
     ghost use Rattle.mmdb_reader.specs.Kept.{IsReader};
-    ghost use Rattle.mmdb_reader.specs.Lookup.{CanAsk, Answers, IsInvalidAt, IsLeafAt, outcome_of, outcome_at, record_at, block_at};
+    ghost use Rattle.mmdb_reader.specs.Lookup.{CanAsk, Answers, IsInvalidAt, outcome_of, outcome_at, record_at, block_at};
+    ghost use Rattle.mmdb_reader.specs.Working.{IsLeafAt};
     ghost use Rattle.mmdb_reader.specs.Shown.{is_shown_as_ipv4, has_ipv4_subtree, ipv4_start};
     ghost use Rattle.mmdb_tree.specs.Nodes.{tree_in};
     ghost use Rattle.mmdb_tree.specs.declared.record.TreeRecord.TheVariants.{Invalid};
@@ -179,8 +180,7 @@ impl<S: AsSlice<u8> + Drop> Reader<S> {
     pub(crate) fn metadata_start(&self) -> usize
         ensures { result ≡ self.now.marker + length marker_bytes }
     {
-        let _bytes = self.source.as_slice();
-        self.marker + MARKER.len()
+        self.source.as_slice().len() - self.metadata_section().len()
     }
 
     // The metadata section.

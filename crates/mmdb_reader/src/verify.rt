@@ -4,7 +4,8 @@ ghost use Rattle.mmdb_format.specs.Error.{OfDatabase, MemoryApart, IsOfOrMemory}
 ghost use Rattle.mmdb_check.specs.Checking.{CanAddAll, none};
 ghost use Rattle.mmdb_reader.specs.File.{data_section};
 ghost use Rattle.mmdb_tree.specs.Stops.{offsets};
-ghost use Rattle.mmdb_reader.specs.Stops.{stops, walk_cost, HoldsOffsets};
+ghost use Rattle.mmdb_reader.specs.Stops.{stops, walk_cost};
+ghost use Rattle.mmdb_reader.specs.Working.{HoldsOffsets};
 ghost use Rattle.mmdb_reader.specs.Whole.{HasWholeMetadata, HasWholeTree, HasZeroSeparator, IsWhole};
 ghost use Rattle.mmdb_reader.specs.WholeLaws.{AnswersAll};
 

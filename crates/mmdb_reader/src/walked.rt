@@ -27,7 +27,7 @@ impl<S: AsSlice<u8> + Drop> Reader<S> {
         }
     }
 
-    // The same, with the reader.
+    // What such a walk asks, with the reader that makes an answer of what it finds.
     pub(crate) fn walker(&self) -> DatabaseWalker<'_, S>
         ensures { result.reader.now ≡ self.now }
     {

@@ -73,8 +73,8 @@ impl<S: AsSlice<u8> + Drop> Reader<S> {
     ghost use Rattle.mmdb_reader.specs.Shown.{block_in};
     ghost use Rattle.mmdb_reader.specs.Lookup.{CanAsk};
     ghost use Rattle.mmdb_reader.specs.Enumeration.{database_walked, items_to_come, positions_reserved, ListsRange};
-    ghost use Rattle.mmdb_reader.specs.Ranges.{IsRangeOf, positions_for};
-    ghost use Rattle.mmdb_reader.specs.Findings.{finding_of_answer, FaultsAreOfDatabase};
+    ghost use Rattle.mmdb_reader.specs.Ranges.{positions_for};
+    ghost use Rattle.mmdb_reader.specs.Working.{IsRangeOf, finding_of_answer, FaultsAreOfDatabase};
 
     // What a leaf that leads to a number is listed with, if it is listed: a fault, or the offset of its
     // value, if it has one.
@@ -251,7 +251,7 @@ impl<S: AsSlice<u8> + Drop> Reader<S> {
 
 impl<S: AsSlice<u8> + Drop> DatabaseWalker<'_, S> {
     ghost use Rattle.mmdb_reader.specs.Listing.{listed};
-    ghost use Rattle.mmdb_reader.specs.Positions.{IsLowest, IsNothing, IsStart};
+    ghost use Rattle.mmdb_reader.specs.Working.{IsLowest, IsNothing, IsStart};
 
     // The node behind which nothing is listed where bits that are high lead to it: the number of nodes,
     // which is none of them, where there is no such node.

@@ -16,7 +16,7 @@ use Rattle.mmdb_reader.specs.File.{Database}
 use Rattle.mmdb_reader.specs.Items.{Item, Failure, Network}
 use Rattle.mmdb_reader.specs.Shown.{IsShownBy}
 use Rattle.mmdb_report.specs.Counts.{is_ipv4_of, is_ipv6_of, is_without_data, is_fault, offsets_at}
-use Rattle.mmdb_report.specs.Tallies.{Adds, one_if, has_offset}
+use Rattle.mmdb_report.specs.Working.{Adds, one_if, has_offset}
 use Rattle.mmdb_report.specs.declared.tally.Tally.{Tally}
 use Rattle.mmdb_report.proofs.CountLemmas.{counted_ipv4, counted_ipv6}
 

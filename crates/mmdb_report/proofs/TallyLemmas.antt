@@ -14,7 +14,7 @@ use Rattle.mmdb_reader.specs.declared.options.WithinOptions.{WithinOptions}
 use Rattle.mmdb_net.specs.declared.network.IpNetwork.{IpNetwork}
 use Rattle.mmdb_report.specs.Reports.{most_items, ReportsOn, HasTooMany}
 use Rattle.mmdb_report.specs.Counts.{is_ipv4_of, is_ipv6_of, is_without_data, is_fault, offsets_at, offsets_of, Counts}
-use Rattle.mmdb_report.specs.Tallies.{IsEmpty, Adds, IsFullOrMemory, Makes, one_if, has_offset}
+use Rattle.mmdb_report.specs.Working.{IsEmpty, Adds, IsFullOrMemory, Makes, one_if, has_offset}
 use Rattle.mmdb_report.specs.declared.report.Report.{Report}
 use Rattle.mmdb_report.specs.declared.report.ReportError.{ReportError}
 use Rattle.mmdb_report.specs.declared.report.ReportError.TheVariants.{TooMany}

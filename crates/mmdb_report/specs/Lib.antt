@@ -1,3 +1,5 @@
+-- What has to be believed: what contracts of public items name.
 pub mod Counts
 pub mod Reports
-pub mod Tallies
+-- What only contracts of private functions and proofs name.
+pub mod Working

@@ -38,7 +38,7 @@ pub(crate) struct Tally {
 }
 
 impl Tally {
-    ghost use Rattle.mmdb_report.specs.Tallies.{IsEmpty, Adds, IsFullOrMemory, Makes};
+    ghost use Rattle.mmdb_report.specs.Working.{IsEmpty, Adds, IsFullOrMemory, Makes};
 
     /// Nothing counted.
     pub(crate) fn new(alloc: Global) -> Tally

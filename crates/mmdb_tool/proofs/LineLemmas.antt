@@ -8,7 +8,8 @@ use Rattle.mmdb_net.specs.FullText.{ipv4_full_text, ipv6_full_text}
 use Rattle.mmdb_reader.specs.File.{Database, before_ipv4}
 use Rattle.mmdb_reader.specs.Shown.{IsShownBy}
 use Rattle.mmdb_reader.specs.Items.{Network}
-use Rattle.mmdb_tool.specs.Lines.{leaf_text, leaf_line, network_line, offset_text, line_of}
+use Rattle.mmdb_tool.specs.Lines.{leaf_text, leaf_line, offset_text, line_of}
+use Rattle.mmdb_tool.specs.Working.{network_line}
 
 drop-front : (xs ys : List Bool) → drop (length xs) (xs ++ ys) ≡ ys
 drop-front xs ys = drop-append_seam xs ys

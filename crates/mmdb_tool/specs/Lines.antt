@@ -27,10 +27,6 @@ abbrev pub LeafTextsShowNetworks : Type 0
 LeafTextsShowNetworks =
     (db : Database) (leaf : List Bool) (as_ipv4 : Bool) (network : IpNetwork) → IsShownBy db leaf as_ipv4 network → leaf_text db leaf as_ipv4 ≡ full_text_of network
 
--- the line of a network
-abbrev pub network_line : IpNetwork → Option ℕ → List ℕ
-network_line network offset = full_text_of network ++ (codes " " ++ (offset_text offset ++ codes "\n"))
-
 -- the line of a leaf
 abbrev pub leaf_line : Database → List Bool → Option ℕ → Bool → List ℕ
 leaf_line db leaf offset as_ipv4 = leaf_text db leaf as_ipv4 ++ (codes " " ++ (offset_text offset ++ codes "\n"))

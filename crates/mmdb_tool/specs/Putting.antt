@@ -13,12 +13,6 @@ pub record AppendsFront (old new : Option (List ℕ)) (text : List ℕ) : Type 0
   pub is_front : text ≡ front ++ rest
   pub appended : Appends old new front
 
--- known bytes grow by a beginning of the text, of which this much is left
-pub record PutsFront (old new : Option (List ℕ)) (text left : List ℕ) : Type 0 where
-  pub front : List ℕ
-  pub is_front : text ≡ front ++ left
-  pub appended : Appends old new front
-
 -- a sink that came without a fault has the one that the answer names
 abbrev pub TellsFault : {T : Type 0} → Fault → Fault → Result T PutError → Type 0
 TellsFault old new (Ok _) = old ≡ Free → new ≡ Free

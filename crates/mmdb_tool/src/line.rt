@@ -4,7 +4,8 @@ ghost use Rattle.mmdb_format.specs.Error.{OfInput, OfDatabase, OfMemory, kind_of
 ghost use Rattle.mmdb_reader.specs.Lookup.{CanAsk, IsInvalidAt};
 ghost use Rattle.mmdb_reader.specs.File.{Database};
 ghost use Rattle.mmdb_reader.specs.Items.{item_view, IsItemOf};
-ghost use Rattle.mmdb_tool.specs.Lines.{network_line, line_of, IsLookupLine};
+ghost use Rattle.mmdb_tool.specs.Lines.{line_of, IsLookupLine};
+ghost use Rattle.mmdb_tool.specs.Working.{network_line};
 
 use itoa::Buffer;
 use mmdb_reader::{IpNetwork, LookupResult, MaxMindDbError, Reader};

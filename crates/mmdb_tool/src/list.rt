@@ -2,7 +2,8 @@
 ghost use Rattle.std.specs.Prelude.{◌≡◌, ◌↔◌, OnOk, OnErr};
 ghost use Rattle.mmdb_net.specs.Network.{ip_of};
 ghost use Rattle.mmdb_reader.specs.Lookup.{CanAsk};
-ghost use Rattle.mmdb_tool.specs.Putting.{AppendsFront, PutsFront, TellsFault};
+ghost use Rattle.mmdb_tool.specs.Putting.{AppendsFront, TellsFault};
+ghost use Rattle.mmdb_tool.specs.Working.{PutsFront};
 ghost use Rattle.mmdb_tool.specs.ListText.{WritesList, BeginsList, IsOfRange, NamesRangeOrMemory, TellsListFault};
 
 use crate::line::put_item_line;

@@ -14,7 +14,8 @@ use Rattle.mmdb_tree.specs.declared.group.FoundLeaf.{FoundLeaf}
 use Rattle.mmdb_tree.specs.Tree.{SearchTree, child, step}
 use Rattle.mmdb_tree.specs.Descents.{Walks, Descends}
 use Rattle.mmdb_tree.specs.Table.{IsFull}
-use Rattle.mmdb_tree.specs.Groups.{HasEnded, AllWalkOn, WalksOn, IsBitsOf, AreWordsOf, BeginsWith}
+use Rattle.mmdb_tree.specs.Groups.{HasEnded}
+use Rattle.mmdb_tree.specs.Working.{AllWalkOn, WalksOn, IsBitsOf, AreWordsOf, BeginsWith}
 use Rattle.mmdb_tree.proofs.WalkLemmas.{Walks-more, step-child}
 
 -- a step from a node

@@ -6,7 +6,7 @@ use Rattle.std.proofs.Math.Pow.{pow_mono, pow_pos}
 use Rattle.mmdb_tree.specs.Tree.{walk}
 use Rattle.mmdb_net.specs.Bits.{number_of}
 use Rattle.mmdb_tree.specs.Stops.{WalkedTree, record_in, is_alias_in, goes_on, at_stop, end_at}
-use Rattle.mmdb_tree.specs.Walked.{is_alias_of, goes_on_from, end_from}
+use Rattle.mmdb_tree.specs.Working.{is_alias_of, goes_on_from, end_from}
 
 pub number-below : (rest : ℕ) (s : List Bool) → number_of rest s < 2 ^ rest
 number-below rest [] = pow_pos rest

@@ -6,7 +6,7 @@ use Rattle.std.proofs.Math.Seq.{take-append-add}
 use Rattle.mmdb_tree.specs.Tree.{step}
 use Rattle.mmdb_tree.specs.Stops.{WalkedTree, Stop, stops_of, shared, cost, cut, is_fault, EndsAtFault, AreFirst}
 use Rattle.mmdb_tree.specs.declared.record.TreeRecord.TheVariants.{Empty}
-use Rattle.mmdb_tree.specs.Walked.{goes_on_from}
+use Rattle.mmdb_tree.specs.Working.{goes_on_from}
 use Rattle.mmdb_tree.proofs.Progress.{total-append}
 use Rattle.mmdb_tree.proofs.Visits.{Visit, visit, with_lead, total, visits_below, visits_of, visits_after, total-visits_of, length-visits_of, some_visit, below-node, below-stop, visits-stops}
 

@@ -4,7 +4,8 @@ use Rattle.std.proofs.lemmas.List.{append-nil, get_or_append_left}
 use Rattle.std.proofs.Math.Seq.{get_or-append_seam}
 use Rattle.std.proofs.lemmas.Bool.{cases_lt}
 use Rattle.mmdb_tree.specs.Stops.{WalkedTree}
-use Rattle.mmdb_tree.specs.Walked.{goes_on_from, end_from, half_of, IsPlaced, IsStack, GoesOn, IsStopped}
+use Rattle.mmdb_tree.specs.Walked.{half_of}
+use Rattle.mmdb_tree.specs.Working.{goes_on_from, end_from, IsPlaced, IsStack, GoesOn, IsStopped}
 use Rattle.mmdb_tree.specs.declared.walked.Point.{Point}
 use Rattle.mmdb_tree.specs.declared.record.TreeRecord.{TreeRecord}
 use Rattle.mmdb_tree.proofs.HighBits.{lt_same}

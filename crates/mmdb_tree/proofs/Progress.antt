@@ -7,7 +7,8 @@ use Rattle.mmdb_tree.specs.declared.record.TreeRecord.TheVariants.{Data, Empty, 
 use Rattle.mmdb_tree.specs.Records.{record_of}
 use Rattle.mmdb_tree.proofs.LeadLemmas.{data-inside}
 use Rattle.mmdb_tree.specs.Stops.{WalkedTree, stops_of, cut, is_fault, offset_of, offsets, most_stops_of, walk_cost_of, at_stop}
-use Rattle.mmdb_tree.specs.Walked.{half_of, GoesOn, IsStopped, end_from}
+use Rattle.mmdb_tree.specs.Walked.{half_of}
+use Rattle.mmdb_tree.specs.Working.{GoesOn, IsStopped, end_from}
 use Rattle.mmdb_tree.specs.declared.walked.Point.{Point}
 use Rattle.mmdb_tree.proofs.Visits.{Visit, visit, with_lead, with_lead-zero, visits_below, total, cut_visits, offsets_of, has_fault, visits_of, total-visits_of, length-visits_of, offsets-visits_of, fault-visits_of, cut-visits_of, visits-stops}
 use Rattle.mmdb_tree.proofs.Points.{visits_of_stack, step-node, step-stop}

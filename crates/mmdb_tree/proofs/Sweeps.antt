@@ -8,7 +8,8 @@ use Rattle.mmdb_offsets.specs.OffsetSet.{holds}
 use Rattle.mmdb_tree.specs.Tree.{step}
 use Rattle.mmdb_tree.specs.declared.walked.WalkEnd.TheVariants.{Whole}
 use Rattle.mmdb_tree.specs.Stops.{WalkedTree, is_fault, offset_of, most_stops_of, walk_cost_of}
-use Rattle.mmdb_tree.specs.Walked.{goes_on_from, end_from, half_of, IsPlaced, GoesOn, IsStopped, Keeps, Takes, IsVerdict}
+use Rattle.mmdb_tree.specs.Walked.{half_of, IsVerdict}
+use Rattle.mmdb_tree.specs.Working.{goes_on_from, end_from, IsPlaced, GoesOn, IsStopped, Keeps, Takes}
 use Rattle.mmdb_tree.specs.declared.walked.Point.{Point}
 use Rattle.mmdb_tree.specs.declared.record.TreeRecord.{TreeRecord}
 use Rattle.mmdb_tree.proofs.Visits.{Visit, visit, with_lead, with_lead-zero, visits_below, some_visit, below-node, below-stop, total, cut_visits, offsets_of, has_fault}

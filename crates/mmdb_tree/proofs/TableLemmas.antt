@@ -8,7 +8,8 @@ use Rattle.mmdb_tree.specs.declared.table.Entry.{Entry}
 use Rattle.mmdb_tree.specs.Tree.{SearchTree, step}
 use Rattle.mmdb_tree.specs.Descents.{Descends}
 use Rattle.mmdb_tree.proofs.DescentLemmas.{Descends-same, bits_of-lower, bits_of-upper, Descends-first, Descends-none, Descends-short, Descends-append}
-use Rattle.mmdb_tree.specs.Table.{EndsAs, HasEntries, Appends, IsFull}
+use Rattle.mmdb_tree.specs.Table.{IsFull}
+use Rattle.mmdb_tree.specs.Working.{EndsAs, HasEntries, Appends}
 
 -- ---- entries
 

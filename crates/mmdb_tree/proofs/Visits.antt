@@ -4,7 +4,7 @@ use Rattle.std.specs.List.{list_any}
 use Rattle.std.proofs.lemmas.List.{append-nil}
 use Rattle.mmdb_tree.specs.Tree.{step, walk}
 use Rattle.mmdb_tree.specs.Stops.{WalkedTree, Stop, stop, end_at, goes_on, stops_below, stops_of, shared, cost, cost_after, cut, is_fault, offset_of, offsets}
-use Rattle.mmdb_tree.specs.Walked.{goes_on_from, end_from}
+use Rattle.mmdb_tree.specs.Working.{goes_on_from, end_from}
 use Rattle.mmdb_tree.specs.declared.record.TreeRecord.{TreeRecord}
 use Rattle.mmdb_tree.proofs.HighBits.{lt_same, high_of, high-nil, high-snoc, goes-on-is, end-at-is}
 use Rattle.mmdb_tree.proofs.WalkLemmas.{walk-append, walk-nil, walk-one}

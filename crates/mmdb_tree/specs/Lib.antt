@@ -1,3 +1,4 @@
+-- What has to be believed: what contracts of public items name.
 pub mod Tree
 pub mod Descents
 pub mod Table
@@ -6,3 +7,5 @@ pub mod Records
 pub mod Groups
 pub mod Stops
 pub mod Walked
+-- What only contracts of private functions and proofs name.
+pub mod Working

@@ -1,9 +1,10 @@
 //! Walks of several addresses, side by side.
 ghost use Rattle.std.specs.Prelude.{◌≡◌, ℕ, ◌<◌, ◌≤◌, Bool, List, false, MatchOption, get_or, length};
 ghost use Rattle.mmdb_net.specs.Address.{bits_of_address};
-ghost use Rattle.mmdb_tree.specs.Groups.{AreWordsOf, BeginsWith};
+ghost use Rattle.mmdb_tree.specs.Working.{AreWordsOf, BeginsWith};
 
 use crate::nodes::Nodes;
+use crate::table::Entry;
 use std::net::IpAddr;
 
 /// Where the walk of an address stands: at a number of the tree, after how many bits of the address.
@@ -11,6 +12,20 @@ use std::net::IpAddr;
 pub struct FoundLeaf {
     pub number: u32,
     pub taken: u32,
+}
+
+impl FoundLeaf {
+    /// Where the walk of an address stands by the entry of a table that its first sixteen bits lead to.
+    #[inline(always)]
+    pub fn entered(entry: Entry) -> FoundLeaf
+        ensures number { result.number ≡ entry.number }
+        ensures taken { result.taken ≡ entry.taken }
+    {
+        FoundLeaf {
+            number: entry.number,
+            taken: u32::from(entry.taken),
+        }
+    }
 }
 
 // The bit of an address at an index, the highest at 0; none after its last.
@@ -71,7 +86,8 @@ fn all_lanes() -> [u8; 64] {
 
 impl Nodes<'_> {
     ghost use Rattle.mmdb_tree.specs.Nodes.{tree_in};
-    ghost use Rattle.mmdb_tree.specs.Groups.{AllWalkOn, AllEnd, AlongWords, WalksOn, WalksToEnd, IsBitsOf};
+    ghost use Rattle.mmdb_tree.specs.Groups.{AllEnd};
+    ghost use Rattle.mmdb_tree.specs.Working.{AllWalkOn, AlongWords, WalksOn, WalksToEnd, IsBitsOf};
 
     // One bit more of a walk that has taken so many and is on a node; any other stays.
     #[inline(always)]
@@ -91,7 +107,7 @@ impl Nodes<'_> {
         }
     }
 
-    // The same along the bits of an address.
+    // Takes one step of a walk along the bits of an address.
     #[inline(always)]
     fn step(&self, leaf: FoundLeaf, address: IpAddr, taken: u32) -> FoundLeaf
         requires { taken < 128 }
@@ -167,7 +183,7 @@ impl Nodes<'_> {
         }
     }
 
-    // The same along the bits of addresses.
+    // A step of each walk that is listed, along the bits of its address.
     #[inline(always)]
     fn step_all(
         &self,

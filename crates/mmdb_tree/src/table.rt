@@ -19,7 +19,8 @@ pub struct Entry {
 
 impl Nodes<'_> {
     ghost use Rattle.mmdb_tree.specs.Nodes.{tree_in, EndsByTable, ReadsByTable};
-    ghost use Rattle.mmdb_tree.specs.Table.{IsTable, Appends};
+    ghost use Rattle.mmdb_tree.specs.Table.{IsTable};
+    ghost use Rattle.mmdb_tree.specs.Working.{Appends};
     ghost use Rattle.mmdb_net.specs.Bits.{bits_of};
 
     // Appends an entry for each string of the last `left` of the sixteen bits, where the bits before them
@@ -83,7 +84,8 @@ impl Nodes<'_> {
         }
     }
 
-    /// The same along the 128 bits of an IPv6 address.
+    /// Walks along the 128 bits of an IPv6 address, for whose first sixteen a table has where they lead. Of the nodes
+    /// only those after the table's entry are counted as read.
     #[inline(always)]
     pub fn descend_ipv6(&self, table: &[Entry], bits: u128) -> Descent
         requires { length table.now ≡ 65536 }

@@ -46,7 +46,8 @@ pub struct Walker<'a> {
 impl Walker<'_> {
     ghost use Rattle.mmdb_tree.specs.declared.walked.WalkEnd.TheVariants.{Whole};
     ghost use Rattle.mmdb_tree.specs.Stops.{is_fault, walk_cost_of};
-    ghost use Rattle.mmdb_tree.specs.Walked.{walked_by, Takes, GoesOn, IsStopped, half_of, end_from, is_alias_of, Keeps, IsVerdict};
+    ghost use Rattle.mmdb_tree.specs.Walked.{walked_by, half_of, IsVerdict};
+    ghost use Rattle.mmdb_tree.specs.Working.{Takes, GoesOn, IsStopped, end_from, is_alias_of, Keeps};
     ghost use Rattle.mmdb_offsets.specs.OffsetSet.{holds};
 
     // Whether a point is reached by an alias.

@@ -11,7 +11,7 @@ use Rattle.mmdb_format.specs.Unfolding.{Tree, value_count, payload}
 use Rattle.mmdb_value.specs.AnyValue.{value_at}
 use Rattle.mmdb_value.specs.Standing.{ValueStands, WholeValue, ValueIsWhatStands, AnswerIsWholeValue, OneValueStands}
 use Rattle.mmdb_value.proofs.GrammarWhole.{read_unfolds, unfolds_read}
-use Rattle.mmdb_decode.proofs.LimitLaws.{answer_within, within_answer}
+use Rattle.mmdb_record.proofs.LimitLaws.{answer_within, within_answer}
 
 abbrev at : {A : Type 0} → A → ℕ → ℕ → ℕ → Reading A
 at v q n b = record { value = v; next = q; values = n; bytes = b }

@@ -8,7 +8,6 @@ ghost use Rattle.mmdb_value.specs.AnyValue.{value_at, key_at as spec_key_at, sca
 ghost use Rattle.mmdb_value.specs.Values.{value_tree};
 
 use crate::shared::{self, Source};
-use mmdb_decode::decode::Decode;
 use mmdb_decode::decoder::Decoder;
 use mmdb_decode::direct::text_of;
 use mmdb_decode::steps::Steps;
@@ -16,6 +15,7 @@ use mmdb_format::content::{Content, Double, Float};
 use mmdb_format::decode_error_kind::DecodeErrorKind;
 use mmdb_format::error::DecodeResult;
 use mmdb_format::header::Header;
+use mmdb_record::decode::Decode;
 use std::alloc::Global;
 
 /// Any value. A map keeps its pairs in file order, repeated keys too. Texts and bytes are borrowed from the file.

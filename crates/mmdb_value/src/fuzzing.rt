@@ -9,8 +9,8 @@ ghost use Rattle.mmdb_value.specs.RawValues.{raw_tree};
 use crate::any_value::Value;
 use crate::raw_value::RawValue;
 pub use mmdb_check::fuzzing::verify;
-pub use mmdb_decode::fuzzing::decode;
 use mmdb_format::error::DecodeResult;
+pub use mmdb_record::fuzzing::decode;
 use std::alloc::Global;
 
 /// The value at the beginning of a section, in the words of the format: the tree that unfolds there, with
@@ -23,7 +23,7 @@ pub fn decode_value(alloc: Global, section: &[u8]) -> DecodeResult<Value<'_>>
     decode::<Value<'_>>(alloc, section)
 }
 
-/// The same, its texts not tested.
+/// The value at the beginning of a section as `decode_value` gives it, its texts not tested.
 pub fn decode_raw_value(alloc: Global, section: &[u8]) -> DecodeResult<RawValue<'_>>
     ensures ok { IfOk result (λ v. WholeValue false section.now 0 (raw_tree v)) }
     ensures err { IfErr result (λ e.

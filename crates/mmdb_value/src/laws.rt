@@ -4,14 +4,14 @@ ghost use Rattle.mmdb_value.specs.AnyValue.{value_at};
 ghost use Rattle.mmdb_value.specs.RawValues.{raw_tree};
 ghost use Rattle.mmdb_value.specs.Values.{value_tree};
 ghost use Rattle.mmdb_value.specs.Standing.{ValueIsWhatStands, AnswerIsWholeValue, OneValueStands};
-ghost use Rattle.mmdb_decode.specs.Shapes.{decoding, IsContainerShape};
+ghost use Rattle.mmdb_record.specs.Shapes.{decoding, IsContainerShape};
 ghost use Rattle.mmdb_format.specs.Equality.{IsEqualityOf};
 
 use crate::any_value::Value;
 use crate::raw_value::RawValue;
 pub use mmdb_check::laws::{no_place_is_met_again, order_is_free};
-use mmdb_decode::decode::Decode;
-pub use mmdb_decode::laws::{
+use mmdb_record::decode::Decode;
+pub use mmdb_record::laws::{
     answer_is_within_limits, how_containers_are_read, how_owned_bytes_are_read,
     how_scalars_are_read, how_small_numbers_are_read, list_is_what_stands, one_tree_unfolds,
     owned_bytes_equal_where_same, record_is_what_stands, same_offset_same_result,

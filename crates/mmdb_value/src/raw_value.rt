@@ -7,12 +7,12 @@ ghost use Rattle.mmdb_value.specs.AnyValue.{value_at, key_at as spec_key_at, sca
 ghost use Rattle.mmdb_value.specs.RawValues.{raw_tree};
 
 use crate::shared::{self, Source};
-use mmdb_decode::decode::Decode;
 use mmdb_decode::decoder::Decoder;
 use mmdb_decode::steps::Steps;
 use mmdb_format::content::{Content, Double, Float};
 use mmdb_format::error::DecodeResult;
 use mmdb_format::header::Header;
+use mmdb_record::decode::Decode;
 use std::alloc::Global;
 
 /// Any value, its texts not tested. A map keeps its pairs in file order, repeated keys too.

@@ -13,6 +13,10 @@ use mmdb_format::header::Header;
 use mmdb_format::kind::{ARRAY, MAP, POINTER};
 use std::alloc::Global;
 
+/// A list or a map takes memory for so many parts at once, and for more of them as they are read: what a file says
+/// of its size is not believed before.
+const FEW: usize = 16;
+
 /// A decoder that takes texts in the way that `K` names.
 pub trait Source<K>: Steps {
     type Text: Copy;
@@ -117,7 +121,7 @@ fn values_at<K, D: Source<K>>(alloc: Global, d: &mut D, count: usize) -> DecodeR
     ensures { ReadsValue (λ vs. map D.tree vs.items) false
         (elements (spec_value_at D.tested) count) (D.state d.old) (D.state d.new) result }
 {
-    let mut all = Vec::new(alloc);
+    let mut all = Vec::with_capacity(alloc, count.min(FEW))?;
     for _ in 0..count {
         all.push(value_at::<K, D>(alloc, d)?)?;
     }
@@ -136,7 +140,7 @@ fn pairs_at<K, D: Source<K>>(
         (elements (spec_pair_at D.tested (spec_value_at D.tested)) count)
         (D.state d.old) (D.state d.new) result }
 {
-    let mut all = Vec::new(alloc);
+    let mut all = Vec::with_capacity(alloc, count.min(FEW))?;
     for _ in 0..count {
         all.push(pair_at::<K, D>(alloc, d)?)?;
     }

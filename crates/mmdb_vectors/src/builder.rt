@@ -75,8 +75,8 @@ pub const BASE_NODE: &[u8] = b"\x00\x00\x01\x00\x00\x11";
 /// The data of the base file: the text "x".
 pub const BASE_DATA: &[u8] = b"\x41x";
 
-/// These bytes, one part behind the other.
-pub fn joined(alloc: Global, parts: &[&[u8]]) -> Result<Vec<u8>, AllocError> {
+// These bytes, one part behind the other.
+fn joined(alloc: Global, parts: &[&[u8]]) -> Result<Vec<u8>, AllocError> {
     let mut bytes = Vec::new(alloc);
     for part in parts {
         bytes.extend_from_slice(part)?;

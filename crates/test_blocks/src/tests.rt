@@ -2,7 +2,6 @@
 //! gives of the same blocks, which the rows have as data. Each public call runs once.
 use mmdb_blocks::laws::{joined_form_is_fewest, joined_form_is_unique};
 use mmdb_blocks::{Block, JoinError, Joiner};
-use mmdb_vectors::failures::Failures;
 use std::alloc::{AllocError, Global};
 use std::net::IpAddr;
 
@@ -198,19 +197,22 @@ fn is_joined(joiner: &mut Joiner, alloc: Global, row: &Row) -> Result<bool, Allo
     Ok(to_error.is_none() && joined == wanted)
 }
 
-#[test]
-fn joined_as_python_does(rt: HostRuntime) -> Result<(), Failures> {
-    let mut failures = Failures::new(rt.alloc());
+// The first row whose blocks are not joined as it says.
+fn first_not_joined(alloc: Global) -> Result<Option<&'static str>, AllocError> {
     // One joiner for all rows: after `finish` it begins anew.
-    let Ok(mut joiner) = Joiner::new(rt.alloc()) else {
-        failures.expect(&"memory for a joiner", false);
-        return failures.verdict();
-    };
+    let mut joiner = Joiner::new(alloc)?;
     for row in ROWS {
-        let holds = is_joined(&mut joiner, rt.alloc(), row);
-        failures.expect(&row.name, holds == Ok(true));
+        if !is_joined(&mut joiner, alloc, row)? {
+            return Ok(Some(row.name));
+        }
     }
-    failures.verdict()
+    Ok(None)
+}
+
+#[test]
+fn joined_as_python_does(rt: HostRuntime) {
+    let failed = first_not_joined(rt.alloc());
+    assert!(rt; failed == Ok(None), "{failed:?}");
 }
 
 // The first error of blocks that are pushed.
@@ -243,31 +245,34 @@ const REJECTED: &[(&str, JoinError)] = &[
 ];
 
 #[test]
-fn rejected_blocks(rt: HostRuntime) -> Result<(), Failures> {
-    let (alloc, mut failures) = (rt.alloc(), Failures::new(rt.alloc()));
+fn rejected_blocks(rt: HostRuntime) {
     for (texts, to_error) in REJECTED {
-        let reported = error_of(alloc, texts);
-        failures.expect(texts, reported == Ok(Some(*to_error)));
+        let reported = error_of(rt.alloc(), texts);
+        assert!(rt; reported == Ok(Some(*to_error)), "{texts}: {reported:?}");
     }
-    failures.verdict()
+}
+
+/// Blocks, and their last addresses.
+const LAST: &[(&str, u128)] = &[
+    ("10.0.0.0/24", 0x0a00_00ff),
+    ("::/0", u128::MAX),
+    ("::1/128", 1),
+    ("::/127", 1),
+];
+
+// The last address of the block that a text names.
+fn last_of(text: &str) -> Option<u128> {
+    match block_of(text) {
+        Some(block) if block.is_block() => Some(block.last()),
+        _ => None,
+    }
 }
 
 #[test]
-fn last_addresses(rt: HostRuntime) -> Result<(), Failures> {
-    let mut failures = Failures::new(rt.alloc());
-    for (text, last) in [
-        ("10.0.0.0/24", 0x0a00_00ff),
-        ("::/0", u128::MAX),
-        ("::1/128", 1),
-        ("::/127", 1),
-    ] {
-        let holds = match block_of(text) {
-            Some(block) if block.is_block() => block.last() == last,
-            _ => false,
-        };
-        failures.expect(&text, holds);
+fn last_addresses(rt: HostRuntime) {
+    for (text, last) in LAST {
+        assert!(rt; last_of(text) == Some(*last), "{text}");
     }
-    failures.verdict()
 }
 
 #[test]

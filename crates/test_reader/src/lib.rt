@@ -1,4 +1,4 @@
-//! Tests of readers: files, their metadata, and lookups of addresses.
+//! Tests of readers: files, their metadata, lookups of addresses, and verifications.
 #![tactic(auto)]
 
 #[cfg(test)]

@@ -7,3 +7,4 @@ mod many;
 mod metadata;
 mod sizes;
 mod table;
+mod verify;

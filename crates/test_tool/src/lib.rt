@@ -1,4 +1,5 @@
-//! Tests of the program: its arguments, the files that it opens, and what it writes.
+//! Tests of the program: its arguments, the files that it opens, what it writes, the sinks that take it, and lines and
+//! lists without memory.
 #![tactic(auto)]
 
 #[cfg(test)]

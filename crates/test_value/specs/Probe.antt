@@ -3,7 +3,8 @@ use Rattle.std.specs.Prelude.{ℕ, List, Option, Some, None, if◌then◌else◌
 use Rattle.mmdb_decode.specs.Reading.{Meaning}
 use Rattle.mmdb_decode.specs.Scalars.{u16_at, text_at}
 use Rattle.mmdb_decode.specs.Maps.{Fields}
-use Rattle.mmdb_decode.specs.Records.{field, named, skipped, record_at, finished}
+use Rattle.mmdb_decode.specs.Names.{named}
+use Rattle.mmdb_record.specs.Records.{field, skipped, record_at, finished}
 
 -- what was read of a probe
 pub record Probe : Type 0 where

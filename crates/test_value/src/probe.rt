@@ -3,11 +3,11 @@ ghost use Rattle.std.specs.Prelude.{◌≡◌, Some, true, IfOk, IfErr, option_m
 ghost use Rattle.mmdb_decode.specs.Errors.{Fails, answer};
 ghost use Rattle.test_value.specs.Probe.{Probe as SpecProbe, no_probe, probe_fields, probe_at};
 
-use mmdb_decode::decode::Decode;
 use mmdb_decode::decoder::Decoder;
-use mmdb_decode::fuzzing;
-use mmdb_decode::record::{Record, named, read_once, read_record};
 use mmdb_format::error::DecodeResult;
+use mmdb_record::decode::Decode;
+use mmdb_record::fuzzing;
+use mmdb_record::record::{Record, named, read_once, read_record};
 use std::alloc::Global;
 
 /// A number and a text, either of which may be missing.
@@ -40,7 +40,7 @@ impl<'de> Record<'de> for Probe<'de> {
         Probe { a: None, k: None }
     }
 
-    #[tactic(auto, unfolding(crate::specs::Probe::probe_fields, mmdb_decode::specs::State::decoded, mmdb_decode::specs::Records::named, mmdb_decode::specs::Records::field, mmdb_decode::specs::Records::skipped))]
+    #[tactic(auto, unfolding(crate::specs::Probe::probe_fields, mmdb_decode::specs::State::decoded, mmdb_decode::specs::Names::named, mmdb_record::specs::Records::field, mmdb_record::specs::Records::skipped))]
     fn read_field(
         &mut self,
         alloc: Global,

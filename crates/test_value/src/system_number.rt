@@ -2,9 +2,9 @@
 ghost use Rattle.std.specs.Prelude.{ℕ, true, false};
 ghost use Rattle.mmdb_decode.specs.Scalars.{u32_at};
 
-use mmdb_decode::decode::Decode;
 use mmdb_decode::decoder::Decoder;
 use mmdb_format::error::DecodeResult;
+use mmdb_record::decode::Decode;
 use std::alloc::Global;
 
 /// The number of an autonomous system.

@@ -1,4 +1,4 @@
-//! Tests of walks over networks, of the values that lookups find, and of readers without memory.
+//! Tests of walks over networks, of the values that lookups find, of paths into them, and of readers without memory.
 #![tactic(auto)]
 
 #[cfg(test)]

@@ -3,4 +3,5 @@ mod answers;
 mod decodes;
 mod equalities;
 mod memory;
+mod paths;
 mod walks;

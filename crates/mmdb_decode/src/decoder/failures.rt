@@ -9,7 +9,7 @@ use super::skipping::MAX_NESTED;
 use crate::budget::{begun, spent};
 use crate::direct::container_at;
 use crate::failed::{Failed, Step};
-use crate::record::duplicate_field;
+use crate::names::duplicate_field;
 use mmdb_format::decode_error_kind::DecodeErrorKind;
 use mmdb_format::error::MaxMindDbError;
 use mmdb_format::kind::{ARRAY, DOUBLE, MAP, U16, U32};
@@ -46,10 +46,10 @@ impl<'de> Decoder<'de> {
         self.fail(Step::List)
     }
 
-    // The error of a reading that failed.
+    /// The error of a reading that failed.
     #[cold]
     #[inline(never)]
-    pub(crate) fn error_of(&self, alloc: Global, rejected: Failed) -> MaxMindDbError
+    pub fn error_of(&self, alloc: Global, rejected: Failed) -> MaxMindDbError
         ensures { rejected ≡ OutOfMemory → result ≡ Memory }
     {
         match rejected {

@@ -6,9 +6,8 @@ ghost use Rattle.mmdb_decode.specs.Selecting.{to_key as spec_to_key, to_element 
 ghost use Rattle.mmdb_decode.specs.Skipping.{passes, skip_at};
 
 use super::Decoder;
-use super::skipping::MAX_NESTED;
 use crate::items::Entries;
-use crate::record::named;
+use crate::names::named;
 use mmdb_format::decode_error_kind::DecodeErrorKind;
 
 impl<'de> Decoder<'de> {
@@ -43,7 +42,8 @@ impl<'de> Decoder<'de> {
         found
     }
 
-    /// The same, counted from the array's end: 0 is the last element.
+    /// Goes to an element of the array at the offset as `go_to_index` does, counted from the array's end: 0 is the
+    /// last element.
     #[inline(always)]
     pub fn go_to_index_from_end(&mut self, index: usize) -> Result<bool, DecodeErrorKind>
         ensures { TakesUnderBudget (λ b. b) (at_element (from_end index))
@@ -67,7 +67,7 @@ impl<'de> Decoder<'de> {
                 self.stays_within();
                 return Ok(true);
             }
-            self.pass(MAX_NESTED)?;
+            self.pass_value()?;
         }
         Ok(false)
     }
@@ -90,7 +90,7 @@ impl<'de> Decoder<'de> {
         ensures { TakesValue (λ x. tt) (passes skip_at count) self.old self.new result }
     {
         for _ in 0..count {
-            self.pass(MAX_NESTED)?;
+            self.pass_value()?;
         }
         self.stays_within();
         Ok(())

@@ -1,6 +1,7 @@
 //! Passing a value without reading it.
 ghost use Rattle.std.specs.Prelude.{◌≡◌, ◌<◌, ◌^◌, true, IfSome};
-ghost use Rattle.mmdb_decode.specs.Skipping.{skip_within, skip_at, parts_of as spec_parts_of, scalar_passed, entered_inline};
+ghost use Rattle.mmdb_decode.specs.Skipping.{skip_within, skip_at, parts_of as spec_parts_of};
+ghost use Rattle.mmdb_decode.specs.Working.{scalar_passed, entered_inline};
 ghost use Rattle.mmdb_decode.specs.Errors.{Takes, TakesValue, ReadsUnderBudget};
 
 use super::Decoder;
@@ -9,7 +10,7 @@ use mmdb_format::content::passed_end;
 use mmdb_format::decode_error_kind::DecodeErrorKind;
 use mmdb_format::error::DecodeResult;
 use mmdb_format::header::Header;
-use mmdb_format::kind::{ARRAY, MAP};
+use mmdb_format::kind::{ARRAY, MAP, POINTER};
 use std::alloc::Global;
 
 /// At most so many containers nest in a value that is skipped.
@@ -45,6 +46,19 @@ impl<'de> Decoder<'de> {
         self.budget = spent(self.budget, parts, 0)?;
         self.offset = header.body;
         Ok(())
+    }
+
+    // Passes one inline value. A pointer, which most values are that a path passes, is passed here.
+    #[inline(always)]
+    pub(super) fn pass_value(&mut self) -> Result<(), DecodeErrorKind>
+        ensures { TakesValue (λ x. tt) skip_at self.old self.new result }
+    {
+        self.stays_within();
+        let header = self.header_here()?;
+        if header.kind == POINTER {
+            return self.pass_scalar(header);
+        }
+        self.pass(MAX_NESTED)
     }
 
     // Passes one inline value, whose containers nest at most so deep.

@@ -6,7 +6,7 @@ ghost use Rattle.mmdb_decode.specs.Maps.{name_at, entered_map, NextKey, pairs_le
 ghost use Rattle.mmdb_decode.specs.SmallNumbers.{small_at, whole_at};
 ghost use Rattle.mmdb_decode.specs.Arrays.{entered_array};
 ghost use Rattle.mmdb_decode.specs.Skipping.{skip_at};
-ghost use Rattle.mmdb_decode.specs.Memos.{Repeats};
+ghost use Rattle.mmdb_decode.specs.Repeats.{Repeats};
 
 use super::Decoder;
 use super::keys::FREE_NAME;
@@ -20,9 +20,9 @@ use mmdb_format::header::header_at;
 use mmdb_format::kind::{DOUBLE, U16, U32};
 
 impl<'de> Decoder<'de> {
-    // Another decoder at the same offset.
+    /// Another decoder at the same offset.
     #[inline(always)]
-    pub(crate) fn again(&self) -> Decoder<'de>
+    pub fn again(&self) -> Decoder<'de>
         ensures { result ≡ self.now }
     {
         Decoder {
@@ -35,9 +35,9 @@ impl<'de> Decoder<'de> {
         }
     }
 
-    // Goes to where another decoder of the section stands.
+    /// Goes to where another decoder of the section stands.
     #[inline(always)]
-    pub(crate) fn go_to(&mut self, there: &Decoder<'de>)
+    pub fn go_to(&mut self, there: &Decoder<'de>)
         requires { there.now.section ≡ self.old.section }
         ensures { self.new ≡ there.now }
     {
@@ -47,10 +47,10 @@ impl<'de> Decoder<'de> {
         self.budget = there.budget;
     }
 
-    // Goes from where a decoder of the section stood to where it stands that read on from there, and charges what was
-    // charged between. It says whether it did; else it stays.
+    /// Goes from where a decoder of the section stood to where it stands that read on from there, and charges what was
+    /// charged between. It says whether it did; else it stays.
     #[inline(always)]
-    pub(crate) fn repeat(&mut self, before: &Decoder<'de>, behind: &Decoder<'de>) -> bool
+    pub fn repeat(&mut self, before: &Decoder<'de>, behind: &Decoder<'de>) -> bool
         ensures ok { result ≡ true → Repeats before.now behind.now self.old self.new }
         ensures same { result ≡ false → self.new ≡ self.old }
     {
@@ -73,9 +73,9 @@ impl<'de> Decoder<'de> {
         }
     }
 
-    // The number of 16 bits that is read.
+    /// The number of 16 bits that is read.
     #[inline(always)]
-    pub(crate) fn try_u16(&mut self) -> Result<u16, Failed>
+    pub fn try_u16(&mut self) -> Result<u16, Failed>
         ensures { TakesValue (λ n. n) u16_at self.old self.new result }
     {
         match self.take_number(U16, 2) {
@@ -84,9 +84,9 @@ impl<'de> Decoder<'de> {
         }
     }
 
-    // The number of 32 bits that is read.
+    /// The number of 32 bits that is read.
     #[inline(always)]
-    pub(crate) fn try_u32(&mut self) -> Result<u32, Failed>
+    pub fn try_u32(&mut self) -> Result<u32, Failed>
         ensures { TakesValue (λ n. n) u32_at self.old self.new result }
     {
         match self.take_number(U32, 4) {
@@ -95,9 +95,9 @@ impl<'de> Decoder<'de> {
         }
     }
 
-    // The truth value that is read.
+    /// The truth value that is read.
     #[inline(always)]
-    pub(crate) fn try_bool(&mut self) -> Result<bool, Failed>
+    pub fn try_bool(&mut self) -> Result<bool, Failed>
         ensures { TakesValue (λ b. b) bool_at self.old self.new result }
     {
         match self.take_bool() {
@@ -106,9 +106,9 @@ impl<'de> Decoder<'de> {
         }
     }
 
-    // The number of double precision that is read.
+    /// The number of double precision that is read.
     #[inline(always)]
-    pub(crate) fn try_double(&mut self) -> Result<Double, Failed>
+    pub fn try_double(&mut self) -> Result<Double, Failed>
         ensures { TakesValue (λ x. x.bits) double_at self.old self.new result }
     {
         match self.take_bits(DOUBLE, 8) {
@@ -117,9 +117,9 @@ impl<'de> Decoder<'de> {
         }
     }
 
-    // The text that is read.
+    /// The text that is read.
     #[inline(always)]
-    pub(crate) fn try_str(&mut self) -> Result<&'de str, Failed>
+    pub fn try_str(&mut self) -> Result<&'de str, Failed>
         ensures { TakesValue (λ x. x.now) text_at self.old self.new result }
     {
         match self.take_text() {
@@ -128,9 +128,9 @@ impl<'de> Decoder<'de> {
         }
     }
 
-    // The name of the next field, where one is left.
+    /// The name of the next field, where one is left.
     #[inline(always)]
-    pub(crate) fn try_next(&mut self, entries: &mut Entries) -> Result<Option<&'de [u8]>, Failed>
+    pub fn try_next(&mut self, entries: &mut Entries) -> Result<Option<&'de [u8]>, Failed>
         ensures key { NextKey name_at self.old self.new entries.old entries.new result }
         ensures rest { entries.new ≡ with_pairs_left (pairs_left entries.new) entries.old }
     {
@@ -150,8 +150,8 @@ impl<'de> Decoder<'de> {
         }
     }
 
-    // An integer of whatever type from low to high.
-    pub(crate) fn try_between(&mut self, low: i128, high: i128) -> Result<i128, Failed>
+    /// An integer of whatever type from low to high.
+    pub fn try_between(&mut self, low: i128, high: i128) -> Result<i128, Failed>
         ensures read { TakesUnderBudget (λ z. z) (small_at low high) self.old self.new result }
         ensures low { IfOk result (λ z. low ≤ℤ z) }
         ensures high { IfOk result (λ z. z ≤ℤ high) }
@@ -173,9 +173,9 @@ impl<'de> Decoder<'de> {
         }
     }
 
-    // The map that is entered.
+    /// The map that is entered.
     #[inline(always)]
-    pub(crate) fn try_map(&mut self) -> Result<Entries, Failed>
+    pub fn try_map(&mut self) -> Result<Entries, Failed>
         ensures { Takes (λ entries. entries) (entered_map self.old) self.old self.new result }
     {
         match self.enter_map() {
@@ -196,7 +196,8 @@ impl<'de> Decoder<'de> {
         }
     }
 
-    /// The same, for a reader that mostly meets values that hold no others: its decoder can stay in registers.
+    /// Passes one inline value as `try_skip` does. It is for a reader that mostly meets values that hold no others:
+    /// its decoder can stay in registers.
     #[inline(always)]
     pub fn try_skip_scalar(&mut self) -> Result<(), Failed>
         requires { IsSome self.old.budget }

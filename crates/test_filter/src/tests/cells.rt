@@ -1,12 +1,14 @@
 //! Columns, addresses in them, and cells of CSV.
 use super::streams::{Seen, assert_at};
-use mmdb_enrich::{Cache, Enrichment, put_csv_cell};
+use mmdb_enrich::{Enrichment, RowMemory, put_csv_cell};
 use mmdb_filter::{Rows, filter_rows};
 use mmdb_reader::{PathElement, Reader};
 use mmdb_vectors::section::section_of;
 use std::alloc::Global;
+use std::io::{BufRead, Write};
 
-const CSV: Rows = Rows::Csv { delimiter: b',' };
+/// Rows of CSV.
+pub(crate) const CSV: Rows = Rows::Csv { delimiter: b',' };
 
 const SEMICOLONS: Rows = Rows::Csv { delimiter: b';' };
 
@@ -32,7 +34,7 @@ const ROWS: &[Row] = &[
 ];
 
 /// The base file with the record of 128.0.0.0/1, a text.
-const FILE: &[u8] = b"\x00\x00\x01\x00\x00\x11\
+pub(crate) const FILE: &[u8] = b"\x00\x00\x01\x00\x00\x11\
     \0\0\0\0\0\0\0\0\0\0\0\0\0\0\0\0\
     \x45a\"b,c\
     \xAB\xCD\xEFMaxMind.com\
@@ -54,16 +56,16 @@ fn whole_record(alloc: Global) -> Vec<Vec<PathElement<'static>>> {
     paths
 }
 
-// Whether this is written of an input.
-fn is_enriched(
+/// The filter with the record of the address in a column; whether it came to the end.
+pub(crate) fn enriched<I: BufRead, W: Write>(
     alloc: Global,
     reader: &Reader<&[u8]>,
     rows: Rows,
     column: usize,
-    input: &[u8],
-    want: &[u8],
+    input: &mut I,
+    out: &mut W,
 ) -> bool {
-    let Ok(mut cache) = Cache::new(alloc) else {
+    let Ok(mut memory) = RowMemory::new(alloc) else {
         return false;
     };
     let enrichment = Enrichment {
@@ -73,18 +75,30 @@ fn is_enriched(
         column,
         paths: whole_record(alloc),
     };
-    let mut input = input;
-    let mut out: Vec<u8> = Vec::new(alloc);
-    let is_done = filter_rows(
+    filter_rows(
         alloc,
         rows,
         &enrichment,
-        &mut cache,
-        &mut input,
-        &mut out,
+        &mut memory,
+        input,
+        out,
         &mut Seen(0),
     )
-    .is_ok();
+    .is_ok()
+}
+
+// Whether this is written of an input.
+fn is_enriched(
+    alloc: Global,
+    reader: &Reader<&[u8]>,
+    rows: Rows,
+    column: usize,
+    input: &[u8],
+    want: &[u8],
+) -> bool {
+    let mut input = input;
+    let mut out: Vec<u8> = Vec::new(alloc);
+    let is_done = enriched(alloc, reader, rows, column, &mut input, &mut out);
     is_done && out.as_slice() == want
 }
 

@@ -105,6 +105,8 @@ impl Additions for Lengths {
         out.extend_from_slice(&mark[..count])?;
         Ok(Added { outcome, behind: 0 })
     }
+
+    fn foresee(&self, _memory: &mut (), _bytes: &[u8]) {}
 }
 
 /// Adds a mark before so many bytes of each text, or before all of a shorter one, and nothing to a long one.
@@ -137,6 +139,8 @@ impl Additions for Marks {
             behind: self.0.min(text.len()),
         })
     }
+
+    fn foresee(&self, _memory: &mut (), _bytes: &[u8]) {}
 }
 
 /// The last number of rows that was reported.

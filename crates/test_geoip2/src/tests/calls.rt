@@ -1,8 +1,8 @@
 //! Each record that owns memory is cloned, once with enough memory.
 use super::parts::rejected;
-use mmdb_decode::decode::Decode;
-use mmdb_decode::fuzzing::decode;
 use mmdb_geoip2::{City, Enterprise};
+use mmdb_record::decode::Decode;
+use mmdb_record::fuzzing::decode;
 use mmdb_vectors::answer::is_ok;
 use std::alloc::Global;
 

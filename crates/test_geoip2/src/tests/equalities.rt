@@ -1,8 +1,8 @@
 //! Which records are equal, and which say nothing.
 use super::parts::{Empty, Parts, rejected};
-use mmdb_decode::decode::Decode;
-use mmdb_decode::fuzzing::decode;
 use mmdb_geoip2::{City, Country, Enterprise, city, country};
+use mmdb_record::decode::Decode;
+use mmdb_record::fuzzing::decode;
 use mmdb_vectors::equality::equality;
 use mmdb_vectors::failures::Failures;
 use std::alloc::{AllocError, Global};

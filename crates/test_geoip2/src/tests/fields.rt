@@ -4,12 +4,12 @@ use super::memory::{expect_empty, expect_no_record, expect_none};
 use super::parts::{Parts, parts_reported};
 use super::reads::Reads;
 use super::section::{Row, with_unknown};
-use mmdb_decode::decode::Decode;
-use mmdb_decode::fuzzing::decode;
 use mmdb_geoip2::{
     AnonymousIp, Asn, City, ConnectionType, Country, DensityIncome, Domain, Enterprise, Isp, Names,
     city, country, enterprise,
 };
+use mmdb_record::decode::Decode;
+use mmdb_record::fuzzing::decode;
 use mmdb_vectors::answer::shown;
 use mmdb_vectors::failures::Failures;
 use std::fmt::Debug;

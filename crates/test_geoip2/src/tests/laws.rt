@@ -1,10 +1,10 @@
 //! Each law is called.
-use mmdb_decode::laws::table_is_what_stands;
 use mmdb_geoip2::laws::{
     empty_means_absent, how_records_are_read, record_clones_say_same, record_clones_take_no_memory,
     record_defaults_say_nothing, records_equal_where_same,
 };
 use mmdb_geoip2::{City, Names};
+use mmdb_record::laws::table_is_what_stands;
 
 #[test]
 fn laws_are_called() {

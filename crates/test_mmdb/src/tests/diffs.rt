@@ -1,15 +1,10 @@
 //! What changed between two files.
 use super::exports::lines_hold;
 use super::lists::{DAMAGED, DATA, WHOLE};
-use super::program::{Run, assert_of, file_of, words_with};
-use mmdb_program::run;
+use super::program::{Run, assert_of, file_of, run_over};
 use mmdb_vectors::builder::{Field, changed_file, nodes_24};
-use mmdb_vectors::file::{OneFile, TestFile};
-use std::alloc::{Allocator, Global};
-use std::fs::{Metadata, OpenOptions};
-use std::io;
+use std::alloc::Global;
 use std::process::Abort;
-use std::rt::Files;
 
 /// DE, AT, none, DE, {"n": "7"}, DE, and DE in one network of /2. Of six nodes: offset o is 22 + o, 6 is none.
 const CHANGED: &[(u32, u32)] = &[(1, 2), (3, 4), (5, 22), (22, 35), (6, 22), (53, 22)];
@@ -144,7 +139,7 @@ const ROWS: &[Row<'static>] = &[
         BEFORE,
         &["32.0.0.0/3"],
         "",
-        &["mmdb: old.mmdb: 32.0.0.0/3: ", NOTHING],
+        &["mmdb: here.mmdb: 32.0.0.0/3: ", NOTHING],
         1,
     ),
     // networks on both sides of one that can't be read are not joined
@@ -215,75 +210,12 @@ const ROWS: &[Row<'static>] = &[
         &["1 (2147483648) added, 0 (0) removed, 0 (0) changed"],
         0,
     ),
-    (SHORT, WIDE, &["2000::/3"], "", &["mmdb: old.mmdb: invalid input"], 1),
+    (SHORT, WIDE, &["2000::/3"], "", &["mmdb: here.mmdb: invalid input"], 1),
     (WIDE, WIDE, &["2000::/3"], "", &[NOTHING], 0),
     (SHORT, SHORT, &["x"], "", &["x: not a network"], 2),
     (SHORT, SHORT, &["--format", "csv"], "", &["--format csv: needs a --field"], 2),
     (SHORT, SHORT, &["--field", "+1"], "", &["+1: not a path"], 2),
 ];
-
-/// A runtime with the two files alone.
-#[derive(Drop)]
-struct TwoFiles<'a> {
-    old: OneFile<'a>,
-    new: OneFile<'a>,
-}
-
-fn rejected() -> io::Error {
-    io::Error::from(io::ErrorKind::Unsupported)
-}
-
-impl<'a> Files for TwoFiles<'a> {
-    type File = TestFile<'a>;
-
-    type Dir = TestFile<'a>;
-
-    fn open_file(&self, how: &OpenOptions, path: &str) -> io::Result<TestFile<'a>> {
-        if path == "old.mmdb" {
-            return self.old.open_file(how, "here.mmdb");
-        }
-        if path == "new.mmdb" {
-            return self.new.open_file(how, "here.mmdb");
-        }
-        Err(io::Error::from(io::ErrorKind::NotFound))
-    }
-
-    fn open_dir(&self, _path: &str) -> io::Result<TestFile<'a>> {
-        Err(rejected())
-    }
-
-    fn metadata(&self, _path: &str) -> io::Result<Metadata> {
-        Err(rejected())
-    }
-
-    fn symlink_metadata(&self, _path: &str) -> io::Result<Metadata> {
-        Err(rejected())
-    }
-
-    fn copy(&self, _from: &str, _to: &str) -> io::Result<u64> {
-        Err(rejected())
-    }
-
-    fn rename(&self, _from: &str, _to: &str) -> io::Result<()> {
-        Err(rejected())
-    }
-
-    fn remove_file(&self, _path: &str) -> io::Result<()> {
-        Err(rejected())
-    }
-
-    fn create_dir(&self, _path: &str) -> io::Result<()> {
-        Err(rejected())
-    }
-
-    fn remove_dir(&self, _path: &str) -> io::Result<()> {
-        Err(rejected())
-    }
-
-    fn remove_dir_all<B: Allocator>(&self, _alloc: B, _path: &str) -> io::Result<()> {
-        Err(rejected())
-    }
-}
 
 fn bytes_of(rt: &impl Abort, alloc: Global, database: Database<'_>) -> Vec<u8> {
     let (nodes, count, version) = database;
@@ -292,38 +224,14 @@ fn bytes_of(rt: &impl Abort, alloc: Global, database: Database<'_>) -> Vec<u8> {
     changed_file(alloc, tree.as_slice(), DATA, &changes).expect(rt, "a file")
 }
 
-// A run of the program with two files.
-fn run_with(alloc: Global, files: &TwoFiles<'_>, texts: &[&str]) -> Run {
-    let words = words_with(alloc, texts);
-    let mut input: &[u8] = b"";
-    let mut written: Vec<u8> = Vec::new(alloc);
-    let mut reported: Vec<u8> = Vec::new(alloc);
-    let status = run(
-        files,
-        alloc,
-        words.as_slice(),
-        false,
-        &mut input,
-        &mut written,
-        &mut reported,
-    );
-    Run {
-        status,
-        written,
-        reported,
-    }
-}
-
 // A run of diff over two files.
 fn diff_of(alloc: Global, old: &[u8], new: &[u8], texts: &[&str]) -> Run {
-    let files = TwoFiles {
-        old: file_of(old),
-        new: file_of(new),
-    };
+    let mut files = file_of(old);
+    files.newer = new;
     let mut words = Vec::new(alloc);
-    let _ = words.extend_from_slice(&["diff", "old.mmdb", "new.mmdb"]);
+    let _ = words.extend_from_slice(&["diff", "here.mmdb", "new.mmdb"]);
     let _ = words.extend_from_slice(texts);
-    run_with(alloc, &files, words.as_slice())
+    run_over(alloc, &files, words.as_slice(), "", false)
 }
 
 fn assert_row(rt: &impl Abort, alloc: Global, row: &Row<'_>) {
@@ -372,13 +280,10 @@ fn ipv4_and_ipv6_are_joined_apart(rt: HostRuntime) {
 #[test]
 fn files_that_are_not_there(rt: HostRuntime) {
     let bytes = bytes_of(&rt, rt.alloc(), SHORT);
-    let files = TwoFiles {
-        old: file_of(bytes.as_slice()),
-        new: file_of(bytes.as_slice()),
-    };
-    for name in ["old.mmdb", "gone.mmdb"] {
+    let files = file_of(bytes.as_slice());
+    for name in ["here.mmdb", "gone.mmdb"] {
         let texts = ["diff", name, "gone.mmdb"];
-        let run = run_with(rt.alloc(), &files, &texts);
+        let run = run_over(rt.alloc(), &files, &texts, "", false);
         let is_reported = run.err().contains("gone.mmdb: i/o error: ");
         assert_of(
             &rt,

@@ -2,7 +2,7 @@
 use super::program::{Narrow, Run, assert_of, file_of, run_of, run_over, words_with};
 use mmdb_program::run;
 use mmdb_vectors::base::BASE_FILE;
-use mmdb_vectors::file::OneFile;
+use mmdb_vectors::file::TestFiles;
 use std::alloc::Global;
 use std::io::ErrorKind;
 use std::process::Abort;
@@ -31,11 +31,7 @@ const COMMANDS: &[&[&str]] = &[
 
 // A run over the base file, whose read number `fails_at` fails.
 fn with_a_failed_read(alloc: Global, texts: &[&str], fails_at: u32) -> Run {
-    let files = OneFile {
-        bytes: BASE_FILE,
-        step: 64,
-        fails_at,
-    };
+    let files = TestFiles::new(BASE_FILE, fails_at);
     run_over(alloc, &files, texts, "", false)
 }
 

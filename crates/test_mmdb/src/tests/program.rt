@@ -1,6 +1,6 @@
 //! The program on words, files and lines that a test makes.
 use mmdb_program::run;
-use mmdb_vectors::file::OneFile;
+use mmdb_vectors::file::TestFiles;
 use std::alloc::Global;
 use std::io::{self, Write};
 use std::process::Abort;
@@ -68,18 +68,14 @@ pub(crate) fn words_with(alloc: Global, texts: &[&str]) -> Vec<String> {
 }
 
 /// The file `here.mmdb`, without a fault.
-pub(crate) fn file_of(bytes: &[u8]) -> OneFile<'_> {
-    OneFile {
-        bytes,
-        step: 64,
-        fails_at: ALL_READS,
-    }
+pub(crate) fn file_of(bytes: &[u8]) -> TestFiles<'_> {
+    TestFiles::new(bytes, ALL_READS)
 }
 
 /// A run over a file, and lines on standard input.
 pub(crate) fn run_over(
     alloc: Global,
-    files: &OneFile<'_>,
+    files: &TestFiles<'_>,
     texts: &[&str],
     lines: &str,
     is_terminal: bool,

@@ -2,7 +2,7 @@
 use super::runs::{assert_done, assert_done_both, assert_done_with};
 use mmdb_vectors::base::BASE_FILE;
 use mmdb_vectors::builder::{BASE, BASE_DATA, BASE_NODE, file};
-use mmdb_vectors::file::OneFile;
+use mmdb_vectors::file::TestFiles;
 use std::alloc::Global;
 use std::process::Abort;
 use std::{fs, io};
@@ -122,23 +122,17 @@ fn bad_words(rt: HostRuntime) {
 }
 
 // Asserts that a file which can't be opened, or is no database, is reported by `lookup` and by `verify`.
-fn assert_rejected(rt: &impl Abort, alloc: Global, files: &OneFile<'_>, path: &str, text: &str) {
+fn assert_rejected(rt: &impl Abort, alloc: Global, files: &TestFiles<'_>, path: &str, text: &str) {
     let lookup = ["lookup", path, "1.1.1.1"];
     assert_done(rt, alloc, files, &lookup, (1, "", text));
     assert_done(rt, alloc, files, &["verify", path], (1, "", text));
 }
 
-/// An empty file.
-const EMPTY: OneFile<'static> = OneFile {
-    bytes: b"",
-    step: 64,
-    fails_at: 1000,
-};
-
 #[test]
 fn rejected_files(rt: HostRuntime) {
     let no_marker = "invalid database: could not find MaxMind DB metadata in file\n";
-    assert_rejected(&rt, rt.alloc(), &EMPTY, "here.mmdb", no_marker);
+    let empty = TestFiles::new(b"", 1000);
+    assert_rejected(&rt, rt.alloc(), &empty, "here.mmdb", no_marker);
     assert_done_with(&rt, rt.alloc(), b"", &FOUND, (1, "", no_marker));
 }
 
@@ -151,11 +145,7 @@ const UNREAD: [(&str, u32, io::ErrorKind); 2] = [
 // Asserts that the base file can't be read, and why.
 fn assert_unread(rt: &impl Abort, alloc: Global, path: &str, fails_at: u32, kind: io::ErrorKind) {
     let text = format!(in alloc; "i/o error: {}\n", io::Error::from(kind)).expect(rt, path);
-    let files = OneFile {
-        bytes: BASE_FILE,
-        step: 64,
-        fails_at,
-    };
+    let files = TestFiles::new(BASE_FILE, fails_at);
     assert_rejected(rt, alloc, &files, path, text.as_str());
 }
 

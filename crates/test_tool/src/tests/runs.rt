@@ -1,6 +1,7 @@
 //! Runs of the program.
+use super::asserts::assert_written;
 use mmdb_tool::{Out, run, run_bytes};
-use mmdb_vectors::file::OneFile;
+use mmdb_vectors::file::TestFiles;
 use mmdb_vectors::words::words_of;
 use std::alloc::{AllocError, Global};
 use std::process::Abort;
@@ -8,15 +9,6 @@ use std::rt::Files;
 
 /// What a run ends with: its status, and what it wrote on standard output and on standard error.
 pub type Done<'a> = (u8, &'a str, &'a str);
-
-// Asserts what was written.
-fn assert_written(rt: &impl Abort, sink: Out<Vec<u8>>, text: &str, case: &[&str]) {
-    let bytes = sink.into_inner();
-    assert!(rt;
-        bytes.as_slice() == text.as_bytes(),
-        "at {case:?}: {bytes:?}"
-    );
-}
 
 // Asserts a status.
 fn assert_status(rt: &impl Abort, status: u8, wanted: u8, case: &[&str]) {
@@ -67,11 +59,7 @@ pub fn assert_done_both(
     texts: &[&str],
     done: Done<'_>,
 ) {
-    let files = OneFile {
-        bytes,
-        step: 64,
-        fails_at,
-    };
+    let files = TestFiles::new(bytes, fails_at);
     assert_done(rt, alloc, &files, texts, done);
     assert_done_with(rt, alloc, bytes, texts, done);
 }

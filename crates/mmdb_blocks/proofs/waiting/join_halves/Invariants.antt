@@ -1,6 +1,7 @@
 use Rattle.std.proofs.Common.{◌≡◌, List, vec_capacity}
 use Rattle.mmdb_blocks.specs.Blocks.{IsBlock}
-use Rattle.mmdb_blocks.specs.Joining.{IsReady, IsPending}
+use Rattle.mmdb_blocks.specs.Joining.{IsReady}
+use Rattle.mmdb_blocks.specs.Working.{IsPending}
 use Rattle.mmdb_blocks.specs.declared.block.Block.{Block as SpecBlock}
 use Rattle.mmdb_blocks.proofs.waiting.join_halves.Given as goal
 

@@ -1,6 +1,6 @@
 use Rattle.std.proofs.Common.{◌≡◌}
 use Rattle.std.proofs.lemmas.Bool.{false≢true}
-use Rattle.mmdb_blocks.specs.Joining.{IsNoHalf}
+use Rattle.mmdb_blocks.specs.Working.{IsNoHalf}
 use Rattle.mmdb_blocks.proofs.JoinLaws.{at-end-same}
 use Rattle.mmdb_blocks.proofs.waiting.take_half.Goals as goal
 

@@ -2,7 +2,7 @@ use Rattle.std.proofs.Common.{ℕ, ◌<◌, length, get_or, arith}
 use Rattle.std.proofs.lemmas.List.{length-set}
 use Rattle.std.specs.declared.net.ip_addr.IpAddr.{IpAddr}
 use Rattle.mmdb_c.specs.declared.many.Address.{Address}
-use Rattle.mmdb_c.specs.Many.{IsIpOf}
+use Rattle.mmdb_c.specs.Working.{IsIpOf}
 use Rattle.mmdb_c.proofs.ManyLemmas.{at_index, one_more}
 use Rattle.mmdb_c.proofs.many.ips_of.Goals as goal
 

@@ -22,17 +22,17 @@ returns-clause-begun g c = given_up c.args.rows (g.A.Additions.adds c.args.addit
 
 pub returns-then-is_empty-clause-whole : goal.returns-then-is_empty-clause-whole
 returns-then-is_empty-clause-whole g c =
-    let chunk = c.read_chunk.new.chunk.items in
+    let chunk = c.begin_row.new.chunk.items in
     let (bytes, put, leads) = c.in_ok-position.ensures.leads in
     let same : chunk ≡ bytes = put ∙ ap (λ l. l ++ bytes) c.clear.ensures.items in
     let none : length chunk ≡ 0 = search rules in
-    finished c.args.rows (g.A.Additions.adds c.args.additions.now) (g.R.Read.remaining c.args.input.now) (g.R.Read.remaining c.loop-passed.input) (g.R.Read.remaining c.read_chunk.new.input) (g.W.Write.contents c.args.out.now) (g.W.Write.contents c.loop-passed.out) c.loop-passed.counts c.in_ok-position.position chunk
-    (subst (λ p. Leads c.args.rows Cell (g.R.Read.remaining c.loop-passed.input) p c.in_ok-position.position (g.R.Read.remaining c.read_chunk.new.input)) (sym same) leads)
+    finished c.args.rows (g.A.Additions.adds c.args.additions.now) (g.R.Read.remaining c.args.input.now) (g.R.Read.remaining c.loop-passed.input) (g.R.Read.remaining c.begin_row.new.input) (g.W.Write.contents c.args.out.now) (g.W.Write.contents c.loop-passed.out) c.loop-passed.counts c.in_ok-position.position chunk
+    (subst (λ p. Leads c.args.rows Cell (g.R.Read.remaining c.loop-passed.input) p c.in_ok-position.position (g.R.Read.remaining c.begin_row.new.input)) (sym same) leads)
     c.in_ok-position.ensures.end (empty_list chunk none) c.loop-passed.invariant.way
 
 pub pass_on-requires : goal.pass_on-requires
 pass_on-requires g c = λ full.
-    let chunk = c.read_chunk.new.chunk.items in
+    let chunk = c.begin_row.new.chunk.items in
     let enough : most_seen + 3 ≤ length chunk = omega (arith, most) in
     let yes : c.seen-is_long.result.1 ≡ true = c.seen-is_long.ensures.long ∙ ap is_long c.as_slice.ensures.value ∙ long chunk enough in
     c.in_ok-addition.ensures.behind.1 yes
@@ -40,7 +40,7 @@ pass_on-requires g c = λ full.
 pub returns-in_err-pass_on-clause-begun : goal.returns-in_err-pass_on-clause-begun
 returns-in_err-pass_on-clause-begun g c =
     let adds = g.A.Additions.adds c.args.additions.now in
-    let chunk = c.read_chunk.new.chunk.items in
+    let chunk = c.begin_row.new.chunk.items in
     let (bytes, put, leads) = c.in_ok-position.ensures.leads in
     let same : chunk ≡ bytes = put ∙ ap (λ l. l ++ bytes) c.clear.ensures.items in
     let some : 0 < length chunk = search rules in
@@ -54,15 +54,15 @@ returns-in_err-pass_on-clause-begun g c =
     subst (λ t. adds t (is_long chunk) cells addition.behind addition.outcome × StandsBehind t (is_long chunk) addition.behind) text
     (subst (λ b. adds c.seen-is_long.result.0.now b cells addition.behind addition.outcome × StandsBehind c.seen-is_long.result.0.now b addition.behind) long
     (subst (λ e. adds c.seen-is_long.result.0.now c.seen-is_long.result.1 e addition.behind addition.outcome) (sym cells_are) added, c.in_ok-addition.ensures.behind)) in
-    let leading = subst (λ p. Leads c.args.rows Cell (g.R.Read.remaining c.loop-passed.input) p c.in_ok-position.position (g.R.Read.remaining c.read_chunk.new.input)) (sym same) leads in
+    let leading = subst (λ p. Leads c.args.rows Cell (g.R.Read.remaining c.loop-passed.input) p c.in_ok-position.position (g.R.Read.remaining c.begin_row.new.input)) (sym same) leads in
     on_any_err c.from_residual-in_err-pass_on.result
-    (given_up_in c.args.rows (g.A.Additions.adds c.args.additions.now) (g.R.Read.remaining c.args.input.now) (g.R.Read.remaining c.loop-passed.input) (g.R.Read.remaining c.read_chunk.new.input) (g.W.Write.contents c.args.out.now) (g.W.Write.contents c.loop-passed.out) (g.W.Write.contents c.pass_on.new.out) c.loop-passed.counts c.in_ok-position.position chunk cells addition.behind addition.outcome
+    (given_up_in c.args.rows (g.A.Additions.adds c.args.additions.now) (g.R.Read.remaining c.args.input.now) (g.R.Read.remaining c.loop-passed.input) (g.R.Read.remaining c.begin_row.new.input) (g.W.Write.contents c.args.out.now) (g.W.Write.contents c.loop-passed.out) (g.W.Write.contents c.pass_on.new.out) c.loop-passed.counts c.in_ok-position.position chunk cells addition.behind addition.outcome
     leading c.in_ok-position.ensures.end some may c.in_err-pass_on.ensures.begun c.loop-passed.invariant.way)
 
 pub loop-passed-preserved : goal.loop-passed-preserved
 loop-passed-preserved g c =
     let adds = g.A.Additions.adds c.args.additions.now in
-    let chunk = c.read_chunk.new.chunk.items in
+    let chunk = c.begin_row.new.chunk.items in
     let (bytes, put, leads) = c.in_ok-position.ensures.leads in
     let same : chunk ≡ bytes = put ∙ ap (λ l. l ++ bytes) c.clear.ensures.items in
     let some : 0 < length chunk = search rules in
@@ -76,8 +76,8 @@ loop-passed-preserved g c =
     subst (λ t. adds t (is_long chunk) cells addition.behind addition.outcome × StandsBehind t (is_long chunk) addition.behind) text
     (subst (λ b. adds c.seen-is_long.result.0.now b cells addition.behind addition.outcome × StandsBehind c.seen-is_long.result.0.now b addition.behind) long
     (subst (λ e. adds c.seen-is_long.result.0.now c.seen-is_long.result.1 e addition.behind addition.outcome) (sym cells_are) added, c.in_ok-addition.ensures.behind)) in
-    let leading = subst (λ p. Leads c.args.rows Cell (g.R.Read.remaining c.loop-passed.input) p c.in_ok-position.position (g.R.Read.remaining c.read_chunk.new.input)) (sym same) leads in
-    let way = next_row c.args.rows (g.A.Additions.adds c.args.additions.now) (g.R.Read.remaining c.args.input.now) (g.R.Read.remaining c.loop-passed.input) (g.R.Read.remaining c.read_chunk.new.input) (g.R.Read.remaining c.pass_on.new.input) (g.W.Write.contents c.args.out.now) (g.W.Write.contents c.loop-passed.out) (g.W.Write.contents c.pass_on.new.out) c.loop-passed.counts c.in_ok-position.position chunk cells addition.behind addition.outcome
+    let leading = subst (λ p. Leads c.args.rows Cell (g.R.Read.remaining c.loop-passed.input) p c.in_ok-position.position (g.R.Read.remaining c.begin_row.new.input)) (sym same) leads in
+    let way = next_row c.args.rows (g.A.Additions.adds c.args.additions.now) (g.R.Read.remaining c.args.input.now) (g.R.Read.remaining c.loop-passed.input) (g.R.Read.remaining c.begin_row.new.input) (g.R.Read.remaining c.pass_on.new.input) (g.W.Write.contents c.args.out.now) (g.W.Write.contents c.loop-passed.out) (g.W.Write.contents c.pass_on.new.out) c.loop-passed.counts c.in_ok-position.position chunk cells addition.behind addition.outcome
     leading c.in_ok-position.ensures.end some may c.in_ok-pass_on.ensures.whole c.loop-passed.invariant.way in
     record {
       way = subst (λ n. UnderWay c.args.rows adds (g.R.Read.remaining c.args.input.now) (g.R.Read.remaining c.pass_on.new.input) (g.W.Write.contents c.args.out.now) (g.W.Write.contents c.pass_on.new.out) n) (sym c.count.ensures.counted) way;

@@ -1,5 +1,5 @@
 use Rattle.std.proofs.Common.{◌≡◌}
-use Rattle.mmdb_filter.specs.Counting.{total}
+use Rattle.mmdb_filter.specs.Working.{total}
 use Rattle.mmdb_filter.proofs.LineLaws.{UnderWay}
 use Rattle.mmdb_filter.proofs.filter.filter_rows.Given as goal
 

@@ -4,7 +4,7 @@ use Rattle.mmdb_filter.specs.Lines.{row_with, AppendsFront}
 use Rattle.mmdb_filter.specs.declared.rows.Position.TheVariants as spec_position
 use Rattle.mmdb_filter.proofs.FrontLaws.{on_any_err, on_err, on_ok, front_whole}
 use Rattle.mmdb_filter.proofs.PassLaws.{passes_chunk, passed, passed_in, stopped, stopped_in, at_end_too}
-use Rattle.mmdb_filter.proofs.pass.pass_on.Goals.{then-eq-via-then-eq, then-eq-via-else-eq+then-len-lt-PIECE}
+use Rattle.mmdb_filter.proofs.pass.pass_on.Goals.{then-eq-via-then-eq, then-eq-via-else-eq+then-len-lt-CHUNK}
 use Rattle.mmdb_filter.proofs.pass.pass_on.Goals as goal
 
 pub returns-then-eq-clause-whole : goal.returns-then-eq-clause-whole
@@ -12,7 +12,7 @@ returns-then-eq-clause-whole g c = λ ready.
     let ending : c.loop.now ≢ spec_position.Ended → OnSome (g.R.Read.remaining c.args.input.now) (IsAtEnd (g.R.Read.remaining c.loop.input)) =
     elim c.then-eq.branch [
       | then-eq-via-then-eq w ↦ λ not. absurd (not (search rules))
-      | then-eq-via-else-eq+then-len-lt-PIECE w ↦ λ not. c.loop.invariant.ready ready not (search rules)
+      | then-eq-via-else-eq+then-len-lt-CHUNK w ↦ λ not. c.loop.invariant.ready ready not (search rules)
     ] in
     on_ok c.put_row.result
     (λ put. passed c.args.rows c.args.position c.loop.now c.args.chunk.now.items c.loop.chunk.items c.args.added.now.items c.args.behind (g.R.Read.remaining c.args.input.now) (g.W.Write.contents c.args.out.now) (g.R.Read.remaining c.loop.input) (g.W.Write.contents c.loop.out) (g.W.Write.contents c.put_row.new.out) ending
@@ -24,7 +24,7 @@ returns-then-eq-clause-begun g c = λ ready.
     let ending : c.loop.now ≢ spec_position.Ended → OnSome (g.R.Read.remaining c.args.input.now) (IsAtEnd (g.R.Read.remaining c.loop.input)) =
     elim c.then-eq.branch [
       | then-eq-via-then-eq w ↦ λ not. absurd (not (search rules))
-      | then-eq-via-else-eq+then-len-lt-PIECE w ↦ λ not. c.loop.invariant.ready ready not (search rules)
+      | then-eq-via-else-eq+then-len-lt-CHUNK w ↦ λ not. c.loop.invariant.ready ready not (search rules)
     ] in
     on_err c.put_row.result
     (λ put. passed_in c.args.rows c.args.position c.loop.now c.args.chunk.now.items c.loop.chunk.items c.args.added.now.items c.args.behind (g.R.Read.remaining c.args.input.now) (g.W.Write.contents c.args.out.now) (g.R.Read.remaining c.loop.input) (g.W.Write.contents c.loop.out) (g.W.Write.contents c.put_row.new.out) ending

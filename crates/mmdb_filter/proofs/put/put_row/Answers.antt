@@ -1,4 +1,4 @@
-use Rattle.std.proofs.Common.{rules, ◌≡◌, subst, ◌∙◌}
+use Rattle.std.proofs.Common.{◌≡◌, subst, ◌∙◌}
 use Rattle.std.specs.Io.KnownBytes.{Appends}
 use Rattle.mmdb_filter.specs.Lines.{AppendsFront, row_with}
 use Rattle.mmdb_filter.proofs.FrontLaws.{front_none, on_any_err, on_err, on_ok}

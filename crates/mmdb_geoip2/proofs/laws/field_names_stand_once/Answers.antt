@@ -4,7 +4,7 @@ use Rattle.mmdb_geoip2.specs.NamesTable.{names_table}
 use Rattle.mmdb_geoip2.specs.CountryTables.{continent_table, country_table, represented_table, country_traits_table}
 use Rattle.mmdb_geoip2.specs.CityTables.{city_table, location_table, postal_table, subdivision_table}
 use Rattle.mmdb_geoip2.specs.EnterpriseTables.{enterprise_city_table, enterprise_country_table, enterprise_postal_table, enterprise_subdivision_table, enterprise_traits_table}
-use Rattle.mmdb_decode.proofs.FieldNameLaws.{field_names_stand_once}
+use Rattle.mmdb_record.proofs.FieldNameLaws.{field_names_stand_once}
 use Rattle.mmdb_geoip2.proofs.laws.field_names_stand_once.Goals as goal
 
 pub returns-clause-names : goal.returns-clause-names

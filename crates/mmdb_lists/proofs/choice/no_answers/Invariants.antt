@@ -1,5 +1,5 @@
 use Rattle.std.specs.List.{All}
-use Rattle.mmdb_lists.specs.Choices.{IsOfNone}
+use Rattle.mmdb_lists.specs.Working.{IsOfNone}
 use Rattle.mmdb_lists.proofs.choice.no_answers.Given as goal
 
 abbrev pub invariant-loop : goal.invariant-loop

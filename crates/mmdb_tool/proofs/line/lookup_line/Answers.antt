@@ -3,7 +3,7 @@ use Rattle.mmdb_net.specs.declared.network.IpNetwork.{IpNetwork}
 use Rattle.mmdb_reader.specs.File.{Database}
 use Rattle.mmdb_reader.specs.Found.{leaf_of, offset_found}
 use Rattle.mmdb_reader.specs.Shown.{IsShownBy}
-use Rattle.mmdb_tool.specs.Lines.{network_line}
+use Rattle.mmdb_tool.specs.Working.{network_line}
 use Rattle.mmdb_tool.proofs.LineLemmas.{shown_line}
 use Rattle.mmdb_tool.proofs.line.lookup_line.Goals as goal
 

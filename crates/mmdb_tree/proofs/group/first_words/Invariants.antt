@@ -1,5 +1,5 @@
 use Rattle.std.proofs.Common.{◌≡◌, ℕ, ◌<◌, List, Bool, length, slice_index}
-use Rattle.mmdb_tree.specs.Groups.{BeginsWith, IsBitsOf}
+use Rattle.mmdb_tree.specs.Working.{BeginsWith, IsBitsOf}
 use Rattle.mmdb_tree.proofs.group.first_words.Given as goal
 
 abbrev pub invariant-loop-i : goal.invariant-loop-i

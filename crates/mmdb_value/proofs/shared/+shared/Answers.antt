@@ -60,9 +60,14 @@ array_at-returns g t c =
     let kept = kept_decoded false (elements (value_at g.D.Source.tested) c.args.header.size) (g.D.Steps.state c.enter_parts.new.self) (g.D.Steps.state c.values_at.new.d) (map g.D.Source.tree c.in_ok-all.all.items) c.in_ok-all.ensures in
     rw c.array.ensures (array_read g.D.Source.tested (g.D.Steps.state c.args.d.now) (g.D.Steps.state c.enter_parts.new.self) c.args.header c.requires.header (g.D.Steps.state c.values_at.new.d) (g.D.Steps.state c.leave_level.new.self) (map g.D.Source.tree c.in_ok-all.all.items) c.requires.kind c.in_ok-enter_parts.ensures.ok c.in_ok-all.ensures kept c.leave_level.ensures)
 
+pub values_at-returns-in_err-all : goal.values_at-returns-in_err-all
+values_at-returns-in_err-all g t c =
+    let p = err_from_is_err_and c.from_residual.result c.from_residual.ensures.1 in
+    rw (p.1, p.2) (same_here (g.D.Steps.state c.args.d.now), tt)
+
 pub values_at-returns-in_err-value_at : goal.values_at-returns-in_err-value_at
 values_at-returns-in_err-value_at g t c =
-    let p = err_from_is_err_and c.from_residual.result c.from_residual.ensures.1 in
+    let p = err_from_is_err_and c.from_residual-in_err-value_at.result c.from_residual-in_err-value_at.ensures.1 in
     rw (p.1, p.2) (not_below (g.D.Steps.state c.args.d.now) (g.D.Steps.state c.loop.d) (g.D.Steps.state c.value_at.new.d) c.in_err-value_at.field-0.0 (decoded false (value_at g.D.Source.tested) (g.D.Steps.state c.loop.d)) (decoded false (elements (value_at g.D.Source.tested) c.args.count) (g.D.Steps.state c.args.d.now)) (same_given_up (g.D.Steps.state c.args.d.now) (g.D.Steps.state c.loop.d) c.loop.invariant.kept) (parts_stop (value_at g.D.Source.tested) (decoded false (elements (value_at g.D.Source.tested) c.args.count) (g.D.Steps.state c.args.d.now)) (map g.D.Source.tree c.loop.all.items) (c.args.count - c.loop.counter) (c.args.count - (c.loop.counter + 1)) (g.D.Steps.state c.loop.d) c.loop.invariant.values (omega arith)) c.in_err-value_at.ensures)
 
 pub values_at-returns-in_err-push : goal.values_at-returns-in_err-push
@@ -103,9 +108,14 @@ table_at-returns g t c =
     let kept = kept_decoded false (elements (pair_at g.D.Source.tested (value_at g.D.Source.tested)) c.args.header.size) (g.D.Steps.state c.enter_parts.new.self) (g.D.Steps.state c.pairs_at.new.d) (map (λ x. (g.D.Source.text_bytes x.0, g.D.Source.tree x.1)) c.in_ok-all.all.items) c.in_ok-all.ensures in
     rw c.table.ensures (table_read g.D.Source.tested (g.D.Steps.state c.args.d.now) (g.D.Steps.state c.enter_parts.new.self) c.args.header c.requires.header (g.D.Steps.state c.pairs_at.new.d) (g.D.Steps.state c.leave_level.new.self) (map (λ x. (g.D.Source.text_bytes x.0, g.D.Source.tree x.1)) c.in_ok-all.all.items) c.requires.kind c.in_ok-enter_parts.ensures.ok c.in_ok-all.ensures kept c.leave_level.ensures)
 
+pub pairs_at-returns-in_err-all : goal.pairs_at-returns-in_err-all
+pairs_at-returns-in_err-all g t c =
+    let p = err_from_is_err_and c.from_residual.result c.from_residual.ensures.1 in
+    rw (p.1, p.2) (same_here (g.D.Steps.state c.args.d.now), tt)
+
 pub pairs_at-returns-in_err-pair_at : goal.pairs_at-returns-in_err-pair_at
 pairs_at-returns-in_err-pair_at g t c =
-    let p = err_from_is_err_and c.from_residual.result c.from_residual.ensures.1 in
+    let p = err_from_is_err_and c.from_residual-in_err-pair_at.result c.from_residual-in_err-pair_at.ensures.1 in
     rw (p.1, p.2) (not_below (g.D.Steps.state c.args.d.now) (g.D.Steps.state c.loop.d) (g.D.Steps.state c.pair_at.new.d) c.in_err-pair_at.field-0.0 (decoded false (pair_at g.D.Source.tested (value_at g.D.Source.tested)) (g.D.Steps.state c.loop.d)) (decoded false (elements (pair_at g.D.Source.tested (value_at g.D.Source.tested)) c.args.count) (g.D.Steps.state c.args.d.now)) (same_given_up (g.D.Steps.state c.args.d.now) (g.D.Steps.state c.loop.d) c.loop.invariant.kept) (parts_stop (pair_at g.D.Source.tested (value_at g.D.Source.tested)) (decoded false (elements (pair_at g.D.Source.tested (value_at g.D.Source.tested)) c.args.count) (g.D.Steps.state c.args.d.now)) (map (λ x. (g.D.Source.text_bytes x.0, g.D.Source.tree x.1)) c.loop.all.items) (c.args.count - c.loop.counter) (c.args.count - (c.loop.counter + 1)) (g.D.Steps.state c.loop.d) c.loop.invariant.values (omega arith)) c.in_err-pair_at.ensures)
 
 pub pairs_at-returns-in_err-push : goal.pairs_at-returns-in_err-push

@@ -2,7 +2,7 @@ use Rattle.std.proofs.Common.{ℕ, ◌<◌, length, get_or, arith}
 use Rattle.std.proofs.lemmas.List.{length-set}
 use Rattle.mmdb_tree.specs.declared.group.FoundLeaf.{FoundLeaf}
 use Rattle.mmdb_c.specs.declared.many.Address.{Address}
-use Rattle.mmdb_c.specs.Many.{HasBegun}
+use Rattle.mmdb_c.specs.Working.{HasBegun}
 use Rattle.mmdb_c.proofs.ManyLemmas.{at_index, one_more}
 use Rattle.mmdb_c.proofs.db.Db.begin_all.Goals as goal
 

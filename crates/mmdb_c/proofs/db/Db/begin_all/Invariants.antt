@@ -1,7 +1,7 @@
 use Rattle.std.proofs.Common.{◌≡◌, ℕ, ◌<◌, length, slice_index_or}
 use Rattle.mmdb_tree.specs.declared.group.FoundLeaf.{FoundLeaf}
 use Rattle.mmdb_c.specs.declared.many.Address.{Address}
-use Rattle.mmdb_c.specs.Many.{HasBegun}
+use Rattle.mmdb_c.specs.Working.{HasBegun}
 use Rattle.mmdb_c.proofs.db.Db.begin_all.Given as goal
 
 abbrev pub invariant-loop-i : goal.invariant-loop-i

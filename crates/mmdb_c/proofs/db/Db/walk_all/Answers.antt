@@ -6,7 +6,7 @@ use Rattle.mmdb_tree.specs.Tree.{SearchTree}
 use Rattle.mmdb_tree.specs.Descents.{Walks, Descends}
 use Rattle.mmdb_tree.specs.Nodes.{tree_in}
 use Rattle.mmdb_c.specs.Opened.{tree}
-use Rattle.mmdb_c.specs.Many.{IsIpOf}
+use Rattle.mmdb_c.specs.Working.{IsIpOf}
 use Rattle.mmdb_c.proofs.ManyLemmas.{some_ip, ipv4_bits-given, ipv6_bits-given}
 use Rattle.mmdb_c.proofs.db.Db.walk_all.Goals as goal
 

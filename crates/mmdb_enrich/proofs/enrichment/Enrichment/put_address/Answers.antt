@@ -14,7 +14,7 @@ returns-in_default-offset-clause-added g c =
     let fields = c.args.self.now.paths in
     let none : offset_found c.in-Ok.found ≡ None = search rules in
     IfOk-weaker c.put_none-in_default-offset.result _ _
-    (λ addition e. found_added db rows fields c.args.address (leaf_of c.in-Ok.found) None (offset_found c.in-Ok.found) addition c.args.out.now c.put_none-in_default-offset.new.out c.in-Ok.ensures.answered none (absent_added db rows fields addition c.args.out.now c.put_none-in_default-offset.new.out e.0 e.1))
+    (λ addition e. found_added db rows fields c.args.asked.address (leaf_of c.in-Ok.found) None (offset_found c.in-Ok.found) addition c.args.out.now c.put_none-in_default-offset.new.out c.in-Ok.ensures.answered none (absent_added db rows fields addition c.args.out.now c.put_none-in_default-offset.new.out e.0 e.1))
     c.put_none-in_default-offset.ensures
 
 pub returns-in-Some-kept-clause-added : goal.returns-in-Some-kept-clause-added
@@ -24,9 +24,9 @@ returns-in-Some-kept-clause-added g c =
     let fields = c.args.self.now.paths in
     let there : offset_found c.in-Ok.found ≡ Some c.in-Some.offset = search rules in
     let kept = c.in-Some-kept.kept in
-    let adds = c.in-Some-kept.ensures (cells db rows (paths_of fields)) c.requires in
+    let adds = c.in-Some-kept.ensures (cells db rows (paths_of fields)) c.requires.kept in
     IfOk-weaker c.put_kept.result _ _
-    (λ addition e. found_added db rows fields c.args.address (leaf_of c.in-Ok.found) (Some c.in-Some.offset) (offset_found c.in-Ok.found) addition c.args.out.now c.put_kept.new.out c.in-Ok.ensures.answered there
+    (λ addition e. found_added db rows fields c.args.asked.address (leaf_of c.in-Ok.found) (Some c.in-Some.offset) (offset_found c.in-Ok.found) addition c.args.out.now c.put_kept.new.out c.in-Ok.ensures.answered there
     (kept.cells.now, subst (AddsAt db rows (paths_of fields) (Some c.in-Some.offset) kept.cells.now) (sym e.0) adds, e.1))
     c.put_kept.ensures
 
@@ -37,5 +37,5 @@ returns-in-None-clause-added g c =
     let fields = c.args.self.now.paths in
     let there : offset_found c.in-Ok.found ≡ Some c.in-Some.offset = search rules in
     IfOk-weaker c.put_record.result _ _
-    (λ addition e. found_added db rows fields c.args.address (leaf_of c.in-Ok.found) (Some c.in-Some.offset) (offset_found c.in-Ok.found) addition c.args.out.now c.put_record.new.out c.in-Ok.ensures.answered there e)
+    (λ addition e. found_added db rows fields c.args.asked.address (leaf_of c.in-Ok.found) (Some c.in-Some.offset) (offset_found c.in-Ok.found) addition c.args.out.now c.put_record.new.out c.in-Ok.ensures.answered there e)
     c.put_record.ensures.added

@@ -1,6 +1,6 @@
 use Rattle.std.proofs.Common.{[], inl, inr, refl, sym, subst, append-nil}
 use Rattle.mmdb_enrich.specs.Members.{AddsMemberFor}
-use Rattle.mmdb_enrich.specs.Objects.{ReadsLine}
+use Rattle.mmdb_enrich.specs.Working.{ReadsLine}
 use Rattle.mmdb_enrich.specs.declared.objects.ReadLine.TheVariants.{NoAddress, Object}
 use Rattle.mmdb_enrich.proofs.json_enrichment.JsonEnrichmentAdditions.add.Goals as goal
 

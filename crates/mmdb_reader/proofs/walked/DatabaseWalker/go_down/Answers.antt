@@ -2,7 +2,7 @@ use Rattle.std.proofs.Common.{◌≡◌, ◌<◌, ◌≤◌, ◌∷◌, ◌++◌
 use Rattle.std.specs.Vec.{vec_capacity}
 use Rattle.mmdb_reader.specs.declared.positions.Position.{Position}
 use Rattle.mmdb_reader.specs.File.{width}
-use Rattle.mmdb_reader.specs.Positions.{ListsSame, half_of}
+use Rattle.mmdb_reader.specs.Working.{ListsSame, half_of}
 use Rattle.mmdb_reader.proofs.PositionLemmas.{hidden-node, shown-off}
 use Rattle.mmdb_reader.proofs.StackLemmas.{goes_on-start, goes_on-hidden, goes_on-node, goes_on-leaf, top-placed}
 use Rattle.mmdb_reader.proofs.walked.DatabaseWalker.go_down.Goals as goal

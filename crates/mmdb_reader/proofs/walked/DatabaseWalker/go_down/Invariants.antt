@@ -1,6 +1,6 @@
 use Rattle.std.proofs.Common.{◌≡◌, ◌+◌, ◌-◌, ◌∷◌, ◌++◌, []}
 use Rattle.std.specs.Vec.{vec_capacity}
-use Rattle.mmdb_reader.specs.Positions.{ListsSame}
+use Rattle.mmdb_reader.specs.Working.{ListsSame}
 use Rattle.mmdb_reader.proofs.walked.DatabaseWalker.go_down.Given as goal
 
 abbrev pub invariant-loop-position : goal.invariant-loop-position

@@ -6,7 +6,7 @@ use Rattle.mmdb_reader.specs.declared.positions.Position.{Position}
 use Rattle.mmdb_reader.specs.File.{Database}
 use Rattle.mmdb_tree.specs.declared.record.TreeRecord.{TreeRecord}
 use Rattle.mmdb_reader.specs.Items.{items_of, item_view}
-use Rattle.mmdb_reader.specs.Findings.{finding_of_answer}
+use Rattle.mmdb_reader.specs.Working.{finding_of_answer}
 use Rattle.mmdb_reader.specs.Positions.{IsStack, bits_to, listed_of_stack}
 use Rattle.mmdb_reader.specs.Enumeration.{items_to_come}
 use Rattle.mmdb_reader.proofs.ItemLemmas.{items-first}

@@ -1,7 +1,7 @@
 use Rattle.std.proofs.Common.{◌≡◌}
 use Rattle.std.specs.Vec.{vec_capacity}
 use Rattle.mmdb_reader.specs.File.{width}
-use Rattle.mmdb_reader.specs.Positions.{positions_left}
+use Rattle.mmdb_reader.specs.Working.{positions_left}
 use Rattle.mmdb_reader.specs.Enumeration.{items_to_come}
 use Rattle.mmdb_reader.proofs.within.WithinIterator.next.Given as goal
 

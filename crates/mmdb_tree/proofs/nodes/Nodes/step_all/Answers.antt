@@ -2,7 +2,7 @@ use Rattle.std.proofs.Common.{Bool, List, get_or, arith, sym, subst}
 use Rattle.std.proofs.lemmas.List.{length-set}
 use Rattle.mmdb_tree.specs.Tree.{search_tree}
 use Rattle.mmdb_tree.specs.declared.group.FoundLeaf.{FoundLeaf}
-use Rattle.mmdb_tree.specs.Groups.{WalksOn}
+use Rattle.mmdb_tree.specs.Working.{WalksOn}
 use Rattle.mmdb_tree.proofs.GroupLemmas.{AllWalkOn-set}
 use Rattle.mmdb_tree.proofs.nodes.Nodes.step_all.Goals as goal
 use Rattle.mmdb_tree.proofs.nodes.Nodes.step_all.Goals.{then-lane-addresses, else-lane-addresses}

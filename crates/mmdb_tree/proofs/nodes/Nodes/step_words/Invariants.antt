@@ -1,6 +1,6 @@
 use Rattle.std.proofs.Common.{◌≡◌, ℕ, List, Bool, length, slice_index}
 use Rattle.mmdb_tree.specs.Tree.{search_tree}
-use Rattle.mmdb_tree.specs.Groups.{AllWalkOn, BeginsWith}
+use Rattle.mmdb_tree.specs.Working.{AllWalkOn, BeginsWith}
 use Rattle.mmdb_tree.proofs.nodes.Nodes.step_words.Given as goal
 
 abbrev pub invariant-loop-j : goal.invariant-loop-j

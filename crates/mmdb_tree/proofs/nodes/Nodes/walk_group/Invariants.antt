@@ -1,6 +1,6 @@
 use Rattle.std.proofs.Common.{◌≤◌}
 use Rattle.mmdb_tree.specs.Tree.{search_tree}
-use Rattle.mmdb_tree.specs.Groups.{AllWalkOn, IsBitsOf}
+use Rattle.mmdb_tree.specs.Working.{AllWalkOn, IsBitsOf}
 use Rattle.mmdb_tree.proofs.nodes.Nodes.walk_group.Given as goal
 
 abbrev pub invariant-loop-taken : goal.invariant-loop-taken

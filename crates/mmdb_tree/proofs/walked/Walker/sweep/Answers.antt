@@ -2,7 +2,8 @@ use Rattle.std.proofs.Common.{◌≡◌, ◌+◌, ◌<◌, true, false, List, []
 use Rattle.std.proofs.lemmas.List.{nil_from_length}
 use Rattle.mmdb_offsets.specs.OffsetSet.{holds}
 use Rattle.mmdb_tree.specs.Stops.{most_stops_of}
-use Rattle.mmdb_tree.specs.Walked.{walked_by, half_of, Takes, GoesOn}
+use Rattle.mmdb_tree.specs.Walked.{walked_by, half_of}
+use Rattle.mmdb_tree.specs.Working.{Takes, GoesOn}
 use Rattle.mmdb_tree.specs.declared.walked.Point.{Point}
 use Rattle.mmdb_tree.proofs.Sweeps.{IsSwept, AreNodes, AreNodes-top, AreNodes-push, node-room, nodes-below, nodes-left, swept-start, swept-node, swept-taken, swept-both, swept-whole}
 use Rattle.mmdb_tree.proofs.walked.Walker.sweep.Goals as goal

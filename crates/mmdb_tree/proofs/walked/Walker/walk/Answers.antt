@@ -4,7 +4,8 @@ use Rattle.std.proofs.lemmas.Bool.{not-true, not-false}
 use Rattle.std.specs.List.{list_any}
 use Rattle.mmdb_offsets.specs.OffsetSet.{holds}
 use Rattle.mmdb_tree.specs.Stops.{WalkedTree, is_fault, most_stops_of}
-use Rattle.mmdb_tree.specs.Walked.{walked_by, IsStack, IsStopped, Keeps, half_of, end_from}
+use Rattle.mmdb_tree.specs.Walked.{walked_by, half_of}
+use Rattle.mmdb_tree.specs.Working.{IsStack, IsStopped, Keeps, end_from}
 use Rattle.mmdb_tree.specs.declared.walked.Point.{Point}
 use Rattle.mmdb_tree.proofs.Points.{IsStack-front, IsStack-push, IsStack-halves, below-room, below-width}
 use Rattle.mmdb_tree.proofs.Progress.{IsProgress, progress-start, progress-node, progress-stop, rejected-fault, rejected-many, walked-all, cost-is, length-is, fault-is, offsets-are}

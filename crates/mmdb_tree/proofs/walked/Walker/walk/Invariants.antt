@@ -2,7 +2,8 @@ use Rattle.std.proofs.Common.{◌≡◌, ◌+◌, ◌-◌, ◌*◌, ◌≤◌, [
 use Rattle.std.specs.Vec.{vec_capacity}
 use Rattle.mmdb_offsets.specs.OffsetSet.{holds}
 use Rattle.mmdb_tree.specs.Stops.{most_stops_of}
-use Rattle.mmdb_tree.specs.Walked.{walked_by, IsStack}
+use Rattle.mmdb_tree.specs.Walked.{walked_by}
+use Rattle.mmdb_tree.specs.Working.{IsStack}
 use Rattle.mmdb_tree.proofs.Progress.{IsProgress}
 use Rattle.mmdb_tree.proofs.walked.Walker.walk.Given as goal
 

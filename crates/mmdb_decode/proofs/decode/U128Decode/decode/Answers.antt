@@ -1,7 +1,0 @@
-use Rattle.std.proofs.Common.{true, false}
-use Rattle.mmdb_decode.specs.Scalars.{u128_at}
-use Rattle.mmdb_decode.proofs.StepLaws.{kept_reads}
-use Rattle.mmdb_decode.proofs.decode.U128Decode.decode.Goals as goal
-
-pub returns-clause-kept : goal.returns-clause-kept
-returns-clause-kept c = kept_reads (λ v. v) true false u128_at _ _ _ c.read_u128.ensures

@@ -1,7 +1,0 @@
-use Rattle.std.proofs.Common.{true, false}
-use Rattle.mmdb_decode.specs.Scalars.{u16_at}
-use Rattle.mmdb_decode.proofs.StepLaws.{kept_reads}
-use Rattle.mmdb_decode.proofs.decode.U16Decode.decode.Goals as goal
-
-pub returns-clause-kept : goal.returns-clause-kept
-returns-clause-kept c = kept_reads (λ v. v) true false u16_at _ _ _ c.read_u16.ensures

@@ -1,9 +1,0 @@
-use Rattle.mmdb_decode.proofs.ContainerTrees.{lists_unfold}
-use Rattle.mmdb_decode.proofs.ListLaws.{reads_lists}
-use Rattle.mmdb_decode.proofs.laws.list_is_what_stands.Goals as goal
-
-pub returns-clause-read : goal.returns-clause-read
-returns-clause-read g c = reads_lists g.T.Decode.meaning
-
-pub returns-clause-unfolds : goal.returns-clause-unfolds
-returns-clause-unfolds g c = lists_unfold g.T.Decode.meaning

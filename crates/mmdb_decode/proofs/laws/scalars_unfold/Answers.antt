@@ -1,5 +1,0 @@
-use Rattle.mmdb_decode.proofs.ContainerTrees.{scalars_unfold}
-use Rattle.mmdb_decode.proofs.laws.scalars_unfold.Goals as goal
-
-pub returns : goal.returns
-returns g c = scalars_unfold g.T.Decode.meaning

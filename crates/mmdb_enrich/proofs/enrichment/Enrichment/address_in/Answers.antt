@@ -1,0 +1,11 @@
+use Rattle.std.proofs.Common.{option_map, subst}
+use Rattle.mmdb_enrich.specs.Columns.{ReadsAddress}
+use Rattle.mmdb_enrich.specs.declared.ahead.Asked.{Asked}
+use Rattle.mmdb_enrich.proofs.enrichment.Enrichment.address_in.Goals as goal
+
+pub returns-in-Some-clause-spelled : goal.returns-in-Some-clause-spelled
+returns-in-Some-clause-spelled g c =
+    subst (λ cell. ReadsAddress cell (option_map (λ (asked : Asked). asked.address) c.read.result)) c.in-Some.ensures (c.read.ensures.spelled c.args.self.now.reader.now c.requires)
+
+pub returns-in-Some-clause-kept : goal.returns-in-Some-clause-kept
+returns-in-Some-clause-kept g c = c.read.ensures.kept c.args.self.now.reader.now c.requires

@@ -1,0 +1,99 @@
+-- What contracts of private functions and proofs name.
+use Rattle.std.specs.Prelude.{◌≡◌, ℕ, List, ◌∷◌, ◌++◌, Option, Some, option_map, Bool, false, is_some, Result, Ok, Err, ◌≢◌}
+use Rattle.mmdb_format.specs.Contents.{text}
+use Rattle.mmdb_format.specs.Unfolding.{Tree}
+use Rattle.mmdb_format.specs.declared.error.MaxMindDbError.{MaxMindDbError}
+use Rattle.mmdb_decode.specs.Errors.{Fails}
+use Rattle.mmdb_value.specs.Values.{value_tree}
+use Rattle.mmdb_value.specs.declared.any_value.Value.{Value}
+use Rattle.mmdb_reader.specs.declared.path.PathElement.{PathElement}
+use Rattle.mmdb_filter.specs.declared.rows.Rows.{Rows}
+use Rattle.mmdb_enrich.specs.Columns.{delimiter_of}
+use Rattle.mmdb_enrich.specs.Cells.{ShowsCell, read_at, IsCell, AreCells, are_read}
+use Rattle.std.specs.declared.net.ip_addr.IpAddr.{IpAddr}
+use Rattle.json.specs.Json.{Json, object, Members}
+use Rattle.mmdb_enrich.specs.declared.objects.ReadLine.{ReadLine}
+use Rattle.mmdb_enrich.specs.declared.objects.ReadLine.TheVariants.{NoObject, NoAddress, Object}
+use Rattle.mmdb_enrich.specs.Objects.{IsObject, LeadsToAddress, is_empty}
+use Rattle.json.specs.Token.{Token}
+use Rattle.mmdb_reader.specs.File.{Database}
+use Rattle.mmdb_enrich.specs.declared.members.Field.{Field}
+use Rattle.mmdb_enrich.specs.Fields.{AreFields, member_tokens}
+use Rattle.mmdb_filter.specs.declared.counts.Outcome.{Outcome}
+use Rattle.mmdb_enrich.specs.Wanted.{MemberAt, cells}
+use Rattle.mmdb_enrich.specs.declared.objects.Line.{Line}
+use Rattle.mmdb_filter.specs.declared.filter.Added.{Added}
+use Rattle.mmdb_enrich.specs.Members.{AddsMemberFor, PutsMember}
+use Rattle.std.specs.Global.{Vec}
+use Rattle.mmdb_enrich.specs.Added.{AddsAt, AddsFor}
+use Rattle.mmdb_enrich.specs.Rows.{paths_of}
+
+-- What a reading gave is this answer: the tree of the value, nothing where the path leads nowhere, and no answer where
+-- the way or the value failed. Out of memory is any answer.
+abbrev pub IsReadAs : Option (Option Tree) → Result (Option Value) MaxMindDbError → Type 0
+IsReadAs answer (Ok value) = answer ≡ Some (option_map value_tree value)
+IsReadAs answer (Err e) = Fails false e answer
+
+-- bytes grow by the cell that shows a value
+abbrev pub PutsShown : Rows → Tree → List ℕ → List ℕ → Type 0
+PutsShown rows v old new = (cell : List ℕ) × ShowsCell rows v cell × (new ≡ old ++ cell)
+
+-- bytes grow by the cell of an answer, and it is said whether there is one
+abbrev pub PutsCell : Rows → Option (Option Tree) → Bool → List ℕ → List ℕ → Type 0
+PutsCell rows answer is_read old new =
+    (cell : List ℕ) × IsCell rows answer cell × (new ≡ old ++ cell) × (is_read ≡ is_some answer)
+
+-- bytes grow by a delimiter and the cell of what is read along a path
+abbrev pub PutsCellAlong : Rows → List PathElement → List ℕ → ℕ → Bool → List ℕ → List ℕ → Type 0
+PutsCellAlong rows path s offset is_read old new =
+    (cell : List ℕ) × IsCell rows (read_at path s offset) cell
+    × (new ≡ old ++ (delimiter_of rows ∷ cell)) × (is_read ≡ is_some (read_at path s offset))
+
+-- bytes grow by a delimiter and a cell for each path
+abbrev pub PutsCells : Rows → List (List PathElement) → List ℕ → ℕ → Bool → List ℕ → List ℕ → Type 0
+PutsCells rows paths s offset is_read old new =
+    (cells : List ℕ) × AreCells rows paths s offset cells
+    × (new ≡ old ++ cells) × (is_read ≡ are_read paths s offset)
+
+-- What a line is: an object in which the path leads to an address, an object in which it leads to none, or no object.
+abbrev pub ReadsLine : List ℕ → Bool → List PathElement → ReadLine → Type 0
+ReadsLine bytes goes_on path NoObject = (members : Members) (behind : ℕ) → ¬ IsObject bytes goes_on members behind
+ReadsLine bytes goes_on path NoAddress =
+    (members : Members) × (behind : ℕ) × IsObject bytes goes_on members behind × ((address : IpAddr) → ¬ LeadsToAddress path members address)
+ReadsLine bytes goes_on path (Object line) =
+    (members : Members) × IsObject bytes goes_on members line.behind × LeadsToAddress path members line.address × (line.is_empty ≡ is_empty members)
+
+-- What a value is, from whose last brace on so many bytes stand.
+abbrev pub ReadsValue : Json → ℕ → List PathElement → ReadLine → Type 0
+ReadsValue j behind path NoObject = (members : Members) → j ≢ object members
+ReadsValue j behind path NoAddress = (members : Members) × (j ≡ object members) × ((address : IpAddr) → ¬ LeadsToAddress path members address)
+ReadsValue j behind path (Object line) =
+    (members : Members) × (j ≡ object members) × LeadsToAddress path members line.address × (line.is_empty ≡ is_empty members) × (line.behind ≡ behind)
+
+-- tokens grow by the fields of the record at an offset
+abbrev pub PutsFields : List Field → List ℕ → ℕ → List Token → List Token → Type 0
+PutsFields fields s offset old new =
+    (tokens : List Token) × AreFields fields s offset tokens × (new ≡ old ++ tokens)
+
+-- tokens grow by a member with these fields
+abbrev pub PutsFieldsOf : List ℕ → List Field → List ℕ → ℕ → List Token → List Token → Type 0
+PutsFieldsOf name fields s offset old new =
+    (tokens : List Token) × AreFields fields s offset tokens × (new ≡ old ++ member_tokens name tokens)
+
+-- Bytes grow by the member of the record at an offset.
+abbrev pub PutsMemberAt : Database → List ℕ → List Field → ℕ → Line → Added → List ℕ → List ℕ →
+    Type 0
+PutsMemberAt db name fields offset line addition old new =
+    (text : List ℕ) × (outcome : Outcome) × MemberAt db name fields offset text outcome
+    × PutsMember line text outcome addition old new
+
+-- Bytes grow by what is added to an object for its address.
+abbrev pub PutsMemberFor : Database → List ℕ → List Field → Line → Added → List ℕ → List ℕ → Type 0
+PutsMemberFor db name fields line addition old new =
+    (extra : List ℕ) × AddsMemberFor db name fields line.is_empty line.behind line.address extra addition.behind addition.outcome × (new ≡ old ++ extra)
+
+abbrev pub AddsAtTo : Database → Rows → Vec (Vec PathElement) → Option ℕ → Outcome → Vec ℕ → Vec ℕ → Type 0
+AddsAtTo db rows fields offset outcome old new = (extra : List ℕ) × AddsAt db rows (paths_of fields) offset extra outcome × (new.items ≡ old.items ++ extra)
+
+abbrev pub AddsForTo : Database → Rows → Vec (Vec PathElement) → Option IpAddr → Outcome → Vec ℕ → Vec ℕ → Type 0
+AddsForTo db rows fields address outcome old new = (extra : List ℕ) × AddsFor db rows (paths_of fields) address extra outcome × (new.items ≡ old.items ++ extra)

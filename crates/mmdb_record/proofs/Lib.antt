@@ -1,0 +1,11 @@
+pub mod RecordLaws
+pub mod LimitLaws
+pub mod PairLaws
+pub mod ContainerLaws
+pub mod ListLaws
+pub mod TextMapLaws
+pub mod RecordStandingLaws
+pub mod ContainerTrees
+pub mod TableLaws
+pub mod FieldNameLaws
+pub mod MemoLaws

@@ -1,0 +1,7 @@
+use Rattle.std.proofs.Common.{true, false}
+use Rattle.mmdb_decode.specs.Scalars.{u32_at}
+use Rattle.mmdb_decode.proofs.StepLaws.{kept_reads}
+use Rattle.mmdb_record.proofs.decode.U32Decode.decode.Goals as goal
+
+pub returns-clause-kept : goal.returns-clause-kept
+returns-clause-kept c = kept_reads (λ v. v) true false u32_at _ _ _ c.read_u32.ensures

@@ -1,0 +1,49 @@
+use Rattle.std.proofs.Common.{refl, sym, false, subst}
+use Rattle.std.proofs.lemmas.Result.{err_from_is_err_and}
+use Rattle.mmdb_decode.specs.Maps.{name_at, pairs_from}
+use Rattle.mmdb_record.specs.Memos.{IsMemoOf}
+use Rattle.mmdb_decode.specs.State.{decoded}
+use Rattle.mmdb_record.specs.Tables.{fields_of, no_parts, parts_met, flags}
+use Rattle.mmdb_decode.proofs.MapLaws.{enters_map, map_read, map_not_entered, map_not_read, given_up_in_map}
+use Rattle.mmdb_decode.proofs.StepLaws.{declines, declines_more}
+use Rattle.mmdb_record.proofs.TableLaws.{parts_at_first, record_read, record_declined}
+use Rattle.mmdb_record.proofs.memo.read_map_or_reuse.Goals as goal
+
+pub returns-in_err-entries-clause-read : goal.returns-in_err-entries-clause-read
+returns-in_err-entries-clause-read g c =
+    let p = err_from_is_err_and c.from_residual.result c.from_residual.ensures.1 in
+    let t = g.R.Fields.table in
+    rw (p.1, p.2) (record {
+      ok = tt;
+      err = record_declined g.R.Fields.free c.in_err-entries.field-0.0 t c.args.d.now (declines g.R.Fields.free c.in_err-entries.field-0.0 _ (map_not_entered (pairs_from name_at (fields_of t) (no_parts t)) c.args.d.now c.in_err-entries.ensures.1));
+      given_up = c.in_err-entries.ensures.0;
+    })
+
+pub read_or_reuse-requires : goal.read_or_reuse-requires
+read_or_reuse-requires g c κs =
+    let t = g.R.Fields.table in
+    let enters = enters_map c.args.d.now c.try_map.new.self c.in_ok-entries.entries c.in_ok-entries.ensures in
+    ((refl, tt), (parts_at_first t (flags c.none-met.result) c.args.fields.now c.none-met.ensures c.requires.none, (enters.started, subst (λ s. IsMemoOf t c.args.memo.now s) (sym enters.section) c.requires.memo)))
+
+pub returns-in-Ok-clause-read : goal.returns-in-Ok-clause-read
+returns-in-Ok-clause-read g c =
+    let t = g.R.Fields.table in
+    let read = c.in-Ok.ensures.read.ok in
+    record {
+      ok = record_read t (flags c.read_or_reuse.new.met) c.read_or_reuse.new.fields c.args.d.now c.end_map.new.self (map_read (pairs_from name_at (fields_of t) (no_parts t)) c.args.d.now c.try_map.new.self c.read_or_reuse.new.d c.end_map.new.self c.in_ok-entries.entries c.read_or_reuse.new.entries (parts_met t (flags c.read_or_reuse.new.met) c.read_or_reuse.new.fields) c.in_ok-entries.ensures read c.in-Ok.ensures.read.rest c.end_map.ensures);
+      err = tt;
+      given_up = tt;
+    }
+
+pub returns-in-Err-clause-read : goal.returns-in-Err-clause-read
+returns-in-Err-clause-read g c =
+    let t = g.R.Fields.table in
+    let unread = c.in-Err.ensures.read.err in
+    record {
+      ok = tt;
+      err = record_declined g.R.Fields.free c.in-Err.rejected t c.args.d.now (declines_more g.R.Fields.free c.in-Err.rejected (decoded false (pairs_from name_at (fields_of t) (no_parts t) c.in_ok-entries.entries.remaining) c.try_map.new.self) _ (map_not_read (pairs_from name_at (fields_of t) (no_parts t)) c.args.d.now c.try_map.new.self c.in_ok-entries.entries c.in_ok-entries.ensures) unread);
+      given_up = given_up_in_map c.args.d.now c.try_map.new.self c.read_or_reuse.new.d c.in_ok-entries.entries (enters_map c.args.d.now c.try_map.new.self c.in_ok-entries.entries c.in_ok-entries.ensures) c.in-Err.ensures.read.given_up;
+    }
+
+pub returns-in-Ok-clause-memo : goal.returns-in-Ok-clause-memo
+returns-in-Ok-clause-memo g c = subst (λ s. IsMemoOf g.R.Fields.table c.read_or_reuse.new.memo s) (enters_map c.args.d.now c.try_map.new.self c.in_ok-entries.entries c.in_ok-entries.ensures).section c.in-Ok.ensures.memo

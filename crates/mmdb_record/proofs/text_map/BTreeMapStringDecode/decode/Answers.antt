@@ -1,0 +1,26 @@
+use Rattle.std.proofs.Common.{refl, false, [], map}
+use Rattle.std.specs.String.{string_bytes}
+use Rattle.std.proofs.lemmas.Result.{err_from_is_err_and}
+use Rattle.mmdb_decode.specs.Maps.{pairs_from, key_at, pair_of}
+use Rattle.mmdb_decode.specs.State.{decoded}
+use Rattle.mmdb_decode.proofs.MapLaws.{enters_map, map_read, map_not_entered, map_not_read, kept_map, given_up_map}
+use Rattle.mmdb_decode.proofs.StepLaws.{fails, fails_more}
+use Rattle.mmdb_record.proofs.text_map.BTreeMapStringDecode.decode.Goals as goal
+
+pub returns-in_err-entries-clause-err : goal.returns-in_err-entries-clause-err
+returns-in_err-entries-clause-err g c = let p = err_from_is_err_and c.from_residual.result c.from_residual.ensures.1 in rw (p.1, p.2) (λ x. fails false c.in_err-entries.field-0.0 _ (map_not_entered (pairs_from key_at (pair_of g.T.Decode.meaning) []) c.args.d.now c.in_err-entries.ensures.1))
+
+pub read_pairs-requires : goal.read_pairs-requires
+read_pairs-requires g c κs = ((refl, tt), (enters_map c.args.d.now c.begin_map.new.self c.in_ok-entries.entries c.in_ok-entries.ensures).started)
+
+pub returns-in-Ok-clause-ok : goal.returns-in-Ok-clause-ok
+returns-in-Ok-clause-ok g c = λ x. map_read (pairs_from key_at (pair_of g.T.Decode.meaning) []) c.args.d.now c.begin_map.new.self c.read_pairs.new.d c.end_map.new.self c.in_ok-entries.entries c.read_pairs.new.entries (map (λ e. (string_bytes e.0, g.T.Decode.datum e.1)) c.in-Ok.pairs.entries) c.in_ok-entries.ensures (c.in-Ok.ensures.ok x) c.in-Ok.ensures.rest c.end_map.ensures
+
+pub returns-in-Ok-clause-kept : goal.returns-in-Ok-clause-kept
+returns-in-Ok-clause-kept g c = kept_map c.args.d.now c.begin_map.new.self c.read_pairs.new.d c.end_map.new.self c.in_ok-entries.entries c.read_pairs.new.entries (enters_map c.args.d.now c.begin_map.new.self c.in_ok-entries.entries c.in_ok-entries.ensures) c.in-Ok.ensures.kept c.in-Ok.ensures.rest c.end_map.ensures
+
+pub returns-in-Err-clause-err : goal.returns-in-Err-clause-err
+returns-in-Err-clause-err g c = λ x. fails_more false c.in-Err.e (decoded false (pairs_from key_at (pair_of g.T.Decode.meaning) [] c.in_ok-entries.entries.remaining) c.begin_map.new.self) _ (map_not_read (pairs_from key_at (pair_of g.T.Decode.meaning) []) c.args.d.now c.begin_map.new.self c.in_ok-entries.entries c.in_ok-entries.ensures) (c.in-Err.ensures.err x)
+
+pub returns-in-Err-clause-given_up : goal.returns-in-Err-clause-given_up
+returns-in-Err-clause-given_up g c = given_up_map c.args.d.now c.begin_map.new.self c.read_pairs.new.d c.give_up.new.d c.in_ok-entries.entries _ (enters_map c.args.d.now c.begin_map.new.self c.in_ok-entries.entries c.in_ok-entries.ensures) c.in-Err.ensures.given_up c.give_up.ensures

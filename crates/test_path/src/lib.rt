@@ -1,5 +1,0 @@
-//! Tests of paths to values inside records.
-#![tactic(auto)]
-
-#[cfg(test)]
-mod tests;
