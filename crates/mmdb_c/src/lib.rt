@@ -4,6 +4,7 @@
 
 mod db;
 mod item;
+pub mod laws;
 mod list;
 mod many;
 mod open;

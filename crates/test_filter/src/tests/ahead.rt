@@ -1,5 +1,5 @@
 //! Rows whose addresses are looked up ahead.
-use super::cells::{CSV, FILE, enriched};
+use super::cells::{CSV, enriched, file};
 use super::streams::{Chopped, assert_holds};
 use mmdb_filter::Rows;
 use mmdb_reader::Reader;
@@ -71,12 +71,7 @@ fn is_written(
     want: &[u8],
 ) -> bool {
     let (step, capacity) = steps;
-    let chopped = Chopped {
-        bytes: input,
-        step,
-        reads: 0,
-        fails_at: u32::MAX,
-    };
+    let chopped = Chopped::new(input, step, u32::MAX);
     let Ok(mut input) = BufReader::with_capacity(alloc, capacity, chopped) else {
         return false;
     };
@@ -102,7 +97,8 @@ fn are_written(alloc: Global, reader: &Reader<&[u8]>, rows: Rows, table: &[Row])
 
 #[test]
 fn rows_looked_up_ahead(rt: HostRuntime) {
-    let reader = Reader::from_source(rt.alloc(), FILE).expect(&rt, "a reader");
+    let bytes = file(rt.alloc());
+    let reader = Reader::from_source(rt.alloc(), bytes.as_slice()).expect(&rt, "a reader");
     assert_holds(
         &rt,
         are_written(rt.alloc(), &reader, Rows::Lines, LINES),
@@ -191,6 +187,7 @@ fn is_prompt(alloc: Global, reader: &Reader<&[u8]>) -> bool {
 
 #[test]
 fn lines_answered_one_by_one(rt: HostRuntime) {
-    let reader = Reader::from_source(rt.alloc(), FILE).expect(&rt, "a reader");
+    let bytes = file(rt.alloc());
+    let reader = Reader::from_source(rt.alloc(), bytes.as_slice()).expect(&rt, "a reader");
     assert_holds(&rt, is_prompt(rt.alloc(), &reader), "late");
 }

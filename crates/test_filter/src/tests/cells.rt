@@ -3,6 +3,7 @@ use super::streams::{Seen, assert_at};
 use mmdb_enrich::{Enrichment, RowMemory, put_csv_cell};
 use mmdb_filter::{Rows, filter_rows};
 use mmdb_reader::{PathElement, Reader};
+use mmdb_vectors::builder::{BASE_NODE, changed_file};
 use mmdb_vectors::section::section_of;
 use std::alloc::Global;
 use std::io::{BufRead, Write};
@@ -34,20 +35,9 @@ const ROWS: &[Row] = &[
 ];
 
 /// The base file with the record of 128.0.0.0/1, a text.
-pub(crate) const FILE: &[u8] = b"\x00\x00\x01\x00\x00\x11\
-    \0\0\0\0\0\0\0\0\0\0\0\0\0\0\0\0\
-    \x45a\"b,c\
-    \xAB\xCD\xEFMaxMind.com\
-    \xE9\
-    \x5Bbinary_format_major_version\xA1\x02\
-    \x5Bbinary_format_minor_version\xA0\
-    \x4Bbuild_epoch\x01\x02\x01\
-    \x4Ddatabase_type\x41T\
-    \x4Bdescription\xE1\x42en\x41d\
-    \x4Aip_version\xA1\x04\
-    \x49languages\x00\x04\
-    \x4Anode_count\xC1\x01\
-    \x4Brecord_size\xA1\x18";
+pub(crate) fn file(alloc: Global) -> Vec<u8> {
+    changed_file(alloc, BASE_NODE, b"\x45a\"b,c", &[]).unwrap_or(Vec::new(alloc))
+}
 
 // The path of a whole record, alone.
 fn whole_record(alloc: Global) -> Vec<Vec<PathElement<'static>>> {
@@ -104,7 +94,8 @@ fn is_enriched(
 
 #[test]
 fn columns_of_rows(rt: HostRuntime) {
-    let reader = Reader::from_source(rt.alloc(), FILE).expect(&rt, "a reader");
+    let bytes = file(rt.alloc());
+    let reader = Reader::from_source(rt.alloc(), bytes.as_slice()).expect(&rt, "a reader");
     for (case, (rows, column, input, want)) in ROWS.iter().enumerate() {
         let is_right = is_enriched(rt.alloc(), &reader, *rows, *column, input, want);
         assert_at(&rt, is_right, case);
@@ -143,7 +134,8 @@ fn is_cut(alloc: Global, reader: &Reader<&[u8]>, row: &(usize, &[u8], bool)) -> 
 
 #[test]
 fn addresses_at_the_end_of_what_is_seen(rt: HostRuntime) {
-    let reader = Reader::from_source(rt.alloc(), FILE).expect(&rt, "a reader");
+    let bytes = file(rt.alloc());
+    let reader = Reader::from_source(rt.alloc(), bytes.as_slice()).expect(&rt, "a reader");
     for (case, row) in CUTS.iter().enumerate() {
         assert_at(&rt, is_cut(rt.alloc(), &reader, row), case);
     }

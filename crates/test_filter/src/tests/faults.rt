@@ -22,15 +22,6 @@ const WRITTEN: &[(&[u8], usize)] = &[
     (b"|65536+\r\ncd|00002", 1),
 ];
 
-fn chopped(bytes: &[u8], step: usize, fails_at: u32) -> Chopped<'_> {
-    Chopped {
-        bytes,
-        step,
-        reads: 0,
-        fails_at,
-    }
-}
-
 // The kind of what rows failed for.
 fn kind_of(done: io::Result<Counts>) -> Option<ErrorKind> {
     match done {
@@ -50,7 +41,7 @@ fn is_right(failed: Option<ErrorKind>, out: &[u8], want: &[u8], reason: ErrorKin
 // Whether rows fail where a read does.
 fn fails_at_read(rt: &impl Abort, alloc: Global, input: &[u8], want: &[u8], read: u32) -> bool {
     let mut out: Vec<u8> = Vec::new(alloc);
-    let input = chopped(input, 9000, read);
+    let input = Chopped::new(input, 9000, read);
     let failed = kind_of(filtered(alloc, Rows::Lines, input, 8192, &mut out));
     let is_right = is_right(failed, out.as_slice(), want, ErrorKind::InvalidData);
     assert_at(rt, is_right, read as usize);
@@ -98,7 +89,7 @@ fn assert_room(rt: &impl Abort, alloc: Global, input: &[u8], want: &[u8], room: 
         step: 1000,
         writes: 0,
     };
-    let input = chopped(input, 70_000, u32::MAX);
+    let input = Chopped::new(input, 70_000, u32::MAX);
     let is_done = filtered(alloc, Rows::Lines, input, 65_536, &mut out).is_ok();
     let is_right = is_done == (room == want.len())
         && out.bytes.as_slice() == &want[..room.min(want.len())];
@@ -121,7 +112,7 @@ fn with_budget(alloc: Global, input: &[u8], out: &mut Narrow, budget: usize) -> 
 {
     let large = Hoard::of_large_blocks(alloc);
     let small = Hoard::of_all_but(alloc, budget);
-    let input = chopped(input, 70_000, u32::MAX);
+    let input = Chopped::new(input, 70_000, u32::MAX);
     let failed = kind_of(filtered(alloc, Rows::Lines, input, 4096, out));
     drop(small);
     drop(large);

@@ -57,12 +57,7 @@ fn is_filtered(
     want: &[u8],
 ) -> bool {
     let (step, capacity) = steps;
-    let chopped = Chopped {
-        bytes: input,
-        step,
-        reads: 0,
-        fails_at: u32::MAX,
-    };
+    let chopped = Chopped::new(input, step, u32::MAX);
     let mut out: Vec<u8> = Vec::new(alloc);
     let is_done = filtered(alloc, rows, chopped, capacity, &mut out).is_ok();
     is_done && out.as_slice() == want

@@ -19,10 +19,22 @@ pub(crate) fn assert_at(rt: &impl Abort, holds: bool, case: usize) {
 /// An input that gives so many bytes a read, of which every third is interrupted, and fails at a read.
 #[derive(Drop)]
 pub(crate) struct Chopped<'a> {
-    pub(crate) bytes: &'a [u8],
-    pub(crate) step: usize,
-    pub(crate) reads: u32,
-    pub(crate) fails_at: u32,
+    bytes: &'a [u8],
+    step: usize,
+    reads: u32,
+    fails_at: u32,
+}
+
+impl<'a> Chopped<'a> {
+    /// An input of these bytes, so many a read, whose read number `fails_at` fails.
+    pub(crate) fn new(bytes: &'a [u8], step: usize, fails_at: u32) -> Chopped<'a> {
+        Chopped {
+            bytes,
+            step,
+            reads: 0,
+            fails_at,
+        }
+    }
 }
 
 impl Read for Chopped<'_> {
