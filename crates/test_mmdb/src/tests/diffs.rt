@@ -1,7 +1,7 @@
 //! What changed between two files.
 use super::exports::lines_hold;
 use super::lists::{DAMAGED, DATA, WHOLE};
-use super::program::{Run, assert_of, file_of, run_over};
+use super::program::{Run, assert_of, file_of, run_over, two_files};
 use mmdb_vectors::builder::{Field, changed_file, nodes_24};
 use std::alloc::Global;
 use std::process::Abort;
@@ -226,8 +226,7 @@ fn bytes_of(rt: &impl Abort, alloc: Global, database: Database<'_>) -> Vec<u8> {
 
 // A run of diff over two files.
 fn diff_of(alloc: Global, old: &[u8], new: &[u8], texts: &[&str]) -> Run {
-    let mut files = file_of(old);
-    files.newer = new;
+    let files = two_files(old, new);
     let mut words = Vec::new(alloc);
     let _ = words.extend_from_slice(&["diff", "here.mmdb", "new.mmdb"]);
     let _ = words.extend_from_slice(texts);

@@ -72,6 +72,17 @@ pub(crate) fn file_of(bytes: &[u8]) -> TestFiles<'_> {
     TestFiles::new(bytes, ALL_READS)
 }
 
+/// The files `here.mmdb` and `new.mmdb`, without a fault.
+pub(crate) fn two_files<'a>(old: &'a [u8], newer: &'a [u8]) -> TestFiles<'a> {
+    TestFiles {
+        bytes: old,
+        newer,
+        step: 64,
+        fails_at: ALL_READS,
+        interrupts: 0,
+    }
+}
+
 /// A run over a file, and lines on standard input.
 pub(crate) fn run_over(
     alloc: Global,
