@@ -1,7 +1,7 @@
 //! The program `mmdb`: its arguments are handed on, with the standard streams.
 #![tactic(auto)]
 
-use mmdb_program::{Terminals, run_on};
+use mmdb_program::{Io, Terminals, run};
 use std::env;
 use std::io::{self, BufReader, BufWriter, ErrorKind, IsTerminal, Write};
 use std::process::ExitCode;
@@ -46,15 +46,13 @@ fn program(rt: &HostRuntime) -> io::Result<u8> {
     let mut out = BufWriter::with_capacity(rt.alloc(), BUFFER, rt.stdout())?;
     let mut input = BufReader::with_capacity(rt.alloc(), BUFFER, rt.stdin())?;
     let mut err = rt.stderr();
-    let status = run_on(
-        rt,
-        rt.alloc(),
-        arguments.as_slice(),
+    let io = Io {
+        input: &mut input,
+        out: &mut out,
+        errors: &mut err,
         terminals,
-        &mut input,
-        &mut out,
-        &mut err,
-    );
+    };
+    let status = run(rt, rt.alloc(), arguments.as_slice(), io);
     Ok(finished(rt, out, status))
 }
 

@@ -88,9 +88,7 @@ pub fn check_value(alloc: Global, c: &mut Checked, offset: usize) -> Result<(), 
     ensures after_err { FailsAs OfInput result ↔ (c.old.failed ≡ true) }
 {
     if c.failed {
-        return Err(MaxMindDbError::InvalidInput {
-            message: Message::Fixed(Text::AlreadyFailed),
-        });
+        return Err(already_failed());
     }
     c.failed = true;
     match c.work.target(offset, 0) {
@@ -105,14 +103,26 @@ pub fn check_value(alloc: Global, c: &mut Checked, offset: usize) -> Result<(), 
     }
 }
 
+// The error of a check after one that failed.
+fn already_failed() -> MaxMindDbError
+    ensures { kind_of result ≡ OfInput }
+{
+    MaxMindDbError::InvalidInput {
+        message: Message::Fixed(Text::AlreadyFailed),
+    }
+}
+
 impl Checked<'_> {
-    // The good offsets keep the allowance.
-    pub(crate) fn keeps_allowance(&self)
-        requires { self.now.failed ≡ false }
-        ensures { IsAllowed self.now.section (holds self.now.good) }
+    // Whether no check failed. Then the good offsets keep the allowance.
+    fn verdict(&self) -> Result<(), MaxMindDbError>
+        ensures going { IsOk result ↔ (self.now.failed ≡ false) }
+        ensures allowed { OnOk result (IsAllowed self.now.section (holds self.now.good)) }
     {
-        // It does nothing: a proof knows the invariant where a field is read.
-        let _failed = self.failed;
+        if self.failed {
+            Err(already_failed())
+        } else {
+            Ok(())
+        }
     }
 }
 
@@ -131,6 +141,5 @@ pub fn check_offsets(
         check_value(alloc, c, offset)?;
         next = offset + 1;
     }
-    c.keeps_allowance();
-    Ok(())
+    c.verdict()
 }

@@ -1,6 +1,5 @@
 pub mod Options
 pub mod Texts
-pub mod ShortChars
 pub mod ReadingLaws
 pub mod StepLaws
 pub mod SmallLaws

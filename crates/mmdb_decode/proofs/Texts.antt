@@ -1,7 +1,7 @@
 -- Bytes that are text.
-use Rattle.std.proofs.Common.{◌≡◌, ℕ, List, Some, None, Bool, true, false, refl, sym, cond}
-use Rattle.std.specs.Str.{is_utf8, IsUtf8, IsAscii}
-use Rattle.std.proofs.lemmas.Str.{is_utf8-from_IsUtf8, IsUtf8-from_is_utf8, IsUtf8-from_ascii}
+use Rattle.std.proofs.Common.{◌≡◌, ℕ, List, Some, None, true, false, refl, sym}
+use Rattle.std.specs.Str.{is_utf8, IsUtf8}
+use Rattle.std.proofs.lemmas.Str.{IsUtf8-from_is_utf8}
 use Rattle.std.proofs.Common.{Result, Ok, Err, option_map, Bor}
 use Rattle.std.specs.Result.{result_ok}
 use Rattle.mmdb_decode.specs.Scalars.{if_text}
@@ -12,18 +12,14 @@ use Rattle.mmdb_decode.specs.State.{GivenUp}
 use Rattle.mmdb_decode.proofs.StepLaws.{kept_decoded, given_up_kept}
 use Rattle.mmdb_decode.proofs.ReadingLaws.{checked_ok, checked_missing, checked_none}
 
-pub ascii_text : (bytes : List ℕ) → IsAscii bytes → IsUtf8 bytes
-ascii_text bytes h = IsUtf8-from_ascii bytes h
+pub utf8_of : (bytes : List ℕ) → true ≡ is_utf8 bytes → IsUtf8 bytes
+utf8_of bytes h = IsUtf8-from_is_utf8 bytes (sym h)
 
-pub text_yes : (bytes : List ℕ) → IsUtf8 bytes → if_text bytes ≡ Some bytes
-text_yes bytes h = rw (is_utf8-from_IsUtf8 bytes h) refl
+pub text_yes : (bytes : List ℕ) → true ≡ is_utf8 bytes → if_text bytes ≡ Some bytes
+text_yes bytes h = rw (sym h) refl
 
-no_text : (bytes : List ℕ) (b : Bool) → is_utf8 bytes ≡ b → (IsUtf8 bytes → ⊥) → cond b (Some bytes) None ≡ None
-no_text bytes true e h = absurd (h (IsUtf8-from_is_utf8 bytes e))
-no_text bytes false e h = refl
-
-pub text_no : (bytes : List ℕ) → (IsUtf8 bytes → ⊥) → if_text bytes ≡ None
-text_no bytes h = no_text bytes (is_utf8 bytes) refl h
+pub text_no : (bytes : List ℕ) → false ≡ is_utf8 bytes → if_text bytes ≡ None
+text_no bytes h = rw (sym h) refl
 
 -- bytes that are read and then tested
 pub bytes_taken : (read : Meaning (List ℕ)) (σ τ : State) → GivenUp σ τ × (decoded false read σ ≡ None) → GivenUp σ τ × (decoded false (checked if_text read) σ ≡ None)

@@ -1,18 +1,14 @@
 //! Values of one type, which stand directly or behind one pointer.
-ghost use Rattle.std.specs.Prelude.{◌≡◌, ◌<◌, ◌≤◌, ◌^◌, IfOk, option_map};
+ghost use Rattle.std.specs.Prelude.{◌≡◌, ◌<◌, ◌≤◌, ◌^◌, length, IfOk, option_map};
 ghost use Rattle.std.specs.Result.{result_ok};
 ghost use Rattle.mmdb_decode.specs.Scalars.{direct_of as spec_direct_of, number_of, bits_of, bool_at as spec_bool_at, bytes_of, if_text, free_of_charge, costs_its_length};
 ghost use Rattle.mmdb_decode.specs.Arrays.{container_at as spec_container_at};
-ghost use Rattle.std.specs.Prelude.{length};
-ghost use Rattle.std.specs.Prelude.{MatchBool};
-ghost use Rattle.std.specs.Str.{IsUtf8};
 
-use crate::ascii::is_short_ascii;
-use crate::utf8::is_short_chars;
 use mmdb_format::content::{content_bytes, fixed_width_integer, variable_width_integer};
 use mmdb_format::decode_error_kind::DecodeErrorKind;
 use mmdb_format::header::{Direct, MAX_LEVELS, direct_at};
 use mmdb_format::kind::{BOOL, Kind};
+use mmdb_format::utf8::is_utf8;
 
 /// A container that was entered.
 #[derive(Clone, Copy)]
@@ -142,35 +138,15 @@ pub(crate) fn container_at(
     })
 }
 
-// Whether bytes are UTF-8, by std's test. Its answer takes memory, which is in here and so in no loop of a caller.
-#[inline(never)]
-fn is_utf8(bytes: &[u8]) -> bool
-    ensures { MatchBool result (IsUtf8 bytes.now) (¬ (IsUtf8 bytes.now)) }
-{
-    match std::str::from_utf8(bytes) {
-        Ok(_) => true,
-        Err(_) => false,
-    }
-}
-
-// Whether bytes are UTF-8. Few that are ASCII are recognised without a loop, and most names before std is asked.
-#[tactic(auto, using(crate::proofs::Texts::ascii_text))]
-#[inline(always)]
-fn is_text(bytes: &[u8]) -> bool
-    ensures { MatchBool result (IsUtf8 bytes.now) (¬ (IsUtf8 bytes.now)) }
-{
-    is_short_ascii(bytes) || is_short_chars(bytes) || is_utf8(bytes)
-}
-
 /// The bytes as text, where they are UTF-8. The text is made of the bytes at hand: one taken out of an answer in
 /// memory would wait for it.
-#[tactic(auto, using(crate::proofs::Texts::text_yes, crate::proofs::Texts::text_no))]
+#[tactic(auto, using(crate::proofs::Texts::text_yes, crate::proofs::Texts::text_no, crate::proofs::Texts::utf8_of))]
 #[inline(always)]
 pub fn text_of(bytes: &[u8]) -> Result<&str, DecodeErrorKind>
     ensures value { option_map (λ x. x.now) (result_ok result) ≡ if_text bytes.now }
     ensures same { IfOk result (λ x. x.now ≡ bytes.now) }
 {
-    if !is_text(bytes) {
+    if !is_utf8(bytes) {
         return Err(DecodeErrorKind::InvalidUtf8);
     }
     Ok(unsafe { std::str::from_utf8_unchecked(bytes) })

@@ -1,2 +1,4 @@
 pub mod Numbers
 pub mod UnfoldingLaws
+pub mod ShortChars
+pub mod Texts

@@ -23,7 +23,7 @@ mod verify;
 
 pub use error::ProgramError;
 pub use metadata::info;
-pub use output::Terminals;
+pub use output::{Io, Terminals};
 pub use paths::path_of;
-pub use program::{run, run_on};
+pub use program::run;
 pub use show::show_to;

@@ -3,7 +3,7 @@ use crate::error::ProgramError;
 use mmdb_arguments::shown_text;
 use std::alloc::{AllocError, Global};
 use std::fmt::Display;
-use std::io::{self, Write};
+use std::io::{self, BufRead, Write};
 
 /// All was done.
 pub(crate) const DONE: u8 = 0;
@@ -28,6 +28,15 @@ pub(crate) const NO_MEMORY: &str = "mmdb: out of memory\n";
 pub struct Terminals {
     pub output: bool,
     pub errors: bool,
+}
+
+/// The standard streams, and which of them are terminals.
+#[derive(Drop)]
+pub struct Io<'c, I: BufRead, O: Write, E: Write> {
+    pub input: &'c mut I,
+    pub out: &'c mut O,
+    pub errors: &'c mut E,
+    pub terminals: Terminals,
 }
 
 /// Memory, standard output and standard error.

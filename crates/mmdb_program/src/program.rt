@@ -5,7 +5,7 @@ use crate::enrich::{enrich, enrich_json};
 use crate::error::ProgramError;
 use crate::metadata::describe;
 use crate::networks::export;
-use crate::output::{BAD_ARGUMENTS, Console, DONE, FAILED, NO_MEMORY, Terminals};
+use crate::output::{BAD_ARGUMENTS, Console, DONE, FAILED, Io, NO_MEMORY};
 use crate::show::show;
 use crate::task::{Query, Task, subject_of, task_of};
 use crate::verify::verify;
@@ -141,40 +141,23 @@ fn run_request<R: Files, I: BufRead, O: Write, E: Write>(
     }
 }
 
-/// What the program does with its arguments, its own name first, and the status that it ends with, where standard
-/// error is no terminal.
-///
-/// As [`run_on`] otherwise.
-pub fn run<R: Files, I: BufRead, O: Write, E: Write>(
-    rt: &R,
-    alloc: Global,
-    arguments: &[String],
-    is_terminal: bool,
-    input: &mut I,
-    out: &mut O,
-    errors: &mut E,
-) -> u8 {
-    let terminals = Terminals {
-        output: is_terminal,
-        errors: false,
-    };
-    run_on(rt, alloc, arguments, terminals, input, out, errors)
-}
-
 /// What the program does with its arguments, its own name first, and the status that it ends with.
 ///
 /// 0: done. 1: an error, which is reported on `errors` with the file or the argument. 2: a usage error; no file was opened,
 /// unless for a column that the first line has not. 6: an address has no record, or a path leads nowhere in it. 7: two
 /// files differ, where that was asked. Faults of `errors` change no status.
-pub fn run_on<R: Files, I: BufRead, O: Write, E: Write>(
+pub fn run<R: Files, I: BufRead, O: Write, E: Write>(
     rt: &R,
     alloc: Global,
     arguments: &[String],
-    terminals: Terminals,
-    input: &mut I,
-    out: &mut O,
-    errors: &mut E,
+    io: Io<'_, I, O, E>,
 ) -> u8 {
+    let Io {
+        input,
+        out,
+        errors,
+        terminals,
+    } = io;
     let mut console = Console {
         alloc,
         terminals,

@@ -67,8 +67,15 @@ impl<S: AsSlice<u8> + Drop> Reader<S> {
 
     // The offsets of walked leaves, if no walked leaf is faulty and there are not too many stops.
     #[tactic(auto, using(crate::proofs::WholeLemmas::clean_of_tree))]
-    fn walk_tree(&self, alloc: Global, steps: &mut Steps) -> Result<OffsetSet, MaxMindDbError>
-        requires { steps.old + (6 * self.now.metadata.node_count + 130) < 2 ^ 64 }
+    fn walk_tree(
+        &self,
+        alloc: Global,
+        node_count: usize,
+        steps: &mut Steps,
+    ) -> Result<OffsetSet, MaxMindDbError>
+        requires count { node_count ≡ self.now.metadata.node_count }
+        requires few { node_count < 2 ^ 32 }
+        requires room { steps.old + (6 * self.now.metadata.node_count + 130) < 2 ^ 64 }
         ensures ok { IfOk result (λ set. HasWholeTree self.now × HoldsOffsets self.now set) }
         ensures err { IfErr result (λ e. MemoryApart e (¬ HasWholeTree self.now)) }
         ensures bound { steps.new ≤ steps.old + (6 * self.now.metadata.node_count + 130) }
@@ -95,11 +102,9 @@ impl<S: AsSlice<u8> + Drop> Reader<S> {
         steps.add(walked.taken);
         match walked.end {
             WalkEnd::Whole => Ok(set),
-            WalkEnd::AtFault(number) if number < self.nodes().node_count => {
-                Err(invalid(Text::TreeTooDeep))
-            }
+            WalkEnd::AtFault(number) if number < node_count => { Err(invalid(Text::TreeTooDeep)) }
             WalkEnd::AtFault(_) => Err(invalid(Text::InvalidLocation)),
-            WalkEnd::TooMany => Err(too_many_stops(alloc, 3 * self.nodes().node_count)),
+            WalkEnd::TooMany => Err(too_many_stops(alloc, 3 * node_count)),
         }
     }
 
@@ -132,6 +137,33 @@ impl<S: AsSlice<u8> + Drop> Reader<S> {
         }
     }
 
+    // Whether the metadata, the tree of so many nodes, the separator and the values are whole.
+    fn verify_whole(
+        &self,
+        alloc: Global,
+        node_count: usize,
+        steps: &mut Steps,
+    ) -> Result<(), MaxMindDbError>
+        requires count { node_count ≡ self.now.metadata.node_count }
+        requires few { node_count < 2 ^ 32 }
+        requires room { steps.old + (6 * self.now.metadata.node_count + 130) < 2 ^ 64 }
+        ensures whole { OnOk result (IsWhole self.now) }
+        ensures answers { OnOk result (AnswersAll self.now) }
+        ensures rejected { IfErr result (λ e. MemoryApart e (¬ IsWhole self.now)) }
+        ensures bound { steps.new ≤ steps.old + (6 * self.now.metadata.node_count + 130) }
+        ensures counted { OnOk result ((steps.new ≡ steps.old + walk_cost self.now)
+            × (steps.new + 1 ≡ steps.old + 2 * length (stops self.now))) }
+        ensures counted_rejected { IfErr result
+            (λ e. MemoryApart e (HasWholeMetadata self.now
+            → steps.new ≡ steps.old + walk_cost self.now)) }
+        ensures most { steps.new ≤ steps.old + walk_cost self.now }
+    {
+        self.verify_metadata(alloc)?;
+        let set = self.walk_tree(alloc, node_count, steps)?;
+        self.verify_separator()?;
+        self.verify_values(alloc, &set)
+    }
+
     /// `verify`, which adds the positions of the tree that it takes to `steps`.
     ///
     /// They are at most six for each node and 130 more: each node and each leaf on the way, and each alias, behind
@@ -153,10 +185,7 @@ impl<S: AsSlice<u8> + Drop> Reader<S> {
             → steps.new ≡ steps.old + walk_cost self.now)) }
         ensures most { steps.new ≤ steps.old + walk_cost self.now }
     {
-        self.verify_metadata(alloc)?;
-        let set = self.walk_tree(alloc, steps)?;
-        self.verify_separator()?;
-        self.verify_values(alloc, &set)
+        self.verify_whole(alloc, self.nodes().node_count, steps)
     }
 
     /// Checks the whole database: its metadata, its tree, the separator after it, and the values of all leaves that
@@ -172,9 +201,6 @@ impl<S: AsSlice<u8> + Drop> Reader<S> {
         ensures answers { OnOk result (AnswersAll self.now) }
         ensures rejected { IfErr result (λ e. MemoryApart e (¬ IsWhole self.now)) }
     {
-        let mut steps = Steps::new();
-        // So it is known that there are few enough nodes for the room that is asked for.
-        let _nodes = self.nodes();
-        self.verify_counted(alloc, &mut steps)
+        self.verify_whole(alloc, self.nodes().node_count, &mut Steps::new())
     }
 }

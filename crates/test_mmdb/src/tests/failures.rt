@@ -1,6 +1,6 @@
 //! Files that can't be read to their end, and writers that fail.
-use super::program::{Narrow, Run, assert_of, file_of, run_of, run_over, words_with};
-use mmdb_program::run;
+use super::program::{Narrow, Run, assert_of, file_of, run_of, run_over, terminals, words_with};
+use mmdb_program::{Io, run};
 use mmdb_vectors::base::BASE_FILE;
 use mmdb_vectors::file::TestFiles;
 use std::alloc::Global;
@@ -65,15 +65,13 @@ fn with_room(alloc: Global, texts: &[&str], room: usize, to_error: ErrorKind) ->
         to_error,
     };
     let mut reported: Vec<u8> = Vec::new(alloc);
-    let status = run(
-        &file_of(BASE_FILE),
-        alloc,
-        words.as_slice(),
-        false,
-        &mut input,
-        &mut out,
-        &mut reported,
-    );
+    let io = Io {
+        input: &mut input,
+        out: &mut out,
+        errors: &mut reported,
+        terminals: terminals(false),
+    };
+    let status = run(&file_of(BASE_FILE), alloc, words.as_slice(), io);
     Run {
         status,
         written: out.bytes,

@@ -1,8 +1,8 @@
 //! Runs where memory runs out.
 ghost use Rattle.std.specs.Prelude.{◌<◌};
 
-use super::program::{Narrow, Run, assert_of, file_of, words_with};
-use mmdb_program::run;
+use super::program::{Narrow, Run, assert_of, file_of, terminals, words_with};
+use mmdb_program::{Io, run};
 use mmdb_vectors::base::BASE_FILE;
 use mmdb_vectors::hoard::Hoard;
 use std::alloc::Global;
@@ -33,15 +33,13 @@ fn with_budget(alloc: Global, words: &[String], budget: usize) -> Run
     let (mut out, mut err) = (narrow(alloc), narrow(alloc));
     let mut input: &[u8] = b"";
     let small = Hoard::of_all_but(alloc, budget);
-    let status = run(
-        &file_of(BASE_FILE),
-        alloc,
-        words,
-        false,
-        &mut input,
-        &mut out,
-        &mut err,
-    );
+    let io = Io {
+        input: &mut input,
+        out: &mut out,
+        errors: &mut err,
+        terminals: terminals(false),
+    };
+    let status = run(&file_of(BASE_FILE), alloc, words, io);
     drop(small);
     Run {
         status,

@@ -1,5 +1,5 @@
 //! The program on words, files and lines that a test makes.
-use mmdb_program::run;
+use mmdb_program::{Io, Terminals, run};
 use mmdb_vectors::file::TestFiles;
 use std::alloc::Global;
 use std::io::{self, Write};
@@ -67,6 +67,14 @@ pub(crate) fn words_with(alloc: Global, texts: &[&str]) -> Vec<String> {
     words
 }
 
+/// Whether standard output is a terminal; standard error is none.
+pub(crate) fn terminals(is_terminal: bool) -> Terminals {
+    Terminals {
+        output: is_terminal,
+        errors: false,
+    }
+}
+
 /// The file `here.mmdb`, without a fault.
 pub(crate) fn file_of(bytes: &[u8]) -> TestFiles<'_> {
     TestFiles::new(bytes, ALL_READS)
@@ -95,15 +103,13 @@ pub(crate) fn run_over(
     let mut input = lines.as_bytes();
     let mut written: Vec<u8> = Vec::new(alloc);
     let mut reported: Vec<u8> = Vec::new(alloc);
-    let status = run(
-        files,
-        alloc,
-        words.as_slice(),
-        is_terminal,
-        &mut input,
-        &mut written,
-        &mut reported,
-    );
+    let io = Io {
+        input: &mut input,
+        out: &mut written,
+        errors: &mut reported,
+        terminals: terminals(is_terminal),
+    };
+    let status = run(files, alloc, words.as_slice(), io);
     Run {
         status,
         written,

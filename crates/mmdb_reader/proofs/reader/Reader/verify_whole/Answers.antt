@@ -8,7 +8,7 @@ use Rattle.mmdb_reader.specs.Stops.{stops}
 use Rattle.mmdb_reader.specs.Whole.{IsWhole}
 use Rattle.mmdb_reader.proofs.Sources.{apart}
 use Rattle.mmdb_reader.proofs.AliasedLookups.{whole_files_answer}
-use Rattle.mmdb_reader.proofs.reader.Reader.verify_counted.Goals as goal
+use Rattle.mmdb_reader.proofs.reader.Reader.verify_whole.Goals as goal
 
 on_ok : (r : Result (Unit {0}) MaxMindDbError) (P Q : Type 0) → (P → Q) → OnOk r P → OnOk r Q
 on_ok (Ok x) P Q f h = f h

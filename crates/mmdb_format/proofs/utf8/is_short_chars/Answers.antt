@@ -1,7 +1,7 @@
 use Rattle.std.proofs.Common.{take, drop}
 use Rattle.std.proofs.Math.Seq.{take-add}
 use Rattle.std.proofs.lemmas.Str.{IsUtf8-append}
-use Rattle.mmdb_decode.proofs.utf8.is_short_chars.Goals as goal
+use Rattle.mmdb_format.proofs.utf8.is_short_chars.Goals as goal
 
 pub loop-at-preserved : goal.loop-at-preserved
 loop-at-preserved c =

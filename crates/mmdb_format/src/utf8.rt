@@ -1,8 +1,8 @@
-//! A look at texts whose characters have at most three bytes, as most names do.
+//! Whether bytes are UTF-8, with a quick look at those whose characters have at most three bytes, as most names do.
 ghost use Rattle.std.specs.Prelude.{◌≡◌, ◌+◌, ◌<◌, ◌≤◌, true, length, take, drop, slice_index, IfSome};
-ghost use Rattle.std.specs.Str.{IsUtf8};
+ghost use Rattle.std.specs.Str.{IsUtf8, is_utf8 as spec_is_utf8};
 
-use crate::ascii::are_eight_ascii;
+use crate::ascii::{are_eight_ascii, is_short_ascii};
 
 /// Whether a byte goes on with a character.
 #[inline(always)]
@@ -44,7 +44,7 @@ fn short_chars_len(bytes: &[u8], at: usize) -> Option<usize>
 
 /// Whether bytes are such characters, one after the other. Of other characters it knows nothing.
 #[inline(never)]
-pub(crate) fn is_short_chars(bytes: &[u8]) -> bool
+fn is_short_chars(bytes: &[u8]) -> bool
     ensures { result ≡ true → IsUtf8 bytes.now }
 {
     let mut at = 0;
@@ -55,4 +55,24 @@ pub(crate) fn is_short_chars(bytes: &[u8]) -> bool
         }
     }
     true
+}
+
+// Whether bytes are UTF-8, by std's test. Its answer takes memory, which is in here and so in no loop of a caller.
+#[inline(never)]
+fn is_utf8_to_std(bytes: &[u8]) -> bool
+    ensures { result ≡ spec_is_utf8 bytes.now }
+{
+    match std::str::from_utf8(bytes) {
+        Ok(_) => true,
+        Err(_) => false,
+    }
+}
+
+/// Whether bytes are UTF-8. Few that are ASCII are recognised without a loop, and most names before std is asked.
+#[tactic(auto, using(crate::proofs::Texts::ascii_is, crate::proofs::Texts::utf8_is))]
+#[inline(always)]
+pub fn is_utf8(bytes: &[u8]) -> bool
+    ensures { result ≡ spec_is_utf8 bytes.now }
+{
+    is_short_ascii(bytes) || is_short_chars(bytes) || is_utf8_to_std(bytes)
 }

@@ -1,6 +1,6 @@
 use Rattle.std.proofs.Common.{◌≤◌, ◌-◌, length, take}
 use Rattle.std.specs.Str.{IsUtf8}
-use Rattle.mmdb_decode.proofs.utf8.is_short_chars.Given as goal
+use Rattle.mmdb_format.proofs.utf8.is_short_chars.Given as goal
 
 -- what was looked at is text
 abbrev pub invariant-loop-at : goal.invariant-loop-at

@@ -1,6 +1,6 @@
 use Rattle.std.proofs.Common.{refl, arith}
-use Rattle.mmdb_decode.proofs.ShortChars.{of_ascii, of_one, of_two, of_three}
-use Rattle.mmdb_decode.proofs.utf8.short_chars_len.Goals as goal
+use Rattle.mmdb_format.proofs.ShortChars.{of_ascii, of_one, of_two, of_three}
+use Rattle.mmdb_format.proofs.utf8.short_chars_len.Goals as goal
 
 pub returns-then-first-lt128-clause-text : goal.returns-then-first-lt128-clause-text
 returns-then-first-lt128-clause-text c = of_one c.args.bytes.now c.args.at c.requires c.if-first-lt128.true
