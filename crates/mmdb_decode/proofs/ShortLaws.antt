@@ -1,5 +1,5 @@
 -- Values that are passed by their control byte alone.
-use Rattle.std.proofs.Common.{◌≡◌, ℕ, suc, ◌+◌, ◌-◌, ◌≤◌, ◌<◌, ◌/◌, ◌%◌, List, length, Option, Some, None, true, false, nat_lt, nat_le, refl, arith, slice_get}
+use Rattle.std.proofs.Common.{◌≡◌, ℕ, suc, ◌+◌, ◌-◌, ◌≤◌, ◌<◌, ◌/◌, ◌%◌, List, length, Option, Some, true, false, nat_lt, nat_le, refl, arith, slice_get}
 use Rattle.std.proofs.lemmas.Bool.Decides.{nat_tests}
 use Rattle.mmdb_format.specs.declared.header.Header.{Header}
 use Rattle.mmdb_format.specs.Header.{header_at, sized_header, size_at, number_at, bytes_at}

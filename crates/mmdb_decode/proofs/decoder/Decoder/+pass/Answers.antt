@@ -1,7 +1,6 @@
 use Rattle.std.proofs.Common.{◌-◌, ◌∙◌, false, sym, arith}
 use Rattle.std.proofs.lemmas.Result.{err_from_is_err_and}
 use Rattle.mmdb_decode.specs.Skipping.{skip_within}
-use Rattle.mmdb_decode.specs.Errors.{Kept}
 use Rattle.mmdb_decode.proofs.StepLaws.{nothing_taken, kept_decoded, kept_trans, given_up_trans}
 use Rattle.mmdb_decode.proofs.SkipLaws.{skip_headless, skip_deep, inline_kept, plain_takes, parts_no, parts_are, pass_goes_on, pass_stops, pass_done}
 use Rattle.mmdb_decode.proofs.decoder.Decoder.+pass.Goals as goal
