@@ -7,6 +7,7 @@ pub mod Lists
 pub mod MapLaws
 pub mod LevelLaws
 pub mod SkipLaws
+pub mod ShortLaws
 pub mod SelectLaws
 pub mod PassingLaws
 pub mod DirectLaws

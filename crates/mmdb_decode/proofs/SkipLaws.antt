@@ -10,7 +10,7 @@ use Rattle.mmdb_decode.specs.Skipping.{skip_at, parts_of, passes, counted, skip_
 use Rattle.mmdb_decode.specs.Working.{scalar_passed, entered_inline}
 use Rattle.mmdb_decode.specs.State.{State, charged, spent_of, begun, settled, after, decoded, Within, NoneBack, GivenUp}
 use Rattle.mmdb_decode.proofs.StepLaws.{still_begun, kept_decoded, decoded_begun}
-use Rattle.std.proofs.Common.{◌≡◌, ℕ, ◌*◌, nat_eq, if◌then◌else◌, sym, suc, zero, List, Option, Some, None, true, false, option_map, refl, ◌∙◌, subst}
+use Rattle.std.proofs.Common.{◌≡◌, ℕ, suc, zero, List, Option, Some, None, true, false, option_map, refl, ◌∙◌, subst}
 use Rattle.mmdb_decode.specs.declared.budget.Charges.{Charges}
 use Rattle.mmdb_format.specs.declared.header.Header.{Header}
 use Rattle.mmdb_decode.proofs.StepLaws.{state, read_free, some_back, none_back, given_up_trans}
@@ -108,22 +108,11 @@ pub plain_takes : {E : Type 0} (n : ℕ) (σ τ : State) (header : Header) (r : 
 plain_takes n σ τ header (Ok x) w h k e = skip_plain n σ header w h k ∙ e
 plain_takes n σ τ header (Err x) w h k e = (e.0, skip_plain n σ header w h k ∙ e.1)
 
--- a pointer has no parts
-pub pointer_alone : (header : Header) → header.kind ≡ 1 → parts_of header ≡ None
-unfolding parts_of
-pointer_alone header k = subst (λ kind. (if nat_eq kind 7 then Some (2 * header.size) else (if nat_eq kind 11 then Some header.size else None)) ≡ None) (sym k) refl
-
 pub parts_are : (n m : ℕ) (σ τ : State) (header : Header) (parts : ℕ) → n ≡ suc m → header_at σ.section σ.offset ≡ Some header → parts_of header ≡ Some parts → entered_inline σ header parts ≡ Some (tt, τ) → decoded false (skip_within n) σ ≡ decoded false (passes (skip_within m) parts) τ
 parts_are n m σ τ header parts z h k e = rw z (skip_parts m σ header parts h k ∙ rw e refl)
 
 pub parts_no : (n m : ℕ) (σ : State) (header : Header) (parts : ℕ) → n ≡ suc m → header_at σ.section σ.offset ≡ Some header → parts_of header ≡ Some parts → entered_inline σ header parts ≡ None → decoded false (skip_within n) σ ≡ None
 parts_no n m σ header parts z h k e = rw z (skip_parts m σ header parts h k ∙ rw e refl)
-
-pub parts_yes : (n m : ℕ) (σ τ ρ : State) (header : Header) (parts left : ℕ) → n ≡ suc m → header_at σ.section σ.offset ≡ Some header → parts_of header ≡ Some parts → entered_inline σ header parts ≡ Some (tt, τ) → decoded false (passes (skip_within m) parts) τ ≡ decoded false (passes (skip_within m) left) ρ → left ≡ 0 → Within ρ.budget → decoded false (skip_within n) σ ≡ Some (tt, ρ)
-parts_yes n m σ τ ρ header parts left z h k e r l w = pass_done (skip_within m) _ left ρ (parts_are n m σ τ header parts z h k e ∙ r) l w
-
-pub parts_stop : (n m : ℕ) (σ τ ρ : State) (header : Header) (parts left fewer : ℕ) → n ≡ suc m → header_at σ.section σ.offset ≡ Some header → parts_of header ≡ Some parts → entered_inline σ header parts ≡ Some (tt, τ) → decoded false (passes (skip_within m) parts) τ ≡ decoded false (passes (skip_within m) left) ρ → left ≡ suc fewer → decoded false (skip_within m) ρ ≡ None → decoded false (skip_within n) σ ≡ None
-parts_stop n m σ τ ρ header parts left fewer z h k e r l d = pass_stops (skip_within m) _ left fewer ρ (parts_are n m σ τ header parts z h k e ∙ r) l d
 
 -- a skip from the start begins a budget
 abbrev pub begins : State → State

@@ -1,7 +1,8 @@
 //! Passing a value without reading it.
-ghost use Rattle.std.specs.Prelude.{◌≡◌, ◌<◌, ◌^◌, true, IfSome};
+ghost use Rattle.std.specs.Prelude.{◌≡◌, ℕ, ◌<◌, ◌≤◌, ◌^◌, true, Some, IfSome};
+ghost use Rattle.mmdb_decode.specs.Scalars.{free_of_charge};
 ghost use Rattle.mmdb_decode.specs.Skipping.{skip_within, skip_at, parts_of as spec_parts_of};
-ghost use Rattle.mmdb_decode.specs.Working.{scalar_passed, entered_inline};
+ghost use Rattle.mmdb_decode.specs.Working.{scalar_passed, entered_inline, PassesTo};
 ghost use Rattle.mmdb_decode.specs.Errors.{Takes, TakesValue, ReadsUnderBudget};
 
 use super::Decoder;
@@ -10,7 +11,7 @@ use mmdb_format::content::passed_end;
 use mmdb_format::decode_error_kind::DecodeErrorKind;
 use mmdb_format::error::DecodeResult;
 use mmdb_format::header::Header;
-use mmdb_format::kind::{ARRAY, MAP, POINTER};
+use mmdb_format::kind::{ARRAY, MAP};
 use std::alloc::Global;
 
 /// At most so many containers nest in a value that is skipped.
@@ -48,17 +49,39 @@ impl<'de> Decoder<'de> {
         Ok(())
     }
 
-    // Passes one inline value. A pointer, which most values are that a path passes, is passed here.
+    // Passes one inline value. A short one, as most are that a path passes, is passed here.
     #[inline(always)]
     pub(super) fn pass_value(&mut self) -> Result<(), DecodeErrorKind>
         ensures { TakesValue (λ x. tt) skip_at self.old self.new result }
     {
         self.stays_within();
-        let header = self.header_here()?;
-        if header.kind == POINTER {
-            return self.pass_scalar(header);
+        match short_end(self.section, self.offset) {
+            Some(next) => {
+                self.offset = next;
+                Ok(())
+            }
+            None => self.pass(MAX_NESTED),
         }
-        self.pass(MAX_NESTED)
+    }
+
+    // Passes short inline values, at most so many, and says how many are left: none, or the next one is not short.
+    #[inline(always)]
+    fn pass_short(&mut self, count: usize) -> usize
+        ensures passed { PassesTo count result self.old self.new }
+        ensures fewer { result ≤ count }
+    {
+        self.stays_within();
+        let mut offset = self.offset;
+        let mut left = count;
+        while left > 0 {
+            let Some(next) = short_end(self.section, offset) else {
+                break;
+            };
+            offset = next;
+            left -= 1;
+        }
+        self.offset = offset;
+        left
     }
 
     // Passes one inline value, whose containers nest at most so deep.
@@ -74,11 +97,35 @@ impl<'de> Decoder<'de> {
             return Err(DecodeErrorKind::TooDeep);
         }
         self.enter_inline(header, parts)?;
-        for _ in 0..parts {
+        let mut left = self.pass_short(parts);
+        while left > 0 {
             self.pass(nested - 1)?;
+            left = self.pass_short(left - 1);
         }
         self.stays_within();
         Ok(())
+    }
+}
+
+// The offset after an inline value that most are that are passed: a pointer, a text or a number of 32 bits whose header is
+// its control byte alone. None for others.
+#[inline(always)]
+fn short_end(section: &[u8], offset: usize) -> Option<usize>
+    ensures { IfSome result (λ next. (nested levels : ℕ)
+        → skip_within nested section.now offset levels ≡ Some (free_of_charge (tt, next))) }
+{
+    let control = usize::from(*section.get(offset)?);
+    let size = control % 32;
+    let len = match control / 32 {
+        1 => size / 8 + 1,
+        2 if size <= 28 => size,
+        6 if size <= 4 => size,
+        _ => return None,
+    };
+    if len < section.len() - offset {
+        Some(offset + 1 + len)
+    } else {
+        None
     }
 }
 

@@ -8,8 +8,11 @@ abbrev pub decreases-pass : goal.decreases-pass
 decreases-pass l = l.nested
 
 -- what is left to pass is the rest
-abbrev pub invariant-loop : goal.invariant-loop
-invariant-loop l = record {
-  rest : decoded false (passes (skip_within (l.nested - 1)) l.parts) l.initial.self ≡ decoded false (passes (skip_within (l.nested - 1)) (l.parts - l.counter)) l.self;
-  kept : Kept l.initial.self l.self;
+abbrev pub invariant-loop-left : goal.invariant-loop-left
+invariant-loop-left l = record {
+  rest : decoded false (skip_within l.nested) l.fn.self ≡ decoded false (passes (skip_within (l.nested - 1)) l.left) l.self;
+  kept : Kept l.fn.self l.self;
 }
+
+abbrev pub decreases-loop-left : goal.decreases-loop-left
+decreases-loop-left l = l.left
