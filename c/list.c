@@ -16,7 +16,8 @@ _Static_assert(sizeof(MMDB_entry_data_list_s) == sizeof(struct mmdb_c_part) &&
                    SAME_PLACE(entry_data.type, kind) && SAME_PLACE(next, link) && SAME_PLACE(pool, pool),
                "a part is laid out as an element of the list");
 
-/* Memory of `calloc`, which has no type yet: the proved code writes parts into it, C reads elements of a list. */
+/* Memory of `malloc`, which has no type yet: the proved code writes parts into it, and reads none; C reads the elements
+ * of the list, which are those that were written. */
 union parts {
     MMDB_entry_data_list_s *list;
     struct mmdb_c_part *part;
@@ -40,7 +41,7 @@ static void link_parts(const MMDB_s *m, union parts at, size_t n) {
 static int fill_parts(const MMDB_entry_s *start, union parts *at, size_t *n) {
     const MMDB_s *m = start->mmdb;
     for (size_t room = FIRST_ROOM; room <= MOST_ROOM; room *= 8) {
-        at->part = calloc(room, sizeof *at->part);
+        at->part = malloc(room * sizeof *at->part);
         if (!at->part) return MMDB_OUT_OF_MEMORY_ERROR;
         int status = (int)mmdb_c_list(m->data_section, m->data_section_size, start->offset, at->part, room, n);
         if (status != MMDB_OUT_OF_MEMORY_ERROR) return status;

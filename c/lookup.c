@@ -71,8 +71,9 @@ static uint8_t type_of_record(const struct mmdb_c_facts *facts, uint64_t record)
 int MMDB_read_node(const MMDB_s *const m, uint32_t number, MMDB_search_node_s *const node) {
     const struct mmdb_c_db *db = &state_of(m)->db;
     if (number >= db->facts.node_count) return MMDB_INVALID_NODE_NUMBER_ERROR;
-    node->left_record = mmdb_c_child(db, number, false);
-    node->right_record = mmdb_c_child(db, number, true);
+    struct mmdb_c_children children = mmdb_c_children(db, number);
+    node->left_record = children.left;
+    node->right_record = children.right;
     node->left_record_type = type_of_record(&db->facts, node->left_record);
     node->right_record_type = type_of_record(&db->facts, node->right_record);
     uint32_t before_data = (uint32_t)db->facts.node_count + 16;

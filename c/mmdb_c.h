@@ -42,6 +42,11 @@ struct mmdb_c_found {
     size_t offset;
 };
 
+/* The numbers that a node has for the bits 0 and 1. */
+struct mmdb_c_children {
+    size_t left, right;
+};
+
 /* An address of IPv4 has the lowest 32 bits. */
 struct mmdb_c_address {
     uint64_t high, low;
@@ -68,7 +73,7 @@ void mmdb_c_lookup_v4(const struct mmdb_c_db *db, uint32_t bits, struct mmdb_c_f
 void mmdb_c_lookup_v6(const struct mmdb_c_db *db, uint64_t high, uint64_t low, struct mmdb_c_found *found);
 void mmdb_c_lookup_many(const struct mmdb_c_db *db, const struct mmdb_c_address *addresses, size_t count,
                         struct mmdb_c_found *found, size_t room);
-size_t mmdb_c_child(const struct mmdb_c_db *db, size_t node, bool right);
+struct mmdb_c_children mmdb_c_children(const struct mmdb_c_db *db, size_t node);
 bool mmdb_c_value(const uint8_t *section, size_t len, size_t offset, struct mmdb_c_item *item);
 uint32_t mmdb_c_to_key(const uint8_t *section, size_t len, size_t offset, const char *key, size_t key_len,
                        size_t *to);

@@ -1,5 +1,5 @@
 //! Lookups in databases over bytes and tables that C holds.
-ghost use Rattle.std.specs.Prelude.{◌≡◌, ◌<◌, ◌≤◌, ◌^◌, ◌+◌, ◌*◌, ◌≢◌, ◌==◌, if◌then◌else◌, length};
+ghost use Rattle.std.specs.Prelude.{◌≡◌, ◌<◌, ◌≤◌, ◌^◌, ◌+◌, ◌*◌, ◌≢◌, ◌==◌, if◌then◌else◌, length, true, false};
 ghost use Rattle.mmdb_net.specs.Bits.{bits_of};
 ghost use Rattle.mmdb_tree.specs.Descents.{Descends};
 ghost use Rattle.mmdb_tree.specs.Nodes.{tree_in};
@@ -166,11 +166,24 @@ pub extern "C" fn mmdb_c_lookup_v6(db: &Db<'_>, high: u64, low: u64, found: &mut
     *found = db.found(leaf.number, leaf.taken as u32);
 }
 
-/// The number that a node has for a bit: a node, or a leaf's number.
+/// The numbers that a node has for the bits 0 and 1, each a node or a leaf's number.
+#[repr(C)]
+#[derive(Clone, Copy)]
+pub struct Children {
+    pub left: usize,
+    pub right: usize,
+}
+
+/// Both numbers of a node.
 #[unsafe(no_mangle)]
-pub extern "C" fn mmdb_c_child(db: &Db<'_>, node: usize, right: bool) -> usize
+pub extern "C" fn mmdb_c_children(db: &Db<'_>, node: usize) -> Children
     requires { node < db.now.facts.node_count }
-    ensures { IsChild db.now.file.now node right result }
+    ensures left { IsChild db.now.file.now node false result.left }
+    ensures right { IsChild db.now.file.now node true result.right }
 {
-    db.nodes().child(node, right)
+    let nodes = db.nodes();
+    Children {
+        left: nodes.child(node, false),
+        right: nodes.child(node, true),
+    }
 }

@@ -5,7 +5,7 @@ ghost use Rattle.mmdb_c.specs.Items.{key_leads, element_leads, is_step_status};
 
 use crate::status::{FOUND, INVALID_DATA, INVALID_PATH, NOT_THERE};
 use mmdb_decode::decoder::Decoder;
-use std::str;
+use mmdb_decode::direct::text_of;
 
 /// Goes from the map at an offset to the value of its first pair with this key: 0 where there is one, 9 where
 /// there is none, 7 where no map stands there or an error is met before the pair, 8 where the key is not UTF-8.
@@ -17,7 +17,7 @@ pub extern "C" fn mmdb_c_to_key(section: &[u8], offset: usize, key: &[u8], to: &
     ensures rejected { result ≡ 7 → key_leads key.now section.now offset ≡ None }
     ensures no_text { result ≡ 8 → ¬ (IsUtf8 key.now) }
 {
-    let Ok(key) = str::from_utf8(key) else {
+    let Ok(key) = text_of(key) else {
         return INVALID_PATH;
     };
     let mut d = Decoder::new(section, offset);
