@@ -121,11 +121,11 @@ static uint64_t lookup_ipv6(struct subject *subject) {
     return sum;
 }
 
-/* The size of the value that a path leads to. */
+/* The size of the value that a path leads to, and 1 of a number, whose size libraries leave open. */
 static uint64_t size_at(MMDB_entry_s *entry, const char *const *path) {
     MMDB_entry_data_s data;
     if (MMDB_aget_value(entry, &data, path) != MMDB_SUCCESS || !data.has_data) return 0;
-    return data.data_size;
+    return data.type == MMDB_DATA_TYPE_UTF8_STRING ? data.data_size : 1;
 }
 
 static uint64_t lookup_path(struct subject *subject) {
