@@ -25,6 +25,13 @@ impl<S: AsSlice<u8> + Drop> Reader<S> {
     ghost use Rattle.mmdb_reader.specs.Shown.{is_shown_as_ipv4};
     ghost use Rattle.mmdb_reader.specs.Many.{HasWalk, IsFoundFor, first_number};
 
+    /// Whether a walk beside others would take longer: that of an IPv6 address mostly ends in the table, and nodes in the
+    /// caches are not waited for.
+    #[inline(always)]
+    pub(crate) fn is_walked_alone(&self, address: IpAddr) -> bool {
+        address.is_ipv6() || !self.nodes().outgrow_caches()
+    }
+
     // Where the walks of up to 64 addresses end.
     fn walk_group(&self, addresses: &[IpAddr], leaves: &mut [FoundLeaf; 64])
         requires { length addresses.now ≤ 64 }

@@ -118,11 +118,8 @@ impl Nodes<'_> {
             24 => word_at(self.bytes, node * 6 + side * 3) >> 8,
             28 => {
                 let word = word_at(self.bytes, node * 7 + side * 3);
-                if right {
-                    word % (1 << 28)
-                } else {
-                    (word >> 8) + (word % 256 / 16) * (1 << 24)
-                }
+                let left = (word >> 8) + (word % 256 / 16) * (1 << 24);
+                if right { word % (1 << 28) } else { left }
             }
             32 => word_at(self.bytes, node * 8 + side * 4),
             _ => unreachable!(),
