@@ -80,7 +80,7 @@ impl<'r, 'a, S: AsSlice<u8> + Drop> Iterator for LookupMany<'r, 'a, S> {
             self.count = reader.find_group(self.left, &mut self.leaves);
             self.next = 0;
         }
-        let answer = reader.lookup_found(*first, self.leaves[self.next]);
+        let answer = reader.answer_found(first, self.leaves[self.next]);
         self.left = rest;
         self.next += 1;
         Some((*first, answer))

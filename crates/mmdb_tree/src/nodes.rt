@@ -1,5 +1,5 @@
 //! The nodes of the search tree, and the walk over them.
-ghost use Rattle.std.specs.Prelude.{◌≡◌, ℕ, ◌+◌, ◌*◌, ◌^◌, ◌<◌, ◌≤◌, ◌==◌, if◌then◌else◌, length, slice_index, IsTrue};
+ghost use Rattle.std.specs.Prelude.{◌≡◌, ℕ, ◌+◌, ◌*◌, ◌/◌, ◌%◌, ◌^◌, ◌<◌, ◌≤◌, ◌==◌, if◌then◌else◌, length, slice_index, IsTrue, true, false};
 ghost use Rattle.mmdb_tree.specs.Tree.{is_record_size, node_bytes, three_bytes, four_bytes, child};
 
 /// The number that a node has for a bit of an address, where `bytes` begin with the nodes of a tree
@@ -49,6 +49,19 @@ fn word_at(bytes: &[u8], at: usize) -> u32
     ensures bytes { (k : ℕ) → k < 4 → slice_index bytes.now (at + k) < 256 }
 {
     u32::from_be_bytes([bytes[at], bytes[at + 1], bytes[at + 2], bytes[at + 3]])
+}
+
+// The record of 28 bits in a word of a node's bytes: the first three and the high half of the fourth, or the low half
+// of the first and the other three. Without a branch, since a bit of an address is hard to foresee.
+#[inline(always)]
+fn record_28(word: u32, right: bool) -> u32
+    ensures right { right ≡ true → result ≡ word % 2 ^ 28 }
+    ensures left { right ≡ false → result ≡ word / 256 + word % 256 / 16 * 2 ^ 24 }
+{
+    let side = u32::from(right);
+    let low = (word >> (8 - side * 8)) % (1 << 24);
+    let high = (word >> (4 + side * 20)) % 16;
+    low + high * (1 << 24)
 }
 
 /// The nodes of a tree, in the bytes that begin with them; the separator's sixteen bytes follow ("Binary Search Tree
@@ -117,9 +130,7 @@ impl Nodes<'_> {
         let number = match self.record_size {
             24 => word_at(self.bytes, node * 6 + side * 3) >> 8,
             28 => {
-                let word = word_at(self.bytes, node * 7 + side * 3);
-                let left = (word >> 8) + (word % 256 / 16) * (1 << 24);
-                if right { word % (1 << 28) } else { left }
+                record_28(word_at(self.bytes, node * 7 + side * 3), right)
             }
             32 => word_at(self.bytes, node * 8 + side * 4),
             _ => unreachable!(),

@@ -3,8 +3,8 @@ use Rattle.mmdb_reader.proofs.ManyLemmas.{IsGroup-new, IsGroup-used, IsGroup-fir
 use Rattle.mmdb_reader.proofs.lookup_many.LookupManyIterator.next.Goals as goal
 use Rattle.mmdb_reader.proofs.lookup_many.LookupManyIterator.next.Goals.{then-self+else-is_walked_alone, else-self}
 
-pub lookup_found-answer-requires : goal.lookup_found-answer-requires
-lookup_found-answer-requires g c =
+pub answer_found-answer-requires : goal.answer_found-answer-requires
+answer_found-answer-requires g c =
     let db = c.self.inside.reader.now in
     let left = c.self.inside.left.now in
     let first = c.in_ok-first.first.now in
