@@ -51,17 +51,14 @@ fn word_at(bytes: &[u8], at: usize) -> u32
     u32::from_be_bytes([bytes[at], bytes[at + 1], bytes[at + 2], bytes[at + 3]])
 }
 
-// The record of 28 bits in a word of a node's bytes: the first three and the high half of the fourth, or the low half
-// of the first and the other three. Without a branch, since a bit of an address is hard to foresee.
+// The highest four bits of a record of 28 bits, in the middle byte of a node. Without a branch, since a bit of an
+// address is hard to foresee.
 #[inline(always)]
-fn record_28(word: u32, right: bool) -> u32
-    ensures right { right ≡ true → result ≡ word % 2 ^ 28 }
-    ensures left { right ≡ false → result ≡ word / 256 + word % 256 / 16 * 2 ^ 24 }
+fn high_bits(middle: u8, right: bool) -> u32
+    ensures right { right ≡ true → result ≡ middle % 16 }
+    ensures left { right ≡ false → result ≡ middle / 16 }
 {
-    let side = u32::from(right);
-    let low = (word >> (8 - side * 8)) % (1 << 24);
-    let high = (word >> (4 + side * 20)) % 16;
-    low + high * (1 << 24)
+    (u32::from(middle) << (u32::from(right) * 4)) % 256 / 16
 }
 
 /// The nodes of a tree, in the bytes that begin with them; the separator's sixteen bytes follow ("Binary Search Tree
@@ -117,8 +114,8 @@ impl Nodes<'_> {
         }
     }
 
-    /// The number that a node has for a bit, the left one for 0 ("Node Layout" of the specification), from one load
-    /// of four bytes: the byte after a record of three, or before it, is one of the tree or of the separator.
+    /// The number that a node has for a bit, the left one for 0 ("Node Layout" of the specification), from a load of
+    /// four bytes: the byte after a record of three is one of the tree or of the separator.
     #[tactic(auto, unfolding(crate::specs::Tree::step, crate::specs::Tree::child))]
     #[inline(always)]
     pub fn child(&self, node: usize, right: bool) -> usize
@@ -130,7 +127,9 @@ impl Nodes<'_> {
         let number = match self.record_size {
             24 => word_at(self.bytes, node * 6 + side * 3) >> 8,
             28 => {
-                record_28(word_at(self.bytes, node * 7 + side * 3), right)
+                let at = node * 7;
+                let low = word_at(self.bytes, at + side * 4) >> 8;
+                low + high_bits(self.bytes[at + 3], right) * (1 << 24)
             }
             32 => word_at(self.bytes, node * 8 + side * 4),
             _ => unreachable!(),
