@@ -56,3 +56,12 @@ IsGroup-new db left leaves count few within found = record {
       let same : i ≡ 0 + i = omega arith in
       subst P same (found i a d (omega (arith, h)));
 }
+
+-- one of which all are used, whatever addresses are left
+pub IsGroup-used : (db : Database) (left : List IpAddr) (leaves : List FoundLeaf) (next count : ℕ) → next ≡ count → count ≤ 64 → IsGroup db left leaves next count
+IsGroup-used db left leaves next count all few = record {
+  ordered = omega (arith, all);
+  few = few;
+  asked = omega (arith, all);
+  found = λ i a d h. absurd (omega (arith, all, h));
+}

@@ -1,7 +1,11 @@
 -- Addresses as numbers.
-use Rattle.std.proofs.Common.{◌≡◌, ℕ, ◌≤◌, ◌++◌, false, take, nat_eq, refl, ◌∙◌, arith}
+use Rattle.std.proofs.Common.{◌≡◌, ℕ, ◌≤◌, ◌<◌, ◌^◌, ◌++◌, List, Bool, true, false, take, nat_eq, refl, ap, sym, subst, ◌∙◌, arith}
 use Rattle.std.specs.declared.net.ip_addr.IpAddr.{IpAddr}
-use Rattle.std.specs.Net.Addr.{is_ipv4}
+use Rattle.std.specs.declared.net.ip_addr.IpAddr.TheVariants.{V4, V6}
+use Rattle.std.specs.declared.net.ipv4_addr.Ipv4Addr.{Ipv4Addr}
+use Rattle.std.specs.declared.net.ipv6_addr.Ipv6Addr.{Ipv6Addr}
+use Rattle.std.specs.Net.Addr.{is_ipv4, ipv4_bits, ipv6_bits}
+use Rattle.mmdb_reader.specs.declared.lookup_result.NumberedAddress.{NumberedAddress}
 use Rattle.mmdb_net.specs.Bits.{bits_of}
 use Rattle.mmdb_net.specs.Address.{address_width, IsMaskedIp}
 use Rattle.mmdb_net.specs.Network.{ip_of, prefix_of}
@@ -25,3 +29,36 @@ pub shown_numbered : (db : Database) (a b : IpAddr) (width bits prefix : ℕ) (n
 shown_numbered db a b width bits prefix network wide kind block within m ip same =
     let h = IsShownBy-masked db a b prefix network (omega (arith, wide, within)) m ip same in
     record { kind = h.kind ∙ kind; block = h.block ∙ block; masked = h.masked }
+
+-- ---- numbers made of addresses
+
+module _ (address : NumberedAddress) (bits prefix : ℕ) (is : address ≡ record { bits = bits; width = 32 }) where
+  pub short_width : nat_eq address.width 32 ≡ true
+  short_width = ap (λ (n : NumberedAddress). nat_eq n.width 32) is
+
+  -- what the fields of a leaf promise of an IPv4 address
+  pub short_fields : bits < 2 ^ 32 → prefix ≤ 32 → (nat_eq address.width 32 ≡ false → address.width ≡ 128) × ((address.bits < 2 ^ address.width) × (prefix ≤ address.width))
+  short_fields small few =
+      let Q : NumberedAddress → Type 0 = λ n. (nat_eq n.width 32 ≡ false → n.width ≡ 128) × ((n.bits < 2 ^ n.width) × (prefix ≤ n.width)) in
+      subst Q (sym is) ((λ other. absurd (cc)), (small, few))
+
+  -- a fact of its block
+  pub short_at : (db : Database) (P : List Bool → Type 0) (a : Ipv4Addr) → bits ≡ ipv4_bits a → P (block_at db (V4 a) prefix) → P (numbered_block db address.width address.bits prefix)
+  short_at db P a same p =
+      let Q : NumberedAddress → Type 0 = λ n. P (numbered_block db n.width n.bits prefix) in
+      subst Q (sym is) (subst P (short_block db 32 bits (ipv4_bits a) prefix refl (sym same)) p)
+
+module _ (address : NumberedAddress) (bits prefix : ℕ) (is : address ≡ record { bits = bits; width = 128 }) where
+  pub long_width : nat_eq address.width 32 ≡ false
+  long_width = ap (λ (n : NumberedAddress). nat_eq n.width 32) is
+
+  -- and of an IPv6 address
+  pub long_fields : bits < 2 ^ 128 → prefix ≤ 128 → (nat_eq address.width 32 ≡ false → address.width ≡ 128) × ((address.bits < 2 ^ address.width) × (prefix ≤ address.width))
+  long_fields small few =
+      let Q : NumberedAddress → Type 0 = λ n. (nat_eq n.width 32 ≡ false → n.width ≡ 128) × ((n.bits < 2 ^ n.width) × (prefix ≤ n.width)) in
+      subst Q (sym is) ((λ other. refl), (small, few))
+
+  pub long_at : (db : Database) (P : List Bool → Type 0) (a : Ipv6Addr) → bits ≡ ipv6_bits a → P (block_at db (V6 a) prefix) → P (numbered_block db address.width address.bits prefix)
+  long_at db P a same p =
+      let Q : NumberedAddress → Type 0 = λ n. P (numbered_block db n.width n.bits prefix) in
+      subst Q (sym is) (subst P (long_block db 128 bits (ipv6_bits a) prefix refl (sym same)) p)

@@ -23,6 +23,8 @@ use Rattle.std.specs.declared.convert.AsSlice.{Ghosts}
 use Rattle.mmdb_format.specs.Error.{OfDatabase, OfInput, kind_of, FailsAs}
 use Rattle.mmdb_format.specs.declared.error.MaxMindDbError.{MaxMindDbError}
 use Rattle.mmdb_reader.specs.declared.lookup_result.LookupResult.{LookupResult}
+use Rattle.mmdb_reader.specs.declared.reader.Leaf.{Leaf}
+use Rattle.mmdb_reader.specs.Numbered.{numbered_block}
 use Rattle.mmdb_reader.specs.Found.{database_asked, leaf_of, offset_found, shown_as_ipv4}
 use Rattle.mmdb_tree.specs.Walked.{HoldsOffsetsOf}
 use Rattle.mmdb_reader.specs.Stops.{walked_tree}
@@ -33,6 +35,10 @@ pub record IsLeafAt (db : Database) (address : IpAddr) (leaf : List Bool) (numbe
   pub is_leaf : IsLeaf db leaf
   pub on_address : IsPrefix leaf (address_bits db address)
   pub reached : walk (tree_of db) leaf ≡ number
+
+-- the bits that lead to a leaf
+abbrev pub block_of : Database → Leaf → List Bool
+block_of db leaf = numbered_block db leaf.address.width leaf.address.bits leaf.prefix
 
 abbrev pub addresses_left : LookupsLeft → List IpAddr
 addresses_left l = l.addresses

@@ -71,12 +71,16 @@ impl<'r, 'a, S: AsSlice<u8> + Drop> Iterator for LookupMany<'r, 'a, S> {
     #[inline(always)]
     fn next(&mut self) -> Option<Self::Item> {
         let (first, rest) = self.left.split_first()?;
+        let reader = self.reader;
         if self.next == self.count {
-            self.count = self.reader.find_group(self.left, &mut self.leaves);
+            if reader.is_walked_alone(*first) {
+                self.left = rest;
+                return Some((*first, reader.lookup(*first)));
+            }
+            self.count = reader.find_group(self.left, &mut self.leaves);
             self.next = 0;
         }
-        let reader = self.reader;
-        let answer = reader.lookup_found(*first, self.leaves[self.next]);
+        let answer = reader.answer_found(first, self.leaves[self.next]);
         self.left = rest;
         self.next += 1;
         Some((*first, answer))

@@ -21,25 +21,23 @@ pub(crate) struct NumberedAddress {
 }
 
 impl NumberedAddress {
-    /// An address as a number.
+    /// An IPv4 address of these bits.
     #[inline(always)]
-    pub(crate) fn of(address: IpAddr) -> NumberedAddress
-        ensures width { result.width ≡ address_width address }
-        ensures kind { nat_eq result.width 32 ≡ is_ipv4 address }
-        ensures fits { result.bits < 2 ^ result.width }
-        ensures block { (db : Database) (prefix : ℕ)
-            → numbered_block db result.width result.bits prefix ≡ block_at db address prefix }
+    pub(crate) fn ipv4(bits: u32) -> NumberedAddress
+        ensures { result ≡ record { bits = bits; width = 32 } }
     {
-        match address {
-            IpAddr::V4(address) => NumberedAddress {
-                bits: u128::from(address.to_bits()),
-                width: 32,
-            },
-            IpAddr::V6(address) => NumberedAddress {
-                bits: address.to_bits(),
-                width: 128,
-            },
+        NumberedAddress {
+            bits: u128::from(bits),
+            width: 32,
         }
+    }
+
+    /// An IPv6 address of these bits.
+    #[inline(always)]
+    pub(crate) fn ipv6(bits: u128) -> NumberedAddress
+        ensures { result ≡ record { bits = bits; width = 128 } }
+    {
+        NumberedAddress { bits, width: 128 }
     }
 
     /// The address that it is.

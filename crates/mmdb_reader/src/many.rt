@@ -1,6 +1,5 @@
 //! Lookups of several addresses, whose walks go on side by side.
-ghost use Rattle.std.specs.Prelude.{◌≡◌, ℕ, ◌<◌, ◌≤◌, ◌⊎◌, ◌↔◌, IfOk, IfErr, IfSome, MatchOption, length, slice_index_or};
-ghost use Rattle.std.specs.Net.Addr.{is_ipv4};
+ghost use Rattle.std.specs.Prelude.{◌≡◌, ℕ, ◌<◌, ◌≤◌, ◌⊎◌, ◌↔◌, IfOk, IfErr, IfSome, MatchOption, length, slice_index_or, nat_eq};
 ghost use Rattle.std.specs.declared.net.ip_addr.IpAddr.{IpAddr as SpecIpAddr};
 ghost use Rattle.mmdb_format.specs.Error.{OfDatabase, OfInput, kind_of, FailsAs};
 ghost use Rattle.mmdb_net.specs.Address.{bits_of_address};
@@ -11,7 +10,7 @@ use mmdb_format::error::MaxMindDbError;
 use mmdb_format::message::{Message, Text};
 use mmdb_tree::FoundLeaf;
 use std::convert::AsSlice;
-use std::net::{IpAddr, Ipv6Addr};
+use std::net::IpAddr;
 
 // How many addresses are walked side by side.
 const GROUP: usize = 64;
@@ -20,10 +19,17 @@ impl<S: AsSlice<u8> + Drop> Reader<S> {
     ghost use Rattle.mmdb_reader.specs.Found.{database_asked, leaf_of, offset_found, shown_as_ipv4};
     ghost use Rattle.mmdb_reader.specs.File.{tree_of};
     ghost use Rattle.mmdb_tree.specs.Descents.{Walks};
-    ghost use Rattle.mmdb_reader.specs.Lookup.{CanAsk, Answers, IsInvalidAt, outcome_at, block_at};
-    ghost use Rattle.mmdb_reader.specs.Working.{IsLeafAt};
+    ghost use Rattle.mmdb_reader.specs.Lookup.{CanAsk, Answers, IsInvalidAt, outcome_at};
+    ghost use Rattle.mmdb_reader.specs.Working.{IsLeafAt, IsLookup, block_of};
     ghost use Rattle.mmdb_reader.specs.Shown.{is_shown_as_ipv4};
     ghost use Rattle.mmdb_reader.specs.Many.{HasWalk, IsFoundFor, first_number};
+
+    /// Whether a walk beside others would take longer: that of an IPv4 address over nodes in the caches, which are not
+    /// waited for.
+    #[inline(always)]
+    pub(crate) fn is_walked_alone(&self, address: IpAddr) -> bool {
+        address.is_ipv4() && !self.nodes().outgrow_caches()
+    }
 
     // Where the walks of up to 64 addresses end.
     fn walk_group(&self, addresses: &[IpAddr], leaves: &mut [FoundLeaf; 64])
@@ -97,6 +103,30 @@ impl<S: AsSlice<u8> + Drop> Reader<S> {
 
     /// What `lookup` answers for an address, from where its walk was found to end.
     #[inline(always)]
+    pub(crate) fn answer_found(
+        &self,
+        address: &IpAddr,
+        leaf: FoundLeaf,
+    ) -> Result<LookupResult<'_, S>, MaxMindDbError>
+        requires found { IsFoundFor self.now address.now leaf }
+        ensures { IsLookup self.now address.now result }
+    {
+        let Some(leaf) = self.leaf_found(address, leaf) else {
+            return Err(MaxMindDbError::InvalidInput {
+                message: Message::Fixed(Text::Ipv6InIpv4Lookup),
+            });
+        };
+        let offset = self.offset_at(leaf.number)?;
+        Ok(LookupResult {
+            reader: self,
+            offset,
+            address: leaf.address,
+            prefix: leaf.prefix,
+        })
+    }
+
+    /// What `lookup` answers for an address, from where its walk was found to end.
+    #[inline(always)]
     pub fn lookup_found(
         &self,
         address: IpAddr,
@@ -111,43 +141,36 @@ impl<S: AsSlice<u8> + Drop> Reader<S> {
         ensures of_database { FailsAs OfDatabase result ↔ IsInvalidAt self.now address }
         ensures no_other { IfErr result (λ e. (kind_of e ≡ OfInput) ⊎ (kind_of e ≡ OfDatabase)) }
     {
-        let Some(leaf) = self.leaf_found(address, leaf) else {
-            return Err(MaxMindDbError::InvalidInput {
-                message: Message::Fixed(Text::Ipv6InIpv4Lookup),
-            });
-        };
-        let offset = self.offset_at(leaf.number)?;
-        Ok(LookupResult {
-            reader: self,
-            offset,
-            address: NumberedAddress::of(leaf.address),
-            prefix: usize::from(leaf.prefix),
-        })
+        self.answer_found(&address, leaf)
     }
 
     // The leaf on an address's bits, or none where IPv6 is asked of an IPv4 database.
     #[inline(always)]
-    fn leaf_found(&self, address: IpAddr, found: FoundLeaf) -> Option<Leaf>
-        requires found { IsFoundFor self.now address found }
+    fn leaf_found(&self, address: &IpAddr, found: FoundLeaf) -> Option<Leaf>
+        requires found { IsFoundFor self.now address.now found }
         ensures found { MatchOption result
-            (¬ (CanAsk self.now address))
-            (λ leaf. IsLeafAt self.now address
-            (block_at self.now leaf.address leaf.prefix) leaf.number) }
+            (¬ (CanAsk self.now address.now))
+            (λ leaf. IsLeafAt self.now address.now (block_of self.now leaf) leaf.number) }
         ensures shown { IfSome result
-            (λ leaf. is_ipv4 leaf.address ≡ is_shown_as_ipv4 self.now address) }
+            (λ leaf. nat_eq leaf.address.width 32 ≡ is_shown_as_ipv4 self.now address.now) }
     {
         let nodes = self.nodes();
         match address {
             IpAddr::V4(_) if self.ipv4_start >= nodes.node_count => Some(Leaf {
                 number: self.ipv4_start,
-                address: IpAddr::V6(Ipv6Addr::UNSPECIFIED),
-                prefix: self.ipv4_depth,
+                address: NumberedAddress::ipv6(0),
+                prefix: usize::from(self.ipv4_depth),
+            }),
+            IpAddr::V4(v4) => Some(Leaf {
+                number: found.number as usize,
+                address: NumberedAddress::ipv4(v4.to_bits()),
+                prefix: found.taken as usize,
             }),
             IpAddr::V6(_) if self.metadata.ip_version != 6 => None,
-            _ => Some(Leaf {
+            IpAddr::V6(v6) => Some(Leaf {
                 number: found.number as usize,
-                address,
-                prefix: found.taken as u8,
+                address: NumberedAddress::ipv6(v6.to_bits()),
+                prefix: found.taken as usize,
             }),
         }
     }

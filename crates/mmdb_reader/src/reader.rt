@@ -1,8 +1,6 @@
 //! Readers, and lookups of addresses.
-ghost use Rattle.std.specs.Prelude.{◌≡◌, ℕ, ◌+◌, ◌^◌, ◌<◌, ◌≤◌, ◌⊎◌, ◌↔◌, IfOk, IfErr, IfSome, OnOk, MatchOption, MatchResult, length, slice_index};
-ghost use Rattle.std.specs.Net.Addr.{is_ipv4};
+ghost use Rattle.std.specs.Prelude.{◌≡◌, ℕ, ◌+◌, ◌^◌, ◌<◌, ◌≤◌, ◌⊎◌, ◌↔◌, IfOk, IfErr, IfSome, OnOk, MatchOption, MatchResult, length, slice_index, nat_eq, false};
 ghost use Rattle.mmdb_format.specs.Error.{OfDatabase, OfInput, kind_of, MemoryApart, FailsAs};
-ghost use Rattle.mmdb_net.specs.Address.{address_width};
 ghost use Rattle.mmdb_reader.specs.Metadata.{metadata_datum};
 ghost use Rattle.mmdb_reader.specs.File.{database, IsSupported, HasRoom, data_start, data_length, data_section, marker_bytes, metadata_section, separator, tree_len};
 
@@ -16,15 +14,17 @@ use mmdb_tree::{Entry, Nodes, SEPARATOR, TreeRecord};
 use std::alloc::Global;
 use std::convert::AsSlice;
 use std::marker::Model;
-use std::net::{IpAddr, Ipv6Addr};
+use std::net::IpAddr;
 
 // A leaf as the network that shows it, with the number to which its walk leads.
 #[derive(Clone, Copy)]
 pub(crate) struct Leaf {
     pub(crate) number: usize,
-    pub(crate) address: IpAddr,
-    pub(crate) prefix: u8,
-    pub(crate) ghost is_prefix: { prefix ≤ address_width address },
+    pub(crate) address: NumberedAddress,
+    pub(crate) prefix: usize,
+    pub(crate) ghost is_width: { nat_eq address.width 32 ≡ false → address.width ≡ 128 },
+    pub(crate) ghost fits: { address.bits < 2 ^ address.width },
+    pub(crate) ghost is_prefix: { prefix ≤ address.width },
 }
 
 /// What a reader keeps beside its source: where the parts of the file begin, where IPv4 begins in the
@@ -75,8 +75,8 @@ impl<S: AsSlice<u8> + Drop> Reader<S> {
     ghost use Rattle.mmdb_reader.specs.Found.{database_asked, leaf_of, offset_found, shown_as_ipv4};
     ghost use Rattle.mmdb_reader.specs.Counting.{CountsAnswer, CountsNodes};
     ghost use Rattle.mmdb_reader.specs.Kept.{IsReader};
-    ghost use Rattle.mmdb_reader.specs.Lookup.{CanAsk, Answers, IsInvalidAt, outcome_of, outcome_at, record_at, block_at};
-    ghost use Rattle.mmdb_reader.specs.Working.{IsLeafAt};
+    ghost use Rattle.mmdb_reader.specs.Lookup.{CanAsk, Answers, IsInvalidAt, outcome_of, outcome_at, record_at};
+    ghost use Rattle.mmdb_reader.specs.Working.{IsLeafAt, block_of};
     ghost use Rattle.mmdb_reader.specs.Shown.{is_shown_as_ipv4, has_ipv4_subtree, ipv4_start};
     ghost use Rattle.mmdb_tree.specs.Nodes.{tree_in};
     ghost use Rattle.mmdb_tree.specs.declared.record.TreeRecord.TheVariants.{Invalid};
@@ -246,38 +246,38 @@ impl<S: AsSlice<u8> + Drop> Reader<S> {
         requires room { steps.old + 128 < 2 ^ 64 }
         ensures found { MatchOption result
             (¬ (CanAsk self.now address))
-            (λ leaf. IsLeafAt self.now address
-            (block_at self.now leaf.address leaf.prefix) leaf.number) }
+            (λ leaf. IsLeafAt self.now address (block_of self.now leaf) leaf.number) }
         ensures shown { IfSome result
-            (λ leaf. is_ipv4 leaf.address ≡ is_shown_as_ipv4 self.now address) }
+            (λ leaf. nat_eq leaf.address.width 32 ≡ is_shown_as_ipv4 self.now address) }
         ensures counted { MatchOption result (steps.new ≡ steps.old)
-            (λ leaf. CountsNodes self.now address
-            (block_at self.now leaf.address leaf.prefix) steps.old steps.new) }
+            (λ leaf. CountsNodes self.now address (block_of self.now leaf) steps.old steps.new) }
     {
         let nodes = self.nodes();
         match address {
             IpAddr::V4(_) if self.ipv4_start >= nodes.node_count => Some(Leaf {
                 number: self.ipv4_start,
-                address: IpAddr::V6(Ipv6Addr::UNSPECIFIED),
-                prefix: self.ipv4_depth,
+                address: NumberedAddress::ipv6(0),
+                prefix: usize::from(self.ipv4_depth),
             }),
             IpAddr::V4(v4) => {
-                let descent = nodes.descend_ipv4(&self.ipv4_table, v4.to_bits());
+                let bits = v4.to_bits();
+                let descent = nodes.descend_ipv4(&self.ipv4_table, bits);
                 steps.add(descent.read);
                 Some(Leaf {
                     number: descent.number,
-                    address,
-                    prefix: descent.taken as u8,
+                    address: NumberedAddress::ipv4(bits),
+                    prefix: descent.taken,
                 })
             }
             IpAddr::V6(_) if self.metadata.ip_version != 6 => None,
             IpAddr::V6(v6) => {
-                let descent = nodes.descend_ipv6(&self.ipv6_table, v6.to_bits());
+                let bits = v6.to_bits();
+                let descent = nodes.descend_ipv6(&self.ipv6_table, bits);
                 steps.add(descent.read);
                 Some(Leaf {
                     number: descent.number,
-                    address,
-                    prefix: descent.taken as u8,
+                    address: NumberedAddress::ipv6(bits),
+                    prefix: descent.taken,
                 })
             }
         }
@@ -342,8 +342,8 @@ impl<S: AsSlice<u8> + Drop> Reader<S> {
         Ok(LookupResult {
             reader: self,
             offset,
-            address: NumberedAddress::of(leaf.address),
-            prefix: usize::from(leaf.prefix),
+            address: leaf.address,
+            prefix: leaf.prefix,
         })
     }
 

@@ -106,6 +106,7 @@ impl<S: AsSlice<u8> + Drop> Reader<S> {
     }
 
     // Whether the bits to a position of an IPv6 database begin with the 96 zeros before IPv4.
+    #[inline(always)]
     fn is_behind_zeros(&self, position: Position) -> bool
         requires at { IsAt self.now position }
         requires ipv6 { width self.now ≡ 128 }
@@ -115,6 +116,7 @@ impl<S: AsSlice<u8> + Drop> Reader<S> {
     }
 
     // Whether the leaf at a position is shown as an IPv4 network.
+    #[inline(always)]
     fn shows_as_ipv4(&self, position: Position) -> bool
         requires { IsAt self.now position }
         ensures { result ≡ is_leaf_shown_as_ipv4 self.now (bits_to self.now position) }
@@ -123,6 +125,7 @@ impl<S: AsSlice<u8> + Drop> Reader<S> {
     }
 
     // The leaf at a position, with the offset of its value.
+    #[inline(always)]
     fn leaf_at(&self, position: Position, offset: Option<usize>) -> LookupResult<'_, S>
         requires { IsAt self.now position }
         ensures database { database_asked result ≡ self.now }
@@ -154,6 +157,7 @@ impl<S: AsSlice<u8> + Drop> Reader<S> {
     }
 
     // The item for the leaf at a position.
+    #[inline(always)]
     fn item(
         &self,
         position: Position,
@@ -335,6 +339,7 @@ impl<'de, S: AsSlice<u8> + Drop> Iterator for Within<'de, S> {
 
     ghost remaining = { item_count items_to_come };
 
+    #[inline(always)]
     fn next(&mut self) -> Option<Self::Item> {
         while let Some(position) = self.stack.pop() {
             let below = self

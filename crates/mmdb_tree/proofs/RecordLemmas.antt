@@ -17,37 +17,21 @@ module _ (bytes : List ℕ) (at : ℕ) (fit : AreBytes bytes at) where
       let last = byte 3 (at + 1 + 2) (omega arith) (omega arith) in
       omega arith
 
-  last_of : four_bytes bytes at % 256 ≡ get_or bytes (at + 3) 0
-  last_of =
-      let three : get_or bytes (at + 1 + 2) 0 ≡ get_or bytes (at + 3) 0 = ap (λ (p : ℕ). get_or bytes p 0) (omega arith) in
-      let last = byte 3 (at + 1 + 2) (omega arith) (omega arith) in
-      omega arith
-
-  low_bits : four_bytes bytes at % 268435456 ≡ 2 ^ 24 * (get_or bytes at 0 % 16) + three_bytes bytes (at + 1)
-  low_bits =
-      let b = byte 1 (at + 1) (omega arith) (omega arith) in
-      let c = byte 2 (at + 1 + 1) (omega arith) (omega arith) in
-      let d = byte 3 (at + 1 + 2) (omega arith) (omega arith) in
-      omega arith
-
 pub record-24 : (bytes : List ℕ) (at place word : ℕ) (right : Bool) → place ≡ at + bool_byte right * 3 → word ≡ four_bytes bytes place → AreBytes bytes place → word / 256 ≡ child_24 bytes at right
 record-24 bytes at place word true e is fit = ap (λ (n : ℕ). n / 256) is ∙ without_last bytes place fit ∙ ap (three_bytes bytes) e
 record-24 bytes at place word false e is fit = let same : place ≡ at = omega arith in ap (λ (n : ℕ). n / 256) is ∙ without_last bytes place fit ∙ ap (three_bytes bytes) same
 
-pub record-28-right : (bytes : List ℕ) (at place word : ℕ) (right : Bool) → right ≡ true → place ≡ at + bool_byte right * 3 → word ≡ four_bytes bytes place → AreBytes bytes place → word % 268435456 ≡ child_28 bytes at right
-record-28-right bytes at place word false not e is fit = absurd (cc)
-record-28-right bytes at place word true on e is fit =
-    let next : place + 1 ≡ at + 4 = omega arith in
-    ap (λ (n : ℕ). n % 268435456) is ∙ low_bits bytes place fit ∙ ap (λ (p : ℕ). 2 ^ 24 * (get_or bytes p 0 % 16) + three_bytes bytes (place + 1)) e ∙ ap (λ (p : ℕ). 2 ^ 24 * (get_or bytes (at + 3) 0 % 16) + three_bytes bytes p) next
-
-pub record-28-left : (bytes : List ℕ) (at place word : ℕ) (right : Bool) → right ≡ false → place ≡ at + bool_byte right * 3 → word ≡ four_bytes bytes place → AreBytes bytes place → word / 256 + word % 256 / 16 * 16777216 ≡ child_28 bytes at right
-record-28-left bytes at place word true not e is fit = absurd (cc)
-record-28-left bytes at place word false off e is fit =
+pub record-28 : (bytes : List ℕ) (at place word middle high number : ℕ) (right : Bool) → place ≡ at + bool_byte right * 4 → word ≡ four_bytes bytes place → AreBytes bytes place → middle ≡ get_or bytes (at + 3) 0 → (right ≡ true → high ≡ middle % 16) → (right ≡ false → high ≡ middle / 16)
+    → number ≡ word / 256 + high * 16777216 → number ≡ child_28 bytes at right
+record-28 bytes at place word middle high number true e is fit m on off sum =
+    let low : word / 256 ≡ three_bytes bytes (at + 4) = ap (λ (n : ℕ). n / 256) is ∙ without_last bytes place fit ∙ ap (three_bytes bytes) e in
+    let top : high ≡ get_or bytes (at + 3) 0 % 16 = on refl ∙ ap (λ (n : ℕ). n % 16) m in
+    omega (arith, sum, low, top)
+record-28 bytes at place word middle high number false e is fit m on off sum =
     let same : place ≡ at = omega arith in
-    let high : word / 256 ≡ three_bytes bytes at = ap (λ (n : ℕ). n / 256) is ∙ without_last bytes place fit ∙ ap (three_bytes bytes) same in
-    let low : word % 256 ≡ get_or bytes (at + 3) 0 = ap (λ (n : ℕ). n % 256) is ∙ last_of bytes place fit ∙ ap (λ (p : ℕ). get_or bytes (p + 3) 0) same in
-    let parts : word % 256 / 16 ≡ get_or bytes (at + 3) 0 / 16 = ap (λ (n : ℕ). n / 16) low in
-    omega arith
+    let low : word / 256 ≡ three_bytes bytes at = ap (λ (n : ℕ). n / 256) is ∙ without_last bytes place fit ∙ ap (three_bytes bytes) same in
+    let top : high ≡ get_or bytes (at + 3) 0 / 16 = off refl ∙ ap (λ (n : ℕ). n / 16) m in
+    omega (arith, sum, low, top)
 
 pub record-32 : (bytes : List ℕ) (at place word : ℕ) (right : Bool) → place ≡ at + bool_byte right * 4 → word ≡ four_bytes bytes place → word ≡ child_32 bytes at right
 record-32 bytes at place word true e is = is ∙ ap (four_bytes bytes) e

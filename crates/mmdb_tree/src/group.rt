@@ -7,6 +7,10 @@ use crate::nodes::Nodes;
 use crate::table::Entry;
 use std::net::IpAddr;
 
+// Nodes of no more bytes are mostly read from a core's caches, where a walk waits less for a read than a walk beside
+// others costs: Country files have 8 to 9 MB of nodes, City files 40 MB and more.
+const CACHED: usize = 16 << 20;
+
 /// Where the walk of an address stands: at a number of the tree, after how many bits of the address.
 #[derive(Clone, Copy, Default)]
 pub struct FoundLeaf {
@@ -107,25 +111,6 @@ impl Nodes<'_> {
         }
     }
 
-    // Takes one step of a walk along the bits of an address.
-    #[inline(always)]
-    fn step(&self, leaf: FoundLeaf, address: IpAddr, taken: u32) -> FoundLeaf
-        requires { taken < 128 }
-        ensures { WalksOn (tree_in self.now) (bits_of_address address) leaf result }
-    {
-        let number = leaf.number as usize;
-        if number >= self.node_count || leaf.taken != taken {
-            return leaf;
-        }
-        match bit_at(address, taken as u8) {
-            Some(right) => FoundLeaf {
-                number: self.child(number, right) as u32,
-                taken: taken + 1,
-            },
-            None => leaf,
-        }
-    }
-
     // Where a walk ends.
     #[inline(never)]
     fn finish(&self, leaf: FoundLeaf, address: IpAddr) -> FoundLeaf
@@ -144,69 +129,39 @@ impl Nodes<'_> {
         FoundLeaf { number, taken: 128 }
     }
 
-    // Of the lanes that are listed, keeps those whose walks are on nodes, and says how many. Nothing rests
+    // A step of each walk that is listed and is on a node, and how many these are; they stay on the list. Nothing rests
     // on the list: a walk whose lane is left out is finished by itself.
     #[inline(always)]
-    fn keep_walking(&self, leaves: &[FoundLeaf; 64], lanes: &mut [u8; 64], count: usize) -> usize
-        requires { count ≤ 64 }
-        ensures { result ≤ count }
+    fn step_words(
+        &self,
+        words: &[u32; 64],
+        leaves: &mut [FoundLeaf; 64],
+        lanes: &mut [u8; 64],
+        count: usize,
+        taken: u32,
+    ) -> usize
+        requires count { count ≤ 64 }
+        requires taken { taken < 32 }
+        ensures walks { AllWalkOn (AlongWords words.now) (tree_in self.now) leaves.old leaves.new }
+        ensures kept { result ≤ count }
     {
         let mut kept = 0;
         for j in 0..count {
             let lane = lanes[j];
-            lanes[kept] = lane;
-            let number = leaves[usize::from(lane % 64)].number as usize;
+            let i = usize::from(lane % 64);
+            let leaf = leaves[i];
+            let number = leaf.number as usize;
             if number < self.node_count {
+                leaves[i] = self.step_word(leaf, words[i], taken);
+                lanes[kept] = lane;
                 kept += 1;
             }
         }
         kept
     }
 
-    // A step of each walk that is listed.
-    #[inline(always)]
-    fn step_words(
-        &self,
-        words: &[u32; 64],
-        leaves: &mut [FoundLeaf; 64],
-        lanes: &[u8; 64],
-        count: usize,
-        taken: u32,
-    )
-        requires count { count ≤ 64 }
-        requires taken { taken < 32 }
-        ensures { AllWalkOn (AlongWords words.now) (tree_in self.now) leaves.old leaves.new }
-    {
-        for j in 0..count {
-            let lane = usize::from(lanes[j] % 64);
-            leaves[lane] = self.step_word(leaves[lane], words[lane], taken);
-        }
-    }
-
-    // A step of each walk that is listed, along the bits of its address.
-    #[inline(always)]
-    fn step_all(
-        &self,
-        addresses: &[IpAddr],
-        leaves: &mut [FoundLeaf; 64],
-        lanes: &[u8; 64],
-        count: usize,
-        taken: u32,
-    )
-        requires count { count ≤ 64 }
-        requires taken { taken < 128 }
-        ensures { AllWalkOn (IsBitsOf addresses.now) (tree_in self.now) leaves.old leaves.new }
-    {
-        for j in 0..count {
-            let lane = usize::from(lanes[j] % 64);
-            if lane < addresses.len() {
-                leaves[lane] = self.step(leaves[lane], addresses[lane], taken);
-            }
-        }
-    }
-
-    // Goes on with the walks of a group, whose first sixteen bits are taken, side by side: a step of each
-    // that is on a node, without a branch on what it read, so that none waits for another one's read.
+    // Goes on with the walks of a group, whose first sixteen bits are taken, side by side and up to their 32nd bit: a
+    // step of each, so that none waits for what another one reads.
     #[inline(always)]
     fn walk_group(&self, addresses: &[IpAddr], words: &[u32; 64], leaves: &mut [FoundLeaf; 64])
         requires few { length addresses.now ≤ 64 }
@@ -214,20 +169,12 @@ impl Nodes<'_> {
         ensures { AllWalkOn (IsBitsOf addresses.now) (tree_in self.now) leaves.old leaves.new }
     {
         let mut lanes = all_lanes();
-        let mut count = self.keep_walking(leaves, &mut lanes, addresses.len());
+        let mut count = addresses.len();
         for taken in 16..32u32 {
             if count == 0 {
                 return;
             }
-            self.step_words(words, leaves, &lanes, count, taken);
-            count = self.keep_walking(leaves, &mut lanes, count);
-        }
-        for later in 32..128u32 {
-            if count == 0 {
-                return;
-            }
-            self.step_all(addresses, leaves, &lanes, count, later);
-            count = self.keep_walking(leaves, &mut lanes, count);
+            count = self.step_words(words, leaves, &mut lanes, count, taken);
         }
     }
 
@@ -272,15 +219,26 @@ impl Nodes<'_> {
         }
     }
 
+    /// Whether these nodes are more bytes than a core's share of the caches, so that walks wait for memory.
+    #[inline(always)]
+    pub fn outgrow_caches(&self) -> bool {
+        self.node_count * usize::from(self.record_size / 4) > CACHED
+    }
+
+    // Whether walks of these addresses are faster side by side. Those of IPv6 mostly end in the table.
+    fn gain_side_by_side(&self, addresses: &[IpAddr]) -> bool {
+        self.outgrow_caches() && has_ipv4(addresses)
+    }
+
     /// Goes on with the walks of up to 64 addresses, which have taken their first sixteen bits, to the end of each
-    /// ("Search Lookup Algorithm" of the MaxMind DB File Format Specification 2.0). Most walks of IPv6 addresses have
-    /// ended by then, so a group without IPv4 is not walked side by side: making its words and its list costs more
-    /// than the reads that it waits for.
+    /// ("Search Lookup Algorithm" of the MaxMind DB File Format Specification 2.0). Over nodes that the caches hold, and
+    /// where no address is of IPv4, one walk is finished after the other: making words and a list costs more than the
+    /// reads that are waited for.
     pub fn go_on(&self, addresses: &[IpAddr], leaves: &mut [FoundLeaf; 64])
         requires { length addresses.now ≤ 64 }
         ensures { AllEnd (tree_in self.now) addresses.now leaves.old leaves.new }
     {
-        if has_ipv4(addresses) {
+        if self.gain_side_by_side(addresses) {
             let mut words = [0; 64];
             first_words(addresses, &mut words);
             self.walk_by_size(addresses, &words, leaves);

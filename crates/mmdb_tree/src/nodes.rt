@@ -1,5 +1,5 @@
 //! The nodes of the search tree, and the walk over them.
-ghost use Rattle.std.specs.Prelude.{◌≡◌, ℕ, ◌+◌, ◌*◌, ◌^◌, ◌<◌, ◌≤◌, ◌==◌, if◌then◌else◌, length, slice_index, IsTrue};
+ghost use Rattle.std.specs.Prelude.{◌≡◌, ℕ, ◌+◌, ◌*◌, ◌/◌, ◌%◌, ◌^◌, ◌<◌, ◌≤◌, ◌==◌, if◌then◌else◌, length, slice_index, IsTrue, true, false};
 ghost use Rattle.mmdb_tree.specs.Tree.{is_record_size, node_bytes, three_bytes, four_bytes, child};
 
 /// The number that a node has for a bit of an address, where `bytes` begin with the nodes of a tree
@@ -49,6 +49,16 @@ fn word_at(bytes: &[u8], at: usize) -> u32
     ensures bytes { (k : ℕ) → k < 4 → slice_index bytes.now (at + k) < 256 }
 {
     u32::from_be_bytes([bytes[at], bytes[at + 1], bytes[at + 2], bytes[at + 3]])
+}
+
+// The highest four bits of a record of 28 bits, in the middle byte of a node. Without a branch, since a bit of an
+// address is hard to foresee.
+#[inline(always)]
+fn high_bits(middle: u8, right: bool) -> u32
+    ensures right { right ≡ true → result ≡ middle % 16 }
+    ensures left { right ≡ false → result ≡ middle / 16 }
+{
+    (u32::from(middle) << (u32::from(right) * 4)) % 256 / 16
 }
 
 /// The nodes of a tree, in the bytes that begin with them; the separator's sixteen bytes follow ("Binary Search Tree
@@ -104,8 +114,8 @@ impl Nodes<'_> {
         }
     }
 
-    /// The number that a node has for a bit, the left one for 0 ("Node Layout" of the specification), from one load
-    /// of four bytes: the byte after a record of three, or before it, is one of the tree or of the separator.
+    /// The number that a node has for a bit, the left one for 0 ("Node Layout" of the specification), from a load of
+    /// four bytes: the byte after a record of three is one of the tree or of the separator.
     #[tactic(auto, unfolding(crate::specs::Tree::step, crate::specs::Tree::child))]
     #[inline(always)]
     pub fn child(&self, node: usize, right: bool) -> usize
@@ -117,12 +127,9 @@ impl Nodes<'_> {
         let number = match self.record_size {
             24 => word_at(self.bytes, node * 6 + side * 3) >> 8,
             28 => {
-                let word = word_at(self.bytes, node * 7 + side * 3);
-                if right {
-                    word % (1 << 28)
-                } else {
-                    (word >> 8) + (word % 256 / 16) * (1 << 24)
-                }
+                let at = node * 7;
+                let low = word_at(self.bytes, at + side * 4) >> 8;
+                low + high_bits(self.bytes[at + 3], right) * (1 << 24)
             }
             32 => word_at(self.bytes, node * 8 + side * 4),
             _ => unreachable!(),

@@ -1,10 +1,10 @@
 use Rattle.std.proofs.Common.{◌≡◌, ◌<◌, ◌∷◌, length, arith}
-use Rattle.mmdb_reader.proofs.ManyLemmas.{IsGroup-new, IsGroup-first, IsGroup-rest}
+use Rattle.mmdb_reader.proofs.ManyLemmas.{IsGroup-new, IsGroup-used, IsGroup-first, IsGroup-rest}
 use Rattle.mmdb_reader.proofs.lookup_many.LookupManyIterator.next.Goals as goal
-use Rattle.mmdb_reader.proofs.lookup_many.LookupManyIterator.next.Goals.{then-self, else-self}
+use Rattle.mmdb_reader.proofs.lookup_many.LookupManyIterator.next.Goals.{then-self+else-is_walked_alone, else-self}
 
-pub lookup_found-answer-requires : goal.lookup_found-answer-requires
-lookup_found-answer-requires g c =
+pub answer_found-answer-requires : goal.answer_found-answer-requires
+answer_found-answer-requires g c =
     let db = c.self.inside.reader.now in
     let left = c.self.inside.left.now in
     let first = c.in_ok-first.first.now in
@@ -12,7 +12,7 @@ lookup_found-answer-requires g c =
     let is : left ≡ first ∷ rest = c.in_ok-first.ensures.cases.0 in
     record {
       found = elim c.if-self.branch [
-        | then-self w ↦
+        | then-self+else-is_walked_alone w ↦
             let found = w.find_group-self-inside in
             let some : 0 < length left = rw is (omega arith) in
             rw w.self-inside-is (IsGroup-first db left found.new.leaves 0 found.result (IsGroup-new db left found.new.leaves found.result found.ensures.few found.ensures.within found.ensures.found) (found.ensures.some some) first rest is _)
@@ -23,14 +23,17 @@ lookup_found-answer-requires g c =
     }
 
 pub invariant_of-self : goal.invariant_of-self
-invariant_of-self g c =
+invariant_of-self g c = IsGroup-used c.self.inside.reader.now c.in_ok-first.rest.now c.self.inside.leaves c.self.inside.next c.self.inside.count c.if-self.true c.self.invariant.few
+
+pub invariant_of-self-2 : goal.invariant_of-self-2
+invariant_of-self-2 g c =
     let db = c.self.inside.reader.now in
     let left = c.self.inside.left.now in
     let first = c.in_ok-first.first.now in
     let rest = c.in_ok-first.rest.now in
     let is : left ≡ first ∷ rest = c.in_ok-first.ensures.cases.0 in
     elim c.if-self.branch [
-      | then-self w ↦
+      | then-self+else-is_walked_alone w ↦
           let found = w.find_group-self-inside in
           let some : 0 < length left = rw is (omega arith) in
           rw w.self-inside-is (IsGroup-rest db left found.new.leaves 0 found.result (IsGroup-new db left found.new.leaves found.result found.ensures.few found.ensures.within found.ensures.found) (found.ensures.some some) first rest is)

@@ -10,11 +10,3 @@ invariant-loop-taken l =
       few : l.count ≤ 64;
       goes : AllWalkOn (IsBitsOf l.addresses) tree l.fn.leaves l.leaves;
     }
-
-abbrev pub invariant-loop-later : goal.invariant-loop-later
-invariant-loop-later l =
-    let tree = search_tree l.self.bytes.now l.self.node_count l.self.record_size in
-    record {
-      few : l.count ≤ 64;
-      goes : AllWalkOn (IsBitsOf l.addresses) tree l.fn.leaves l.leaves;
-    }
