@@ -181,8 +181,10 @@ impl<'a, 'f, S: AsSlice<u8> + Drop> Additions for Enrichment<'a, 'f, S> {
     }
 
     fn foresee(&self, memory: &mut RowMemory, bytes: &[u8]) {
-        memory
-            .ahead
-            .look(self.reader, self.rows, self.column, bytes);
+        if self.reader.outgrows_caches() {
+            memory
+                .ahead
+                .look(self.reader, self.rows, self.column, bytes);
+        }
     }
 }

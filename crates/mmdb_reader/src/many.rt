@@ -1,5 +1,5 @@
 //! Lookups of several addresses, whose walks go on side by side.
-ghost use Rattle.std.specs.Prelude.{◌≡◌, ℕ, ◌<◌, ◌≤◌, ◌⊎◌, ◌↔◌, IfOk, IfErr, IfSome, MatchOption, length, slice_index_or, nat_eq};
+ghost use Rattle.std.specs.Prelude.{◌≡◌, ℕ, ◌<◌, ◌≤◌, ◌⊎◌, ◌↔◌, IfOk, IfErr, IfSome, MatchOption, length, slice_index_or, nat_eq, nat_lt};
 ghost use Rattle.std.specs.declared.net.ip_addr.IpAddr.{IpAddr as SpecIpAddr};
 ghost use Rattle.mmdb_format.specs.Error.{OfDatabase, OfInput, kind_of, FailsAs};
 ghost use Rattle.mmdb_net.specs.Address.{bits_of_address};
@@ -17,7 +17,8 @@ const GROUP: usize = 64;
 
 impl<S: AsSlice<u8> + Drop> Reader<S> {
     ghost use Rattle.mmdb_reader.specs.Found.{database_asked, leaf_of, offset_found, shown_as_ipv4};
-    ghost use Rattle.mmdb_reader.specs.File.{tree_of};
+    ghost use Rattle.mmdb_reader.specs.File.{tree_of, tree_len};
+    ghost use Rattle.mmdb_tree.specs.Groups.{most_cached};
     ghost use Rattle.mmdb_tree.specs.Descents.{Walks};
     ghost use Rattle.mmdb_reader.specs.Lookup.{CanAsk, Answers, IsInvalidAt, outcome_at};
     ghost use Rattle.mmdb_reader.specs.Working.{IsLeafAt, IsLookup, block_of};
@@ -28,7 +29,16 @@ impl<S: AsSlice<u8> + Drop> Reader<S> {
     /// waited for.
     #[inline(always)]
     pub(crate) fn is_walked_alone(&self, address: IpAddr) -> bool {
-        address.is_ipv4() && !self.nodes().outgrow_caches()
+        address.is_ipv4() && !self.outgrows_caches()
+    }
+
+    /// Whether the search tree has more than 16 MiB, a core's share of the caches: then lookups of many addresses at once
+    /// are faster than one by one.
+    #[inline(always)]
+    pub fn outgrows_caches(&self) -> bool
+        ensures { result ≡ nat_lt most_cached (tree_len self.now) }
+    {
+        self.nodes().outgrow_caches()
     }
 
     // Where the walks of up to 64 addresses end.

@@ -1,5 +1,5 @@
 //! Walks of several addresses, side by side.
-ghost use Rattle.std.specs.Prelude.{◌≡◌, ℕ, ◌<◌, ◌≤◌, Bool, List, false, MatchOption, get_or, length};
+ghost use Rattle.std.specs.Prelude.{◌≡◌, ℕ, ◌*◌, ◌<◌, ◌≤◌, Bool, List, false, nat_lt, MatchOption, get_or, length};
 ghost use Rattle.mmdb_net.specs.Address.{bits_of_address};
 ghost use Rattle.mmdb_tree.specs.Working.{AreWordsOf, BeginsWith};
 
@@ -90,7 +90,8 @@ fn all_lanes() -> [u8; 64] {
 
 impl Nodes<'_> {
     ghost use Rattle.mmdb_tree.specs.Nodes.{tree_in};
-    ghost use Rattle.mmdb_tree.specs.Groups.{AllEnd};
+    ghost use Rattle.mmdb_tree.specs.Groups.{AllEnd, most_cached};
+    ghost use Rattle.mmdb_tree.specs.Tree.{node_bytes};
     ghost use Rattle.mmdb_tree.specs.Working.{AllWalkOn, AlongWords, WalksOn, WalksToEnd, IsBitsOf};
 
     // One bit more of a walk that has taken so many and is on a node; any other stays.
@@ -221,7 +222,10 @@ impl Nodes<'_> {
 
     /// Whether these nodes are more bytes than a core's share of the caches, so that walks wait for memory.
     #[inline(always)]
-    pub fn outgrow_caches(&self) -> bool {
+    pub fn outgrow_caches(&self) -> bool
+        ensures { result
+            ≡ nat_lt most_cached (self.now.node_count * node_bytes self.now.record_size) }
+    {
         self.node_count * usize::from(self.record_size / 4) > CACHED
     }
 
