@@ -215,3 +215,20 @@ pub fn file_of_shared_nodes(alloc: Global) -> Result<Vec<u8>, AllocError> {
     let changes: Changes<'_> = &[(Field::NodeCount, b"\xC1\x12")];
     file_of_nodes(alloc, &records, changes)
 }
+
+/// How many nodes `file_of_many_nodes` has.
+const MANY: u32 = 2_800_000;
+
+/// An IPv4 file of 2,800,000 nodes, more than 16 MiB. The first eighteen are read, one a level: both halves of each are
+/// the next one, but of the last one, which has no data on the left and offset 0 on the right.
+pub fn file_of_many_nodes(alloc: Global) -> Result<Vec<u8>, AllocError> {
+    let mut records = [(MANY, MANY + 16); 18];
+    for node in 0..17 {
+        let next = node as u32 + 1;
+        records[node] = (next, next);
+    }
+    let mut nodes = nodes_24(alloc, &records)?;
+    nodes.resize(MANY as usize * 6, 0)?;
+    let changes: Changes<'_> = &[(Field::NodeCount, b"\xC3\x2A\xB9\x80")];
+    changed_file(alloc, nodes.as_slice(), BASE_DATA, changes)
+}

@@ -3,8 +3,8 @@ use mmdb_reader::{LookupResult, MaxMindDbError, Reader};
 use mmdb_vectors::answer::{reported, shown};
 use mmdb_vectors::base::{high, low};
 use mmdb_vectors::builder::{
-    BASE_DATA, BASE_NODE, Changes, changed_file, file_of_shared_nodes, file_of_twenty_nodes,
-    file_with_alias, file_without_subtree,
+    BASE_DATA, BASE_NODE, Changes, changed_file, file_of_many_nodes, file_of_shared_nodes,
+    file_of_twenty_nodes, file_with_alias, file_without_subtree,
 };
 use std::alloc::{AllocError, Global};
 use std::convert::AsSlice;
@@ -18,6 +18,7 @@ pub enum File {
     WithoutSubtree,
     TwentyNodes,
     SharedNodes,
+    ManyNodes,
 }
 
 /// The base file.
@@ -31,6 +32,7 @@ fn made(alloc: Global, file: &File) -> Result<Vec<u8>, AllocError> {
         File::WithoutSubtree => file_without_subtree(alloc),
         File::TwentyNodes => file_of_twenty_nodes(alloc),
         File::SharedNodes => file_of_shared_nodes(alloc),
+        File::ManyNodes => file_of_many_nodes(alloc),
     }
 }
 

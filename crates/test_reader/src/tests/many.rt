@@ -53,6 +53,16 @@ const GROUPS: &[(File, &[Row])] = &[
         ("::200.0.0.1", "0000:0000:0000:0000:0000:0000:8000:0000/97 true Some(0)"),
         ("4000::1", "4000:0000:0000:0000:0000:0000:0000:0000/2 false None"),
     ]),
+    // A tree that is walked side by side. The eighteenth bit decides.
+    (File::ManyNodes, &[
+        ("1.2.3.4", "1.2.0.0/18 false None"),
+        ("200.0.64.1", "200.0.64.0/18 true Some(0)"),
+        ("::1", OF_INPUT),
+        ("0.0.127.255", "0.0.64.0/18 true Some(0)"),
+        ("255.255.128.0", "255.255.128.0/18 false None"),
+        ("255.255.192.0", "255.255.192.0/18 true Some(0)"),
+        ("0.0.0.0", "0.0.0.0/18 false None"),
+    ]),
 ];
 
 const MOST: usize = 130;
@@ -136,6 +146,25 @@ fn many_lookups(rt: HostRuntime) -> Result<(), Failures> {
     for (file, rows) in GROUPS {
         expect_group(&mut failures, alloc, reader_of(alloc, file), rows);
     }
+    failures.verdict()
+}
+
+// Whether the tree of a file is larger than what the caches hold.
+fn is_large(alloc: Global, file: &File) -> Option<bool> {
+    match reader_of(alloc, file) {
+        Ok(reader) => Some(reader.outgrows_caches()),
+        Err(_) => None,
+    }
+}
+
+#[test]
+fn trees_beyond_the_caches(rt: HostRuntime) -> Result<(), Failures> {
+    let mut failures = Failures::new(rt.alloc());
+    failures.expect(&"small", is_large(rt.alloc(), &BASE) == Some(false));
+    failures.expect(
+        &"large",
+        is_large(rt.alloc(), &File::ManyNodes) == Some(true),
+    );
     failures.verdict()
 }
 
