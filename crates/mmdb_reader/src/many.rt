@@ -7,7 +7,6 @@ ghost use Rattle.mmdb_net.specs.Address.{bits_of_address};
 use crate::lookup_result::{LookupResult, NumberedAddress};
 use crate::reader::{Leaf, Reader};
 use mmdb_format::error::MaxMindDbError;
-use mmdb_format::message::{Message, Text};
 use mmdb_tree::FoundLeaf;
 use std::convert::AsSlice;
 use std::net::IpAddr;
@@ -23,13 +22,6 @@ impl<S: AsSlice<u8> + Drop> Reader<S> {
     ghost use Rattle.mmdb_reader.specs.Working.{IsLeafAt, IsLookup, block_of};
     ghost use Rattle.mmdb_reader.specs.Shown.{is_shown_as_ipv4};
     ghost use Rattle.mmdb_reader.specs.Many.{HasWalk, IsFoundFor, first_number};
-
-    /// Whether a walk beside others would take longer: that of an IPv4 address over nodes in the caches, which are not
-    /// waited for.
-    #[inline(always)]
-    pub(crate) fn is_walked_alone(&self, address: IpAddr) -> bool {
-        address.is_ipv4() && !self.nodes().outgrow_caches()
-    }
 
     // Where the walks of up to 64 addresses end.
     fn walk_group(&self, addresses: &[IpAddr], leaves: &mut [FoundLeaf; 64])
@@ -111,18 +103,8 @@ impl<S: AsSlice<u8> + Drop> Reader<S> {
         requires found { IsFoundFor self.now address.now leaf }
         ensures { IsLookup self.now address.now result }
     {
-        let Some(leaf) = self.leaf_found(address, leaf) else {
-            return Err(MaxMindDbError::InvalidInput {
-                message: Message::Fixed(Text::Ipv6InIpv4Lookup),
-            });
-        };
-        let offset = self.offset_at(leaf.number)?;
-        Ok(LookupResult {
-            reader: self,
-            offset,
-            address: leaf.address,
-            prefix: leaf.prefix,
-        })
+        let leaf = self.leaf_found(address, leaf);
+        self.answer_of(address, leaf)
     }
 
     /// What `lookup` answers for an address, from where its walk was found to end.
