@@ -3,6 +3,7 @@ ghost use Rattle.std.specs.Prelude.{◌≡◌, ℕ, ◌<◌, ◌≤◌, length, 
 ghost use Rattle.std.specs.declared.net.ip_addr.IpAddr.{IpAddr as SpecIpAddr};
 
 use crate::lookup_result::LookupResult;
+use crate::many::Reached;
 use crate::reader::Reader;
 use mmdb_format::error::MaxMindDbError;
 use mmdb_tree::FoundLeaf;
@@ -76,17 +77,18 @@ impl<'r, 'a, S: AsSlice<u8> + Drop> Iterator for LookupMany<'r, 'a, S> {
     fn next(&mut self) -> Option<Self::Item> {
         let (first, rest) = self.left.split_first()?;
         let reader = self.reader;
-        if self.one_by_one {
-            self.left = rest;
-            return Some((*first, reader.answer(first)));
-        }
-        if self.next == self.count {
-            self.count = reader.find_group(self.left, &mut self.leaves);
-            self.next = 0;
-        }
-        let answer = reader.answer_found(first, self.leaves[self.next]);
+        let found = if self.one_by_one {
+            reader.walk_one(first)
+        } else {
+            if self.next == self.count {
+                self.count = reader.find_group(self.left, &mut self.leaves);
+                self.next = 0;
+            }
+            let leaf = self.leaves[self.next];
+            self.next += 1;
+            Reached::at(leaf)
+        };
         self.left = rest;
-        self.next += 1;
-        Some((*first, answer))
+        Some((*first, reader.answer_found(first, found)))
     }
 }

@@ -1,5 +1,5 @@
 -- The numbers of a node, from loads of four bytes.
-use Rattle.std.proofs.Common.{◌≡◌, ℕ, ◌+◌, ◌*◌, ◌/◌, ◌%◌, ◌^◌, ◌<◌, List, Bool, get_or, true, false, ap, arith, ◌∙◌, sym, subst, refl}
+use Rattle.std.proofs.Common.{◌≡◌, ℕ, ◌+◌, ◌*◌, ◌/◌, ◌%◌, ◌<◌, List, Bool, get_or, true, false, ap, arith, ◌∙◌, sym, subst, refl}
 use Rattle.mmdb_tree.specs.Tree.{three_bytes, four_bytes, child_24, child_28, child_32, child}
 use mir.Val.{bool_byte}
 
