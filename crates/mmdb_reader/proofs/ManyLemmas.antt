@@ -1,5 +1,5 @@
 -- Leaves found for several addresses.
-use Rattle.std.proofs.Common.{◌≡◌, ℕ, suc, ◌+◌, ◌<◌, ◌≤◌, List, ◌∷◌, length, get_or, arith, subst}
+use Rattle.std.proofs.Common.{◌≡◌, Bool, true, false, ℕ, suc, ◌+◌, ◌<◌, ◌≤◌, List, ◌∷◌, length, get_or, arith, subst}
 use Rattle.std.proofs.lemmas.List.{get_or_default}
 use Rattle.std.specs.declared.net.ip_addr.IpAddr.{IpAddr}
 use Rattle.mmdb_net.specs.Address.{bits_of_address}
@@ -65,3 +65,7 @@ IsGroup-used db left leaves next count all few = record {
   asked = omega (arith, all);
   found = λ i a d h. absurd (omega (arith, all, h));
 }
+
+pub not_both : (A : Type 0) (b : Bool) → b ≡ false → b ≡ true → A
+not_both A true off on = absurd (cc)
+not_both A false off on = absurd (cc)

@@ -3,6 +3,7 @@ ghost use Rattle.std.specs.Prelude.{◌≡◌, ℕ, ◌<◌, ◌≤◌, length, 
 ghost use Rattle.std.specs.declared.net.ip_addr.IpAddr.{IpAddr as SpecIpAddr};
 
 use crate::lookup_result::LookupResult;
+use crate::many::Reached;
 use crate::reader::Reader;
 use mmdb_format::error::MaxMindDbError;
 use mmdb_tree::FoundLeaf;
@@ -25,19 +26,22 @@ use std::net::IpAddr;
 pub struct LookupMany<'r, 'a, S: AsSlice<u8> + Drop> {
     reader: &'r Reader<S>,
     left: &'a [IpAddr],
+    one_by_one: bool,
     leaves: [FoundLeaf; 64],
     next: usize,
     count: usize,
 }
 
 impl<'r, 'a, S: AsSlice<u8> + Drop> Model for LookupMany<'r, 'a, S> {
+    ghost use Rattle.std.specs.Prelude.{◌≡◌, true};
     ghost use Rattle.mmdb_reader.specs.Many.{IsGroup, LookupsLeft};
 
     ghost Value = { LookupsLeft };
 
     ghost view = { λ l. record { database = l.reader.now; addresses = l.left.now } };
 
-    ghost invariant = { λ l. IsGroup l.reader.now l.left.now l.leaves l.next l.count };
+    ghost invariant = { λ l. (l.one_by_one ≡ true → l.next ≡ l.count)
+        × IsGroup l.reader.now l.left.now l.leaves l.next l.count };
 }
 
 impl<S: AsSlice<u8> + Drop> Reader<S> {
@@ -51,6 +55,7 @@ impl<S: AsSlice<u8> + Drop> Reader<S> {
         LookupMany {
             reader: self,
             left: addresses,
+            one_by_one: !self.outgrows_caches(),
             leaves: [FoundLeaf::default(); 64],
             next: 0,
             count: 0,
@@ -72,17 +77,18 @@ impl<'r, 'a, S: AsSlice<u8> + Drop> Iterator for LookupMany<'r, 'a, S> {
     fn next(&mut self) -> Option<Self::Item> {
         let (first, rest) = self.left.split_first()?;
         let reader = self.reader;
-        if self.next == self.count {
-            if reader.is_walked_alone(*first) {
-                self.left = rest;
-                return Some((*first, reader.lookup(*first)));
+        let found = if self.one_by_one {
+            reader.walk_one(first)
+        } else {
+            if self.next == self.count {
+                self.count = reader.find_group(self.left, &mut self.leaves);
+                self.next = 0;
             }
-            self.count = reader.find_group(self.left, &mut self.leaves);
-            self.next = 0;
-        }
-        let answer = reader.answer_found(first, self.leaves[self.next]);
+            let leaf = self.leaves[self.next];
+            self.next += 1;
+            Reached::at(leaf)
+        };
         self.left = rest;
-        self.next += 1;
-        Some((*first, answer))
+        Some((*first, reader.answer_found(first, found)))
     }
 }

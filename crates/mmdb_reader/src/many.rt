@@ -7,10 +7,28 @@ ghost use Rattle.mmdb_net.specs.Address.{bits_of_address};
 use crate::lookup_result::{LookupResult, NumberedAddress};
 use crate::reader::{Leaf, Reader};
 use mmdb_format::error::MaxMindDbError;
-use mmdb_format::message::{Message, Text};
 use mmdb_tree::FoundLeaf;
 use std::convert::AsSlice;
 use std::net::IpAddr;
+
+// Where the walk of an address ends: at a number of the tree, after how many bits of the address.
+#[derive(Clone, Copy)]
+pub(crate) struct Reached {
+    pub(crate) number: usize,
+    pub(crate) taken: usize,
+}
+
+impl Reached {
+    #[inline(always)]
+    pub(crate) fn at(leaf: FoundLeaf) -> Reached
+        ensures { result ≡ record { number = leaf.number; taken = leaf.taken } }
+    {
+        Reached {
+            number: leaf.number as usize,
+            taken: leaf.taken as usize,
+        }
+    }
+}
 
 // How many addresses are walked side by side.
 const GROUP: usize = 64;
@@ -24,13 +42,6 @@ impl<S: AsSlice<u8> + Drop> Reader<S> {
     ghost use Rattle.mmdb_reader.specs.Working.{IsLeafAt, IsLookup, block_of};
     ghost use Rattle.mmdb_reader.specs.Shown.{is_shown_as_ipv4};
     ghost use Rattle.mmdb_reader.specs.Many.{HasWalk, IsFoundFor, first_number};
-
-    /// Whether a walk beside others would take longer: that of an IPv4 address over nodes in the caches, which are not
-    /// waited for.
-    #[inline(always)]
-    pub(crate) fn is_walked_alone(&self, address: IpAddr) -> bool {
-        address.is_ipv4() && !self.outgrows_caches()
-    }
 
     /// Whether the search tree has more than 16 MiB, a core's share of the caches: then lookups of many addresses at once
     /// are faster than one by one.
@@ -111,28 +122,48 @@ impl<S: AsSlice<u8> + Drop> Reader<S> {
         }
     }
 
+    /// Where the walk of an address ends.
+    #[inline(always)]
+    pub(crate) fn walk_one(&self, address: &IpAddr) -> Reached
+        ensures { IsFoundFor self.now address.now
+            (record { number = result.number; taken = result.taken }) }
+    {
+        let nodes = self.nodes();
+        match address {
+            IpAddr::V4(v4) if self.ipv4_start < nodes.node_count => {
+                let walk = nodes.descend_ipv4(&self.ipv4_table, v4.to_bits());
+                Reached {
+                    number: walk.number,
+                    taken: walk.taken,
+                }
+            }
+            IpAddr::V6(v6) if self.metadata.ip_version == 6 => {
+                let walk = nodes.descend_ipv6(&self.ipv6_table, v6.to_bits());
+                Reached {
+                    number: walk.number,
+                    taken: walk.taken,
+                }
+            }
+            _ => Reached {
+                number: nodes.node_count,
+                taken: 0,
+            },
+        }
+    }
+
     /// What `lookup` answers for an address, from where its walk was found to end.
     #[inline(always)]
     pub(crate) fn answer_found(
         &self,
         address: &IpAddr,
-        leaf: FoundLeaf,
+        found: Reached,
     ) -> Result<LookupResult<'_, S>, MaxMindDbError>
-        requires found { IsFoundFor self.now address.now leaf }
+        requires { IsFoundFor self.now address.now
+            (record { number = found.number; taken = found.taken }) }
         ensures { IsLookup self.now address.now result }
     {
-        let Some(leaf) = self.leaf_found(address, leaf) else {
-            return Err(MaxMindDbError::InvalidInput {
-                message: Message::Fixed(Text::Ipv6InIpv4Lookup),
-            });
-        };
-        let offset = self.offset_at(leaf.number)?;
-        Ok(LookupResult {
-            reader: self,
-            offset,
-            address: leaf.address,
-            prefix: leaf.prefix,
-        })
+        let leaf = self.leaf_found(address, found);
+        self.answer_of(address, leaf)
     }
 
     /// What `lookup` answers for an address, from where its walk was found to end.
@@ -151,13 +182,14 @@ impl<S: AsSlice<u8> + Drop> Reader<S> {
         ensures of_database { FailsAs OfDatabase result ↔ IsInvalidAt self.now address }
         ensures no_other { IfErr result (λ e. (kind_of e ≡ OfInput) ⊎ (kind_of e ≡ OfDatabase)) }
     {
-        self.answer_found(&address, leaf)
+        self.answer_found(&address, Reached::at(leaf))
     }
 
     // The leaf on an address's bits, or none where IPv6 is asked of an IPv4 database.
     #[inline(always)]
-    fn leaf_found(&self, address: &IpAddr, found: FoundLeaf) -> Option<Leaf>
-        requires found { IsFoundFor self.now address.now found }
+    fn leaf_found(&self, address: &IpAddr, found: Reached) -> Option<Leaf>
+        requires found { IsFoundFor self.now address.now
+            (record { number = found.number; taken = found.taken }) }
         ensures found { MatchOption result
             (¬ (CanAsk self.now address.now))
             (λ leaf. IsLeafAt self.now address.now (block_of self.now leaf) leaf.number) }
@@ -172,15 +204,15 @@ impl<S: AsSlice<u8> + Drop> Reader<S> {
                 prefix: usize::from(self.ipv4_depth),
             }),
             IpAddr::V4(v4) => Some(Leaf {
-                number: found.number as usize,
+                number: found.number,
                 address: NumberedAddress::ipv4(v4.to_bits()),
-                prefix: found.taken as usize,
+                prefix: found.taken,
             }),
             IpAddr::V6(_) if self.metadata.ip_version != 6 => None,
             IpAddr::V6(v6) => Some(Leaf {
-                number: found.number as usize,
+                number: found.number,
                 address: NumberedAddress::ipv6(v6.to_bits()),
-                prefix: found.taken as usize,
+                prefix: found.taken,
             }),
         }
     }

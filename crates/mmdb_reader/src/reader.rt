@@ -76,7 +76,7 @@ impl<S: AsSlice<u8> + Drop> Reader<S> {
     ghost use Rattle.mmdb_reader.specs.Counting.{CountsAnswer, CountsNodes};
     ghost use Rattle.mmdb_reader.specs.Kept.{IsReader};
     ghost use Rattle.mmdb_reader.specs.Lookup.{CanAsk, Answers, IsInvalidAt, outcome_of, outcome_at, record_at};
-    ghost use Rattle.mmdb_reader.specs.Working.{IsLeafAt, block_of};
+    ghost use Rattle.mmdb_reader.specs.Working.{IsLeafAt, IsLookup, block_of};
     ghost use Rattle.mmdb_reader.specs.Shown.{is_shown_as_ipv4, has_ipv4_subtree, ipv4_start};
     ghost use Rattle.mmdb_tree.specs.Nodes.{tree_in};
     ghost use Rattle.mmdb_tree.specs.declared.record.TreeRecord.TheVariants.{Invalid};
@@ -242,15 +242,15 @@ impl<S: AsSlice<u8> + Drop> Reader<S> {
     // The leaf on an address's bits, or none where IPv6 is asked of an IPv4 database. Where the first
     // sixteen bits lead is read from a table.
     #[inline(always)]
-    fn find_leaf(&self, address: IpAddr, steps: &mut Steps) -> Option<Leaf>
+    fn find_leaf(&self, address: &IpAddr, steps: &mut Steps) -> Option<Leaf>
         requires room { steps.old + 128 < 2 ^ 64 }
         ensures found { MatchOption result
-            (¬ (CanAsk self.now address))
-            (λ leaf. IsLeafAt self.now address (block_of self.now leaf) leaf.number) }
+            (¬ (CanAsk self.now address.now))
+            (λ leaf. IsLeafAt self.now address.now (block_of self.now leaf) leaf.number) }
         ensures shown { IfSome result
-            (λ leaf. nat_eq leaf.address.width 32 ≡ is_shown_as_ipv4 self.now address) }
+            (λ leaf. nat_eq leaf.address.width 32 ≡ is_shown_as_ipv4 self.now address.now) }
         ensures counted { MatchOption result (steps.new ≡ steps.old)
-            (λ leaf. CountsNodes self.now address (block_of self.now leaf) steps.old steps.new) }
+            (λ leaf. CountsNodes self.now address.now (block_of self.now leaf) steps.old steps.new) }
     {
         let nodes = self.nodes();
         match address {
@@ -312,6 +312,34 @@ impl<S: AsSlice<u8> + Drop> Reader<S> {
         }
     }
 
+    // What `lookup` answers for an address with this leaf, or with none where it can't be asked for.
+    #[inline(always)]
+    pub(crate) fn answer_of(
+        &self,
+        address: &IpAddr,
+        leaf: Option<Leaf>,
+    ) -> Result<LookupResult<'_, S>, MaxMindDbError>
+        requires found { MatchOption leaf
+            (¬ (CanAsk self.now address.now))
+            (λ leaf. IsLeafAt self.now address.now (block_of self.now leaf) leaf.number) }
+        requires shown { IfSome leaf
+            (λ leaf. nat_eq leaf.address.width 32 ≡ is_shown_as_ipv4 self.now address.now) }
+        ensures { IsLookup self.now address.now result }
+    {
+        let Some(leaf) = leaf else {
+            return Err(MaxMindDbError::InvalidInput {
+                message: Message::Fixed(Text::Ipv6InIpv4Lookup),
+            });
+        };
+        let offset = self.offset_at(leaf.number)?;
+        Ok(LookupResult {
+            reader: self,
+            offset,
+            address: leaf.address,
+            prefix: leaf.prefix,
+        })
+    }
+
     /// `lookup`, which adds the nodes that it reads to `steps`.
     ///
     /// For an IPv4 address, where IPv4 begins on a node, they are those of the bits after the first
@@ -333,18 +361,8 @@ impl<S: AsSlice<u8> + Drop> Reader<S> {
         ensures counted { CountsAnswer self.now address steps.old steps.new }
         ensures not_counted { ¬ (CanAsk self.now address) → steps.new ≡ steps.old }
     {
-        let Some(leaf) = self.find_leaf(address, steps) else {
-            return Err(MaxMindDbError::InvalidInput {
-                message: Message::Fixed(Text::Ipv6InIpv4Lookup),
-            });
-        };
-        let offset = self.offset_at(leaf.number)?;
-        Ok(LookupResult {
-            reader: self,
-            offset,
-            address: leaf.address,
-            prefix: leaf.prefix,
-        })
+        let leaf = self.find_leaf(&address, steps);
+        self.answer_of(&address, leaf)
     }
 
     /// What the database has for an address.

@@ -28,7 +28,7 @@ pub returns-in-V4-clause-shown : goal.returns-in-V4-clause-shown
 returns-in-V4-clause-shown g c =
     let known = reader_of c.args.self.now _ c.self.inside.data_start c.self.inside.ipv4_start c.self.inside.ipv4_depth c.self.inside.ipv4_table.items c.self.inside.ipv6_table.items c.self.view_is c.self.invariant in
     let off : c.args.self.now.metadata.node_count ≤ c.self.inside.ipv4_start = omega (arith, ap (λ t. t.node_count) c.nodes-nodes.ensures.tree, c.if-self-nodes.true) in
-    long_width c.ipv6.result 0 0 c.ipv6.ensures ∙ sym (shown-none c.args.self.now c.args.address c.self.inside.ipv4_start c.self.inside.ipv4_depth known.ipv4 known.accepted.supported.some_node off)
+    long_width c.ipv6.result 0 0 c.ipv6.ensures ∙ sym (shown-none c.args.self.now c.args.address.now c.self.inside.ipv4_start c.self.inside.ipv4_depth known.ipv4 known.accepted.supported.some_node off)
 
 pub returns-in-V4-clause-counted : goal.returns-in-V4-clause-counted
 returns-in-V4-clause-counted g c =

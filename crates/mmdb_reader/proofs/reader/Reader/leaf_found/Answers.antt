@@ -35,7 +35,7 @@ pub invariant_of-result-in-V4-2 : goal.invariant_of-result-in-V4-2
 invariant_of-result-in-V4-2 g c =
     let db = c.args.self.now in
     let known = reader_of c.args.self.now _ c.self.inside.data_start c.self.inside.ipv4_start c.self.inside.ipv4_depth c.self.inside.ipv4_table.items c.self.inside.ipv6_table.items c.self.view_is c.self.invariant in
-    let F : IpAddr → Type 0 = λ a. IsFoundFor db a c.args.found in
+    let F : IpAddr → Type 0 = λ a. IsFoundFor db a (record { number = c.args.found.number; taken = c.args.found.taken }) in
     let same = start-is db c.self.inside.ipv4_start c.self.inside.ipv4_depth known.ipv4 in
     let few = taken-le _ _ 32 _ _ _ (subst F c.in-V4-2.is c.requires.found (omega (arith, same, ap (λ t. t.node_count) c.nodes-nodes.ensures.tree, c.if-self-nodes.false))) in
     let fields = short_fields c.ipv4.result _ c.args.found.taken c.ipv4.ensures (omega (arith, c.to_bits.type_inv)) (omega (arith, few)) in
@@ -46,7 +46,7 @@ returns-in-V4-2-clause-found g c =
     let db = c.args.self.now in
     let start = c.self.inside.ipv4_start in
     let known = reader_of c.args.self.now _ c.self.inside.data_start c.self.inside.ipv4_start c.self.inside.ipv4_depth c.self.inside.ipv4_table.items c.self.inside.ipv6_table.items c.self.view_is c.self.invariant in
-    let F : IpAddr → Type 0 = λ a. IsFoundFor db a c.args.found in
+    let F : IpAddr → Type 0 = λ a. IsFoundFor db a (record { number = c.args.found.number; taken = c.args.found.taken }) in
     let same = start-is db start c.self.inside.ipv4_depth known.ipv4 in
     let on : start < db.metadata.node_count = omega (arith, ap (λ t. t.node_count) c.nodes-nodes.ensures.tree, c.if-self-nodes.false) in
     let P : ℕ → Type 0 = λ s. Descends (tree_of db) s (bits_of 32 (ipv4_bits c.in-V4-2.v4)) c.args.found.taken c.args.found.number in
@@ -61,7 +61,7 @@ returns-in-V4-2-clause-shown g c =
 
 pub invariant_of-result-in-V6-2 : goal.invariant_of-result-in-V6-2
 invariant_of-result-in-V6-2 g c =
-    let F : IpAddr → Type 0 = λ a. IsFoundFor c.args.self.now a c.args.found in
+    let F : IpAddr → Type 0 = λ a. IsFoundFor c.args.self.now a (record { number = c.args.found.number; taken = c.args.found.taken }) in
     let few = taken-le _ _ 128 _ _ _ (subst F c.in-V6-2.is c.requires.found (omega (arith, ap (λ d. d.metadata.ip_version) c.self.view_is, c.if-self-ne6.false))) in
     let fields = long_fields c.ipv6-in-V6-2.result _ c.args.found.taken c.ipv6-in-V6-2.ensures (omega (arith, c.to_bits-in-V6-2.type_inv)) (omega (arith, few)) in
     record { is_width = fields.0; fits = fields.1.0; is_prefix = fields.1.1 }
@@ -69,7 +69,7 @@ invariant_of-result-in-V6-2 g c =
 pub returns-in-V6-2-clause-found : goal.returns-in-V6-2-clause-found
 returns-in-V6-2-clause-found g c =
     let db = c.args.self.now in
-    let F : IpAddr → Type 0 = λ a. IsFoundFor db a c.args.found in
+    let F : IpAddr → Type 0 = λ a. IsFoundFor db a (record { number = c.args.found.number; taken = c.args.found.taken }) in
     let six : db.metadata.ip_version ≡ 6 = omega (arith, ap (λ d. d.metadata.ip_version) c.self.view_is, c.if-self-ne6.false) in
     rw c.in-V6-2.is (long_at c.ipv6-in-V6-2.result _ c.args.found.taken c.ipv6-in-V6-2.ensures db (λ bits. IsLeafAt db (V6 c.in-V6-2.v6) bits c.args.found.number) c.in-V6-2.v6 c.to_bits-in-V6-2.ensures
     (IsLeafAt-v6 db c.in-V6-2.v6 _ _ six (subst F c.in-V6-2.is c.requires.found six)))
