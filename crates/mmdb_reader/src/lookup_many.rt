@@ -13,7 +13,8 @@ use std::net::IpAddr;
 
 /// The answers for addresses, in their order: each address with what `lookup` answers for it.
 ///
-/// Up to 64 addresses are walked together, side by side where one of them is of IPv4, and no item takes memory.
+/// In a tree that outgrows the caches up to 64 addresses are walked together, side by side where one of them is of IPv4.
+/// No item takes memory.
 /// An address that can't be asked for is an error in its place, and the others come after it.
 ///
 ///     let mut with_data = 0usize;
@@ -47,7 +48,7 @@ impl<'r, 'a, S: AsSlice<u8> + Drop> Model for LookupMany<'r, 'a, S> {
 impl<S: AsSlice<u8> + Drop> Reader<S> {
     /// What `lookup` answers for each of these addresses, in their order; both kinds may be mixed.
     ///
-    /// Where the tree does not fit the processor's caches, this is faster than lookups one by one.
+    /// Where the tree does not fit the processor's caches, this is faster than lookups one by one, and else as fast.
     pub fn lookup_many<'r, 'a>(&'r self, addresses: &'a [IpAddr]) -> LookupMany<'r, 'a, S>
         ensures database { result.database ≡ self.now }
         ensures addresses { result.addresses ≡ addresses.now }
