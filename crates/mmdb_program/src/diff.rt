@@ -2,7 +2,7 @@
 use crate::changes::{Changes, network_of};
 use crate::counts::Counts;
 use crate::database::{Database, open};
-use crate::differences::{Answers, Pairs, Unreadable, put_names};
+use crate::differences::{Answers, Offsets, Pairs, Unreadable, put_names};
 use crate::error::ProgramError;
 use crate::export::Where;
 use crate::output::{Console, DIFFERENT, DONE, FAILED};
@@ -52,7 +52,7 @@ fn report_at<O: Write, E: Write>(
 #[inline(never)]
 fn report_leaf<O: Write, E: Write>(
     file: &str,
-    leaf: &UnreadLeaf,
+    leaf: UnreadLeaf,
     so_far: &mut SoFar<'_, '_>,
     console: &mut Console<'_, O, E>,
 ) -> Result<(), ProgramError> {
@@ -82,8 +82,8 @@ fn report_value<O: Write, E: Write>(
     report_at(file, Where::At(network), &unreadable.error, console)
 }
 
-// Compares a stretch, and takes or reports it where there is something to say.
-fn compare_stretch<'r, O: Write, E: Write>(
+// Compares what was found in a stretch, and takes or reports it where there is something to say.
+fn compare_answers<'r, O: Write, E: Write>(
     task: &DiffTask<'_>,
     stretch: Stretch,
     answers: Answers<'_, 'r>,
@@ -101,22 +101,47 @@ fn compare_stretch<'r, O: Write, E: Write>(
     }
 }
 
-// Compares a part of two databases, or reports why it can't be.
-fn compare_part<'r, O: Write, E: Write>(
+// Compares a stretch of which it is not kept that both databases have the same.
+#[inline(never)]
+fn compare_stretch<'r, O: Write, E: Write>(
     task: &DiffTask<'_>,
     comparison: &Comparison<'r, Vec<u8>>,
-    part: &Part,
+    stretch: Stretch,
+    so_far: &mut SoFar<'_, 'r>,
+    console: &mut Console<'_, O, E>,
+) -> Result<(), ProgramError> {
+    let old = comparison.found_in_old(stretch);
+    let new = comparison.found_in_new(stretch);
+    let answers = Answers {
+        old: old.as_ref(),
+        new: new.as_ref(),
+    };
+    compare_answers(task, stretch, answers, so_far, console)
+}
+
+// Compares a part of two databases, or reports why it can't be.
+#[inline(always)]
+fn compare_part<'r, O: Write, E: Write>(
+    task: &DiffTask<'_>,
+    comparison: &mut Comparison<'r, Vec<u8>>,
+    part: Part,
     so_far: &mut SoFar<'_, 'r>,
     console: &mut Console<'_, O, E>,
 ) -> Result<(), ProgramError> {
     match part {
-        Part::Unread { side, leaf } => report_leaf(file_of(task, *side), leaf, so_far, console),
+        Part::Unread(side) => match comparison.take_unread(side) {
+            Some(leaf) => report_leaf(file_of(task, side), leaf, so_far, console),
+            None => Ok(()),
+        },
         Part::Stretch(stretch) => {
-            let answers = Answers {
-                old: comparison.found_in_old(*stretch),
-                new: comparison.found_in_new(*stretch),
-            };
-            compare_stretch(task, *stretch, answers, so_far, console)
+            let offsets = Offsets::of(
+                comparison.offset_in_old(stretch),
+                comparison.offset_in_new(stretch),
+            );
+            if so_far.pairs.keeps_same(offsets) {
+                return Ok(());
+            }
+            compare_stretch(task, comparison, stretch, so_far, console)
         }
     }
 }
@@ -133,9 +158,7 @@ fn compare_all<'r, O: Write, E: Write>(
         let Some(part) = comparison.next_part() else {
             break;
         };
-        let compared = compare_part(task, comparison, &part, so_far, console);
-        drop(part);
-        compared?;
+        compare_part(task, comparison, part, so_far, console)?;
     }
     so_far.changes.finish(console.out)
 }
