@@ -215,19 +215,19 @@ impl<'a, S: AsSlice<u8> + Drop> Comparison<'a, S> {
         }
     }
 
-    /// What the old database has in the last stretch, if it has a record there.
+    /// What the old database has in a stretch, if it has a record there.
     pub fn found_in_old(&self, stretch: Stretch) -> Option<LookupResult<'a, S>> {
         if stretch.has_old {
-            self.old.found()
+            self.old.found_at(stretch.block.first, stretch.is_ipv4)
         } else {
             None
         }
     }
 
-    /// What the new database has in the last stretch, if it has a record there.
+    /// What the new database has in a stretch, if it has a record there.
     pub fn found_in_new(&self, stretch: Stretch) -> Option<LookupResult<'a, S>> {
         if stretch.has_new {
-            self.new.found()
+            self.new.found_at(stretch.block.first, stretch.is_ipv4)
         } else {
             None
         }

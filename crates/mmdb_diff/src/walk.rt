@@ -236,22 +236,23 @@ impl<'a, S: AsSlice<u8> + Drop> Walk<'a, S> {
         self.is_ipv4
     }
 
-    // The first address of the network that it stands at.
-    fn first_address(&self) -> IpAddr {
-        if self.is_ipv4 {
-            IpAddr::V4(Ipv4Addr::from_bits((self.first % (1 << 32)) as u32))
+    /// What the database has for an address.
+    pub(crate) fn found_at(&self, address: u128, is_ipv4: bool) -> Option<LookupResult<'a, S>> {
+        let address = if is_ipv4 {
+            IpAddr::V4(Ipv4Addr::from_bits((address % (1 << 32)) as u32))
         } else {
-            IpAddr::V6(Ipv6Addr::from_bits(self.first))
-        }
+            IpAddr::V6(Ipv6Addr::from_bits(address))
+        };
+        let reader = self.reader;
+        reader.lookup(address).ok()
     }
 
-    /// What the database has for the network that it stands at.
-    pub(crate) fn found(&self) -> Option<LookupResult<'a, S>> {
-        if self.stand != Stand::AtNetwork {
-            return None;
+    // What the database has for the network that it stands at.
+    fn found(&self) -> Option<LookupResult<'a, S>> {
+        match self.stand {
+            Stand::AtNetwork => self.found_at(self.first, self.is_ipv4),
+            Stand::Nowhere | Stand::AtEnd => None,
         }
-        let reader = self.reader;
-        reader.lookup(self.first_address()).ok()
     }
 
     /// The last leaf that can't be read.

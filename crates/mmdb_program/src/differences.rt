@@ -34,17 +34,17 @@ const NO_RECORDS: Offsets = Offsets {
 // The last four pairs of a set, the last one first.
 type Set = [Offsets; 4];
 
-// Pairs of records.
+// Pairs of records, in so many sets.
 #[derive(Drop)]
-struct Table {
+struct Table<const SETS: usize> {
     sets: Vec<Set>,
 }
 
 /// The pairs of records that were compared last. Many networks share a pair.
 #[derive(Drop)]
 pub(crate) struct Pairs {
-    same: Table,
-    different: Table,
+    same: Table<SETS_OF_SAME>,
+    different: Table<SETS_OF_DIFFERENT>,
 }
 
 /// Why a value can't be shown: the database that it is of, and its error.
@@ -250,36 +250,30 @@ impl Offsets {
             new: kept_offset(new)?,
         })
     }
-
-    // A number that depends on all bits of both.
-    #[inline(always)]
-    fn mixed(self) -> usize {
-        let both = u64::from(self.old) ^ u64::from(self.new).rotate_left(32);
-        (both.wrapping_mul(0x9E37_79B9_7F4A_7C15) >> 32) as usize
-    }
 }
 
-impl Table {
+// The place of a pair's set among so many: it depends on all bits of both offsets.
+#[inline(always)]
+fn place_among(sets: usize, offsets: Offsets) -> usize {
+    let both = u64::from(offsets.old) ^ u64::from(offsets.new).rotate_left(32);
+    let mixed = both.wrapping_mul(0x9E37_79B9_7F4A_7C15) >> 32;
+    (mixed as usize).checked_rem(sets).unwrap_or(0)
+}
+
+impl<const SETS: usize> Table<SETS> {
     // No pairs yet.
-    fn new(alloc: Global, count: usize) -> Result<Table, AllocError> {
-        let mut sets = Vec::with_capacity(alloc, count)?;
-        for _ in 0..count {
+    fn new(alloc: Global) -> Result<Table<SETS>, AllocError> {
+        let mut sets = Vec::with_capacity(alloc, SETS)?;
+        for _ in 0..SETS {
             sets.push([NO_RECORDS; 4])?;
         }
         Ok(Table { sets })
     }
 
-    // The place of a pair's set.
-    #[inline(always)]
-    fn place_of(&self, offsets: Offsets) -> usize {
-        offsets.mixed().checked_rem(self.sets.len()).unwrap_or(0)
-    }
-
     // Whether a pair is kept.
     #[inline(always)]
     fn has(&self, offsets: Offsets) -> bool {
-        let place = self.place_of(offsets);
-        match self.sets.get(place) {
+        match self.sets.get(place_among(SETS, offsets)) {
             Some([first, second, third, fourth]) => {
                 *first == offsets || *second == offsets || *third == offsets || *fourth == offsets
             }
@@ -289,8 +283,7 @@ impl Table {
 
     // Keeps a pair in place of the oldest one of its set.
     fn keep(&mut self, offsets: Offsets) {
-        let place = self.place_of(offsets);
-        if let Some(set) = self.sets.get_mut(place) {
+        if let Some(set) = self.sets.get_mut(place_among(SETS, offsets)) {
             let [first, second, third, _] = *set;
             *set = [offsets, first, second, third];
         }
@@ -301,8 +294,8 @@ impl Pairs {
     /// No pairs yet.
     pub(crate) fn new(alloc: Global) -> Result<Pairs, AllocError> {
         Ok(Pairs {
-            same: Table::new(alloc, SETS_OF_SAME)?,
-            different: Table::new(alloc, SETS_OF_DIFFERENT)?,
+            same: Table::new(alloc)?,
+            different: Table::new(alloc)?,
         })
     }
 
@@ -325,6 +318,9 @@ impl Pairs {
         let Some(offsets) = answers.offsets() else {
             return are_same(alloc, layout, answers);
         };
+        if self.same.has(offsets) {
+            return Ok(true);
+        }
         if self.different.has(offsets) {
             return Ok(false);
         }
