@@ -1,5 +1,6 @@
 //! The values of networks in two databases, compared by how they are shown.
 use crate::database::Found;
+use crate::equality::are_seen_equal;
 use crate::error::ProgramError;
 use crate::layout::{Fields, Layout, line_of_cells, line_of_names, write_values};
 use crate::output::put;
@@ -175,6 +176,9 @@ fn are_same_records<'r>(
     old: &Found<'r>,
     new: &Found<'r>,
 ) -> Result<bool, Unreadable> {
+    if are_seen_equal(alloc, old, new) {
+        return Ok(true);
+    }
     let old = record_in(alloc, Side::Old, old)?;
     let new = record_in(alloc, Side::New, new)?;
     if old == new {
