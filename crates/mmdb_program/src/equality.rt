@@ -116,20 +116,14 @@ impl<'de> SideBySide<'de> {
         }
     }
 
-    // The kind of both values, if it is the same.
-    fn kind(&mut self) -> Option<Kind> {
-        let old = self.old.peek_kind(self.alloc).ok()?;
-        let new = self.new.peek_kind(self.alloc).ok()?;
-        if old == new { Some(old) } else { None }
-    }
-
     // Reads a value of both, whose containers nest at most so deep. Whether they are seen to be equal.
     #[cycle(equality)]
     fn has_same_value(&mut self, depth: usize) -> bool {
         if !self.takes_value() {
             return false;
         }
-        match self.kind() {
+        // of another kind the new value can't be read as one of this
+        match self.old.peek_kind(self.alloc).ok() {
             Some(Kind::Map) => self.has_same_map(depth),
             Some(Kind::Array) => self.has_same_array(depth),
             Some(Kind::Text) => self.has_same_text(),
