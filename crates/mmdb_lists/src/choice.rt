@@ -125,18 +125,29 @@ impl<'a> Choice<'a> {
         self.kept_at(kept_offset(found.offset())?)
     }
 
-    // The answer that is kept for an offset.
+    // Whether the answer at a place is of the record at an offset.
+    #[inline(always)]
+    fn is_at(&self, place: usize, offset: u32) -> bool {
+        match self.kept.get(place) {
+            Some(answer) => answer.is_of(offset),
+            None => false,
+        }
+    }
+
+    // The answer that is kept for an offset. All of its set are looked at, so that no branch waits for memory.
     #[inline(always)]
     fn kept_at(&self, offset: u32) -> Option<bool>
         requires { offset < 4294967295 }
         ensures { IfSome result (SaysKept self.now offset) }
     {
         let first = place_of(offset);
-        for place in first..first + WAYS {
-            let answer = self.kept.get(place)?;
-            if answer.is_of(offset) {
-                return Some(answer.is_chosen);
-            }
+        let second = usize::from(self.is_at(first + 1, offset));
+        let third = usize::from(self.is_at(first + 2, offset));
+        let fourth = usize::from(self.is_at(first + 3, offset));
+        let way = second + 2 * third + 3 * fourth;
+        let answer = self.kept.get(first + way % WAYS)?;
+        if answer.is_of(offset) {
+            return Some(answer.is_chosen);
         }
         None
     }

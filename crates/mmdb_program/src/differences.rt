@@ -20,7 +20,7 @@ const SETS_OF_DIFFERENT: usize = 1 << 14;
 const NO_RECORD: u32 = u32::MAX;
 
 /// The offsets of two records.
-#[derive(Clone, Copy, PartialEq, Eq)]
+#[derive(Clone, Copy)]
 pub(crate) struct Offsets {
     old: u32,
     new: u32,
@@ -254,6 +254,12 @@ impl Offsets {
             new: kept_offset(new)?,
         })
     }
+
+    // Whether these are the same two.
+    #[inline(always)]
+    fn are(&self, others: Offsets) -> bool {
+        (self.old == others.old) & (self.new == others.new)
+    }
 }
 
 // The place of a pair's set among so many: it depends on all bits of both offsets.
@@ -274,12 +280,12 @@ impl<const SETS: usize> Table<SETS> {
         Ok(Table { sets })
     }
 
-    // Whether a pair is kept.
+    // Whether a pair is kept. All of its set are looked at, so that no branch waits for memory.
     #[inline(always)]
     fn has(&self, offsets: Offsets) -> bool {
         match self.sets.get(place_among(SETS, offsets)) {
             Some([first, second, third, fourth]) => {
-                *first == offsets || *second == offsets || *third == offsets || *fourth == offsets
+                first.are(offsets) | second.are(offsets) | third.are(offsets) | fourth.are(offsets)
             }
             None => false,
         }
