@@ -10,6 +10,7 @@ use mmdb_net::{IpNetwork, Ipv4Network, Ipv6Network};
 
 // The block of an IPv4 network.
 #[tactic(auto, using(crate::proofs::NetworkLaws::ipv4_is_block, crate::proofs::NetworkLaws::ipv4_has_bits))]
+#[inline(always)]
 fn of_ipv4(network: Ipv4Network) -> Block
     ensures block { IsBlock result }
     ensures prefix { result.prefix ≡ 96 + prefix_of (IpNetwork.V4 network) }
@@ -24,6 +25,7 @@ fn of_ipv4(network: Ipv4Network) -> Block
 
 // The block of an IPv6 network.
 #[tactic(auto, using(crate::proofs::NetworkLaws::ipv6_is_block, crate::proofs::NetworkLaws::ipv6_has_bits))]
+#[inline(always)]
 fn of_ipv6(network: Ipv6Network) -> Block
     ensures block { IsBlock result }
     ensures prefix { result.prefix ≡ prefix_of (IpNetwork.V6 network) }
@@ -39,6 +41,7 @@ fn of_ipv6(network: Ipv6Network) -> Block
 impl Block {
     /// The block of a network's addresses. IPv4 addresses are numbers below 2^32, whose blocks have prefixes of 96
     /// and more.
+    #[inline(always)]
     pub fn of_network(network: IpNetwork) -> Block
         ensures block { IsBlock result }
         ensures prefix { result.prefix ≡ 128 - address_width (ip_of network) + prefix_of network }

@@ -28,11 +28,12 @@ pub struct Stretch {
 }
 
 /// What comes next of the addresses.
-#[derive(Drop)]
+#[derive(Clone, Copy)]
 pub enum Part {
     Stretch(Stretch),
-    /// A leaf of one of them can't be read. What that database has up to its next network is not compared.
-    Unread { side: Side, leaf: UnreadLeaf },
+    /// A leaf of one of them can't be read, which `take_unread` gives. What that database has up to its next network is
+    /// not compared.
+    Unread(Side),
 }
 
 /// Two databases side by side. Memory is taken by `new` alone.
@@ -95,39 +96,42 @@ impl<'a, S: AsSlice<u8> + Drop> Comparison<'a, S> {
         }
     }
 
-    // Goes on to an address in both, or gives a leaf that can't be read.
-    fn go_to(&mut self, at: u128) -> Option<Part>
-        ensures none { MatchOption result (self.exit.now ≡ self.entry.now) (λ _. Unit) }
-        ensures some { MatchOption result Unit
-            (λ part. IsNextPart self.entry.now self.exit.now part) }
+    // Goes on to an address in both, or names the side of a leaf that can't be read.
+    #[inline(always)]
+    fn go_to(&mut self, at: u128) -> Option<Side>
+        ensures { self.exit.now ≡ self.entry.now }
     {
-        if let Some(leaf) = self.old.go_to(at) {
-            return Some(Part::Unread {
-                side: Side::Old,
-                leaf,
-            });
+        if !self.old.go_to(at) {
+            Some(Side::Old)
+        } else if !self.new.go_to(at) {
+            Some(Side::New)
+        } else {
+            None
         }
-        let leaf = self.new.go_to(at)?;
-        Some(Part::Unread {
-            side: Side::New,
-            leaf,
-        })
     }
 
     // The block of both networks, where the two begin at an address and are the same. It is the largest one then.
+    #[inline(always)]
     fn shared_block(&self, at: u128) -> Option<Block>
         ensures block { MatchOption result Unit (λ block. IsBlock block) }
         ensures first { MatchOption result Unit (λ block. block.first ≡ at) }
     {
-        let (old, new) = (self.old.block()?, self.new.block()?);
-        if old.first == at && old == new {
-            Some(old)
+        if !self.old.begins_at(at) || !self.new.begins_at(at) {
+            return None;
+        }
+        let block = Block {
+            first: at,
+            prefix: self.old.prefix(),
+        };
+        if self.old.has_same_addresses(&self.new) && block.is_block() {
+            Some(block)
         } else {
             None
         }
     }
 
     // The stretch of a block. Goes behind it.
+    #[inline(always)]
     fn stretch_of(&mut self, block: Block, has_old: bool, has_new: bool) -> Stretch
         requires { IsBlock block }
         ensures block { result.block ≡ block }
@@ -172,9 +176,8 @@ impl<'a, S: AsSlice<u8> + Drop> Comparison<'a, S> {
     {
         for _ in 0..u64::MAX {
             let at = self.at?;
-            let unread = self.go_to(at);
-            if unread.is_some() {
-                return unread;
+            if let Some(side) = self.go_to(at) {
+                return Some(Part::Unread(side));
             }
             let part = self.part_at(at);
             if part.is_some() {
@@ -184,19 +187,47 @@ impl<'a, S: AsSlice<u8> + Drop> Comparison<'a, S> {
         None
     }
 
-    /// What the old database has in the last stretch, if it has a record there.
-    pub fn found_in_old(&self, stretch: Stretch) -> Option<&LookupResult<'a, S>> {
+    /// The leaf that can't be read of a side, where the last part names one.
+    pub fn take_unread(&mut self, side: Side) -> Option<UnreadLeaf> {
+        match side {
+            Side::Old => self.old.take_unread(),
+            Side::New => self.new.take_unread(),
+        }
+    }
+
+    /// Where the record of the old database is in the last stretch, if it has one.
+    #[inline(always)]
+    pub fn offset_in_old(&self, stretch: Stretch) -> Option<usize> {
         if stretch.has_old {
-            self.old.found()
+            self.old.offset()
         } else {
             None
         }
     }
 
-    /// What the new database has in the last stretch, if it has a record there.
-    pub fn found_in_new(&self, stretch: Stretch) -> Option<&LookupResult<'a, S>> {
+    /// Where the record of the new database is in the last stretch, if it has one.
+    #[inline(always)]
+    pub fn offset_in_new(&self, stretch: Stretch) -> Option<usize> {
         if stretch.has_new {
-            self.new.found()
+            self.new.offset()
+        } else {
+            None
+        }
+    }
+
+    /// What the old database has in a stretch, if it has a record there.
+    pub fn found_in_old(&self, stretch: Stretch) -> Option<LookupResult<'a, S>> {
+        if stretch.has_old {
+            self.old.found_at(stretch.block.first, stretch.is_ipv4)
+        } else {
+            None
+        }
+    }
+
+    /// What the new database has in a stretch, if it has a record there.
+    pub fn found_in_new(&self, stretch: Stretch) -> Option<LookupResult<'a, S>> {
+        if stretch.has_new {
+            self.new.found_at(stretch.block.first, stretch.is_ipv4)
         } else {
             None
         }

@@ -1,11 +1,9 @@
 //! The networks of one database.
-ghost use Rattle.std.specs.Prelude.{MatchOption};
-ghost use Rattle.mmdb_blocks.specs.Blocks.{IsBlock};
-
 use mmdb_blocks::Block;
 use mmdb_reader::{IpNetwork, LookupResult, MaxMindDbError, Reader, Within, WithinOptions};
 use std::alloc::Global;
 use std::convert::AsSlice;
+use std::net::{IpAddr, Ipv4Addr, Ipv6Addr};
 
 /// A leaf that can't be read, and the network behind which it comes, if there is one.
 #[derive(Drop)]
@@ -14,29 +12,39 @@ pub struct UnreadLeaf {
     pub error: MaxMindDbError,
 }
 
-// A network with what was found there, as much of it as lies in the range.
-#[derive(Drop)]
-struct FoundNetwork<'a, S: AsSlice<u8> + Drop> {
-    block: Block,
-    last: u128,
-    is_ipv4: bool,
-    found: LookupResult<'a, S>,
-    ghost is_block: { IsBlock block },
+// Where a walk stands.
+#[derive(Clone, Copy, PartialEq, Eq)]
+enum Stand {
+    /// At no network: before the first one, or behind a leaf that can't be read.
+    Nowhere,
+    AtNetwork,
+    /// Behind all networks.
+    AtEnd,
 }
 
-/// The networks of one database, one at a time.
+/// The networks of one database, one at a time. What it stands at are numbers side by side, since a network or a result
+/// of a lookup would be copied in pieces.
 #[derive(Drop)]
 pub(crate) struct Walk<'a, S: AsSlice<u8> + Drop> {
+    reader: &'a Reader<S>,
     networks: Within<'a, S>,
-    range: IpNetwork,
-    /// The prefix of the range's block.
+    /// The first address of the range, and its prefix.
+    range_first: u128,
     range_prefix: u8,
-    here: Option<FoundNetwork<'a, S>>,
+    stand: Stand,
+    /// Of the network that it stands at, as much as lies in the range: the first and the last address, and the prefix.
+    first: u128,
+    last: u128,
+    prefix: u8,
+    is_ipv4: bool,
+    /// Where its record is, if it has one.
+    offset: Option<usize>,
     /// The network behind which the last leaf came that can't be read.
     behind: Option<IpNetwork>,
-    /// Whether a leaf that can't be read came before `here`: what the database has there is not known.
+    /// That leaf, until it is asked for.
+    unread: Option<UnreadLeaf>,
+    /// Whether a leaf that can't be read came before the network: what the database has there is not known.
     is_unknown: bool,
-    is_over: bool,
 }
 
 /// What a database has at an address, as far as the same holds.
@@ -50,6 +58,12 @@ pub(crate) enum Here {
     Unknown(u128),
 }
 
+// The last address of those that begin with the same bits as the first one.
+#[inline(always)]
+fn last_of(first: u128, prefix: u8) -> u128 {
+    first | u128::MAX.checked_shr(u32::from(prefix)).unwrap_or(0)
+}
+
 impl<'a, S: AsSlice<u8> + Drop> Walk<'a, S> {
     /// The walk of a range.
     pub(crate) fn new(
@@ -57,109 +71,133 @@ impl<'a, S: AsSlice<u8> + Drop> Walk<'a, S> {
         reader: &'a Reader<S>,
         range: IpNetwork,
     ) -> Result<Walk<'a, S>, MaxMindDbError> {
+        let networks = reader.within(alloc, range, WithinOptions::default())?;
+        let block = Block::of_network(range);
         Ok(Walk {
-            networks: reader.within(alloc, range, WithinOptions::default())?,
-            range,
-            range_prefix: Block::of_network(range).prefix,
-            here: None,
+            reader,
+            networks,
+            range_first: block.first,
+            range_prefix: block.prefix,
+            stand: Stand::Nowhere,
+            first: 0,
+            last: 0,
+            prefix: 0,
+            is_ipv4: false,
+            offset: None,
             behind: None,
+            unread: None,
             is_unknown: false,
-            is_over: false,
         })
     }
 
-    // As much of a network as lies in the range. One that is wider than the range has all of it.
-    fn block_of(&self, network: IpNetwork) -> Block
-        ensures { IsBlock result }
-    {
-        let whole = Block::of_network(network);
-        if whole.prefix < self.range_prefix {
-            Block::of_network(self.range)
+    // Stands at a network, of which the first address and the prefix are these. One that is wider than the range has all
+    // of it.
+    #[inline(always)]
+    fn stand_at(&mut self, first: u128, prefix: u8, is_ipv4: bool) {
+        if prefix < self.range_prefix {
+            self.first = self.range_first;
+            self.prefix = self.range_prefix;
         } else {
-            whole
+            self.first = first;
+            self.prefix = prefix;
+        }
+        self.last = last_of(self.first, self.prefix);
+        self.is_ipv4 = is_ipv4;
+        self.stand = Stand::AtNetwork;
+    }
+
+    // Takes what was found as the next network.
+    #[inline(always)]
+    fn take(&mut self, found: &LookupResult<'a, S>) {
+        self.offset = found.offset();
+        match found.network().unwrap() {
+            IpNetwork::V4(network) => {
+                let first = u128::from(network.ip().to_bits());
+                self.stand_at(first, 96 + network.prefix(), true);
+            }
+            IpNetwork::V6(network) => {
+                self.stand_at(network.ip().to_bits(), network.prefix(), false);
+            }
         }
     }
 
-    // Stands at what was found in a network.
-    fn stand_at(&mut self, network: IpNetwork, found: LookupResult<'a, S>) {
-        let block = self.block_of(network);
-        self.here = Some(FoundNetwork {
-            block,
-            last: block.last(),
-            is_ipv4: matches!(network, IpNetwork::V4(_)),
-            found,
+    // Keeps a leaf behind the network that it stands at, which can't be read.
+    fn give(&mut self, error: MaxMindDbError) {
+        if let Some(found) = self.found() {
+            self.behind = found.network().ok();
+        }
+        self.stand = Stand::Nowhere;
+        self.is_unknown = true;
+        self.unread = Some(UnreadLeaf {
+            behind: self.behind,
+            error,
         });
     }
 
-    // Gives a leaf behind the network that stands here, which can't be read.
+    // Ends, or keeps the next leaf, which can't be read. Whether there is none.
+    #[cold]
     #[inline(never)]
-    fn give(&mut self, error: MaxMindDbError) -> Option<UnreadLeaf> {
-        if let Some(here) = &self.here {
-            self.behind = here.found.network().ok();
-        }
-        self.here = None;
-        self.is_unknown = true;
-        Some(UnreadLeaf {
-            behind: self.behind,
-            error,
-        })
-    }
-
-    // Takes what was found as the next network, or gives why it can't be.
-    fn take(&mut self, found: LookupResult<'a, S>) -> Option<UnreadLeaf> {
-        match found.network() {
-            Ok(network) => {
-                self.stand_at(network, found);
-                None
+    fn stop(&mut self, error: Option<MaxMindDbError>) -> bool {
+        match error {
+            Some(error) => {
+                self.give(error);
+                false
             }
-            Err(error) => self.give(error),
-        }
-    }
-
-    // Takes the next network, or gives why it can't be read.
-    fn advance(&mut self) -> Option<UnreadLeaf> {
-        match self.networks.next() {
-            Some(Ok(found)) => self.take(found),
-            Some(Err(error)) => self.give(error),
             None => {
-                self.here = None;
-                self.is_over = true;
-                None
+                self.stand = Stand::AtEnd;
+                true
             }
         }
     }
 
-    // Whether the network that stands here ends before an address, or there is none yet.
-    fn is_behind(&self, at: u128) -> bool {
-        match &self.here {
-            Some(here) => here.last < at,
-            None => !self.is_over,
+    // Takes the next network, or keeps the next leaf, if it can't be read. Whether it can.
+    #[inline(always)]
+    fn advance(&mut self) -> bool {
+        let item = self.networks.next();
+        if let Some(Ok(found)) = &item {
+            self.take(found);
+            return true;
+        }
+        match item {
+            Some(Err(error)) => self.stop(Some(error)),
+            _ => self.stop(None),
         }
     }
 
-    /// Goes on to the network that holds an address, or to the next one, or gives a leaf before it that can't be read.
-    pub(crate) fn go_to(&mut self, at: u128) -> Option<UnreadLeaf> {
+    // Whether the network that it stands at ends before an address, or there is none yet.
+    #[inline(always)]
+    fn is_behind(&self, at: u128) -> bool {
+        match self.stand {
+            Stand::Nowhere => true,
+            Stand::AtNetwork => self.last < at,
+            Stand::AtEnd => false,
+        }
+    }
+
+    /// Goes on to the network that holds an address, or to the next one. Says whether no leaf before it can't be read;
+    /// `take_unread` has the one that can't.
+    #[inline(always)]
+    pub(crate) fn go_to(&mut self, at: u128) -> bool {
         for _ in 0..u64::MAX {
             if !self.is_behind(at) {
-                return None;
+                return true;
             }
-            if self.here.is_some() {
+            if self.stand == Stand::AtNetwork {
                 self.is_unknown = false;
             }
-            let unread = self.advance();
-            if unread.is_some() {
-                return unread;
+            if !self.advance() {
+                return false;
             }
         }
-        None
+        true
     }
 
     /// What the database has at an address.
     pub(crate) fn at(&self, at: u128) -> Here {
-        let until = match &self.here {
-            Some(here) if here.block.first <= at => return Here::Record(here.last),
-            Some(here) => here.block.first.saturating_sub(1),
-            None => u128::MAX,
+        let until = match self.stand {
+            Stand::AtNetwork if self.first <= at => return Here::Record(self.last),
+            Stand::AtNetwork => self.first.saturating_sub(1),
+            Stand::Nowhere | Stand::AtEnd => u128::MAX,
         };
         if self.is_unknown {
             Here::Unknown(until)
@@ -168,29 +206,57 @@ impl<'a, S: AsSlice<u8> + Drop> Walk<'a, S> {
         }
     }
 
-    /// The block of the network that the walk stands at, as much of it as lies in the range.
-    pub(crate) fn block(&self) -> Option<Block>
-        ensures { MatchOption result Unit (λ block. IsBlock block) }
-    {
-        match &self.here {
-            Some(here) => Some(here.block),
-            None => None,
-        }
+    /// Whether it stands at a network that begins at an address.
+    #[inline(always)]
+    pub(crate) fn begins_at(&self, at: u128) -> bool {
+        self.stand == Stand::AtNetwork && self.first == at
     }
 
-    /// What was found in the network that the walk stands at.
-    pub(crate) fn found(&self) -> Option<&LookupResult<'a, S>> {
-        match &self.here {
-            Some(here) => Some(&here.found),
-            None => None,
-        }
+    /// Whether the network that it stands at has the addresses of another walk's.
+    #[inline(always)]
+    pub(crate) fn has_same_addresses(&self, other: &Walk<'_, S>) -> bool {
+        self.first == other.first && self.last == other.last
+    }
+
+    /// The prefix of the network that it stands at.
+    #[inline(always)]
+    pub(crate) fn prefix(&self) -> u8 {
+        self.prefix
+    }
+
+    /// Where the record of the network is that it stands at, if there is one.
+    #[inline(always)]
+    pub(crate) fn offset(&self) -> Option<usize> {
+        self.offset
     }
 
     /// Whether that is a network of IPv4.
+    #[inline(always)]
     pub(crate) fn is_ipv4(&self) -> bool {
-        match &self.here {
-            Some(here) => here.is_ipv4,
-            None => false,
+        self.is_ipv4
+    }
+
+    /// What the database has for an address.
+    pub(crate) fn found_at(&self, address: u128, is_ipv4: bool) -> Option<LookupResult<'a, S>> {
+        let address = if is_ipv4 {
+            IpAddr::V4(Ipv4Addr::from_bits((address % (1 << 32)) as u32))
+        } else {
+            IpAddr::V6(Ipv6Addr::from_bits(address))
+        };
+        let reader = self.reader;
+        reader.lookup(address).ok()
+    }
+
+    // What the database has for the network that it stands at.
+    fn found(&self) -> Option<LookupResult<'a, S>> {
+        match self.stand {
+            Stand::AtNetwork => self.found_at(self.first, self.is_ipv4),
+            Stand::Nowhere | Stand::AtEnd => None,
         }
+    }
+
+    /// The last leaf that can't be read.
+    pub(crate) fn take_unread(&mut self) -> Option<UnreadLeaf> {
+        self.unread.take()
     }
 }

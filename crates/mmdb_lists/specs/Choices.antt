@@ -1,5 +1,5 @@
 -- What a choice says of records, and what it keeps of that.
-use Rattle.std.specs.Prelude.{◌≡◌, ℕ, List, Some, Bool}
+use Rattle.std.specs.Prelude.{◌<◌, ℕ, List, Some, Bool}
 use Rattle.std.specs.List.{All}
 use Rattle.std.specs.declared.convert.AsSlice.{Ghosts}
 use Rattle.mmdb_reader.specs.Found.{section_asked, offset_found}
@@ -17,9 +17,13 @@ SaysChosen choice found b = SaysAllMetAt choice.conditions.now (section_asked fo
 abbrev pub HasUnread : {S : Type 0} {G : Ghosts S ℕ} → Choice → LookupResult S G → Type 0
 HasUnread choice found = HasUnreadAt choice.conditions.now (section_asked found) (offset_found found)
 
+-- the offset of no record
+abbrev pub no_record : ℕ
+no_record = 4294967295
+
 -- what is kept of a record of a data section is whether it meets all conditions
 abbrev pub IsKept : List Condition → List ℕ → Answer → Type 0
-IsKept conditions s answer = (offset : ℕ) → answer.offset ≡ Some offset → SaysAllMetAt conditions s (Some offset) answer.is_chosen
+IsKept conditions s answer = answer.offset < no_record → SaysAllMetAt conditions s (Some answer.offset) answer.is_chosen
 
 -- all that a choice keeps is so kept of records of a data section
 abbrev pub IsOfSection : Choice → List ℕ → Type 0

@@ -9,7 +9,7 @@ use Rattle.mmdb_lists.specs.declared.condition.Condition.{Condition}
 use Rattle.mmdb_lists.specs.Conditions.{SaysFoundAt, texts_of, SaysAllMetAt}
 use Rattle.mmdb_lists.specs.declared.choice.Answer.{Answer}
 use Rattle.mmdb_lists.specs.declared.choice.Choice.{Choice}
-use Rattle.mmdb_lists.specs.Choices.{IsKept, IsOfSection}
+use Rattle.mmdb_lists.specs.Choices.{no_record, IsKept, IsOfSection}
 
 -- the text that a value is, if it is one
 abbrev pub text_of : Tree → Option (List ℕ)
@@ -28,11 +28,11 @@ SaysFound condition found b = SaysFoundAt condition.path.items (texts_of conditi
 
 -- an answer is of no record
 abbrev pub IsOfNone : Answer → Type 0
-IsOfNone answer = answer.offset ≡ None
+IsOfNone answer = answer.offset ≡ no_record
 
 -- a Bool that is kept for an offset says whether all conditions are met by the record there
-abbrev pub SaysKept : Choice → Option ℕ → Bool → Type 0
-SaysKept choice offset b = (s : List ℕ) → IsOfSection choice s → SaysAllMetAt choice.conditions.now s offset b
+abbrev pub SaysKept : Choice → ℕ → Bool → Type 0
+SaysKept choice offset b = (s : List ℕ) → IsOfSection choice s → SaysAllMetAt choice.conditions.now s (Some offset) b
 
 -- with one more answer a choice is of the data section that it was of, if the answer is
 abbrev pub Keeps : Choice → Answer → Choice → Type 0

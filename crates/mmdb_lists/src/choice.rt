@@ -1,5 +1,5 @@
 //! The choice of networks by their records.
-ghost use Rattle.std.specs.Prelude.{◌≡◌, ℕ, List, true, IfOk, IfErr, IfSome, is_some};
+ghost use Rattle.std.specs.Prelude.{◌≡◌, ◌<◌, ℕ, List, Some, true, IfOk, IfErr, IfSome};
 ghost use Rattle.std.specs.List.{All};
 ghost use Rattle.mmdb_format.specs.Error.{MemoryApart};
 ghost use Rattle.mmdb_lists.specs.Choices.{SaysChosen, HasUnread, IsOfSection, IsOf};
@@ -10,39 +10,61 @@ use mmdb_reader::{LookupResult, MaxMindDbError};
 use std::alloc::{AllocError, Global};
 use std::convert::AsSlice;
 
-/// How many answers are kept.
-const PLACES: usize = 1 << 18;
+/// How many sets of answers are kept.
+const SETS: usize = 1 << 17;
+
+/// How many answers are in a set: they fill half of a line of the cache.
+const WAYS: usize = 4;
+
+/// The offset of no record.
+const NO_RECORD: u32 = u32::MAX;
 
 // Whether the record at an offset is chosen.
 #[derive(Clone, Copy)]
 struct Answer {
-    offset: Option<usize>,
+    offset: u32,
     is_chosen: bool,
 }
 
 /// The choice of networks whose record meets all conditions. Many networks share a record, so the last answers are
-/// kept, each at the place that its record's offset gives.
+/// kept, each in the set that its record's offset gives.
 #[derive(Drop)]
 pub struct Choice<'a> {
     alloc: Global,
     conditions: &'a [Condition<'a>],
     kept: Vec<Answer>,
+    /// Which answer of its set the next one that is kept takes the place of.
+    way: usize,
 }
 
 impl Answer {
     // Whether the answer is of the record at an offset.
-    fn is_of(&self, offset: Option<usize>) -> bool
-        ensures at { result ≡ true → self.now.offset ≡ offset }
-        ensures of_record { result ≡ true → is_some offset ≡ true }
+    #[inline(always)]
+    fn is_of(&self, offset: u32) -> bool
+        ensures { result ≡ true → self.now.offset ≡ offset }
     {
-        offset.is_some() && self.offset == offset
+        self.offset == offset
     }
 }
 
-// The place at which the answer for the record at an offset is kept.
+// The offset by which the answer for a record is kept, unless it is too large.
 #[inline(always)]
-fn place_of(offset: Option<usize>) -> usize {
-    offset.unwrap_or(0) % PLACES
+fn kept_offset(offset: Option<usize>) -> Option<u32>
+    ensures { IfSome result (λ n. (offset ≡ Some n) × (n < 4294967295)) }
+{
+    match offset {
+        Some(offset) if offset < NO_RECORD as usize => Some(offset as u32),
+        _ => None,
+    }
+}
+
+// The place of the first answer of an offset's set, which depends on all bits of the offset.
+#[inline(always)]
+fn place_of(offset: u32) -> usize
+    ensures { result < 524288 }
+{
+    let mixed = u64::from(offset).wrapping_mul(0x9E37_79B9_7F4A_7C15) >> 32;
+    mixed as usize % SETS * WAYS
 }
 
 // No answers.
@@ -50,11 +72,11 @@ fn no_answers(alloc: Global) -> Result<Vec<Answer>, AllocError>
     ensures { IfOk result (λ kept. All IsOfNone kept.items) }
 {
     let none = Answer {
-        offset: None,
+        offset: NO_RECORD,
         is_chosen: false,
     };
-    let mut kept = Vec::with_capacity(alloc, PLACES)?;
-    for _ in 0..PLACES {
+    let mut kept = Vec::with_capacity(alloc, SETS * WAYS)?;
+    for _ in 0..SETS * WAYS {
         kept.push(none)?;
     }
     Ok(kept)
@@ -75,6 +97,7 @@ impl<'a> Choice<'a> {
             alloc,
             conditions,
             kept,
+            way: 0,
         })
     }
 
@@ -99,16 +122,30 @@ impl<'a> Choice<'a> {
     pub fn kept<S: AsSlice<u8> + Drop>(&self, found: &LookupResult<'_, S>) -> Option<bool>
         ensures { IsOf self.now found.now → IfSome result (SaysChosen self.now found.now) }
     {
-        let offset = found.offset();
-        self.kept_at(place_of(offset), offset)
+        self.kept_at(kept_offset(found.offset())?)
     }
 
-    // The answer that is kept for an offset.
+    // Whether the answer at a place is of the record at an offset.
     #[inline(always)]
-    fn kept_at(&self, place: usize, offset: Option<usize>) -> Option<bool>
+    fn is_at(&self, place: usize, offset: u32) -> bool {
+        match self.kept.get(place) {
+            Some(answer) => answer.is_of(offset),
+            None => false,
+        }
+    }
+
+    // The answer that is kept for an offset. All of its set are looked at, so that no branch waits for memory.
+    #[inline(always)]
+    fn kept_at(&self, offset: u32) -> Option<bool>
+        requires { offset < 4294967295 }
         ensures { IfSome result (SaysKept self.now offset) }
     {
-        let answer = self.kept.get(place)?;
+        let first = place_of(offset);
+        let second = usize::from(self.is_at(first + 1, offset));
+        let third = usize::from(self.is_at(first + 2, offset));
+        let fourth = usize::from(self.is_at(first + 3, offset));
+        let way = second + 2 * third + 3 * fourth;
+        let answer = self.kept.get(first + way % WAYS)?;
         if answer.is_of(offset) {
             return Some(answer.is_chosen);
         }
@@ -116,10 +153,12 @@ impl<'a> Choice<'a> {
     }
 
     // Keeps an answer.
-    fn keep(&mut self, place: usize, answer: Answer)
+    fn keep(&mut self, answer: Answer)
         ensures of { Keeps self.old answer self.new }
         ensures conditions { self.new.conditions ≡ self.old.conditions }
     {
+        let place = place_of(answer.offset) + self.way % WAYS;
+        self.way = self.way.wrapping_add(1);
         if let Some(kept) = self.kept.get_mut(place) {
             *kept = answer;
         }
@@ -129,7 +168,6 @@ impl<'a> Choice<'a> {
     #[inline(never)]
     fn answer<S: AsSlice<u8> + Drop>(
         &mut self,
-        place: usize,
         found: &LookupResult<'_, S>,
     ) -> Result<bool, MaxMindDbError>
         ensures met { IfOk result (SaysChosen self.old found.now) }
@@ -138,13 +176,9 @@ impl<'a> Choice<'a> {
         ensures conditions { self.new.conditions ≡ self.old.conditions }
     {
         let is_chosen = self.meets_all(found)?;
-        self.keep(
-            place,
-            Answer {
-                offset: found.offset(),
-                is_chosen,
-            },
-        );
+        if let Some(offset) = kept_offset(found.offset()) {
+            self.keep(Answer { offset, is_chosen });
+        }
         Ok(is_chosen)
     }
 
@@ -166,7 +200,7 @@ impl<'a> Choice<'a> {
         }
         match self.kept(found) {
             Some(is_chosen) => Ok(is_chosen),
-            None => self.answer(place_of(found.offset()), found),
+            None => self.answer(found),
         }
     }
 }

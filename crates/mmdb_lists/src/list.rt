@@ -128,6 +128,7 @@ impl<'a> List<'a> {
     }
 
     // Writes the blocks that nothing can join any more.
+    #[inline(never)]
     fn put_settled<O: Write>(&mut self, kind: Kind, out: &mut O) -> Result<(), ListError> {
         for index in 0..self.joiner.settled().len() {
             if let Some(block) = self.joiner.settled().get(index) {
@@ -150,6 +151,7 @@ impl<'a> List<'a> {
     }
 
     // Writes what is left of the kind before, where there was one.
+    #[inline(always)]
     fn change_to<O: Write>(&mut self, kind: Kind, out: &mut O) -> Result<(), ListError> {
         if let Some(before) = self.kind {
             if before != kind {
@@ -161,6 +163,7 @@ impl<'a> List<'a> {
     }
 
     /// Takes the next network, if its kind is wanted, and writes those that nothing can join any more.
+    #[inline(always)]
     pub fn push<O: Write>(&mut self, network: IpNetwork, out: &mut O) -> Result<(), ListError> {
         let kind = Kind::of(network);
         if !self.kinds.has(kind) {
@@ -168,6 +171,7 @@ impl<'a> List<'a> {
         }
         self.change_to(kind, out)?;
         match self.joiner.push(Block::of_network(network)) {
+            Ok(()) if self.joiner.settled().is_empty() => Ok(()),
             Ok(()) => self.put_settled(kind, out),
             Err(_) => Err(ListError::OutOfOrder),
         }

@@ -2,21 +2,56 @@
 use crate::changes::{Changes, network_of};
 use crate::counts::Counts;
 use crate::database::{Database, open};
-use crate::differences::{Answers, Pairs, Unreadable, put_names};
+use crate::differences::{Answers, Offsets, Pairs, Unreadable, put_names};
 use crate::error::ProgramError;
 use crate::export::Where;
 use crate::output::{Console, DIFFERENT, DONE, FAILED};
 use crate::task::DiffTask;
 use mmdb_diff::{Comparison, Part, Side, Stretch, UnreadLeaf};
 use mmdb_reader::{IpNetwork, MaxMindDbError};
+use std::alloc::{AllocError, Global};
 use std::io::Write;
 use std::net::{IpAddr, Ipv4Addr, Ipv6Addr};
 use std::rt::Files;
 
-// The pairs that were compared, what differs, and how many networks could not be read.
+/// How many stretches are compared together.
+const MOST_WAITING: usize = 64;
+
+// Stretches that wait to be compared, and where the records of each are. What is kept of them is looked for side by side,
+// since each look waits for memory.
+#[derive(Drop)]
+struct Waiting {
+    stretches: Vec<Stretch>,
+    offsets: Vec<Option<Offsets>>,
+}
+
+impl Waiting {
+    fn new(alloc: Global) -> Result<Waiting, AllocError> {
+        Ok(Waiting {
+            stretches: Vec::with_capacity(alloc, MOST_WAITING)?,
+            offsets: Vec::with_capacity(alloc, MOST_WAITING)?,
+        })
+    }
+
+    // Adds a stretch. Whether as many wait as are compared together.
+    #[inline(always)]
+    fn add(&mut self, stretch: Stretch, offsets: Option<Offsets>) -> Result<bool, AllocError> {
+        self.stretches.push(stretch)?;
+        self.offsets.push(offsets)?;
+        Ok(self.offsets.len() >= MOST_WAITING)
+    }
+
+    fn clear(&mut self) {
+        self.stretches.clear();
+        self.offsets.clear();
+    }
+}
+
+// The pairs that were compared, what waits to be, what differs, and how many networks could not be read.
 #[derive(Drop)]
 struct SoFar<'a, 'r> {
     pairs: Pairs,
+    waiting: Waiting,
     changes: Changes<'a, 'r>,
     faults: u64,
 }
@@ -52,7 +87,7 @@ fn report_at<O: Write, E: Write>(
 #[inline(never)]
 fn report_leaf<O: Write, E: Write>(
     file: &str,
-    leaf: &UnreadLeaf,
+    leaf: UnreadLeaf,
     so_far: &mut SoFar<'_, '_>,
     console: &mut Console<'_, O, E>,
 ) -> Result<(), ProgramError> {
@@ -82,8 +117,8 @@ fn report_value<O: Write, E: Write>(
     report_at(file, Where::At(network), &unreadable.error, console)
 }
 
-// Compares a stretch, and takes or reports it where there is something to say.
-fn compare_stretch<'r, O: Write, E: Write>(
+// Compares what was found in a stretch, and takes or reports it where there is something to say.
+fn compare_answers<'r, O: Write, E: Write>(
     task: &DiffTask<'_>,
     stretch: Stretch,
     answers: Answers<'_, 'r>,
@@ -101,22 +136,78 @@ fn compare_stretch<'r, O: Write, E: Write>(
     }
 }
 
-// Compares a part of two databases, or reports why it can't be.
-fn compare_part<'r, O: Write, E: Write>(
+// Compares a stretch of which it was not kept that both databases have the same.
+#[inline(never)]
+fn compare_stretch<'r, O: Write, E: Write>(
     task: &DiffTask<'_>,
     comparison: &Comparison<'r, Vec<u8>>,
-    part: &Part,
+    stretch: Stretch,
+    so_far: &mut SoFar<'_, 'r>,
+    console: &mut Console<'_, O, E>,
+) -> Result<(), ProgramError> {
+    let old = comparison.found_in_old(stretch);
+    let new = comparison.found_in_new(stretch);
+    let answers = Answers {
+        old: old.as_ref(),
+        new: new.as_ref(),
+    };
+    compare_answers(task, stretch, answers, so_far, console)
+}
+
+// Which of the stretches that wait have the same in both databases, as far as that is kept.
+#[inline(never)]
+fn known_of(so_far: &SoFar<'_, '_>) -> [bool; MOST_WAITING] {
+    let mut known = [false; MOST_WAITING];
+    for (is_same, offsets) in known.iter_mut().zip(&so_far.waiting.offsets) {
+        *is_same = so_far.pairs.keeps_same(*offsets);
+    }
+    known
+}
+
+// Compares the stretches that wait.
+fn compare_waiting<'r, O: Write, E: Write>(
+    task: &DiffTask<'_>,
+    comparison: &Comparison<'r, Vec<u8>>,
+    so_far: &mut SoFar<'_, 'r>,
+    console: &mut Console<'_, O, E>,
+) -> Result<(), ProgramError> {
+    for (index, is_same) in known_of(so_far).iter().enumerate() {
+        if *is_same {
+            continue;
+        }
+        let Some(stretch) = so_far.waiting.stretches.get(index).copied() else {
+            break;
+        };
+        compare_stretch(task, comparison, stretch, so_far, console)?;
+    }
+    so_far.waiting.clear();
+    Ok(())
+}
+
+// Takes the next part of two databases, or reports why it can't be read behind those before it.
+#[inline(always)]
+fn take_part<'r, O: Write, E: Write>(
+    task: &DiffTask<'_>,
+    comparison: &mut Comparison<'r, Vec<u8>>,
+    part: Part,
     so_far: &mut SoFar<'_, 'r>,
     console: &mut Console<'_, O, E>,
 ) -> Result<(), ProgramError> {
     match part {
-        Part::Unread { side, leaf } => report_leaf(file_of(task, *side), leaf, so_far, console),
         Part::Stretch(stretch) => {
-            let answers = Answers {
-                old: comparison.found_in_old(*stretch),
-                new: comparison.found_in_new(*stretch),
-            };
-            compare_stretch(task, *stretch, answers, so_far, console)
+            let old = comparison.offset_in_old(stretch);
+            let new = comparison.offset_in_new(stretch);
+            if so_far.waiting.add(stretch, Offsets::of(old, new))? {
+                compare_waiting(task, comparison, so_far, console)?;
+            }
+            Ok(())
+        }
+        Part::Unread(side) => {
+            compare_waiting(task, comparison, so_far, console)?;
+            match comparison.take_unread(side) {
+                Some(leaf) => report_leaf(file_of(task, side), leaf, so_far, console),
+                None => Ok(()),
+            }
         }
     }
 }
@@ -133,10 +224,9 @@ fn compare_all<'r, O: Write, E: Write>(
         let Some(part) = comparison.next_part() else {
             break;
         };
-        let compared = compare_part(task, comparison, &part, so_far, console);
-        drop(part);
-        compared?;
+        take_part(task, comparison, part, so_far, console)?;
     }
+    compare_waiting(task, comparison, so_far, console)?;
     so_far.changes.finish(console.out)
 }
 
@@ -195,6 +285,7 @@ fn compare<'a, 'r, O: Write, E: Write>(
 ) -> Result<u8, ProgramError> {
     let mut so_far = SoFar {
         pairs: Pairs::new(console.alloc)?,
+        waiting: Waiting::new(console.alloc)?,
         changes: Changes::new(console.alloc, &task.layout)?,
         faults: 0,
     };

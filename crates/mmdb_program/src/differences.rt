@@ -1,42 +1,51 @@
 //! The values of networks in two databases, compared by how they are shown.
 use crate::database::Found;
+use crate::equality::are_seen_equal;
 use crate::error::ProgramError;
 use crate::layout::{Fields, Layout, line_of_cells, line_of_names, write_values};
 use crate::output::put;
 use json::{Token, Writer};
 use mmdb_diff::Side;
-use mmdb_json::found_json;
+use mmdb_json::{compact, found_json};
 use mmdb_reader::{IpNetwork, MaxMindDbError, Value};
 use std::alloc::{AllocError, Global};
 use std::io::Write;
 
-/// How many sets of pairs are kept.
-const SETS: usize = 1 << 17;
+/// How many sets of pairs are kept that are shown the same, and how many of others.
+const SETS_OF_SAME: usize = 1 << 17;
+
+const SETS_OF_DIFFERENT: usize = 1 << 14;
 
 /// The offset of no record.
 const NO_RECORD: u32 = u32::MAX;
 
-// The offsets of two records.
-#[derive(Clone, Copy, PartialEq, Eq)]
-struct Offsets {
+/// The offsets of two records.
+#[derive(Clone, Copy)]
+pub(crate) struct Offsets {
     old: u32,
     new: u32,
 }
 
-// Two records, and whether they are shown the same.
-#[derive(Clone, Copy)]
-struct Pair {
-    offsets: Offsets,
-    is_same: bool,
-}
+/// No records.
+const NO_RECORDS: Offsets = Offsets {
+    old: NO_RECORD,
+    new: NO_RECORD,
+};
 
 // The last four pairs of a set, the last one first.
-type Set = [Pair; 4];
+type Set = [Offsets; 4];
+
+// Pairs of records, in so many sets.
+#[derive(Drop)]
+struct Table<const SETS: usize> {
+    sets: Vec<Set>,
+}
 
 /// The pairs of records that were compared last. Many networks share a pair.
 #[derive(Drop)]
 pub(crate) struct Pairs {
-    sets: Vec<Set>,
+    same: Table<SETS_OF_SAME>,
+    different: Table<SETS_OF_DIFFERENT>,
 }
 
 /// Why a value can't be shown: the database that it is of, and its error.
@@ -118,31 +127,64 @@ fn text_in(
     }
 }
 
-// The whole record, if it can be read.
-fn record_of<'r>(alloc: Global, found: &Found<'r>) -> Option<Value<'r>> {
+// The whole record of a network in one of the databases.
+fn record_in<'r>(
+    alloc: Global,
+    side: Side,
+    found: &Found<'r>,
+) -> Result<Option<Value<'r>>, Unreadable> {
     match found.decode_path(alloc, &[]) {
-        Ok(record) => record,
-        Err(_) => None,
+        Ok(record) => Ok(record),
+        Err(error) => Err(Unreadable { side, error }),
     }
 }
 
-// Whether two records can be read and are equal.
-fn are_equal<'r>(alloc: Global, old: &Found<'r>, new: &Found<'r>) -> bool {
-    let Some(old) = record_of(alloc, old) else {
-        return false;
+// A record as JSON.
+fn text_of(
+    alloc: Global,
+    side: Side,
+    record: &Option<Value<'_>>,
+) -> Result<Option<Vec<u8>>, Unreadable> {
+    let Some(record) = record else {
+        return Ok(None);
     };
-    match record_of(alloc, new) {
-        Some(new) => old == new,
-        None => false,
+    match compact(alloc, record) {
+        Ok(text) => Ok(Some(text)),
+        Err(_) => Err(Unreadable {
+            side,
+            error: MaxMindDbError::Memory,
+        }),
     }
 }
 
-// Whether whole records are asked for, and both are equal. Others can be shown the same too.
-fn are_equal_records(alloc: Global, layout: &Layout<'_>, answers: Answers<'_, '_>) -> bool {
-    match (layout, answers.old, answers.new) {
-        (Layout::Records, Some(old), Some(new)) => are_equal(alloc, old, new),
-        _ => false,
+// Whether two records that are not equal are shown the same.
+#[cold]
+#[inline(never)]
+fn have_same_text(
+    alloc: Global,
+    old: &Option<Value<'_>>,
+    new: &Option<Value<'_>>,
+) -> Result<bool, Unreadable> {
+    let old_text = text_of(alloc, Side::Old, old)?;
+    let new_text = text_of(alloc, Side::New, new)?;
+    Ok(old_text == new_text)
+}
+
+// Whether two records are shown the same.
+fn are_same_records<'r>(
+    alloc: Global,
+    old: &Found<'r>,
+    new: &Found<'r>,
+) -> Result<bool, Unreadable> {
+    if are_seen_equal(alloc, old, new) {
+        return Ok(true);
     }
+    let old = record_in(alloc, Side::Old, old)?;
+    let new = record_in(alloc, Side::New, new)?;
+    if old == new {
+        return Ok(true);
+    }
+    have_same_text(alloc, &old, &new)
 }
 
 // Whether the values of a network in both databases are shown the same.
@@ -152,8 +194,8 @@ fn are_same(
     layout: &Layout<'_>,
     answers: Answers<'_, '_>,
 ) -> Result<bool, Unreadable> {
-    if are_equal_records(alloc, layout, answers) {
-        return Ok(true);
+    if let (Layout::Records, Some(old), Some(new)) = (layout, answers.old, answers.new) {
+        return are_same_records(alloc, old, new);
     }
     let old_text = text_in(alloc, layout, Side::Old, answers.old)?;
     let new_text = text_in(alloc, layout, Side::New, answers.new)?;
@@ -168,6 +210,11 @@ fn offset_of(found: Option<&Found<'_>>) -> Option<usize> {
 }
 
 impl Answers<'_, '_> {
+    // The offsets by which the pair is kept, unless one is too large.
+    fn offsets(&self) -> Option<Offsets> {
+        Offsets::of(offset_of(self.old), offset_of(self.new))
+    }
+
     /// Whether others are the same records of the same databases.
     pub(crate) fn are_same_records(&self, others: Answers<'_, '_>) -> bool {
         offset_of(self.old) == offset_of(others.old) && offset_of(self.new) == offset_of(others.new)
@@ -189,63 +236,85 @@ impl Shown {
 }
 
 // The offset by which a record is kept, unless it is too large.
-fn kept_offset(found: Option<&Found<'_>>) -> Option<u32> {
-    let Some(offset) = offset_of(found) else {
-        return Some(NO_RECORD);
-    };
-    if offset < NO_RECORD as usize {
-        Some(offset as u32)
-    } else {
-        None
+#[inline(always)]
+fn kept_offset(offset: Option<usize>) -> Option<u32> {
+    match offset {
+        Some(offset) if offset < NO_RECORD as usize => Some(offset as u32),
+        Some(_) => None,
+        None => Some(NO_RECORD),
     }
 }
 
-// The offsets by which a pair is kept.
-fn kept_offsets(answers: Answers<'_, '_>) -> Option<Offsets> {
-    Some(Offsets {
-        old: kept_offset(answers.old)?,
-        new: kept_offset(answers.new)?,
-    })
+impl Offsets {
+    /// The offsets by which a pair is kept, unless one is too large.
+    #[inline(always)]
+    pub(crate) fn of(old: Option<usize>, new: Option<usize>) -> Option<Offsets> {
+        Some(Offsets {
+            old: kept_offset(old)?,
+            new: kept_offset(new)?,
+        })
+    }
+
+    // Whether these are the same two.
+    #[inline(always)]
+    fn are(&self, others: Offsets) -> bool {
+        (self.old == others.old) & (self.new == others.new)
+    }
 }
 
-// The set of a pair: the upper bits of a product, which depend on all bits of both offsets.
-fn set_of(offsets: Offsets) -> usize {
-    let mixed = u64::from(offsets.old) ^ u64::from(offsets.new).rotate_left(32);
-    (mixed.wrapping_mul(0x9E37_79B9_7F4A_7C15) >> 47) as usize % SETS
+// The place of a pair's set among so many: it depends on all bits of both offsets.
+#[inline(always)]
+fn place_among(sets: usize, offsets: Offsets) -> usize {
+    let both = u64::from(offsets.old) ^ u64::from(offsets.new).rotate_left(32);
+    let mixed = both.wrapping_mul(0x9E37_79B9_7F4A_7C15) >> 32;
+    (mixed as usize).checked_rem(sets).unwrap_or(0)
+}
+
+impl<const SETS: usize> Table<SETS> {
+    // No pairs yet.
+    fn new(alloc: Global) -> Result<Table<SETS>, AllocError> {
+        let mut sets = Vec::with_capacity(alloc, SETS)?;
+        for _ in 0..SETS {
+            sets.push([NO_RECORDS; 4])?;
+        }
+        Ok(Table { sets })
+    }
+
+    // Whether a pair is kept. All of its set are looked at, so that no branch waits for memory.
+    #[inline(always)]
+    fn has(&self, offsets: Offsets) -> bool {
+        match self.sets.get(place_among(SETS, offsets)) {
+            Some([first, second, third, fourth]) => {
+                first.are(offsets) | second.are(offsets) | third.are(offsets) | fourth.are(offsets)
+            }
+            None => false,
+        }
+    }
+
+    // Keeps a pair in place of the oldest one of its set.
+    fn keep(&mut self, offsets: Offsets) {
+        if let Some(set) = self.sets.get_mut(place_among(SETS, offsets)) {
+            let [first, second, third, _] = *set;
+            *set = [offsets, first, second, third];
+        }
+    }
 }
 
 impl Pairs {
     /// No pairs yet.
     pub(crate) fn new(alloc: Global) -> Result<Pairs, AllocError> {
-        let none = Pair {
-            offsets: Offsets {
-                old: NO_RECORD,
-                new: NO_RECORD,
-            },
-            is_same: true,
-        };
-        let mut sets = Vec::with_capacity(alloc, SETS)?;
-        for _ in 0..SETS {
-            sets.push([none; 4])?;
-        }
-        Ok(Pairs { sets })
+        Ok(Pairs {
+            same: Table::new(alloc)?,
+            different: Table::new(alloc)?,
+        })
     }
 
-    // What is kept of a pair.
-    fn kept(&self, offsets: Offsets) -> Option<bool> {
-        for pair in self.sets.get(set_of(offsets))? {
-            if pair.offsets == offsets {
-                return Some(pair.is_same);
-            }
-        }
-        None
-    }
-
-    // Keeps a pair in place of the oldest one of its set.
-    fn keep(&mut self, pair: Pair) {
-        if let Some(set) = self.sets.get_mut(set_of(pair.offsets)) {
-            let [first, second, third, _] = *set;
-            *set = [pair, first, second, third];
+    /// Whether it is kept of two records that they are shown the same.
+    #[inline(always)]
+    pub(crate) fn keeps_same(&self, offsets: Option<Offsets>) -> bool {
+        match offsets {
+            Some(offsets) => self.same.has(offsets),
+            None => false,
         }
     }
 
@@ -256,14 +325,21 @@ impl Pairs {
         layout: &Layout<'_>,
         answers: Answers<'_, '_>,
     ) -> Result<bool, Unreadable> {
-        let Some(offsets) = kept_offsets(answers) else {
+        let Some(offsets) = answers.offsets() else {
             return are_same(alloc, layout, answers);
         };
-        if let Some(is_same) = self.kept(offsets) {
-            return Ok(is_same);
+        if self.same.has(offsets) {
+            return Ok(true);
+        }
+        if self.different.has(offsets) {
+            return Ok(false);
         }
         let is_same = are_same(alloc, layout, answers)?;
-        self.keep(Pair { offsets, is_same });
+        if is_same {
+            self.same.keep(offsets);
+        } else {
+            self.different.keep(offsets);
+        }
         Ok(is_same)
     }
 }

@@ -14,6 +14,9 @@ const PLACES: usize = 8192;
 /// The most bytes of a row that is kept among them.
 const MOST_BYTES: usize = 4096;
 
+/// How many networks are looked at together.
+const MOST_WAITING: usize = 64;
+
 /// Where something could not be written of a database.
 #[derive(Clone, Copy)]
 pub(crate) enum Where {
@@ -173,6 +176,7 @@ pub(crate) enum Writing<'a> {
 
 impl Writing<'_> {
     // Writes the network of an answer.
+    #[inline(always)]
     fn write<O: Write>(
         &mut self,
         found: &Found<'_>,
@@ -192,7 +196,10 @@ pub(crate) struct Export<'a, 'r> {
     choice: Choice<'a>,
     kinds: Kinds,
     writing: Writing<'a>,
-    /// What was found in the last network, chosen or not.
+    /// What was found in the last networks. What is kept of their records is looked for side by side, since each look
+    /// waits for memory.
+    waiting: Vec<Found<'r>>,
+    /// What was found in the network before them, chosen or not.
     last: Option<Found<'r>>,
     /// How many networks could not be written.
     pub(crate) faults: u64,
@@ -200,14 +207,20 @@ pub(crate) struct Export<'a, 'r> {
 
 impl<'a, 'r> Export<'a, 'r> {
     /// Of no network yet.
-    pub(crate) fn new(choice: Choice<'a>, kinds: Kinds, writing: Writing<'a>) -> Export<'a, 'r> {
-        Export {
+    pub(crate) fn new(
+        alloc: Global,
+        choice: Choice<'a>,
+        kinds: Kinds,
+        writing: Writing<'a>,
+    ) -> Result<Export<'a, 'r>, AllocError> {
+        Ok(Export {
             choice,
             kinds,
             writing,
+            waiting: Vec::with_capacity(alloc, MOST_WAITING)?,
             last: None,
             faults: 0,
-        }
+        })
     }
 
     // Where a network comes that is not named.
@@ -229,14 +242,19 @@ impl<'a, 'r> Export<'a, 'r> {
         console.report_behind(place.name(console.alloc), error)
     }
 
-    // Writes the network of an answer, if it is chosen.
+    // Writes the network of an answer, if it is chosen, which is known of some.
+    #[inline(always)]
     fn write_chosen<O: Write>(
         &mut self,
         found: &Found<'_>,
+        kept: Option<bool>,
         network: IpNetwork,
         out: &mut O,
     ) -> Result<(), ProgramError> {
-        if !self.kinds.has(Kind::of(network)) || !self.choice.chooses(found)? {
+        if !self.kinds.has(Kind::of(network)) {
+            return Ok(());
+        }
+        if kept != Some(true) && !self.choice.chooses(found)? {
             return Ok(());
         }
         self.writing.write(found, network, out)
@@ -257,10 +275,11 @@ impl<'a, 'r> Export<'a, 'r> {
     fn write_found<O: Write, E: Write>(
         &mut self,
         found: &Found<'_>,
+        kept: Option<bool>,
         console: &mut Console<'_, O, E>,
     ) -> Result<(), ProgramError> {
-        let network = found.network()?;
-        match self.write_chosen(found, network, console.out) {
+        let network = found.network().unwrap();
+        match self.write_chosen(found, kept, network, console.out) {
             Err(ProgramError::Database(MaxMindDbError::Memory)) => Err(ProgramError::Memory),
             Err(ProgramError::Database(error)) => {
                 let reported = self.report(Where::At(network), &error, console);
@@ -272,7 +291,39 @@ impl<'a, 'r> Export<'a, 'r> {
         }
     }
 
-    /// Writes an item of a list of networks, if it is chosen, or reports why it can't be.
+    // What is kept of the networks that wait: whether each is chosen.
+    #[inline(never)]
+    fn kept_of_waiting(&self) -> [Option<bool>; MOST_WAITING] {
+        let mut all = [None; MOST_WAITING];
+        for (kept, found) in all.iter_mut().zip(&self.waiting) {
+            *kept = self.choice.kept(found);
+        }
+        all
+    }
+
+    // Writes the networks that wait, as far as they are chosen, or reports why they can't be.
+    #[inline(never)]
+    fn write_waiting<O: Write, E: Write>(
+        &mut self,
+        console: &mut Console<'_, O, E>,
+    ) -> Result<(), ProgramError> {
+        for (index, kept) in self.kept_of_waiting().iter().enumerate() {
+            if *kept == Some(false) {
+                continue;
+            }
+            let Some(found) = self.waiting.get(index).copied() else {
+                break;
+            };
+            self.write_found(&found, *kept, console)?;
+        }
+        if let Some(found) = self.waiting.last() {
+            self.last = Some(*found);
+        }
+        self.waiting.clear();
+        Ok(())
+    }
+
+    /// Writes an item of a list of networks, if it is chosen, or reports why it can't be. Some items wait for others.
     pub(crate) fn write<O: Write, E: Write>(
         &mut self,
         item: &Result<Found<'r>, MaxMindDbError>,
@@ -280,21 +331,28 @@ impl<'a, 'r> Export<'a, 'r> {
     ) -> Result<(), ProgramError> {
         match item {
             Ok(found) => {
-                self.last = Some(*found);
-                if self.choice.kept(found) == Some(false) {
+                self.waiting.push(*found)?;
+                if self.waiting.len() < MOST_WAITING {
                     return Ok(());
                 }
-                self.write_found(found, console)
+                self.write_waiting(console)
             }
-            Err(error) => self.report_next(error, console),
+            Err(error) => {
+                self.write_waiting(console)?;
+                self.report_next(error, console)
+            }
         }
     }
 
-    /// Writes what stands behind the last network.
-    pub(crate) fn finish<O: Write>(&mut self, out: &mut O) -> Result<(), ProgramError> {
+    /// Writes what waits, and what stands behind the last network.
+    pub(crate) fn finish<O: Write, E: Write>(
+        &mut self,
+        console: &mut Console<'_, O, E>,
+    ) -> Result<(), ProgramError> {
+        self.write_waiting(console)?;
         match &mut self.writing {
             Writing::Rows(_) => Ok(()),
-            Writing::List(list) => Ok(list.finish(out)?),
+            Writing::List(list) => Ok(list.finish(console.out)?),
         }
     }
 }

@@ -8,6 +8,7 @@ mod database;
 mod diff;
 mod differences;
 mod enrich;
+mod equality;
 mod error;
 mod export;
 mod layout;

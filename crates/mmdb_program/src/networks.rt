@@ -45,7 +45,7 @@ fn export_all<'r, O: Write, E: Write>(
         drop(item);
         written?;
     }
-    export.finish(console.out)
+    export.finish(console)
 }
 
 // Begins rows.
@@ -82,7 +82,7 @@ fn begin<'a, 'r, O: Write>(
         Shape::Rows(layout) => begin_rows(alloc, layout, out),
         Shape::List(syntax) => begin_list(alloc, *syntax, task.kinds, out),
     };
-    Ok(Export::new(choice, task.kinds, writing?))
+    Ok(Export::new(alloc, choice, task.kinds, writing?)?)
 }
 
 /// Writes the chosen networks of a range, and reports each that can't be read.

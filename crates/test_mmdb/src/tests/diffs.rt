@@ -249,6 +249,104 @@ fn differences_of_two_files(rt: HostRuntime) {
     }
 }
 
+/// A value in each of two files, and the status of their comparison: 0 the same, 1 unreadable, 7 different.
+type Values<'a> = (&'a [u8], &'a [u8], u8);
+
+#[rattlefmt::skip]
+const VALUES: &[Values<'static>] = &[
+    (b"\xA1\x05", b"\xA1\x05", 0),
+    (b"\xA1\x05", b"\xA1\x06", 7),
+    // another type of the same number is shown the same
+    (b"\xA1\x05", b"\xC1\x05", 0),
+    (b"\xC1\x05", b"\xC1\x05", 0),
+    (b"\xC1\x05", b"\xC1\x06", 7),
+    (b"\x01\x02\x05", b"\x01\x02\x05", 0),
+    (b"\x01\x02\x05", b"\x01\x02\x06", 7),
+    (b"\x01\x03\x05", b"\x01\x03\x05", 0),
+    (b"\x01\x03\x05", b"\x01\x03\x06", 7),
+    (b"\x01\x01\x05", b"\x01\x01\x05", 0),
+    (b"\x01\x01\x05", b"\x01\x01\x06", 7),
+    (b"\x01\x07", b"\x01\x07", 0),
+    (b"\x01\x07", b"\x00\x07", 7),
+    (b"\x68\x3F\xF0\0\0\0\0\0\0", b"\x68\x3F\xF0\0\0\0\0\0\0", 0),
+    (b"\x68\x3F\xF0\0\0\0\0\0\0", b"\x68\x40\0\0\0\0\0\0\0", 7),
+    (b"\x04\x08\x3F\x80\0\0", b"\x04\x08\x3F\x80\0\0", 0),
+    (b"\x04\x08\x3F\x80\0\0", b"\x04\x08\x40\0\0\0", 7),
+    (b"\x82ab", b"\x82ab", 0),
+    (b"\x82ab", b"\x82ac", 7),
+    (b"\x42ab", b"\x42ab", 0),
+    (b"\x42ab", b"\x42ac", 7),
+    (b"\x02\x04\xA1\x01\xA1\x02", b"\x02\x04\xA1\x01\xA1\x02", 0),
+    (b"\x02\x04\xA1\x01\xA1\x02", b"\x02\x04\xA1\x01\xA1\x03", 7),
+    (b"\x02\x04\xA1\x01\xA1\x02", b"\x01\x04\xA1\x01", 7),
+    (b"\xE1\x41a\xA1\x01", b"\xE1\x41a\xA1\x01", 0),
+    (b"\xE1\x41a\xA1\x01", b"\xE1\x41b\xA1\x01", 7),
+    (b"\xE1\x41a\xA1\x01", b"\xE1\x41a\xA1\x02", 7),
+    (b"\xE1\x41a\xA1\x01", b"\xE2\x41a\xA1\x01\x41b\xA1\x01", 7),
+    // where a pointer leads the same stands as in line, and behind it the reading goes on
+    (b"\x20\x02\x42ab", b"\x42ab", 0),
+    (b"\x02\x04\x20\x06\xA1\x07\x42ab", b"\x02\x04\x42ab\xA1\x07", 0),
+    (b"\x02\x04\x20\x06\xA1\x07\x42ab", b"\x02\x04\x42ab\xA1\x08", 7),
+    (b"\xE2\x41a\x20\x09\x41b\xA1\x02\x01\x04\xA1\x01", b"\xE2\x41a\x01\x04\xA1\x01\x41b\xA1\x02", 0),
+    (b"\xE2\x41a\x20\x09\x41b\xA1\x02\x01\x04\xA1\x01", b"\xE2\x41a\x01\x04\xA1\x01\x41b\xA1\x03", 7),
+    (b"\xE2\x41a\x20\x09\x41b\xA1\x02\xE1\x41c\xA1\x01", b"\xE2\x41a\xE1\x41c\xA1\x01\x41b\xA1\x02", 0),
+    (b"\xE2\x41a\x20\x09\x41b\xA1\x02\xE1\x41c\xA1\x01", b"\xE2\x41a\xE1\x41c\xA1\x01\x41b\xA1\x03", 7),
+    // neither a text nor a key that is not UTF-8 can be read
+    (b"\x41\xFF", b"\x41\xFF", 1),
+    (b"\xE1\x41\xFF\xA1\x01", b"\xE1\x41\xFF\xA1\x01", 1),
+    (b"\xE1\x41a", b"\xE1\x41a", 1),
+];
+
+// A database with data, whose first value all addresses of 0.0.0.0/1 have.
+fn bytes_with(rt: &impl Abort, alloc: Global, data: &[u8]) -> Vec<u8> {
+    let tree = nodes_24(alloc, HALF).expect(rt, "nodes");
+    let changes = [
+        (Field::NodeCount, b"\xC1\x01" as &[u8]),
+        (Field::IpVersion, IPV4),
+    ];
+    changed_file(alloc, tree.as_slice(), data, &changes).expect(rt, "a file")
+}
+
+fn assert_values(rt: &impl Abort, alloc: Global, values: Values<'_>) {
+    let (old, new, status) = values;
+    let old_bytes = bytes_with(rt, alloc, old);
+    let new_bytes = bytes_with(rt, alloc, new);
+    let run = diff_of(
+        alloc,
+        old_bytes.as_slice(),
+        new_bytes.as_slice(),
+        &["--exit-code"],
+    );
+    assert!(rt; run.status == status, "{old:?} {new:?}: {:?}", run.err());
+}
+
+#[test]
+fn values_of_each_type(rt: HostRuntime) {
+    for values in VALUES {
+        assert_values(&rt, rt.alloc(), *values);
+    }
+}
+
+// A number in so many arrays, each in another.
+fn nested(alloc: Global, depth: usize, number: u8) -> Vec<u8> {
+    let mut data = Vec::new(alloc);
+    for _ in 0..depth {
+        let _ = data.extend_from_slice(b"\x01\x04");
+    }
+    let _ = data.extend_from_slice(&[0xA1, number]);
+    data
+}
+
+#[test]
+fn values_at_any_depth(rt: HostRuntime) {
+    for depth in [1, 31, 32, 33, 200] {
+        let five = nested(rt.alloc(), depth, 5);
+        let six = nested(rt.alloc(), depth, 6);
+        assert_values(&rt, rt.alloc(), (five.as_slice(), five.as_slice(), 0));
+        assert_values(&rt, rt.alloc(), (five.as_slice(), six.as_slice(), 7));
+    }
+}
+
 // The nodes of DE in ::/95: in both halves of IPv4, and in as many addresses behind it. Of 97 nodes: offset o is 113 + o,
 // 97 is none.
 fn nodes_of_both_kinds(alloc: Global) -> Vec<(u32, u32)> {

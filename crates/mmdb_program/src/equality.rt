@@ -1,0 +1,252 @@
+//! Whether two records are equal, as far as that is seen while both are read side by side. No memory is taken.
+ghost use Rattle.std.specs.Prelude.{true, false};
+ghost use Rattle.mmdb_decode.specs.Skipping.{skip_at};
+
+use crate::database::Found;
+use mmdb_decode::decoder::Decoder;
+use mmdb_decode::items::{Entries, Items};
+use mmdb_format::error::DecodeResult;
+use mmdb_format::kind::Kind;
+use mmdb_record::decode::Decode;
+use std::alloc::Global;
+
+/// How deep maps and arrays may stand in one another. What is larger than these three is not seen to be equal: they are
+/// far below the limits within which a value can be read.
+const MOST_LEVELS: usize = 32;
+
+/// How many values and keys there may be.
+const MOST_VALUES: usize = 8192;
+
+/// How many bytes keys, texts and byte strings may have.
+const MOST_BYTES: usize = 1 << 18;
+
+// A decoder that stands at a record.
+#[derive(Drop)]
+struct AtRecord<'de> {
+    decoder: Decoder<'de>,
+}
+
+impl<'de> Decode<'de> for AtRecord<'de> {
+    ghost Datum = { Unit {0} };
+
+    ghost datum = { λ _. tt };
+
+    ghost meaning = { skip_at };
+
+    ghost starts = { false };
+
+    ghost free = { true };
+
+    ghost exact = { false };
+
+    fn decode(_alloc: Global, d: &mut Decoder<'de>) -> DecodeResult<AtRecord<'de>> {
+        Ok(AtRecord { decoder: d.again() })
+    }
+}
+
+// Two values that are read side by side, and how much may still be read of each.
+#[derive(Drop)]
+struct SideBySide<'de> {
+    alloc: Global,
+    old: Decoder<'de>,
+    new: Decoder<'de>,
+    values: usize,
+    bytes: usize,
+}
+
+impl<'de> SideBySide<'de> {
+    // Takes one value of those that may still be read, if one is left.
+    fn takes_value(&mut self) -> bool {
+        match self.values.checked_sub(1) {
+            Some(left) => {
+                self.values = left;
+                true
+            }
+            None => false,
+        }
+    }
+
+    // Takes so many bytes of those that may still be read, if as many are left.
+    fn takes_bytes(&mut self, count: usize) -> bool {
+        match self.bytes.checked_sub(count) {
+            Some(left) => {
+                self.bytes = left;
+                true
+            }
+            None => false,
+        }
+    }
+
+    fn has_same_text(&mut self) -> bool {
+        match (self.old.try_str(), self.new.try_str()) {
+            (Ok(old), Ok(new)) => old == new && self.takes_bytes(old.len()),
+            _ => false,
+        }
+    }
+
+    fn has_same_bytes(&mut self) -> bool {
+        match (
+            self.old.read_bytes(self.alloc),
+            self.new.read_bytes(self.alloc),
+        ) {
+            (Ok(old), Ok(new)) => old == new && self.takes_bytes(old.len()),
+            _ => false,
+        }
+    }
+
+    // Whether both have the same number or truth value of a kind.
+    fn has_same_scalar(&mut self, kind: Kind) -> bool {
+        let alloc = self.alloc;
+        match kind {
+            Kind::U16 => are_same(self.old.try_u16().ok(), self.new.try_u16().ok()),
+            Kind::U32 => are_same(self.old.try_u32().ok(), self.new.try_u32().ok()),
+            Kind::Bool => are_same(self.old.try_bool().ok(), self.new.try_bool().ok()),
+            Kind::Double => are_same(self.old.try_double().ok(), self.new.try_double().ok()),
+            Kind::U64 => are_same(self.old.read_u64(alloc).ok(), self.new.read_u64(alloc).ok()),
+            Kind::U128 => are_same(
+                self.old.read_u128(alloc).ok(),
+                self.new.read_u128(alloc).ok(),
+            ),
+            Kind::I32 => are_same(self.old.read_i32(alloc).ok(), self.new.read_i32(alloc).ok()),
+            Kind::Float => are_same(
+                self.old.read_float(alloc).ok(),
+                self.new.read_float(alloc).ok(),
+            ),
+            _ => false,
+        }
+    }
+
+    // Reads a value of both, whose containers nest at most so deep. Whether they are seen to be equal.
+    #[cycle(equality)]
+    fn has_same_value(&mut self, depth: usize) -> bool {
+        if !self.takes_value() {
+            return false;
+        }
+        // of another kind the new value can't be read as one of this
+        match self.old.peek_kind(self.alloc).ok() {
+            Some(Kind::Map) => self.has_same_map(depth),
+            Some(Kind::Array) => self.has_same_array(depth),
+            Some(Kind::Text) => self.has_same_text(),
+            Some(Kind::Bytes) => self.has_same_bytes(),
+            Some(kind) => self.has_same_scalar(kind),
+            None => false,
+        }
+    }
+
+    // Reads the next key of both maps. Whether it is the same.
+    fn has_same_key(&mut self, old: &mut Entries, new: &mut Entries) -> bool {
+        match (self.old.try_next(old), self.new.try_next(new)) {
+            (Ok(Some(old)), Ok(Some(new))) => {
+                old == new
+                    && self.takes_value()
+                    && self.takes_bytes(old.len())
+                    && str::from_utf8(old).is_ok()
+            }
+            _ => false,
+        }
+    }
+
+    // Reads the pairs of both maps.
+    #[cycle(equality)]
+    fn has_same_pairs(&mut self, depth: usize, old: &mut Entries, new: &mut Entries) -> bool {
+        if depth == 0 || old.left() != new.left() {
+            return false;
+        }
+        for _ in 0..old.left() {
+            if !self.has_same_key(old, new) || !self.has_same_value(depth - 1) {
+                return false;
+            }
+        }
+        true
+    }
+
+    // Reads a map of both.
+    #[cycle(equality)]
+    fn has_same_map(&mut self, depth: usize) -> bool {
+        let Ok(mut old) = self.old.try_map() else {
+            return false;
+        };
+        let Ok(mut new) = self.new.try_map() else {
+            old.forget();
+            return false;
+        };
+        let is_same = self.has_same_pairs(depth, &mut old, &mut new);
+        old.spend();
+        new.spend();
+        self.old.end_map(old);
+        self.new.end_map(new);
+        is_same
+    }
+
+    // Reads so many elements of both arrays.
+    #[cycle(equality)]
+    fn has_same_elements(&mut self, depth: usize, count: usize) -> bool {
+        if depth == 0 {
+            return false;
+        }
+        for _ in 0..count {
+            if !self.has_same_value(depth - 1) {
+                return false;
+            }
+        }
+        true
+    }
+
+    // Reads an array of both.
+    #[cycle(equality)]
+    fn has_same_array(&mut self, depth: usize) -> bool {
+        let Ok(old) = self.old.try_array() else {
+            return false;
+        };
+        let Ok(new) = self.new.try_array() else {
+            old.forget();
+            return false;
+        };
+        let count = self.old.remaining(&old);
+        let is_same = count == self.new.remaining(&new) && self.has_same_elements(depth, count);
+        leave(&mut self.old, old);
+        leave(&mut self.new, new);
+        is_same
+    }
+}
+
+// Leaves an array whose elements were read.
+fn leave(d: &mut Decoder<'_>, items: Items) {
+    let mut items = items;
+    for _ in 0..d.remaining(&items) {
+        let _ = d.next_item(&mut items);
+    }
+    if d.next_item(&mut items) {
+        items.forget();
+    } else {
+        d.end_array(items);
+    }
+}
+
+// Whether two readings gave the same.
+fn are_same<T: PartialEq + Copy>(old: Option<T>, new: Option<T>) -> bool {
+    match (old, new) {
+        (Some(old), Some(new)) => old == new,
+        _ => false,
+    }
+}
+
+// A decoder at the record that was found, if there is one.
+fn at_record<'r>(alloc: Global, found: &Found<'r>) -> Option<AtRecord<'r>> {
+    found.decode(alloc).ok().flatten()
+}
+
+/// Whether two records are seen to be equal, and can be read. Others may be equal too.
+pub(crate) fn are_seen_equal<'r>(alloc: Global, old: &Found<'r>, new: &Found<'r>) -> bool {
+    let (Some(old), Some(new)) = (at_record(alloc, old), at_record(alloc, new)) else {
+        return false;
+    };
+    let mut both = SideBySide {
+        alloc,
+        old: old.decoder,
+        new: new.decoder,
+        values: MOST_VALUES,
+        bytes: MOST_BYTES,
+    };
+    both.has_same_value(MOST_LEVELS)
+}
