@@ -11,3 +11,4 @@ pub mod Progress
 pub mod Sweeps
 pub mod StopLemmas
 pub mod Narrow
+pub mod LevelLemmas

@@ -1,9 +1,10 @@
 //! Tables of the first sixteen bits of addresses.
-ghost use Rattle.std.specs.Prelude.{◌≡◌, ℕ, ◌+◌, ◌-◌, ◌^◌, ◌<◌, ◌≤◌, IfOk, length};
+ghost use Rattle.std.specs.Prelude.{◌≡◌, ℕ, ◌+◌, ◌-◌, ◌^◌, ◌<◌, ◌≤◌, [], IfOk, length};
 ghost use Rattle.std.specs.Vec.{vec_len, vec_capacity};
 
 use crate::nodes::{Descent, Nodes};
 use std::alloc::{AllocError, Global};
+use std::mem;
 
 /// How many bits of an address a table is for.
 const TABLE_BITS: u8 = 16;
@@ -19,8 +20,8 @@ pub struct Entry {
 
 impl Nodes<'_> {
     ghost use Rattle.mmdb_tree.specs.Nodes.{tree_in, EndsByTable, ReadsByTable};
-    ghost use Rattle.mmdb_tree.specs.Table.{IsTable};
-    ghost use Rattle.mmdb_tree.specs.Working.{Appends};
+    ghost use Rattle.mmdb_tree.specs.Table.{IsFull, IsTable};
+    ghost use Rattle.mmdb_tree.specs.Working.{Appends, Follows, IsLevel};
     ghost use Rattle.mmdb_net.specs.Bits.{bits_of};
 
     // Appends an entry for each string of the last `left` of the sixteen bits, where the bits before them
@@ -51,6 +52,71 @@ impl Nodes<'_> {
         self.push_entries(table, upper, left - 1);
     }
 
+    // Where a walk that has come to an entry goes on by a bit. A walk that has left the nodes stays where it is.
+    #[inline(always)]
+    fn follow(&self, entry: Entry, right: bool, taken: u8) -> Entry
+        requires { taken < 16 }
+        ensures { Follows (tree_in self.now) taken right entry result }
+    {
+        let number = entry.number as usize;
+        if number >= self.node_count {
+            return entry;
+        }
+        Entry {
+            number: self.child(number, right) as u32,
+            taken: taken + 1,
+        }
+    }
+
+    // Appends the entries of strings of one bit more, both halves for each. No read waits for another.
+    fn push_level(&self, level: &[Entry], next: &mut Vec<Entry>, taken: u8)
+        requires taken { taken < 16 }
+        requires few { length level.now ≤ 32768 }
+        requires node_count { self.now.node_count < 2 ^ 32 }
+        requires empty { next.old.items ≡ [] }
+        requires room { 65536 ≤ vec_capacity next.old }
+        ensures level { (start : ℕ) → IsLevel (tree_in self.now) start taken level.now
+            → IsLevel (tree_in self.now) start (taken + 1) next.new.items }
+        ensures capacity { vec_capacity next.new ≡ vec_capacity next.old }
+    {
+        for i in 0..level.len() {
+            let entry = level[i];
+            next.push_reserved(self.follow(entry, false, taken));
+            next.push_reserved(self.follow(entry, true, taken));
+        }
+    }
+
+    // Makes the table a level of the tree at a time, of the level before.
+    fn table_by_levels(&self, alloc: Global, start: usize) -> Result<Vec<Entry>, AllocError>
+        requires start { start < self.now.node_count }
+        requires node_count { self.now.node_count < 2 ^ 32 }
+        ensures { IfOk result (λ table. IsFull (tree_in self.now) start table.items) }
+    {
+        let mut level = Vec::with_capacity(alloc, 1 << TABLE_BITS)?;
+        let mut next = Vec::with_capacity(alloc, 1 << TABLE_BITS)?;
+        level.push_reserved(Entry {
+            number: start as u32,
+            taken: 0,
+        });
+        for taken in 0..TABLE_BITS {
+            self.push_level(&level, &mut next, taken);
+            mem::swap(&mut level, &mut next);
+            next.clear();
+        }
+        Ok(level)
+    }
+
+    // Makes the table from its first entry to its last.
+    fn table_in_order(&self, alloc: Global, start: usize) -> Result<Vec<Entry>, AllocError>
+        requires start { start < self.now.node_count }
+        requires node_count { self.now.node_count < 2 ^ 32 }
+        ensures { IfOk result (λ table. IsFull (tree_in self.now) start table.items) }
+    {
+        let mut table = Vec::with_capacity(alloc, 1 << TABLE_BITS)?;
+        self.push_entries(&mut table, start, TABLE_BITS);
+        Ok(table)
+    }
+
     /// The table of the walks that begin at a number, where that is a node: 65536 entries, one for each string of
     /// sixteen bits, in the order of the numbers that they give. Else an empty one. It fails only where there is no
     /// memory.
@@ -61,9 +127,11 @@ impl Nodes<'_> {
         if start >= self.node_count {
             return Ok(Vec::new(alloc));
         }
-        let mut table = Vec::with_capacity(alloc, 1 << TABLE_BITS)?;
-        self.push_entries(&mut table, start, TABLE_BITS);
-        Ok(table)
+        if self.outgrow_caches() {
+            self.table_by_levels(alloc, start)
+        } else {
+            self.table_in_order(alloc, start)
+        }
     }
 
     /// Walks along the 32 bits of an IPv4 address, for whose first sixteen a table has where they lead ("Search
