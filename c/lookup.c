@@ -60,24 +60,24 @@ MMDB_lookup_result_s MMDB_lookup_string(const MMDB_s *const m, const char *const
 }
 
 /* A record that is 0 or past the data section is invalid: no lookup ends there with a value. */
-static uint8_t type_of_record(const struct mmdb_c_facts *facts, uint64_t record) {
-    if (record == 0) return MMDB_RECORD_TYPE_INVALID;
-    if (record < facts->node_count) return MMDB_RECORD_TYPE_SEARCH_NODE;
-    if (record == facts->node_count) return MMDB_RECORD_TYPE_EMPTY;
-    if (record - facts->node_count - 16 < facts->marker - facts->data_start) return MMDB_RECORD_TYPE_DATA;
-    return MMDB_RECORD_TYPE_INVALID;
+static inline uint8_t type_of_record(const struct mmdb_c_facts *facts, uint32_t record, uint32_t node_count) {
+    if (record < node_count) return record ? MMDB_RECORD_TYPE_SEARCH_NODE : MMDB_RECORD_TYPE_INVALID;
+    if (record == node_count) return MMDB_RECORD_TYPE_EMPTY;
+    bool is_within = record - node_count - 16 < facts->marker - facts->data_start;
+    return is_within ? MMDB_RECORD_TYPE_DATA : MMDB_RECORD_TYPE_INVALID;
 }
 
 int MMDB_read_node(const MMDB_s *const m, uint32_t number, MMDB_search_node_s *const node) {
     const struct mmdb_c_db *db = &state_of(m)->db;
     if (number >= db->facts.node_count) return MMDB_INVALID_NODE_NUMBER_ERROR;
     struct mmdb_c_children children = mmdb_c_children(db, number);
-    node->left_record = children.left;
-    node->right_record = children.right;
-    node->left_record_type = type_of_record(&db->facts, node->left_record);
-    node->right_record_type = type_of_record(&db->facts, node->right_record);
-    uint32_t before_data = (uint32_t)db->facts.node_count + 16;
-    node->left_record_entry = (MMDB_entry_s){.mmdb = m, .offset = (uint32_t)node->left_record - before_data};
-    node->right_record_entry = (MMDB_entry_s){.mmdb = m, .offset = (uint32_t)node->right_record - before_data};
+    uint32_t left = (uint32_t)children.left, right = (uint32_t)children.right;
+    uint32_t node_count = (uint32_t)db->facts.node_count;
+    node->left_record = left;
+    node->right_record = right;
+    node->left_record_entry = (MMDB_entry_s){.mmdb = m, .offset = left - node_count - 16};
+    node->right_record_entry = (MMDB_entry_s){.mmdb = m, .offset = right - node_count - 16};
+    node->left_record_type = type_of_record(&db->facts, left, node_count);
+    node->right_record_type = type_of_record(&db->facts, right, node_count);
     return MMDB_SUCCESS;
 }
