@@ -78,8 +78,8 @@ impl<'r, 'a, S: AsSlice<u8> + Drop> Iterator for LookupMany<'r, 'a, S> {
     fn next(&mut self) -> Option<Self::Item> {
         let (first, rest) = self.left.split_first()?;
         let reader = self.reader;
-        let answer = if self.one_by_one {
-            reader.look_up(first)
+        let found = if self.one_by_one {
+            reader.walk_one(first)
         } else {
             if self.next == self.count {
                 self.count = reader.find_group(self.left, &mut self.leaves);
@@ -87,9 +87,9 @@ impl<'r, 'a, S: AsSlice<u8> + Drop> Iterator for LookupMany<'r, 'a, S> {
             }
             let leaf = self.leaves[self.next];
             self.next += 1;
-            reader.answer_found(first, Reached::at(leaf))
+            Reached::at(leaf)
         };
         self.left = rest;
-        Some((*first, answer))
+        Some((*first, reader.answer_found(first, found)))
     }
 }

@@ -122,6 +122,35 @@ impl<S: AsSlice<u8> + Drop> Reader<S> {
         }
     }
 
+    /// Where the walk of an address ends.
+    #[inline(always)]
+    pub(crate) fn walk_one(&self, address: &IpAddr) -> Reached
+        ensures { IsFoundFor self.now address.now
+            (record { number = result.number; taken = result.taken }) }
+    {
+        let nodes = self.nodes();
+        match address {
+            IpAddr::V4(v4) if self.ipv4_start < nodes.node_count => {
+                let walk = nodes.descend_ipv4(&self.ipv4_table, v4.to_bits());
+                Reached {
+                    number: walk.number,
+                    taken: walk.taken,
+                }
+            }
+            IpAddr::V6(v6) if self.metadata.ip_version == 6 => {
+                let walk = nodes.descend_ipv6(&self.ipv6_table, v6.to_bits());
+                Reached {
+                    number: walk.number,
+                    taken: walk.taken,
+                }
+            }
+            _ => Reached {
+                number: nodes.node_count,
+                taken: 0,
+            },
+        }
+    }
+
     /// What `lookup` answers for an address, from where its walk was found to end.
     #[inline(always)]
     pub(crate) fn answer_found(

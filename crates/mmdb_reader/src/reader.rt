@@ -340,15 +340,6 @@ impl<S: AsSlice<u8> + Drop> Reader<S> {
         })
     }
 
-    /// What `lookup` answers for an address.
-    #[inline(always)]
-    pub(crate) fn look_up(&self, address: &IpAddr) -> Result<LookupResult<'_, S>, MaxMindDbError>
-        ensures { IsLookup self.now address.now result }
-    {
-        let leaf = self.find_leaf(address, &mut Steps::new());
-        self.answer_of(address, leaf)
-    }
-
     /// `lookup`, which adds the nodes that it reads to `steps`.
     ///
     /// For an IPv4 address, where IPv4 begins on a node, they are those of the bits after the first
