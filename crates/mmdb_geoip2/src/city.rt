@@ -10,7 +10,7 @@ use crate::names::Names;
 use mmdb_decode::decoder::Decoder;
 use mmdb_decode::failed::Failed;
 use mmdb_format::content::Double;
-use mmdb_record::fields::{EachByItself, Fields, FieldsSeen, read_part};
+use mmdb_record::fields::{Fields, FieldsSeen, read_part};
 use mmdb_record::record::named;
 use mmdb_record::try_decode::try_once;
 use std::alloc::Global;
@@ -24,9 +24,9 @@ pub struct City<'a> {
     pub names: Names<'a>,
 }
 
-impl EachByItself for City<'_> {}
-
 impl<'de> Fields<'de> for City<'de> {
+    type Seen = FieldsSeen;
+
     ghost table = { city_table };
 
     fn empty(_alloc: Global) -> City<'de> {
@@ -73,9 +73,9 @@ pub struct Location<'a> {
     pub time_zone: Option<&'a str>,
 }
 
-impl EachByItself for Location<'_> {}
-
 impl<'de> Fields<'de> for Location<'de> {
+    type Seen = FieldsSeen;
+
     ghost table = { location_table };
 
     fn empty(_alloc: Global) -> Location<'de> {
@@ -121,9 +121,9 @@ pub struct Postal<'a> {
     pub code: Option<&'a str>,
 }
 
-impl EachByItself for Postal<'_> {}
-
 impl<'de> Fields<'de> for Postal<'de> {
+    type Seen = FieldsSeen;
+
     ghost table = { postal_table };
 
     fn empty(_alloc: Global) -> Postal<'de> {
@@ -165,9 +165,9 @@ pub struct Subdivision<'a> {
     pub names: Names<'a>,
 }
 
-impl EachByItself for Subdivision<'_> {}
-
 impl<'de> Fields<'de> for Subdivision<'de> {
+    type Seen = FieldsSeen;
+
     ghost table = { subdivision_table };
 
     fn empty(_alloc: Global) -> Subdivision<'de> {

@@ -9,7 +9,7 @@ use crate::fields::fields_by_name;
 use crate::names::Names;
 use mmdb_decode::decoder::Decoder;
 use mmdb_decode::failed::Failed;
-use mmdb_record::fields::{EachByItself, Fields, FieldsSeen, read_part};
+use mmdb_record::fields::{Fields, FieldsSeen, read_part};
 use mmdb_record::record::named;
 use mmdb_record::try_decode::try_once;
 use std::alloc::Global;
@@ -25,9 +25,9 @@ pub struct Continent<'a> {
     pub names: Names<'a>,
 }
 
-impl EachByItself for Continent<'_> {}
-
 impl<'de> Fields<'de> for Continent<'de> {
+    type Seen = FieldsSeen;
+
     ghost table = { continent_table };
 
     fn empty(_alloc: Global) -> Continent<'de> {
@@ -73,9 +73,9 @@ pub struct Country<'a> {
     pub names: Names<'a>,
 }
 
-impl EachByItself for Country<'_> {}
-
 impl<'de> Fields<'de> for Country<'de> {
+    type Seen = FieldsSeen;
+
     ghost table = { country_table };
 
     fn empty(_alloc: Global) -> Country<'de> {
@@ -127,9 +127,9 @@ pub struct RepresentedCountry<'a> {
     pub representation_type: Option<&'a str>,
 }
 
-impl EachByItself for RepresentedCountry<'_> {}
-
 impl<'de> Fields<'de> for RepresentedCountry<'de> {
+    type Seen = FieldsSeen;
+
     ghost table = { represented_table };
 
     fn empty(_alloc: Global) -> RepresentedCountry<'de> {
@@ -175,9 +175,9 @@ pub struct Traits {
     pub is_anycast: Option<bool>,
 }
 
-impl EachByItself for Traits {}
-
 impl<'de> Fields<'de> for Traits {
+    type Seen = FieldsSeen;
+
     ghost table = { country_traits_table };
 
     fn empty(_alloc: Global) -> Traits {

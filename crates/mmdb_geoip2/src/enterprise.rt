@@ -9,7 +9,7 @@ use crate::fields::fields_by_name;
 use crate::names::Names;
 use mmdb_decode::decoder::Decoder;
 use mmdb_decode::failed::Failed;
-use mmdb_record::fields::{EachByItself, Fields, FieldsSeen, read_part};
+use mmdb_record::fields::{Fields, FieldsSeen, read_part};
 use mmdb_record::record::named;
 use mmdb_record::try_decode::try_once;
 use std::alloc::Global;
@@ -25,9 +25,9 @@ pub struct City<'a> {
     pub names: Names<'a>,
 }
 
-impl EachByItself for City<'_> {}
-
 impl<'de> Fields<'de> for City<'de> {
+    type Seen = FieldsSeen;
+
     ghost table = { enterprise_city_table };
 
     fn empty(_alloc: Global) -> City<'de> {
@@ -75,9 +75,9 @@ pub struct Country<'a> {
     pub names: Names<'a>,
 }
 
-impl EachByItself for Country<'_> {}
-
 impl<'de> Fields<'de> for Country<'de> {
+    type Seen = FieldsSeen;
+
     ghost table = { enterprise_country_table };
 
     fn empty(_alloc: Global) -> Country<'de> {
@@ -125,9 +125,9 @@ pub struct Postal<'a> {
     pub confidence: Option<u8>,
 }
 
-impl EachByItself for Postal<'_> {}
-
 impl<'de> Fields<'de> for Postal<'de> {
+    type Seen = FieldsSeen;
+
     ghost table = { enterprise_postal_table };
 
     fn empty(_alloc: Global) -> Postal<'de> {
@@ -172,9 +172,9 @@ pub struct Subdivision<'a> {
     pub names: Names<'a>,
 }
 
-impl EachByItself for Subdivision<'_> {}
-
 impl<'de> Fields<'de> for Subdivision<'de> {
+    type Seen = FieldsSeen;
+
     ghost table = { enterprise_subdivision_table };
 
     fn empty(_alloc: Global) -> Subdivision<'de> {
@@ -248,9 +248,9 @@ pub struct Traits<'a> {
     pub user_type: Option<&'a str>,
 }
 
-impl EachByItself for Traits<'_> {}
-
 impl<'de> Fields<'de> for Traits<'de> {
+    type Seen = FieldsSeen;
+
     ghost table = { enterprise_traits_table };
 
     fn empty(_alloc: Global) -> Traits<'de> {

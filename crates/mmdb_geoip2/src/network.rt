@@ -7,7 +7,7 @@ ghost use Rattle.mmdb_geoip2.specs.NetworkTables.{isp_table, connection_type_tab
 use crate::fields::fields_by_name;
 use mmdb_decode::decoder::Decoder;
 use mmdb_decode::failed::Failed;
-use mmdb_record::fields::{EachByItself, Fields, FieldsSeen};
+use mmdb_record::fields::{Fields, FieldsSeen};
 use mmdb_record::record::named;
 use mmdb_record::try_decode::try_once;
 use std::alloc::Global;
@@ -29,9 +29,9 @@ pub struct Isp<'a> {
     pub organization: Option<&'a str>,
 }
 
-impl EachByItself for Isp<'_> {}
-
 impl<'de> Fields<'de> for Isp<'de> {
+    type Seen = FieldsSeen;
+
     ghost table = { isp_table };
 
     fn empty(_alloc: Global) -> Isp<'de> {
@@ -72,9 +72,9 @@ pub struct ConnectionType<'a> {
     pub connection_type: Option<&'a str>,
 }
 
-impl EachByItself for ConnectionType<'_> {}
-
 impl<'de> Fields<'de> for ConnectionType<'de> {
+    type Seen = FieldsSeen;
+
     ghost table = { connection_type_table };
 
     fn empty(_alloc: Global) -> ConnectionType<'de> {
@@ -115,9 +115,9 @@ pub struct AnonymousIp {
     pub is_tor_exit_node: Option<bool>,
 }
 
-impl EachByItself for AnonymousIp {}
-
 impl<'de> Fields<'de> for AnonymousIp {
+    type Seen = FieldsSeen;
+
     ghost table = { anonymous_ip_table };
 
     fn empty(_alloc: Global) -> AnonymousIp {
@@ -160,9 +160,9 @@ pub struct DensityIncome {
     pub population_density: Option<u32>,
 }
 
-impl EachByItself for DensityIncome {}
-
 impl<'de> Fields<'de> for DensityIncome {
+    type Seen = FieldsSeen;
+
     ghost table = { density_income_table };
 
     fn empty(_alloc: Global) -> DensityIncome {
@@ -195,9 +195,9 @@ pub struct Domain<'a> {
     pub domain: Option<&'a str>,
 }
 
-impl EachByItself for Domain<'_> {}
-
 impl<'de> Fields<'de> for Domain<'de> {
+    type Seen = FieldsSeen;
+
     ghost table = { domain_table };
 
     fn empty(_alloc: Global) -> Domain<'de> {
@@ -228,9 +228,9 @@ pub struct Asn<'a> {
     pub autonomous_system_organization: Option<&'a str>,
 }
 
-impl EachByItself for Asn<'_> {}
-
 impl<'de> Fields<'de> for Asn<'de> {
+    type Seen = FieldsSeen;
+
     ghost table = { asn_table };
 
     fn empty(_alloc: Global) -> Asn<'de> {

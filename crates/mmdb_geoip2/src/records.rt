@@ -10,9 +10,8 @@ use crate::fields::{fields_by_name, read_few_once};
 use crate::{city, country, enterprise};
 use mmdb_decode::decoder::Decoder;
 use mmdb_decode::failed::Failed;
-use mmdb_decode::items::Entries;
-use mmdb_record::fields::{Fields, FieldsSeen, TryFields, read_part};
-use mmdb_record::memo::{Memo, Recalls, read_part_or_reuse, read_reusing};
+use mmdb_record::fields::{Fields, read_part, read_part_or_reuse};
+use mmdb_record::memo::SeenWithMemo;
 use mmdb_record::record::named;
 use std::alloc::Global;
 
@@ -32,6 +31,8 @@ pub struct Country<'a> {
 }
 
 impl<'de> Fields<'de> for Country<'de> {
+    type Seen = SeenWithMemo<'de, country::Country<'de>>;
+
     ghost table = { top_country_table };
 
     fn empty(alloc: Global) -> Country<'de> {
@@ -47,47 +48,19 @@ impl<'de> Fields<'de> for Country<'de> {
     #[inline(always)]
     fn read_field(
         &mut self,
-        met: &mut FieldsSeen,
-        alloc: Global,
-        name: &'de [u8],
-        d: &mut Decoder<'de>,
-    ) -> Result<(), Failed> {
-        let mut memo = None;
-        self.read_field_or_reuse(met, &mut memo, alloc, name, d)
-    }
-}
-
-impl<'de> Recalls<'de, country::Country<'de>> for Country<'de> {
-    #[inline(always)]
-    fn read_field_or_reuse(
-        &mut self,
-        met: &mut FieldsSeen,
-        memo: &mut Option<Memo<'de, country::Country<'de>>>,
+        seen: &mut Self::Seen,
         alloc: Global,
         name: &'de [u8],
         d: &mut Decoder<'de>,
     ) -> Result<(), Failed> {
         fields_by_name!(alloc, name, d;
-            "continent" => read_part(&mut met.0, &mut self.continent),
-            "country" => read_part_or_reuse(&mut met.1, &mut self.country, memo),
-            "registered_country" => read_part_or_reuse(&mut met.2, &mut self.registered_country, memo),
-            "represented_country" => read_part(&mut met.3, &mut self.represented_country),
-            "traits" => read_part(&mut met.4, &mut self.traits),
+            "continent" => read_part(&mut seen.met.0, &mut self.continent),
+            "country" => read_part_or_reuse(&mut seen.met.1, &mut self.country, &mut seen.memo),
+            "registered_country" => read_part_or_reuse(&mut seen.met.2, &mut self.registered_country, &mut seen.memo),
+            "represented_country" => read_part(&mut seen.met.3, &mut self.represented_country),
+            "traits" => read_part(&mut seen.met.4, &mut self.traits),
             _ => try_skip(),
         )
-    }
-}
-
-impl<'de> TryFields<'de> for Country<'de> {
-    #[inline(always)]
-    fn read_rest(
-        &mut self,
-        met: &mut FieldsSeen,
-        alloc: Global,
-        d: &mut Decoder<'de>,
-        entries: &mut Entries,
-    ) -> Result<(), Failed> {
-        read_reusing(alloc, d, entries, self, met)
     }
 }
 
@@ -122,6 +95,8 @@ pub struct City<'a> {
 }
 
 impl<'de> Fields<'de> for City<'de> {
+    type Seen = SeenWithMemo<'de, city::Country<'de>>;
+
     ghost table = { top_city_table };
 
     ghost free = { false };
@@ -133,51 +108,23 @@ impl<'de> Fields<'de> for City<'de> {
     #[inline(always)]
     fn read_field(
         &mut self,
-        met: &mut FieldsSeen,
-        alloc: Global,
-        name: &'de [u8],
-        d: &mut Decoder<'de>,
-    ) -> Result<(), Failed> {
-        let mut memo = None;
-        self.read_field_or_reuse(met, &mut memo, alloc, name, d)
-    }
-}
-
-impl<'de> Recalls<'de, city::Country<'de>> for City<'de> {
-    #[inline(always)]
-    fn read_field_or_reuse(
-        &mut self,
-        met: &mut FieldsSeen,
-        memo: &mut Option<Memo<'de, city::Country<'de>>>,
+        seen: &mut Self::Seen,
         alloc: Global,
         name: &'de [u8],
         d: &mut Decoder<'de>,
     ) -> Result<(), Failed> {
         fields_by_name!(alloc, name, d;
-            "city" => read_part(&mut met.0, &mut self.city),
-            "continent" => read_part(&mut met.1, &mut self.continent),
-            "country" => read_part_or_reuse(&mut met.2, &mut self.country, memo),
-            "location" => read_part(&mut met.3, &mut self.location),
-            "postal" => read_part(&mut met.4, &mut self.postal),
-            "registered_country" => read_part_or_reuse(&mut met.5, &mut self.registered_country, memo),
-            "represented_country" => read_part(&mut met.6, &mut self.represented_country),
-            "subdivisions" => read_few_once(&mut met.7, &mut self.subdivisions),
-            "traits" => read_part(&mut met.8, &mut self.traits),
+            "city" => read_part(&mut seen.met.0, &mut self.city),
+            "continent" => read_part(&mut seen.met.1, &mut self.continent),
+            "country" => read_part_or_reuse(&mut seen.met.2, &mut self.country, &mut seen.memo),
+            "location" => read_part(&mut seen.met.3, &mut self.location),
+            "postal" => read_part(&mut seen.met.4, &mut self.postal),
+            "registered_country" => read_part_or_reuse(&mut seen.met.5, &mut self.registered_country, &mut seen.memo),
+            "represented_country" => read_part(&mut seen.met.6, &mut self.represented_country),
+            "subdivisions" => read_few_once(&mut seen.met.7, &mut self.subdivisions),
+            "traits" => read_part(&mut seen.met.8, &mut self.traits),
             _ => try_skip(),
         )
-    }
-}
-
-impl<'de> TryFields<'de> for City<'de> {
-    #[inline(always)]
-    fn read_rest(
-        &mut self,
-        met: &mut FieldsSeen,
-        alloc: Global,
-        d: &mut Decoder<'de>,
-        entries: &mut Entries,
-    ) -> Result<(), Failed> {
-        read_reusing(alloc, d, entries, self, met)
     }
 }
 
@@ -205,6 +152,8 @@ pub struct Enterprise<'a> {
 }
 
 impl<'de> Fields<'de> for Enterprise<'de> {
+    type Seen = SeenWithMemo<'de, enterprise::Country<'de>>;
+
     ghost table = { top_enterprise_table };
 
     ghost free = { false };
@@ -216,51 +165,23 @@ impl<'de> Fields<'de> for Enterprise<'de> {
     #[inline(always)]
     fn read_field(
         &mut self,
-        met: &mut FieldsSeen,
-        alloc: Global,
-        name: &'de [u8],
-        d: &mut Decoder<'de>,
-    ) -> Result<(), Failed> {
-        let mut memo = None;
-        self.read_field_or_reuse(met, &mut memo, alloc, name, d)
-    }
-}
-
-impl<'de> Recalls<'de, enterprise::Country<'de>> for Enterprise<'de> {
-    #[inline(always)]
-    fn read_field_or_reuse(
-        &mut self,
-        met: &mut FieldsSeen,
-        memo: &mut Option<Memo<'de, enterprise::Country<'de>>>,
+        seen: &mut Self::Seen,
         alloc: Global,
         name: &'de [u8],
         d: &mut Decoder<'de>,
     ) -> Result<(), Failed> {
         fields_by_name!(alloc, name, d;
-            "city" => read_part(&mut met.0, &mut self.city),
-            "continent" => read_part(&mut met.1, &mut self.continent),
-            "country" => read_part_or_reuse(&mut met.2, &mut self.country, memo),
-            "location" => read_part(&mut met.3, &mut self.location),
-            "postal" => read_part(&mut met.4, &mut self.postal),
-            "registered_country" => read_part_or_reuse(&mut met.5, &mut self.registered_country, memo),
-            "represented_country" => read_part(&mut met.6, &mut self.represented_country),
-            "subdivisions" => read_few_once(&mut met.7, &mut self.subdivisions),
-            "traits" => read_part(&mut met.8, &mut self.traits),
+            "city" => read_part(&mut seen.met.0, &mut self.city),
+            "continent" => read_part(&mut seen.met.1, &mut self.continent),
+            "country" => read_part_or_reuse(&mut seen.met.2, &mut self.country, &mut seen.memo),
+            "location" => read_part(&mut seen.met.3, &mut self.location),
+            "postal" => read_part(&mut seen.met.4, &mut self.postal),
+            "registered_country" => read_part_or_reuse(&mut seen.met.5, &mut self.registered_country, &mut seen.memo),
+            "represented_country" => read_part(&mut seen.met.6, &mut self.represented_country),
+            "subdivisions" => read_few_once(&mut seen.met.7, &mut self.subdivisions),
+            "traits" => read_part(&mut seen.met.8, &mut self.traits),
             _ => try_skip(),
         )
-    }
-}
-
-impl<'de> TryFields<'de> for Enterprise<'de> {
-    #[inline(always)]
-    fn read_rest(
-        &mut self,
-        met: &mut FieldsSeen,
-        alloc: Global,
-        d: &mut Decoder<'de>,
-        entries: &mut Entries,
-    ) -> Result<(), Failed> {
-        read_reusing(alloc, d, entries, self, met)
     }
 }
 

@@ -1,7 +1,7 @@
 //! Records that are read in place, field by field, as a table of their fields says.
-ghost use Rattle.std.specs.Prelude.{◌≡◌, Bool, true, false, Some, IsSome};
+ghost use Rattle.std.specs.Prelude.{◌≡◌, ℕ, List, Bool, true, false, Some, IsSome, OnOk};
 ghost use Rattle.mmdb_record.specs.Tables.{Table, Data, data_of, no_data, parts_met, flags, none_met, record_of};
-ghost use Rattle.mmdb_record.specs.TableReads.{TakesField, TakesRest, TakesRecord, TakesPart};
+ghost use Rattle.mmdb_record.specs.TableReads.{TakesField, TakesPairs, TakesRecord, TakesPart};
 
 use crate::decode::Decode;
 use mmdb_decode::decoder::Decoder;
@@ -24,12 +24,25 @@ pub struct FieldsSeen(
     pub bool,
 );
 
-impl FieldsSeen {
+/// What is known while a map is read: which parts of its record were met, and what of them may be reused.
+pub trait Marks: Drop {
+    /// Which parts were met.
+    ghost met: { Self → List Bool };
+
+    /// Whether what may be reused was read in this section.
+    ghost fits: { Self → List ℕ → Type 0 } = { λ _ _. Unit {0} };
+
     /// No part was met.
+    fn none() -> Self
+        ensures none { met result ≡ none_met }
+        ensures fits { (section : List ℕ) → fits result section };
+}
+
+impl Marks for FieldsSeen {
+    ghost met = { flags };
+
     #[inline(always)]
-    pub fn none() -> FieldsSeen
-        ensures { flags result ≡ none_met }
-    {
+    fn none() -> FieldsSeen {
         FieldsSeen(
             false, false, false, false, false, false, false, false, false,
         )
@@ -39,6 +52,9 @@ impl FieldsSeen {
 /// A record that a table describes: its fields are optional, or parts that are records or lists of their
 /// own, of which there are at most nine. Such a record can be decoded.
 pub trait Fields<'de>: Sized + Drop {
+    /// What is known while a map is read: `FieldsSeen`, or with a memo of its parts `SeenWithMemo`.
+    type Seen: Marks;
+
     /// A row for each field: its name in the file, its shape, and where the record keeps it.
     ghost table: { Table Self };
 
@@ -52,80 +68,91 @@ pub trait Fields<'de>: Sized + Drop {
     /// Reads or skips the value after a name.
     fn read_field(
         &mut self,
-        met: &mut FieldsSeen,
+        seen: &mut Self::Seen,
         alloc: Global,
         name: &'de [u8],
         d: &mut Decoder<'de>,
     ) -> Result<(), Failed>
-        requires { IsSome d.old.budget }
-        ensures { TakesField free table name.now (parts_met table (flags met.old) self.old)
-            (parts_met table (flags met.new) self.new) d.old d.new result };
+        requires started { IsSome d.old.budget }
+        requires memo { Self.Seen.fits seen.old d.old.section }
+        ensures read { TakesField free table name.now
+            (parts_met table (Self.Seen.met seen.old) self.old)
+            (parts_met table (Self.Seen.met seen.new) self.new) d.old d.new result }
+        ensures memo { OnOk result (Self.Seen.fits seen.new d.old.section) };
 }
 
-/// A record that reads its fields one after the other.
-pub trait TryFields<'de>: Fields<'de> {
-    /// Reads the fields that are left of a map.
-    fn read_rest(
-        &mut self,
-        met: &mut FieldsSeen,
-        alloc: Global,
-        d: &mut Decoder<'de>,
-        entries: &mut Entries,
-    ) -> Result<(), Failed>
-        requires { IsSome d.old.budget }
-        ensures { TakesRest Self.free Self.table (parts_met Self.table (flags met.old) self.old)
-            (parts_met Self.table (flags met.new) self.new)
-            d.old d.new entries.old entries.new result };
-}
-
-// Reads the fields that are left of a map, each by itself.
+// Reads the fields that are left of a map into a record of which no field was met.
 #[inline(always)]
-fn read_each<'de, R: Fields<'de>>(
+pub(crate) fn read_each<'de, R: Fields<'de>>(
     alloc: Global,
     d: &mut Decoder<'de>,
     entries: &mut Entries,
     fields: &mut R,
-    met: &mut FieldsSeen,
 ) -> Result<(), Failed>
-    requires { IsSome d.old.budget }
-    ensures { TakesRest R.free R.table (parts_met R.table (flags met.old) fields.old)
-        (parts_met R.table (flags met.new) fields.new) d.old d.new entries.old entries.new result }
+    requires none { data_of R.table fields.old ≡ no_data R.table }
+    requires started { IsSome d.old.budget }
+    ensures { TakesPairs R.free R.table fields.new d.old d.new entries.old entries.new result }
 {
+    let mut seen = R::Seen::none();
     while let Some(name) = d.try_next(entries)? {
-        fields.read_field(met, alloc, name, d)?;
+        fields.read_field(&mut seen, alloc, name, d)?;
     }
     Ok(())
 }
 
-/// A record whose fields are read each by itself.
-pub trait EachByItself {}
+/// What is known of a record before its map is read.
+pub trait Known<'de, R: Fields<'de>> {
+    /// Whether what is known was read in this section.
+    ghost fits: { Self → List ℕ → Type 0 } = { λ _ _. Unit {0} };
 
-impl<'de, R: Fields<'de> + EachByItself> TryFields<'de> for R {
-    #[inline(always)]
-    fn read_rest(
+    /// Reads the pairs of a map into a record of which no field was met, or takes what is known of them.
+    fn read_pairs(
         &mut self,
-        met: &mut FieldsSeen,
         alloc: Global,
         d: &mut Decoder<'de>,
         entries: &mut Entries,
+        fields: &mut R,
+    ) -> Result<(), Failed>
+        requires none { data_of R.table fields.old ≡ no_data R.table }
+        requires started { IsSome d.old.budget }
+        requires memo { fits self.old d.old.section }
+        ensures read { TakesPairs R.free R.table fields.new d.old d.new
+            entries.old entries.new result }
+        ensures memo { OnOk result (fits self.new d.old.section) };
+}
+
+/// That nothing is known.
+#[derive(Clone, Copy)]
+pub struct NothingKnown;
+
+impl<'de, R: Fields<'de>> Known<'de, R> for NothingKnown {
+    #[inline(always)]
+    fn read_pairs(
+        &mut self,
+        alloc: Global,
+        d: &mut Decoder<'de>,
+        entries: &mut Entries,
+        fields: &mut R,
     ) -> Result<(), Failed> {
-        read_each(alloc, d, entries, self, met)
+        read_each(alloc, d, entries, fields)
     }
 }
 
 // Reads a map into a record of which no field was met.
 #[inline(always)]
-fn read_map_into<'de, R: TryFields<'de>>(
+fn read_map_into<'de, R: Fields<'de>, K: Known<'de, R>>(
     alloc: Global,
     d: &mut Decoder<'de>,
     fields: &mut R,
+    known: &mut K,
 ) -> Result<(), Failed>
-    requires { data_of R.table fields.old ≡ no_data R.table }
-    ensures { TakesRecord R.free R.table fields.new d.old d.new result }
+    requires none { data_of R.table fields.old ≡ no_data R.table }
+    requires memo { K.fits known.old d.old.section }
+    ensures read { TakesRecord R.free R.table fields.new d.old d.new result }
+    ensures memo { OnOk result (K.fits known.new d.old.section) }
 {
-    let mut met = FieldsSeen::none();
     let mut entries = d.try_map()?;
-    match fields.read_rest(&mut met, alloc, d, &mut entries) {
+    match known.read_pairs(alloc, d, &mut entries, fields) {
         Ok(()) => {
             d.end_map(entries);
             Ok(())
@@ -138,16 +165,19 @@ fn read_map_into<'de, R: TryFields<'de>>(
 }
 
 // Reads the fields of a map by a decoder of its own, which can stay in registers.
-pub(crate) fn read_into<'de, R: TryFields<'de>>(
+pub(crate) fn read_into<'de, R: Fields<'de>, K: Known<'de, R>>(
     alloc: Global,
     d: &mut Decoder<'de>,
     fields: &mut R,
+    known: &mut K,
 ) -> Result<(), Failed>
-    requires { data_of R.table fields.old ≡ no_data R.table }
-    ensures { TakesRecord R.free R.table fields.new d.old d.new result }
+    requires none { data_of R.table fields.old ≡ no_data R.table }
+    requires memo { K.fits known.old d.old.section }
+    ensures read { TakesRecord R.free R.table fields.new d.old d.new result }
+    ensures memo { OnOk result (K.fits known.new d.old.section) }
 {
     let mut here = d.again();
-    match read_map_into(alloc, &mut here, fields) {
+    match read_map_into(alloc, &mut here, fields, known) {
         Ok(()) => {
             d.go_to(&here);
             Ok(())
@@ -159,7 +189,7 @@ pub(crate) fn read_into<'de, R: TryFields<'de>>(
     }
 }
 
-impl<'de, R: TryFields<'de>> Decode<'de> for R {
+impl<'de, R: Fields<'de>> Decode<'de> for R {
     ghost Datum = { Data R.table };
 
     ghost datum = { data_of R.table };
@@ -172,7 +202,7 @@ impl<'de, R: TryFields<'de>> Decode<'de> for R {
 
     fn decode(alloc: Global, d: &mut Decoder<'de>) -> DecodeResult<R> {
         let mut fields = R::empty(alloc);
-        match read_into(alloc, d, &mut fields) {
+        match read_into(alloc, d, &mut fields, &mut NothingKnown) {
             Ok(()) => Ok(fields),
             Err(rejected) => Err(d.error_of(alloc, rejected)),
         }
@@ -180,7 +210,8 @@ impl<'de, R: TryFields<'de>> Decode<'de> for R {
 }
 
 /// Reads a part that stands at most once. One that stands again is rejected before its value is read.
-pub fn read_part<'de, R: TryFields<'de>>(
+#[inline(always)]
+pub fn read_part<'de, R: Fields<'de>>(
     alloc: Global,
     d: &mut Decoder<'de>,
     name: &'de [u8],
@@ -191,11 +222,29 @@ pub fn read_part<'de, R: TryFields<'de>>(
     ensures { TakesPart R.free (record_of R.table) (met.old, data_of R.table part.old)
         (met.new, data_of R.table part.new) d.old d.new result }
 {
+    read_part_or_reuse(alloc, d, name, met, part, &mut NothingKnown)
+}
+
+/// Reads a part that stands at most once as `read_part` does, or takes what is known of it.
+pub fn read_part_or_reuse<'de, R: Fields<'de>, K: Known<'de, R>>(
+    alloc: Global,
+    d: &mut Decoder<'de>,
+    name: &'de [u8],
+    met: &mut bool,
+    part: &mut R,
+    known: &mut K,
+) -> Result<(), Failed>
+    requires started { IsSome d.old.budget }
+    requires memo { K.fits known.old d.old.section }
+    ensures read { TakesPart R.free (record_of R.table) (met.old, data_of R.table part.old)
+        (met.new, data_of R.table part.new) d.old d.new result }
+    ensures memo { OnOk result (K.fits known.new d.old.section) }
+{
     if *met {
         return Err(d.fail_repeated(name));
     }
     *part = R::empty(alloc);
-    read_into(alloc, d, part)?;
+    read_into(alloc, d, part, known)?;
     *met = true;
     Ok(())
 }
