@@ -1,97 +1,85 @@
 //! Parts of a record that stand at one offset: such a part is read once. Writers of files keep equal maps once, so
 //! that the country of an address and the country that its network is registered in are mostly one map.
-ghost use Rattle.std.specs.Prelude.{◌≡◌, true, false};
-ghost use Rattle.mmdb_decode.specs.Maps.{pairs_left, with_pairs_left};
-ghost use Rattle.mmdb_record.specs.Memos.{IsMemoOf, IsMadeOf};
-ghost use Rattle.mmdb_record.specs.Tables.{flags};
+ghost use Rattle.std.specs.Prelude.{◌≡◌, true, false, Some, OnOk, IsSome};
+ghost use Rattle.mmdb_decode.specs.State.{decoded};
+ghost use Rattle.mmdb_record.specs.Memos.{IsPlaceOf};
+ghost use Rattle.mmdb_record.specs.Tables.{data_of, record_of};
+ghost use Rattle.mmdb_record.specs.TableReads.{TakesPart};
 
-use crate::fields::{Fields, FieldsSeen, Known, Marks, read_each};
+use crate::fields::{Fields, read_part, read_part_into};
 use mmdb_decode::decoder::Decoder;
 use mmdb_decode::failed::Failed;
-use mmdb_decode::items::Entries;
 use std::alloc::Global;
 
-/// A record that was read, with the decoders before its pairs and behind them.
+/// Where the pairs of a record stand, of which there are so many: the decoders before them and behind them.
 #[derive(Drop)]
-pub struct Memo<'de, R> {
-    before: Decoder<'de>,
-    count: usize,
-    behind: Decoder<'de>,
-    record: R,
+pub struct Place<'de> {
+    pub(crate) before: Decoder<'de>,
+    pub(crate) count: usize,
+    pub(crate) behind: Decoder<'de>,
 }
 
-// Goes behind the pairs that a memo is of, if the decoder is before them, and gives the record that they make.
-#[inline(always)]
-fn reuse<'de, R: Fields<'de> + Copy>(
+/// Reads a part as `read_part` does, and notes where its pairs stand.
+pub fn read_part_noting<'de, R: Fields<'de>>(
+    alloc: Global,
     d: &mut Decoder<'de>,
-    entries: &mut Entries,
-    fields: &mut R,
-    memo: &Option<Memo<'de, R>>,
-) -> bool
-    requires { IsMemoOf R.table memo.now d.old.section }
-    ensures ok { result ≡ true
-        → IsMadeOf R.table (pairs_left entries.old) d.old fields.new d.new }
-    ensures spent { result ≡ true → entries.new ≡ with_pairs_left 0 entries.old }
-    ensures same { result ≡ false → (d.new ≡ d.old) × (entries.new ≡ entries.old)
-        × (fields.new ≡ fields.old) }
+    name: &'de [u8],
+    met: &mut bool,
+    part: &mut R,
+    place: &mut Option<Place<'de>>,
+) -> Result<(), Failed>
+    requires { IsSome d.old.budget }
+    ensures read { TakesPart R.free (record_of R.table) (met.old, data_of R.table part.old)
+        (met.new, data_of R.table part.new) d.old d.new result }
+    ensures noted { OnOk result (IsPlaceOf R.table place.new part.new d.old.section) }
 {
-    let Some(known) = memo else {
+    read_part_into::<R, true>(alloc, d, name, met, part, place)
+}
+
+// Goes behind a map whose pairs stand where those of a known record do, and says whether it did.
+#[inline(always)]
+fn reuse<'de, R: Fields<'de>>(d: &mut Decoder<'de>, known: &R, place: &Option<Place<'de>>) -> bool
+    requires { IsPlaceOf R.table place.now known.now d.old.section }
+    ensures ok { result ≡ true → decoded true (record_of R.table) d.old
+        ≡ Some (data_of R.table known.now, d.new) }
+    ensures same { result ≡ false → d.new ≡ d.old }
+{
+    let Some(place) = place else {
         return false;
     };
-    if known.count != entries.left() || !d.repeat(&known.before, &known.behind) {
+    let mut here = d.again();
+    let Ok(mut entries) = here.try_map() else {
+        return false;
+    };
+    if place.count != entries.left() || !here.repeat(&place.before, &place.behind) {
+        entries.forget();
         return false;
     }
     entries.spend();
-    *fields = known.record;
+    here.end_map(entries);
+    d.go_to(&here);
     true
 }
 
-impl<'de, R: Fields<'de> + Copy> Known<'de, R> for Option<Memo<'de, R>> {
-    ghost fits = { IsMemoOf R.table };
-
-    #[inline(always)]
-    fn read_pairs(
-        &mut self,
-        alloc: Global,
-        d: &mut Decoder<'de>,
-        entries: &mut Entries,
-        fields: &mut R,
-    ) -> Result<(), Failed> {
-        if reuse(d, entries, fields, self) {
-            return Ok(());
-        }
-        let before = d.again();
-        let count = entries.left();
-        read_each(alloc, d, entries, fields)?;
-        *self = Some(Memo {
-            before,
-            count,
-            behind: d.again(),
-            record: *fields,
-        });
-        Ok(())
+/// Reads a part as `read_part` does, or takes a known one whose pairs are the same.
+pub fn read_part_or_reuse<'de, R: Fields<'de> + Copy>(
+    alloc: Global,
+    d: &mut Decoder<'de>,
+    name: &'de [u8],
+    met: &mut bool,
+    part: &mut R,
+    known: &R,
+    place: &Option<Place<'de>>,
+) -> Result<(), Failed>
+    requires started { IsSome d.old.budget }
+    requires noted { IsPlaceOf R.table place.now known.now d.old.section }
+    ensures { TakesPart R.free (record_of R.table) (met.old, data_of R.table part.old)
+        (met.new, data_of R.table part.new) d.old d.new result }
+{
+    if !*met && reuse(d, known, place) {
+        *part = *known;
+        *met = true;
+        return Ok(());
     }
-}
-
-/// Which parts of a record were met, and the part that was read first of those that are mostly one map.
-#[derive(Drop)]
-pub struct SeenWithMemo<'de, R> {
-    /// Which parts were met.
-    pub met: FieldsSeen,
-    /// The part that may be reused.
-    pub memo: Option<Memo<'de, R>>,
-}
-
-impl<'de, R: Fields<'de>> Marks for SeenWithMemo<'de, R> {
-    ghost met = { λ seen. flags seen.met };
-
-    ghost fits = { λ seen. IsMemoOf R.table seen.memo };
-
-    #[inline(always)]
-    fn none() -> SeenWithMemo<'de, R> {
-        SeenWithMemo {
-            met: FieldsSeen::none(),
-            memo: None,
-        }
-    }
+    read_part(alloc, d, name, met, part)
 }
