@@ -25,8 +25,6 @@ pub struct City<'a> {
 }
 
 impl<'de> Fields<'de> for City<'de> {
-    type Seen = FieldsSeen;
-
     ghost table = { city_table };
 
     fn empty(_alloc: Global) -> City<'de> {
@@ -36,7 +34,7 @@ impl<'de> Fields<'de> for City<'de> {
     #[inline(always)]
     fn read_field(
         &mut self,
-        met: &mut FieldsSeen,
+        met: &mut FieldsSeen<'de>,
         alloc: Global,
         name: &'de [u8],
         d: &mut Decoder<'de>,
@@ -74,8 +72,6 @@ pub struct Location<'a> {
 }
 
 impl<'de> Fields<'de> for Location<'de> {
-    type Seen = FieldsSeen;
-
     ghost table = { location_table };
 
     fn empty(_alloc: Global) -> Location<'de> {
@@ -85,7 +81,7 @@ impl<'de> Fields<'de> for Location<'de> {
     #[inline(always)]
     fn read_field(
         &mut self,
-        _met: &mut FieldsSeen,
+        _met: &mut FieldsSeen<'de>,
         alloc: Global,
         name: &'de [u8],
         d: &mut Decoder<'de>,
@@ -122,8 +118,6 @@ pub struct Postal<'a> {
 }
 
 impl<'de> Fields<'de> for Postal<'de> {
-    type Seen = FieldsSeen;
-
     ghost table = { postal_table };
 
     fn empty(_alloc: Global) -> Postal<'de> {
@@ -133,7 +127,7 @@ impl<'de> Fields<'de> for Postal<'de> {
     #[inline(always)]
     fn read_field(
         &mut self,
-        _met: &mut FieldsSeen,
+        _met: &mut FieldsSeen<'de>,
         alloc: Global,
         name: &'de [u8],
         d: &mut Decoder<'de>,
@@ -166,8 +160,6 @@ pub struct Subdivision<'a> {
 }
 
 impl<'de> Fields<'de> for Subdivision<'de> {
-    type Seen = FieldsSeen;
-
     ghost table = { subdivision_table };
 
     fn empty(_alloc: Global) -> Subdivision<'de> {
@@ -177,7 +169,7 @@ impl<'de> Fields<'de> for Subdivision<'de> {
     #[inline(always)]
     fn read_field(
         &mut self,
-        met: &mut FieldsSeen,
+        met: &mut FieldsSeen<'de>,
         alloc: Global,
         name: &'de [u8],
         d: &mut Decoder<'de>,

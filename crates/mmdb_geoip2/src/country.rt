@@ -26,8 +26,6 @@ pub struct Continent<'a> {
 }
 
 impl<'de> Fields<'de> for Continent<'de> {
-    type Seen = FieldsSeen;
-
     ghost table = { continent_table };
 
     fn empty(_alloc: Global) -> Continent<'de> {
@@ -37,7 +35,7 @@ impl<'de> Fields<'de> for Continent<'de> {
     #[inline(always)]
     fn read_field(
         &mut self,
-        met: &mut FieldsSeen,
+        met: &mut FieldsSeen<'de>,
         alloc: Global,
         name: &'de [u8],
         d: &mut Decoder<'de>,
@@ -74,8 +72,6 @@ pub struct Country<'a> {
 }
 
 impl<'de> Fields<'de> for Country<'de> {
-    type Seen = FieldsSeen;
-
     ghost table = { country_table };
 
     fn empty(_alloc: Global) -> Country<'de> {
@@ -85,7 +81,7 @@ impl<'de> Fields<'de> for Country<'de> {
     #[inline(always)]
     fn read_field(
         &mut self,
-        met: &mut FieldsSeen,
+        met: &mut FieldsSeen<'de>,
         alloc: Global,
         name: &'de [u8],
         d: &mut Decoder<'de>,
@@ -128,8 +124,6 @@ pub struct RepresentedCountry<'a> {
 }
 
 impl<'de> Fields<'de> for RepresentedCountry<'de> {
-    type Seen = FieldsSeen;
-
     ghost table = { represented_table };
 
     fn empty(_alloc: Global) -> RepresentedCountry<'de> {
@@ -139,7 +133,7 @@ impl<'de> Fields<'de> for RepresentedCountry<'de> {
     #[inline(always)]
     fn read_field(
         &mut self,
-        met: &mut FieldsSeen,
+        met: &mut FieldsSeen<'de>,
         alloc: Global,
         name: &'de [u8],
         d: &mut Decoder<'de>,
@@ -176,8 +170,6 @@ pub struct Traits {
 }
 
 impl<'de> Fields<'de> for Traits {
-    type Seen = FieldsSeen;
-
     ghost table = { country_traits_table };
 
     fn empty(_alloc: Global) -> Traits {
@@ -187,7 +179,7 @@ impl<'de> Fields<'de> for Traits {
     #[inline(always)]
     fn read_field(
         &mut self,
-        _met: &mut FieldsSeen,
+        _met: &mut FieldsSeen<'de>,
         alloc: Global,
         name: &'de [u8],
         d: &mut Decoder<'de>,

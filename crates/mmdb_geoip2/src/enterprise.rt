@@ -26,8 +26,6 @@ pub struct City<'a> {
 }
 
 impl<'de> Fields<'de> for City<'de> {
-    type Seen = FieldsSeen;
-
     ghost table = { enterprise_city_table };
 
     fn empty(_alloc: Global) -> City<'de> {
@@ -37,7 +35,7 @@ impl<'de> Fields<'de> for City<'de> {
     #[inline(always)]
     fn read_field(
         &mut self,
-        met: &mut FieldsSeen,
+        met: &mut FieldsSeen<'de>,
         alloc: Global,
         name: &'de [u8],
         d: &mut Decoder<'de>,
@@ -76,8 +74,6 @@ pub struct Country<'a> {
 }
 
 impl<'de> Fields<'de> for Country<'de> {
-    type Seen = FieldsSeen;
-
     ghost table = { enterprise_country_table };
 
     fn empty(_alloc: Global) -> Country<'de> {
@@ -87,7 +83,7 @@ impl<'de> Fields<'de> for Country<'de> {
     #[inline(always)]
     fn read_field(
         &mut self,
-        met: &mut FieldsSeen,
+        met: &mut FieldsSeen<'de>,
         alloc: Global,
         name: &'de [u8],
         d: &mut Decoder<'de>,
@@ -126,8 +122,6 @@ pub struct Postal<'a> {
 }
 
 impl<'de> Fields<'de> for Postal<'de> {
-    type Seen = FieldsSeen;
-
     ghost table = { enterprise_postal_table };
 
     fn empty(_alloc: Global) -> Postal<'de> {
@@ -137,7 +131,7 @@ impl<'de> Fields<'de> for Postal<'de> {
     #[inline(always)]
     fn read_field(
         &mut self,
-        _met: &mut FieldsSeen,
+        _met: &mut FieldsSeen<'de>,
         alloc: Global,
         name: &'de [u8],
         d: &mut Decoder<'de>,
@@ -173,8 +167,6 @@ pub struct Subdivision<'a> {
 }
 
 impl<'de> Fields<'de> for Subdivision<'de> {
-    type Seen = FieldsSeen;
-
     ghost table = { enterprise_subdivision_table };
 
     fn empty(_alloc: Global) -> Subdivision<'de> {
@@ -184,7 +176,7 @@ impl<'de> Fields<'de> for Subdivision<'de> {
     #[inline(always)]
     fn read_field(
         &mut self,
-        met: &mut FieldsSeen,
+        met: &mut FieldsSeen<'de>,
         alloc: Global,
         name: &'de [u8],
         d: &mut Decoder<'de>,
@@ -249,8 +241,6 @@ pub struct Traits<'a> {
 }
 
 impl<'de> Fields<'de> for Traits<'de> {
-    type Seen = FieldsSeen;
-
     ghost table = { enterprise_traits_table };
 
     fn empty(_alloc: Global) -> Traits<'de> {
@@ -259,7 +249,7 @@ impl<'de> Fields<'de> for Traits<'de> {
 
     fn read_field(
         &mut self,
-        _met: &mut FieldsSeen,
+        _met: &mut FieldsSeen<'de>,
         alloc: Global,
         name: &'de [u8],
         d: &mut Decoder<'de>,

@@ -30,8 +30,6 @@ pub struct Isp<'a> {
 }
 
 impl<'de> Fields<'de> for Isp<'de> {
-    type Seen = FieldsSeen;
-
     ghost table = { isp_table };
 
     fn empty(_alloc: Global) -> Isp<'de> {
@@ -48,7 +46,7 @@ impl<'de> Fields<'de> for Isp<'de> {
     #[inline(always)]
     fn read_field(
         &mut self,
-        _met: &mut FieldsSeen,
+        _met: &mut FieldsSeen<'de>,
         alloc: Global,
         name: &'de [u8],
         d: &mut Decoder<'de>,
@@ -73,8 +71,6 @@ pub struct ConnectionType<'a> {
 }
 
 impl<'de> Fields<'de> for ConnectionType<'de> {
-    type Seen = FieldsSeen;
-
     ghost table = { connection_type_table };
 
     fn empty(_alloc: Global) -> ConnectionType<'de> {
@@ -86,7 +82,7 @@ impl<'de> Fields<'de> for ConnectionType<'de> {
     #[inline(always)]
     fn read_field(
         &mut self,
-        _met: &mut FieldsSeen,
+        _met: &mut FieldsSeen<'de>,
         alloc: Global,
         name: &'de [u8],
         d: &mut Decoder<'de>,
@@ -116,8 +112,6 @@ pub struct AnonymousIp {
 }
 
 impl<'de> Fields<'de> for AnonymousIp {
-    type Seen = FieldsSeen;
-
     ghost table = { anonymous_ip_table };
 
     fn empty(_alloc: Global) -> AnonymousIp {
@@ -134,7 +128,7 @@ impl<'de> Fields<'de> for AnonymousIp {
     #[inline(always)]
     fn read_field(
         &mut self,
-        _met: &mut FieldsSeen,
+        _met: &mut FieldsSeen<'de>,
         alloc: Global,
         name: &'de [u8],
         d: &mut Decoder<'de>,
@@ -161,8 +155,6 @@ pub struct DensityIncome {
 }
 
 impl<'de> Fields<'de> for DensityIncome {
-    type Seen = FieldsSeen;
-
     ghost table = { density_income_table };
 
     fn empty(_alloc: Global) -> DensityIncome {
@@ -175,7 +167,7 @@ impl<'de> Fields<'de> for DensityIncome {
     #[inline(always)]
     fn read_field(
         &mut self,
-        _met: &mut FieldsSeen,
+        _met: &mut FieldsSeen<'de>,
         alloc: Global,
         name: &'de [u8],
         d: &mut Decoder<'de>,
@@ -196,8 +188,6 @@ pub struct Domain<'a> {
 }
 
 impl<'de> Fields<'de> for Domain<'de> {
-    type Seen = FieldsSeen;
-
     ghost table = { domain_table };
 
     fn empty(_alloc: Global) -> Domain<'de> {
@@ -207,7 +197,7 @@ impl<'de> Fields<'de> for Domain<'de> {
     #[inline(always)]
     fn read_field(
         &mut self,
-        _met: &mut FieldsSeen,
+        _met: &mut FieldsSeen<'de>,
         alloc: Global,
         name: &'de [u8],
         d: &mut Decoder<'de>,
@@ -229,8 +219,6 @@ pub struct Asn<'a> {
 }
 
 impl<'de> Fields<'de> for Asn<'de> {
-    type Seen = FieldsSeen;
-
     ghost table = { asn_table };
 
     fn empty(_alloc: Global) -> Asn<'de> {
@@ -243,7 +231,7 @@ impl<'de> Fields<'de> for Asn<'de> {
     #[inline(always)]
     fn read_field(
         &mut self,
-        _met: &mut FieldsSeen,
+        _met: &mut FieldsSeen<'de>,
         alloc: Global,
         name: &'de [u8],
         d: &mut Decoder<'de>,

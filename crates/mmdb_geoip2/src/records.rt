@@ -3,15 +3,18 @@
 
 ghost use Rattle.std.specs.Prelude.{◌≡◌, false};
 ghost use Rattle.std.specs.Vec.{vec_capacity};
+ghost use Rattle.mmdb_record.specs.Memos.{part_at};
 ghost use Rattle.mmdb_record.specs.Tables.{data_of, no_data};
+ghost use Rattle.mmdb_geoip2.specs.CountryTables.{country_table};
+ghost use Rattle.mmdb_geoip2.specs.EnterpriseTables.{enterprise_country_table};
 ghost use Rattle.mmdb_geoip2.specs.RecordTables.{top_country_table, top_city_table, top_enterprise_table};
 
 use crate::fields::{fields_by_name, read_few_once};
 use crate::{city, country, enterprise};
 use mmdb_decode::decoder::Decoder;
 use mmdb_decode::failed::Failed;
-use mmdb_record::fields::{Fields, read_part, read_part_or_reuse};
-use mmdb_record::memo::SeenWithMemo;
+use mmdb_record::fields::{Fields, FieldsSeen, read_part};
+use mmdb_record::memo::{read_part_noting, read_part_or_reuse};
 use mmdb_record::record::named;
 use std::alloc::Global;
 
@@ -31,9 +34,9 @@ pub struct Country<'a> {
 }
 
 impl<'de> Fields<'de> for Country<'de> {
-    type Seen = SeenWithMemo<'de, country::Country<'de>>;
-
     ghost table = { top_country_table };
+
+    ghost kept = { part_at country_table (λ v. v.country) };
 
     fn empty(alloc: Global) -> Country<'de> {
         Country {
@@ -48,17 +51,17 @@ impl<'de> Fields<'de> for Country<'de> {
     #[inline(always)]
     fn read_field(
         &mut self,
-        seen: &mut Self::Seen,
+        met: &mut FieldsSeen<'de>,
         alloc: Global,
         name: &'de [u8],
         d: &mut Decoder<'de>,
     ) -> Result<(), Failed> {
         fields_by_name!(alloc, name, d;
-            "continent" => read_part(&mut seen.met.0, &mut self.continent),
-            "country" => read_part_or_reuse(&mut seen.met.1, &mut self.country, &mut seen.memo),
-            "registered_country" => read_part_or_reuse(&mut seen.met.2, &mut self.registered_country, &mut seen.memo),
-            "represented_country" => read_part(&mut seen.met.3, &mut self.represented_country),
-            "traits" => read_part(&mut seen.met.4, &mut self.traits),
+            "continent" => read_part(&mut met.0, &mut self.continent),
+            "country" => read_part_noting(&mut met.1, &mut self.country, &mut met.9),
+            "registered_country" => read_part_or_reuse(&mut met.2, &mut self.registered_country, &self.country, &met.9),
+            "represented_country" => read_part(&mut met.3, &mut self.represented_country),
+            "traits" => read_part(&mut met.4, &mut self.traits),
             _ => try_skip(),
         )
     }
@@ -95,11 +98,11 @@ pub struct City<'a> {
 }
 
 impl<'de> Fields<'de> for City<'de> {
-    type Seen = SeenWithMemo<'de, city::Country<'de>>;
-
     ghost table = { top_city_table };
 
     ghost free = { false };
+
+    ghost kept = { part_at country_table (λ v. v.country) };
 
     fn empty(alloc: Global) -> City<'de> {
         City::empty(alloc)
@@ -108,21 +111,21 @@ impl<'de> Fields<'de> for City<'de> {
     #[inline(always)]
     fn read_field(
         &mut self,
-        seen: &mut Self::Seen,
+        met: &mut FieldsSeen<'de>,
         alloc: Global,
         name: &'de [u8],
         d: &mut Decoder<'de>,
     ) -> Result<(), Failed> {
         fields_by_name!(alloc, name, d;
-            "city" => read_part(&mut seen.met.0, &mut self.city),
-            "continent" => read_part(&mut seen.met.1, &mut self.continent),
-            "country" => read_part_or_reuse(&mut seen.met.2, &mut self.country, &mut seen.memo),
-            "location" => read_part(&mut seen.met.3, &mut self.location),
-            "postal" => read_part(&mut seen.met.4, &mut self.postal),
-            "registered_country" => read_part_or_reuse(&mut seen.met.5, &mut self.registered_country, &mut seen.memo),
-            "represented_country" => read_part(&mut seen.met.6, &mut self.represented_country),
-            "subdivisions" => read_few_once(&mut seen.met.7, &mut self.subdivisions),
-            "traits" => read_part(&mut seen.met.8, &mut self.traits),
+            "city" => read_part(&mut met.0, &mut self.city),
+            "continent" => read_part(&mut met.1, &mut self.continent),
+            "country" => read_part_noting(&mut met.2, &mut self.country, &mut met.9),
+            "location" => read_part(&mut met.3, &mut self.location),
+            "postal" => read_part(&mut met.4, &mut self.postal),
+            "registered_country" => read_part_or_reuse(&mut met.5, &mut self.registered_country, &self.country, &met.9),
+            "represented_country" => read_part(&mut met.6, &mut self.represented_country),
+            "subdivisions" => read_few_once(&mut met.7, &mut self.subdivisions),
+            "traits" => read_part(&mut met.8, &mut self.traits),
             _ => try_skip(),
         )
     }
@@ -152,11 +155,11 @@ pub struct Enterprise<'a> {
 }
 
 impl<'de> Fields<'de> for Enterprise<'de> {
-    type Seen = SeenWithMemo<'de, enterprise::Country<'de>>;
-
     ghost table = { top_enterprise_table };
 
     ghost free = { false };
+
+    ghost kept = { part_at enterprise_country_table (λ v. v.country) };
 
     fn empty(alloc: Global) -> Enterprise<'de> {
         Enterprise::empty(alloc)
@@ -165,21 +168,21 @@ impl<'de> Fields<'de> for Enterprise<'de> {
     #[inline(always)]
     fn read_field(
         &mut self,
-        seen: &mut Self::Seen,
+        met: &mut FieldsSeen<'de>,
         alloc: Global,
         name: &'de [u8],
         d: &mut Decoder<'de>,
     ) -> Result<(), Failed> {
         fields_by_name!(alloc, name, d;
-            "city" => read_part(&mut seen.met.0, &mut self.city),
-            "continent" => read_part(&mut seen.met.1, &mut self.continent),
-            "country" => read_part_or_reuse(&mut seen.met.2, &mut self.country, &mut seen.memo),
-            "location" => read_part(&mut seen.met.3, &mut self.location),
-            "postal" => read_part(&mut seen.met.4, &mut self.postal),
-            "registered_country" => read_part_or_reuse(&mut seen.met.5, &mut self.registered_country, &mut seen.memo),
-            "represented_country" => read_part(&mut seen.met.6, &mut self.represented_country),
-            "subdivisions" => read_few_once(&mut seen.met.7, &mut self.subdivisions),
-            "traits" => read_part(&mut seen.met.8, &mut self.traits),
+            "city" => read_part(&mut met.0, &mut self.city),
+            "continent" => read_part(&mut met.1, &mut self.continent),
+            "country" => read_part_noting(&mut met.2, &mut self.country, &mut met.9),
+            "location" => read_part(&mut met.3, &mut self.location),
+            "postal" => read_part(&mut met.4, &mut self.postal),
+            "registered_country" => read_part_or_reuse(&mut met.5, &mut self.registered_country, &self.country, &met.9),
+            "represented_country" => read_part(&mut met.6, &mut self.represented_country),
+            "subdivisions" => read_few_once(&mut met.7, &mut self.subdivisions),
+            "traits" => read_part(&mut met.8, &mut self.traits),
             _ => try_skip(),
         )
     }

@@ -27,13 +27,16 @@ returns-in_err-name g c =
     let p = err_from_is_err_and c.from_residual.result c.from_residual.ensures.1 in
     let t = g.R.Fields.table in
     let met = flags c.loop-name.met in
-    rw (p.1, p.2) (met, record {
-      ok = tt;
-      err = declines g.R.Fields.free c.in_err-name.field-0.0 _ (pairs_nameless name_at (fields_of t) (decoded false (pairs_from name_at (fields_of t) (no_parts t) c.args.entries.now.remaining) c.args.d.now) (parts_met t met c.loop-name.fields) c.loop-name.entries.remaining (c.loop-name.entries.remaining - 1) c.loop-name.d c.loop-name.invariant.rest (some_left_to_read c.loop-name.entries.remaining c.in_err-name.ensures.key.some) c.in_err-name.ensures.key.fails);
-      given_up = given_up_trans c.args.d.now c.loop-name.d c.try_next.new.self c.loop-name.invariant.kept c.in_err-name.ensures.key.given_up;
-      rest = same_entries c.args.entries.now c.loop-name.entries c.try_next.new.entries c.loop-name.invariant.same c.in_err-name.ensures.rest;
-      spent = tt;
-    })
+    rw (p.1, p.2) (
+      met,
+      record {
+        ok = tt;
+        err = declines g.R.Fields.free c.in_err-name.field-0.0 _ (pairs_nameless name_at (fields_of t) (decoded false (pairs_from name_at (fields_of t) (no_parts t) c.args.entries.now.remaining) c.args.d.now) (parts_met t met c.loop-name.fields) c.loop-name.entries.remaining (c.loop-name.entries.remaining - 1) c.loop-name.d c.loop-name.invariant.rest (some_left_to_read c.loop-name.entries.remaining c.in_err-name.ensures.key.some) c.in_err-name.ensures.key.fails);
+        given_up = given_up_trans c.args.d.now c.loop-name.d c.try_next.new.self c.loop-name.invariant.kept c.in_err-name.ensures.key.given_up;
+        rest = same_entries c.args.entries.now c.loop-name.entries c.try_next.new.entries c.loop-name.invariant.same c.in_err-name.ensures.rest;
+        spent = tt;
+      },
+    )
 
 pub read_field-requires : goal.read_field-requires
 read_field-requires g c κs =
@@ -65,23 +68,28 @@ returns-in_err-read_field g c =
     let p = err_from_is_err_and c.from_residual-in_err-read_field.result c.from_residual-in_err-read_field.ensures.1 in
     let met = flags c.loop-name.met in
     let named : Kept c.loop-name.d c.try_next.new.self = kept_decoded false name_at c.loop-name.d c.try_next.new.self c.in-Some.name.now k.step in
-    rw (p.1, p.2) (met, record {
-      ok = tt;
-      err = declines_more g.R.Fields.free c.in_err-read_field.field-0.0 (decoded false (fields_of t (parts_met t met c.loop-name.fields) c.in-Some.name.now) c.try_next.new.self) _ (pairs_stop name_at (fields_of t) (decoded false (pairs_from name_at (fields_of t) (no_parts t) c.args.entries.now.remaining) c.args.d.now) (parts_met t met c.loop-name.fields) c.in-Some.name.now c.loop-name.entries.remaining c.try_next.new.entries.remaining c.loop-name.d c.try_next.new.self c.loop-name.invariant.rest k.one k.step) c.in_err-read_field.ensures.read.err;
-      given_up = given_up_trans c.args.d.now c.try_next.new.self c.read_field.new.d (kept_trans c.args.d.now c.loop-name.d c.try_next.new.self c.loop-name.invariant.kept named) c.in_err-read_field.ensures.read.given_up;
-      rest = same_entries c.args.entries.now c.loop-name.entries c.try_next.new.entries c.loop-name.invariant.same c.in_ok-name.ensures.rest;
-      spent = tt;
-    })
+    rw (p.1, p.2) (
+      met,
+      record {
+        ok = tt;
+        err = declines_more g.R.Fields.free c.in_err-read_field.field-0.0 (decoded false (fields_of t (parts_met t met c.loop-name.fields) c.in-Some.name.now) c.try_next.new.self) _ (pairs_stop name_at (fields_of t) (decoded false (pairs_from name_at (fields_of t) (no_parts t) c.args.entries.now.remaining) c.args.d.now) (parts_met t met c.loop-name.fields) c.in-Some.name.now c.loop-name.entries.remaining c.try_next.new.entries.remaining c.loop-name.d c.try_next.new.self c.loop-name.invariant.rest k.one k.step) c.in_err-read_field.ensures.read.err;
+        given_up = given_up_trans c.args.d.now c.try_next.new.self c.read_field.new.d (kept_trans c.args.d.now c.loop-name.d c.try_next.new.self c.loop-name.invariant.kept named) c.in_err-read_field.ensures.read.given_up;
+        rest = same_entries c.args.entries.now c.loop-name.entries c.try_next.new.entries c.loop-name.invariant.same c.in_ok-name.ensures.rest;
+        spent = tt;
+      },
+    )
 
 pub returns : goal.returns
 returns g c =
     let t = g.R.Fields.table in
     let k = rw c.in_default.is at c.in_ok-name.ensures.key in
-    let met = flags c.loop-name.met in
-    (met, record {
-      ok = pairs_done name_at (fields_of t) (decoded false (pairs_from name_at (fields_of t) (no_parts t) c.args.entries.now.remaining) c.args.d.now) (parts_met t met c.loop-name.fields) c.loop-name.entries.remaining c.loop-name.d c.try_next.new.self c.loop-name.invariant.rest k.none k.same k.within;
-      err = tt;
-      given_up = tt;
-      rest = same_entries c.args.entries.now c.loop-name.entries c.try_next.new.entries c.loop-name.invariant.same c.in_ok-name.ensures.rest;
-      spent = k.spent;
-    })
+    let met = flags c.loop-name.met in (
+      met,
+      record {
+        ok = pairs_done name_at (fields_of t) (decoded false (pairs_from name_at (fields_of t) (no_parts t) c.args.entries.now.remaining) c.args.d.now) (parts_met t met c.loop-name.fields) c.loop-name.entries.remaining c.loop-name.d c.try_next.new.self c.loop-name.invariant.rest k.none k.same k.within;
+        err = tt;
+        given_up = tt;
+        rest = same_entries c.args.entries.now c.loop-name.entries c.try_next.new.entries c.loop-name.invariant.same c.in_ok-name.ensures.rest;
+        spent = k.spent;
+      },
+    )

@@ -43,8 +43,9 @@ returns-after-this-ne0-clause-noted g c =
     let enters = enters_map c.args.d.now c.try_map.new.self c.in_ok-entries.entries c.in_ok-entries.ensures in
     let read = c.in-Ok.ensures in
     λ n. elim c.if-this-ne0.branch [
-      then-this-ne0 w ↦ rw (w.place-is, w.again.ensures, c.again-before.ensures, c.left-count.ensures) (enters.section, (read.0, read.1.ok))
-      | else-this-ne0 w ↦ unlike (rw w.if-this-ne0.false at n) ]
+      | then-this-ne0 w ↦ rw (w.place-is, w.again.ensures, c.again-before.ensures, c.left-count.ensures) (enters.section, (read.0, read.1.ok))
+      | else-this-ne0 w ↦ unlike (rw w.if-this-ne0.false at n)
+    ]
 
 pub returns-in-Err-clause-read : goal.returns-in-Err-clause-read
 returns-in-Err-clause-read g c =
