@@ -10,7 +10,7 @@ use crate::names::Names;
 use mmdb_decode::decoder::Decoder;
 use mmdb_decode::failed::Failed;
 use mmdb_format::content::Double;
-use mmdb_record::fields::{EachByItself, Fields, FieldsSeen, read_part};
+use mmdb_record::fields::{Fields, FieldsSeen, read_part};
 use mmdb_record::record::named;
 use mmdb_record::try_decode::try_once;
 use std::alloc::Global;
@@ -24,8 +24,6 @@ pub struct City<'a> {
     pub names: Names<'a>,
 }
 
-impl EachByItself for City<'_> {}
-
 impl<'de> Fields<'de> for City<'de> {
     ghost table = { city_table };
 
@@ -36,7 +34,7 @@ impl<'de> Fields<'de> for City<'de> {
     #[inline(always)]
     fn read_field(
         &mut self,
-        met: &mut FieldsSeen,
+        met: &mut FieldsSeen<'de>,
         alloc: Global,
         name: &'de [u8],
         d: &mut Decoder<'de>,
@@ -73,8 +71,6 @@ pub struct Location<'a> {
     pub time_zone: Option<&'a str>,
 }
 
-impl EachByItself for Location<'_> {}
-
 impl<'de> Fields<'de> for Location<'de> {
     ghost table = { location_table };
 
@@ -85,7 +81,7 @@ impl<'de> Fields<'de> for Location<'de> {
     #[inline(always)]
     fn read_field(
         &mut self,
-        _met: &mut FieldsSeen,
+        _met: &mut FieldsSeen<'de>,
         alloc: Global,
         name: &'de [u8],
         d: &mut Decoder<'de>,
@@ -121,8 +117,6 @@ pub struct Postal<'a> {
     pub code: Option<&'a str>,
 }
 
-impl EachByItself for Postal<'_> {}
-
 impl<'de> Fields<'de> for Postal<'de> {
     ghost table = { postal_table };
 
@@ -133,7 +127,7 @@ impl<'de> Fields<'de> for Postal<'de> {
     #[inline(always)]
     fn read_field(
         &mut self,
-        _met: &mut FieldsSeen,
+        _met: &mut FieldsSeen<'de>,
         alloc: Global,
         name: &'de [u8],
         d: &mut Decoder<'de>,
@@ -165,8 +159,6 @@ pub struct Subdivision<'a> {
     pub names: Names<'a>,
 }
 
-impl EachByItself for Subdivision<'_> {}
-
 impl<'de> Fields<'de> for Subdivision<'de> {
     ghost table = { subdivision_table };
 
@@ -177,7 +169,7 @@ impl<'de> Fields<'de> for Subdivision<'de> {
     #[inline(always)]
     fn read_field(
         &mut self,
-        met: &mut FieldsSeen,
+        met: &mut FieldsSeen<'de>,
         alloc: Global,
         name: &'de [u8],
         d: &mut Decoder<'de>,

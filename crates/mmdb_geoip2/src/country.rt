@@ -9,7 +9,7 @@ use crate::fields::fields_by_name;
 use crate::names::Names;
 use mmdb_decode::decoder::Decoder;
 use mmdb_decode::failed::Failed;
-use mmdb_record::fields::{EachByItself, Fields, FieldsSeen, read_part};
+use mmdb_record::fields::{Fields, FieldsSeen, read_part};
 use mmdb_record::record::named;
 use mmdb_record::try_decode::try_once;
 use std::alloc::Global;
@@ -25,8 +25,6 @@ pub struct Continent<'a> {
     pub names: Names<'a>,
 }
 
-impl EachByItself for Continent<'_> {}
-
 impl<'de> Fields<'de> for Continent<'de> {
     ghost table = { continent_table };
 
@@ -37,7 +35,7 @@ impl<'de> Fields<'de> for Continent<'de> {
     #[inline(always)]
     fn read_field(
         &mut self,
-        met: &mut FieldsSeen,
+        met: &mut FieldsSeen<'de>,
         alloc: Global,
         name: &'de [u8],
         d: &mut Decoder<'de>,
@@ -73,8 +71,6 @@ pub struct Country<'a> {
     pub names: Names<'a>,
 }
 
-impl EachByItself for Country<'_> {}
-
 impl<'de> Fields<'de> for Country<'de> {
     ghost table = { country_table };
 
@@ -85,7 +81,7 @@ impl<'de> Fields<'de> for Country<'de> {
     #[inline(always)]
     fn read_field(
         &mut self,
-        met: &mut FieldsSeen,
+        met: &mut FieldsSeen<'de>,
         alloc: Global,
         name: &'de [u8],
         d: &mut Decoder<'de>,
@@ -127,8 +123,6 @@ pub struct RepresentedCountry<'a> {
     pub representation_type: Option<&'a str>,
 }
 
-impl EachByItself for RepresentedCountry<'_> {}
-
 impl<'de> Fields<'de> for RepresentedCountry<'de> {
     ghost table = { represented_table };
 
@@ -139,7 +133,7 @@ impl<'de> Fields<'de> for RepresentedCountry<'de> {
     #[inline(always)]
     fn read_field(
         &mut self,
-        met: &mut FieldsSeen,
+        met: &mut FieldsSeen<'de>,
         alloc: Global,
         name: &'de [u8],
         d: &mut Decoder<'de>,
@@ -175,8 +169,6 @@ pub struct Traits {
     pub is_anycast: Option<bool>,
 }
 
-impl EachByItself for Traits {}
-
 impl<'de> Fields<'de> for Traits {
     ghost table = { country_traits_table };
 
@@ -187,7 +179,7 @@ impl<'de> Fields<'de> for Traits {
     #[inline(always)]
     fn read_field(
         &mut self,
-        _met: &mut FieldsSeen,
+        _met: &mut FieldsSeen<'de>,
         alloc: Global,
         name: &'de [u8],
         d: &mut Decoder<'de>,

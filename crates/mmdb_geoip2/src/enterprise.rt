@@ -9,7 +9,7 @@ use crate::fields::fields_by_name;
 use crate::names::Names;
 use mmdb_decode::decoder::Decoder;
 use mmdb_decode::failed::Failed;
-use mmdb_record::fields::{EachByItself, Fields, FieldsSeen, read_part};
+use mmdb_record::fields::{Fields, FieldsSeen, read_part};
 use mmdb_record::record::named;
 use mmdb_record::try_decode::try_once;
 use std::alloc::Global;
@@ -25,8 +25,6 @@ pub struct City<'a> {
     pub names: Names<'a>,
 }
 
-impl EachByItself for City<'_> {}
-
 impl<'de> Fields<'de> for City<'de> {
     ghost table = { enterprise_city_table };
 
@@ -37,7 +35,7 @@ impl<'de> Fields<'de> for City<'de> {
     #[inline(always)]
     fn read_field(
         &mut self,
-        met: &mut FieldsSeen,
+        met: &mut FieldsSeen<'de>,
         alloc: Global,
         name: &'de [u8],
         d: &mut Decoder<'de>,
@@ -75,8 +73,6 @@ pub struct Country<'a> {
     pub names: Names<'a>,
 }
 
-impl EachByItself for Country<'_> {}
-
 impl<'de> Fields<'de> for Country<'de> {
     ghost table = { enterprise_country_table };
 
@@ -87,7 +83,7 @@ impl<'de> Fields<'de> for Country<'de> {
     #[inline(always)]
     fn read_field(
         &mut self,
-        met: &mut FieldsSeen,
+        met: &mut FieldsSeen<'de>,
         alloc: Global,
         name: &'de [u8],
         d: &mut Decoder<'de>,
@@ -125,8 +121,6 @@ pub struct Postal<'a> {
     pub confidence: Option<u8>,
 }
 
-impl EachByItself for Postal<'_> {}
-
 impl<'de> Fields<'de> for Postal<'de> {
     ghost table = { enterprise_postal_table };
 
@@ -137,7 +131,7 @@ impl<'de> Fields<'de> for Postal<'de> {
     #[inline(always)]
     fn read_field(
         &mut self,
-        _met: &mut FieldsSeen,
+        _met: &mut FieldsSeen<'de>,
         alloc: Global,
         name: &'de [u8],
         d: &mut Decoder<'de>,
@@ -172,8 +166,6 @@ pub struct Subdivision<'a> {
     pub names: Names<'a>,
 }
 
-impl EachByItself for Subdivision<'_> {}
-
 impl<'de> Fields<'de> for Subdivision<'de> {
     ghost table = { enterprise_subdivision_table };
 
@@ -184,7 +176,7 @@ impl<'de> Fields<'de> for Subdivision<'de> {
     #[inline(always)]
     fn read_field(
         &mut self,
-        met: &mut FieldsSeen,
+        met: &mut FieldsSeen<'de>,
         alloc: Global,
         name: &'de [u8],
         d: &mut Decoder<'de>,
@@ -248,8 +240,6 @@ pub struct Traits<'a> {
     pub user_type: Option<&'a str>,
 }
 
-impl EachByItself for Traits<'_> {}
-
 impl<'de> Fields<'de> for Traits<'de> {
     ghost table = { enterprise_traits_table };
 
@@ -259,7 +249,7 @@ impl<'de> Fields<'de> for Traits<'de> {
 
     fn read_field(
         &mut self,
-        _met: &mut FieldsSeen,
+        _met: &mut FieldsSeen<'de>,
         alloc: Global,
         name: &'de [u8],
         d: &mut Decoder<'de>,

@@ -7,7 +7,7 @@ ghost use Rattle.mmdb_geoip2.specs.NetworkTables.{isp_table, connection_type_tab
 use crate::fields::fields_by_name;
 use mmdb_decode::decoder::Decoder;
 use mmdb_decode::failed::Failed;
-use mmdb_record::fields::{EachByItself, Fields, FieldsSeen};
+use mmdb_record::fields::{Fields, FieldsSeen};
 use mmdb_record::record::named;
 use mmdb_record::try_decode::try_once;
 use std::alloc::Global;
@@ -29,8 +29,6 @@ pub struct Isp<'a> {
     pub organization: Option<&'a str>,
 }
 
-impl EachByItself for Isp<'_> {}
-
 impl<'de> Fields<'de> for Isp<'de> {
     ghost table = { isp_table };
 
@@ -48,7 +46,7 @@ impl<'de> Fields<'de> for Isp<'de> {
     #[inline(always)]
     fn read_field(
         &mut self,
-        _met: &mut FieldsSeen,
+        _met: &mut FieldsSeen<'de>,
         alloc: Global,
         name: &'de [u8],
         d: &mut Decoder<'de>,
@@ -72,8 +70,6 @@ pub struct ConnectionType<'a> {
     pub connection_type: Option<&'a str>,
 }
 
-impl EachByItself for ConnectionType<'_> {}
-
 impl<'de> Fields<'de> for ConnectionType<'de> {
     ghost table = { connection_type_table };
 
@@ -86,7 +82,7 @@ impl<'de> Fields<'de> for ConnectionType<'de> {
     #[inline(always)]
     fn read_field(
         &mut self,
-        _met: &mut FieldsSeen,
+        _met: &mut FieldsSeen<'de>,
         alloc: Global,
         name: &'de [u8],
         d: &mut Decoder<'de>,
@@ -115,8 +111,6 @@ pub struct AnonymousIp {
     pub is_tor_exit_node: Option<bool>,
 }
 
-impl EachByItself for AnonymousIp {}
-
 impl<'de> Fields<'de> for AnonymousIp {
     ghost table = { anonymous_ip_table };
 
@@ -134,7 +128,7 @@ impl<'de> Fields<'de> for AnonymousIp {
     #[inline(always)]
     fn read_field(
         &mut self,
-        _met: &mut FieldsSeen,
+        _met: &mut FieldsSeen<'de>,
         alloc: Global,
         name: &'de [u8],
         d: &mut Decoder<'de>,
@@ -160,8 +154,6 @@ pub struct DensityIncome {
     pub population_density: Option<u32>,
 }
 
-impl EachByItself for DensityIncome {}
-
 impl<'de> Fields<'de> for DensityIncome {
     ghost table = { density_income_table };
 
@@ -175,7 +167,7 @@ impl<'de> Fields<'de> for DensityIncome {
     #[inline(always)]
     fn read_field(
         &mut self,
-        _met: &mut FieldsSeen,
+        _met: &mut FieldsSeen<'de>,
         alloc: Global,
         name: &'de [u8],
         d: &mut Decoder<'de>,
@@ -195,8 +187,6 @@ pub struct Domain<'a> {
     pub domain: Option<&'a str>,
 }
 
-impl EachByItself for Domain<'_> {}
-
 impl<'de> Fields<'de> for Domain<'de> {
     ghost table = { domain_table };
 
@@ -207,7 +197,7 @@ impl<'de> Fields<'de> for Domain<'de> {
     #[inline(always)]
     fn read_field(
         &mut self,
-        _met: &mut FieldsSeen,
+        _met: &mut FieldsSeen<'de>,
         alloc: Global,
         name: &'de [u8],
         d: &mut Decoder<'de>,
@@ -228,8 +218,6 @@ pub struct Asn<'a> {
     pub autonomous_system_organization: Option<&'a str>,
 }
 
-impl EachByItself for Asn<'_> {}
-
 impl<'de> Fields<'de> for Asn<'de> {
     ghost table = { asn_table };
 
@@ -243,7 +231,7 @@ impl<'de> Fields<'de> for Asn<'de> {
     #[inline(always)]
     fn read_field(
         &mut self,
-        _met: &mut FieldsSeen,
+        _met: &mut FieldsSeen<'de>,
         alloc: Global,
         name: &'de [u8],
         d: &mut Decoder<'de>,

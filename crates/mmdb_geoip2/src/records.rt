@@ -3,16 +3,18 @@
 
 ghost use Rattle.std.specs.Prelude.{◌≡◌, false};
 ghost use Rattle.std.specs.Vec.{vec_capacity};
+ghost use Rattle.mmdb_record.specs.Memos.{part_at};
 ghost use Rattle.mmdb_record.specs.Tables.{data_of, no_data};
+ghost use Rattle.mmdb_geoip2.specs.CountryTables.{country_table};
+ghost use Rattle.mmdb_geoip2.specs.EnterpriseTables.{enterprise_country_table};
 ghost use Rattle.mmdb_geoip2.specs.RecordTables.{top_country_table, top_city_table, top_enterprise_table};
 
 use crate::fields::{fields_by_name, read_few_once};
 use crate::{city, country, enterprise};
 use mmdb_decode::decoder::Decoder;
 use mmdb_decode::failed::Failed;
-use mmdb_decode::items::Entries;
-use mmdb_record::fields::{Fields, FieldsSeen, TryFields, read_part};
-use mmdb_record::memo::{Memo, Recalls, read_part_or_reuse, read_reusing};
+use mmdb_record::fields::{Fields, FieldsSeen, read_part};
+use mmdb_record::memo::{read_part_noting, read_part_or_reuse};
 use mmdb_record::record::named;
 use std::alloc::Global;
 
@@ -34,6 +36,8 @@ pub struct Country<'a> {
 impl<'de> Fields<'de> for Country<'de> {
     ghost table = { top_country_table };
 
+    ghost kept = { part_at country_table (λ v. v.country) };
+
     fn empty(alloc: Global) -> Country<'de> {
         Country {
             continent: country::Continent::empty(alloc),
@@ -47,47 +51,19 @@ impl<'de> Fields<'de> for Country<'de> {
     #[inline(always)]
     fn read_field(
         &mut self,
-        met: &mut FieldsSeen,
-        alloc: Global,
-        name: &'de [u8],
-        d: &mut Decoder<'de>,
-    ) -> Result<(), Failed> {
-        let mut memo = None;
-        self.read_field_or_reuse(met, &mut memo, alloc, name, d)
-    }
-}
-
-impl<'de> Recalls<'de, country::Country<'de>> for Country<'de> {
-    #[inline(always)]
-    fn read_field_or_reuse(
-        &mut self,
-        met: &mut FieldsSeen,
-        memo: &mut Option<Memo<'de, country::Country<'de>>>,
+        met: &mut FieldsSeen<'de>,
         alloc: Global,
         name: &'de [u8],
         d: &mut Decoder<'de>,
     ) -> Result<(), Failed> {
         fields_by_name!(alloc, name, d;
             "continent" => read_part(&mut met.0, &mut self.continent),
-            "country" => read_part_or_reuse(&mut met.1, &mut self.country, memo),
-            "registered_country" => read_part_or_reuse(&mut met.2, &mut self.registered_country, memo),
+            "country" => read_part_noting(&mut met.1, &mut self.country, &mut met.9),
+            "registered_country" => read_part_or_reuse(&mut met.2, &mut self.registered_country, &self.country, &met.9),
             "represented_country" => read_part(&mut met.3, &mut self.represented_country),
             "traits" => read_part(&mut met.4, &mut self.traits),
             _ => try_skip(),
         )
-    }
-}
-
-impl<'de> TryFields<'de> for Country<'de> {
-    #[inline(always)]
-    fn read_rest(
-        &mut self,
-        met: &mut FieldsSeen,
-        alloc: Global,
-        d: &mut Decoder<'de>,
-        entries: &mut Entries,
-    ) -> Result<(), Failed> {
-        read_reusing(alloc, d, entries, self, met)
     }
 }
 
@@ -126,6 +102,8 @@ impl<'de> Fields<'de> for City<'de> {
 
     ghost free = { false };
 
+    ghost kept = { part_at country_table (λ v. v.country) };
+
     fn empty(alloc: Global) -> City<'de> {
         City::empty(alloc)
     }
@@ -133,22 +111,7 @@ impl<'de> Fields<'de> for City<'de> {
     #[inline(always)]
     fn read_field(
         &mut self,
-        met: &mut FieldsSeen,
-        alloc: Global,
-        name: &'de [u8],
-        d: &mut Decoder<'de>,
-    ) -> Result<(), Failed> {
-        let mut memo = None;
-        self.read_field_or_reuse(met, &mut memo, alloc, name, d)
-    }
-}
-
-impl<'de> Recalls<'de, city::Country<'de>> for City<'de> {
-    #[inline(always)]
-    fn read_field_or_reuse(
-        &mut self,
-        met: &mut FieldsSeen,
-        memo: &mut Option<Memo<'de, city::Country<'de>>>,
+        met: &mut FieldsSeen<'de>,
         alloc: Global,
         name: &'de [u8],
         d: &mut Decoder<'de>,
@@ -156,28 +119,15 @@ impl<'de> Recalls<'de, city::Country<'de>> for City<'de> {
         fields_by_name!(alloc, name, d;
             "city" => read_part(&mut met.0, &mut self.city),
             "continent" => read_part(&mut met.1, &mut self.continent),
-            "country" => read_part_or_reuse(&mut met.2, &mut self.country, memo),
+            "country" => read_part_noting(&mut met.2, &mut self.country, &mut met.9),
             "location" => read_part(&mut met.3, &mut self.location),
             "postal" => read_part(&mut met.4, &mut self.postal),
-            "registered_country" => read_part_or_reuse(&mut met.5, &mut self.registered_country, memo),
+            "registered_country" => read_part_or_reuse(&mut met.5, &mut self.registered_country, &self.country, &met.9),
             "represented_country" => read_part(&mut met.6, &mut self.represented_country),
             "subdivisions" => read_few_once(&mut met.7, &mut self.subdivisions),
             "traits" => read_part(&mut met.8, &mut self.traits),
             _ => try_skip(),
         )
-    }
-}
-
-impl<'de> TryFields<'de> for City<'de> {
-    #[inline(always)]
-    fn read_rest(
-        &mut self,
-        met: &mut FieldsSeen,
-        alloc: Global,
-        d: &mut Decoder<'de>,
-        entries: &mut Entries,
-    ) -> Result<(), Failed> {
-        read_reusing(alloc, d, entries, self, met)
     }
 }
 
@@ -209,6 +159,8 @@ impl<'de> Fields<'de> for Enterprise<'de> {
 
     ghost free = { false };
 
+    ghost kept = { part_at enterprise_country_table (λ v. v.country) };
+
     fn empty(alloc: Global) -> Enterprise<'de> {
         Enterprise::empty(alloc)
     }
@@ -216,22 +168,7 @@ impl<'de> Fields<'de> for Enterprise<'de> {
     #[inline(always)]
     fn read_field(
         &mut self,
-        met: &mut FieldsSeen,
-        alloc: Global,
-        name: &'de [u8],
-        d: &mut Decoder<'de>,
-    ) -> Result<(), Failed> {
-        let mut memo = None;
-        self.read_field_or_reuse(met, &mut memo, alloc, name, d)
-    }
-}
-
-impl<'de> Recalls<'de, enterprise::Country<'de>> for Enterprise<'de> {
-    #[inline(always)]
-    fn read_field_or_reuse(
-        &mut self,
-        met: &mut FieldsSeen,
-        memo: &mut Option<Memo<'de, enterprise::Country<'de>>>,
+        met: &mut FieldsSeen<'de>,
         alloc: Global,
         name: &'de [u8],
         d: &mut Decoder<'de>,
@@ -239,28 +176,15 @@ impl<'de> Recalls<'de, enterprise::Country<'de>> for Enterprise<'de> {
         fields_by_name!(alloc, name, d;
             "city" => read_part(&mut met.0, &mut self.city),
             "continent" => read_part(&mut met.1, &mut self.continent),
-            "country" => read_part_or_reuse(&mut met.2, &mut self.country, memo),
+            "country" => read_part_noting(&mut met.2, &mut self.country, &mut met.9),
             "location" => read_part(&mut met.3, &mut self.location),
             "postal" => read_part(&mut met.4, &mut self.postal),
-            "registered_country" => read_part_or_reuse(&mut met.5, &mut self.registered_country, memo),
+            "registered_country" => read_part_or_reuse(&mut met.5, &mut self.registered_country, &self.country, &met.9),
             "represented_country" => read_part(&mut met.6, &mut self.represented_country),
             "subdivisions" => read_few_once(&mut met.7, &mut self.subdivisions),
             "traits" => read_part(&mut met.8, &mut self.traits),
             _ => try_skip(),
         )
-    }
-}
-
-impl<'de> TryFields<'de> for Enterprise<'de> {
-    #[inline(always)]
-    fn read_rest(
-        &mut self,
-        met: &mut FieldsSeen,
-        alloc: Global,
-        d: &mut Decoder<'de>,
-        entries: &mut Entries,
-    ) -> Result<(), Failed> {
-        read_reusing(alloc, d, entries, self, met)
     }
 }
 

@@ -1,10 +1,12 @@
 -- What was read once is what is read again at the offset.
-use Rattle.std.proofs.Common.{◌≡◌, ℕ, ◌+◌, ◌-◌, Option, Some, None, Bool, true, false, option_map, refl, sym, ap, ◌∙◌, arith, if◌then◌else◌}
+use Rattle.std.proofs.Common.{◌≡◌, ℕ, List, ◌+◌, ◌-◌, Option, Some, None, Bool, true, false, option_map, refl, sym, ap, ◌∙◌, arith, if◌then◌else◌}
 use Rattle.mmdb_format.specs.Header.{◌>>=◌}
 use Rattle.mmdb_decode.specs.Reading.{Reading, Meaning}
 use Rattle.mmdb_decode.specs.Repeats.{ChargedAgain, Repeats}
 use Rattle.mmdb_decode.specs.State.{State, spent_of, settled, after, decoded}
 use Rattle.mmdb_decode.specs.declared.budget.Charges.{Charges}
+use Rattle.mmdb_record.specs.declared.fields.FieldsSeen.{FieldsSeen}
+use Rattle.mmdb_record.specs.Memos.{Kept, nothing, part_at, IsKept}
 use Rattle.mmdb_decode.proofs.StepLaws.{read_at}
 
 -- what was charged is what is between the two budgets
@@ -43,3 +45,8 @@ repeats_by read v b a σ τ (Some r) e h w = settled_again read r v b a σ τ (s
 pub repeats_read : {A : Type 0} (read : Meaning A) (v : A) (b a σ τ : State) → b.section ≡ σ.section → Repeats b a σ τ → decoded false read b ≡ Some (v, a) → decoded false read σ ≡ Some (v, τ)
 unfolding decoded
 repeats_read read v b a σ τ s w h = repeats_by read v b a σ τ (read b.section b.offset b.levels) (rw (s, w.offset, w.levels) refl) h w
+
+-- at first nothing is kept
+pub kept_at_first : {R : Type 0} (k : Kept R) (m : FieldsSeen) (v : R) (section : List ℕ) → m.9 ≡ None → IsKept k m v section
+kept_at_first nothing m v section h = tt
+kept_at_first (part_at t get) m v section h = rw h tt

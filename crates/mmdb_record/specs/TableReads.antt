@@ -6,7 +6,7 @@ use Rattle.mmdb_decode.specs.Reading.{Meaning}
 use Rattle.mmdb_decode.specs.State.{State, decoded}
 use Rattle.mmdb_decode.specs.Maps.{pairs_from, name_at, pairs_left}
 use Rattle.mmdb_record.specs.Records.{once, FieldTaken, RestTaken}
-use Rattle.mmdb_record.specs.Tables.{Table, Parts, part_once, fields_of, record_of, data_of}
+use Rattle.mmdb_record.specs.Tables.{Table, Parts, part_once, parts_met, no_parts, fields_of, record_of, data_of}
 
 -- the pairs that are left of a map, whose keys name the fields of a table
 abbrev pub fields_left : {R : Type 0} → (t : Table R) → Parts t → Entries → Meaning (Parts t)
@@ -18,11 +18,12 @@ abbrev pub TakesField : {R : Type 0} → Bool → (t : Table R) → List ℕ →
 TakesField free t name before after old new r =
     FieldTaken free (decoded false (fields_of t before name) old) after old new r
 
--- the same of the pairs that are left of a map
-abbrev pub TakesRest : {R : Type 0} → Bool → (t : Table R) → Parts t → Parts t → State → State →
-    Entries → Entries → Result (Unit {0}) Failed → Type 0
-TakesRest free t before after old new entries rest r =
-    RestTaken free (decoded false (fields_left t before entries) old) after old new entries rest r
+-- The pairs that are left of a map were read into a record of which no field was met before, whatever parts
+-- it has.
+abbrev pub TakesPairs : {R : Type 0} → Bool → (t : Table R) → R → State → State → Entries → Entries →
+    Result (Unit {0}) Failed → Type 0
+TakesPairs free t v old new entries rest r =
+    (met : List Bool) × RestTaken free (decoded false (fields_left t (no_parts t) entries) old) (parts_met t met v) old new entries rest r
 
 -- a whole record was read, which begins a budget where none has begun
 abbrev pub TakesRecord : {R : Type 0} → Bool → Table R → R → State → State →

@@ -1,18 +1,20 @@
 //! Records that are read in place, field by field, as a table of their fields says.
-ghost use Rattle.std.specs.Prelude.{◌≡◌, Bool, true, false, Some, IsSome};
+ghost use Rattle.std.specs.Prelude.{◌≡◌, Bool, true, false, Some, None, IsSome, OnOk};
 ghost use Rattle.mmdb_record.specs.Tables.{Table, Data, data_of, no_data, parts_met, flags, none_met, record_of};
-ghost use Rattle.mmdb_record.specs.TableReads.{TakesField, TakesRest, TakesRecord, TakesPart};
+ghost use Rattle.mmdb_record.specs.Memos.{Kept, nothing, IsKept, IsPlaceOf};
+ghost use Rattle.mmdb_record.specs.TableReads.{TakesField, TakesPairs, TakesRecord, TakesPart};
 
 use crate::decode::Decode;
+use crate::memo::Place;
 use mmdb_decode::decoder::Decoder;
 use mmdb_decode::failed::Failed;
 use mmdb_decode::items::Entries;
 use mmdb_format::error::DecodeResult;
 use std::alloc::Global;
 
-/// Which parts of a record were met.
-#[derive(Clone, Copy)]
-pub struct FieldsSeen(
+/// Which parts of a record were met, and where the one stood that may be reused.
+#[derive(Drop)]
+pub struct FieldsSeen<'de>(
     pub bool,
     pub bool,
     pub bool,
@@ -22,16 +24,18 @@ pub struct FieldsSeen(
     pub bool,
     pub bool,
     pub bool,
+    pub Option<Place<'de>>,
 );
 
-impl FieldsSeen {
+impl<'de> FieldsSeen<'de> {
     /// No part was met.
     #[inline(always)]
-    pub fn none() -> FieldsSeen
-        ensures { flags result ≡ none_met }
+    pub fn none() -> FieldsSeen<'de>
+        ensures none { flags result ≡ none_met }
+        ensures place { result.9 ≡ None }
     {
         FieldsSeen(
-            false, false, false, false, false, false, false, false, false,
+            false, false, false, false, false, false, false, false, false, None,
         )
     }
 }
@@ -45,6 +49,9 @@ pub trait Fields<'de>: Sized + Drop {
     /// Whether a success takes no memory.
     ghost free: { Bool } = { true };
 
+    /// The part that may be reused for another one, if there is such a part.
+    ghost kept: { Kept Self } = { nothing };
+
     /// A record of which no field was met.
     fn empty(alloc: Global) -> Self
         ensures { data_of table result ≡ no_data table };
@@ -52,81 +59,62 @@ pub trait Fields<'de>: Sized + Drop {
     /// Reads or skips the value after a name.
     fn read_field(
         &mut self,
-        met: &mut FieldsSeen,
+        met: &mut FieldsSeen<'de>,
         alloc: Global,
         name: &'de [u8],
         d: &mut Decoder<'de>,
     ) -> Result<(), Failed>
-        requires { IsSome d.old.budget }
-        ensures { TakesField free table name.now (parts_met table (flags met.old) self.old)
-            (parts_met table (flags met.new) self.new) d.old d.new result };
+        requires started { IsSome d.old.budget }
+        requires kept { IsKept kept met.old self.old d.old.section }
+        ensures read { TakesField free table name.now (parts_met table (flags met.old) self.old)
+            (parts_met table (flags met.new) self.new) d.old d.new result }
+        ensures kept { OnOk result (IsKept kept met.new self.new d.old.section) };
 }
 
-/// A record that reads its fields one after the other.
-pub trait TryFields<'de>: Fields<'de> {
-    /// Reads the fields that are left of a map.
-    fn read_rest(
-        &mut self,
-        met: &mut FieldsSeen,
-        alloc: Global,
-        d: &mut Decoder<'de>,
-        entries: &mut Entries,
-    ) -> Result<(), Failed>
-        requires { IsSome d.old.budget }
-        ensures { TakesRest Self.free Self.table (parts_met Self.table (flags met.old) self.old)
-            (parts_met Self.table (flags met.new) self.new)
-            d.old d.new entries.old entries.new result };
-}
-
-// Reads the fields that are left of a map, each by itself.
+// Reads the fields that are left of a map into a record of which no field was met.
 #[inline(always)]
 fn read_each<'de, R: Fields<'de>>(
     alloc: Global,
     d: &mut Decoder<'de>,
     entries: &mut Entries,
     fields: &mut R,
-    met: &mut FieldsSeen,
 ) -> Result<(), Failed>
-    requires { IsSome d.old.budget }
-    ensures { TakesRest R.free R.table (parts_met R.table (flags met.old) fields.old)
-        (parts_met R.table (flags met.new) fields.new) d.old d.new entries.old entries.new result }
+    requires none { data_of R.table fields.old ≡ no_data R.table }
+    requires started { IsSome d.old.budget }
+    ensures { TakesPairs R.free R.table fields.new d.old d.new entries.old entries.new result }
 {
+    let mut met = FieldsSeen::none();
     while let Some(name) = d.try_next(entries)? {
-        fields.read_field(met, alloc, name, d)?;
+        fields.read_field(&mut met, alloc, name, d)?;
     }
     Ok(())
 }
 
-/// A record whose fields are read each by itself.
-pub trait EachByItself {}
-
-impl<'de, R: Fields<'de> + EachByItself> TryFields<'de> for R {
-    #[inline(always)]
-    fn read_rest(
-        &mut self,
-        met: &mut FieldsSeen,
-        alloc: Global,
-        d: &mut Decoder<'de>,
-        entries: &mut Entries,
-    ) -> Result<(), Failed> {
-        read_each(alloc, d, entries, self, met)
-    }
-}
-
-// Reads a map into a record of which no field was met.
+// Reads a map into a record of which no field was met, and may note where its pairs stand.
 #[inline(always)]
-fn read_map_into<'de, R: TryFields<'de>>(
+fn read_map_into<'de, R: Fields<'de>, const NOTES: bool>(
     alloc: Global,
     d: &mut Decoder<'de>,
     fields: &mut R,
+    place: &mut Option<Place<'de>>,
 ) -> Result<(), Failed>
     requires { data_of R.table fields.old ≡ no_data R.table }
-    ensures { TakesRecord R.free R.table fields.new d.old d.new result }
+    ensures read { TakesRecord R.free R.table fields.new d.old d.new result }
+    ensures noted { OnOk result (NOTES ≡ true
+        → IsPlaceOf R.table place.new fields.new d.old.section) }
 {
-    let mut met = FieldsSeen::none();
     let mut entries = d.try_map()?;
-    match fields.read_rest(&mut met, alloc, d, &mut entries) {
+    let before = d.again();
+    let count = entries.left();
+    match read_each(alloc, d, &mut entries, fields) {
         Ok(()) => {
+            if NOTES {
+                *place = Some(Place {
+                    before,
+                    count,
+                    behind: d.again(),
+                });
+            }
             d.end_map(entries);
             Ok(())
         }
@@ -138,16 +126,19 @@ fn read_map_into<'de, R: TryFields<'de>>(
 }
 
 // Reads the fields of a map by a decoder of its own, which can stay in registers.
-pub(crate) fn read_into<'de, R: TryFields<'de>>(
+pub(crate) fn read_into<'de, R: Fields<'de>, const NOTES: bool>(
     alloc: Global,
     d: &mut Decoder<'de>,
     fields: &mut R,
+    place: &mut Option<Place<'de>>,
 ) -> Result<(), Failed>
     requires { data_of R.table fields.old ≡ no_data R.table }
-    ensures { TakesRecord R.free R.table fields.new d.old d.new result }
+    ensures read { TakesRecord R.free R.table fields.new d.old d.new result }
+    ensures noted { OnOk result (NOTES ≡ true
+        → IsPlaceOf R.table place.new fields.new d.old.section) }
 {
     let mut here = d.again();
-    match read_map_into(alloc, &mut here, fields) {
+    match read_map_into::<R, NOTES>(alloc, &mut here, fields, place) {
         Ok(()) => {
             d.go_to(&here);
             Ok(())
@@ -159,7 +150,7 @@ pub(crate) fn read_into<'de, R: TryFields<'de>>(
     }
 }
 
-impl<'de, R: TryFields<'de>> Decode<'de> for R {
+impl<'de, R: Fields<'de>> Decode<'de> for R {
     ghost Datum = { Data R.table };
 
     ghost datum = { data_of R.table };
@@ -172,15 +163,41 @@ impl<'de, R: TryFields<'de>> Decode<'de> for R {
 
     fn decode(alloc: Global, d: &mut Decoder<'de>) -> DecodeResult<R> {
         let mut fields = R::empty(alloc);
-        match read_into(alloc, d, &mut fields) {
+        match read_into::<R, false>(alloc, d, &mut fields, &mut None) {
             Ok(()) => Ok(fields),
             Err(rejected) => Err(d.error_of(alloc, rejected)),
         }
     }
 }
 
+// Reads a part that stands at most once, and may note where its pairs stand.
+#[inline(always)]
+pub(crate) fn read_part_into<'de, R: Fields<'de>, const NOTES: bool>(
+    alloc: Global,
+    d: &mut Decoder<'de>,
+    name: &'de [u8],
+    met: &mut bool,
+    part: &mut R,
+    place: &mut Option<Place<'de>>,
+) -> Result<(), Failed>
+    requires { IsSome d.old.budget }
+    ensures read { TakesPart R.free (record_of R.table) (met.old, data_of R.table part.old)
+        (met.new, data_of R.table part.new) d.old d.new result }
+    ensures noted { OnOk result (NOTES ≡ true
+        → IsPlaceOf R.table place.new part.new d.old.section) }
+{
+    if *met {
+        return Err(d.fail_repeated(name));
+    }
+    *part = R::empty(alloc);
+    read_into::<R, NOTES>(alloc, d, part, place)?;
+    *met = true;
+    Ok(())
+}
+
 /// Reads a part that stands at most once. One that stands again is rejected before its value is read.
-pub fn read_part<'de, R: TryFields<'de>>(
+#[inline(always)]
+pub fn read_part<'de, R: Fields<'de>>(
     alloc: Global,
     d: &mut Decoder<'de>,
     name: &'de [u8],
@@ -191,11 +208,5 @@ pub fn read_part<'de, R: TryFields<'de>>(
     ensures { TakesPart R.free (record_of R.table) (met.old, data_of R.table part.old)
         (met.new, data_of R.table part.new) d.old d.new result }
 {
-    if *met {
-        return Err(d.fail_repeated(name));
-    }
-    *part = R::empty(alloc);
-    read_into(alloc, d, part)?;
-    *met = true;
-    Ok(())
+    read_part_into::<R, false>(alloc, d, name, met, part, &mut None)
 }

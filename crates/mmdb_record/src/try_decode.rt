@@ -6,7 +6,7 @@ ghost use Rattle.mmdb_decode.specs.Arrays.{elements_left, with_items_left};
 ghost use Rattle.mmdb_record.specs.TableReads.{TakesOnce};
 
 use crate::decode::Decode;
-use crate::fields::{TryFields, read_into};
+use crate::fields::{Fields, read_into};
 use mmdb_decode::decoder::Decoder;
 use mmdb_decode::failed::Failed;
 use mmdb_decode::items::Items;
@@ -65,10 +65,10 @@ impl<'de> TryDecode<'de> for &'de str {
     }
 }
 
-impl<'de, R: TryFields<'de>> TryDecode<'de> for R {
+impl<'de, R: Fields<'de>> TryDecode<'de> for R {
     fn try_decode(alloc: Global, d: &mut Decoder<'de>) -> Result<R, Failed> {
         let mut record = R::empty(alloc);
-        read_into(alloc, d, &mut record)?;
+        read_into::<R, false>(alloc, d, &mut record, &mut None)?;
         Ok(record)
     }
 }

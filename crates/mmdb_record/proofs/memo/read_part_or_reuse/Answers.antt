@@ -1,19 +1,13 @@
-use Rattle.std.proofs.Common.{rules, false, true}
-use Rattle.std.proofs.lemmas.Result.{err_from_is_err_and}
-use Rattle.mmdb_decode.specs.State.{decoded}
-use Rattle.mmdb_decode.proofs.StepLaws.{declines, declines_more, given_up_kept, kept_same}
-use Rattle.mmdb_record.specs.Tables.{data_of, part_once, record_of}
-use Rattle.mmdb_record.proofs.TableLaws.{part_taken, part_first, part_missing}
+use Rattle.std.proofs.Common.{refl, true}
+use Rattle.mmdb_record.specs.Tables.{data_of, record_of}
+use Rattle.mmdb_record.proofs.TableLaws.{part_first}
 use Rattle.mmdb_record.proofs.memo.read_part_or_reuse.Goals as goal
 
-pub returns-then-met-clause-read : goal.returns-then-met-clause-read
-returns-then-met-clause-read g c = record { ok = tt; err = declines g.R.Fields.free c.fail_repeated.result _ (part_taken (record_of g.R.Fields.table) c.args.met.now (data_of g.R.Fields.table c.args.part.now) c.args.d.now (search rules)); given_up = given_up_kept c.args.d.now c.fail_repeated.new.self (rw c.fail_repeated.ensures.same (kept_same c.args.d.now)) }
-
-pub returns-in_err-read_into_or_reuse-clause-read : goal.returns-in_err-read_into_or_reuse-clause-read
-returns-in_err-read_into_or_reuse-clause-read g c =
-    let p = err_from_is_err_and c.from_residual.result c.from_residual.ensures.1 in
-    let missing = declines_more g.R.Fields.free c.in_err-read_into_or_reuse.field-0.0 (decoded true (record_of g.R.Fields.table) c.args.d.now) (decoded false (part_once (record_of g.R.Fields.table) _) c.args.d.now) (part_missing true (record_of g.R.Fields.table) c.args.met.now (data_of g.R.Fields.table c.args.part.now) c.args.d.now (search rules) c.requires.started) c.in_err-read_into_or_reuse.ensures.read.err in
-    rw (p.1, p.2) (record { ok = tt; err = missing; given_up = c.in_err-read_into_or_reuse.ensures.read.given_up })
-
-pub returns-clause-read : goal.returns-clause-read
-returns-clause-read g c = record { ok = part_first true (record_of g.R.Fields.table) c.args.met.now (data_of g.R.Fields.table c.args.part.now) _ c.args.d.now c.read_into_or_reuse.new.d (search rules) c.requires.started c.in_ok-read_into_or_reuse.ensures.read.ok; err = tt; given_up = tt }
+pub returns-then-reuse : goal.returns-then-reuse
+returns-then-reuse g c =
+    let t = g.R.Fields.table in
+    record {
+      ok = part_first true (record_of t) c.args.met.now (data_of t c.args.part.now) (data_of t c.args.known.now) c.args.d.now c.reuse.new.d c.if-not-met.true c.requires.started (c.if-reuse.ensures.ok refl);
+      err = tt;
+      given_up = tt;
+    }
