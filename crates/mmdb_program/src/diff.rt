@@ -1,12 +1,14 @@
 //! What changed between two files.
 use crate::changes::{Changes, network_of};
 use crate::counts::Counts;
-use crate::database::{Database, open};
+use crate::database::Database;
 use crate::differences::{Answers, Offsets, Pairs, Unreadable, put_names};
 use crate::error::ProgramError;
 use crate::export::Where;
 use crate::output::{Console, DIFFERENT, DONE, FAILED};
+use crate::same::are_all_readable;
 use crate::task::DiffTask;
+use crate::two_databases::{TwoDatabases, open_two};
 use mmdb_diff::{Comparison, Part, Side, Stretch, UnreadLeaf};
 use mmdb_reader::{IpNetwork, MaxMindDbError};
 use std::alloc::{AllocError, Global};
@@ -292,18 +294,14 @@ fn compare<'a, 'r, O: Write, E: Write>(
     compare_with(task, comparison, &mut so_far, console)
 }
 
-// Compares two databases, and answers the status.
-fn diff_databases<'a, O: Write, E: Write>(
-    old: &Database,
-    new: &Database,
+// Compares two databases in a range, and answers the status.
+fn compare_range<'a, O: Write, E: Write>(
+    databases: &TwoDatabases,
+    range: IpNetwork,
     task: &'a DiffTask<'a>,
     console: &mut Console<'_, O, E>,
 ) -> Result<u8, ProgramError> {
-    let range = match task.range {
-        Some(range) => range,
-        None => all_of(old, new)?,
-    };
-    match Comparison::new(console.alloc, old, new, range) {
+    match Comparison::new(console.alloc, databases.old(), databases.newer(), range) {
         Ok(mut comparison) => {
             let done = compare(task, &mut comparison, console);
             drop(comparison);
@@ -317,25 +315,45 @@ fn diff_databases<'a, O: Write, E: Write>(
     }
 }
 
+// Writes that nothing differs, and answers the status.
+fn report_none<O: Write, E: Write>(
+    task: &DiffTask<'_>,
+    console: &mut Console<'_, O, E>,
+) -> Result<u8, ProgramError> {
+    put_names(console.alloc, &task.layout, console.out)?;
+    report_counts(Counts::new(), 0, task.exit_code, console)
+}
+
+// Compares two databases, and answers the status.
+fn diff_databases<'a, O: Write, E: Write>(
+    databases: &TwoDatabases,
+    task: &'a DiffTask<'a>,
+    console: &mut Console<'_, O, E>,
+) -> Result<u8, ProgramError> {
+    let range = match task.range {
+        Some(range) => range,
+        None => all_of(databases.old(), databases.newer())?,
+    };
+    if databases.have_same_bytes()
+        && are_all_readable(console.alloc, databases.old(), range, &task.layout)
+    {
+        return report_none(task, console);
+    }
+    compare_range(databases, range, task, console)
+}
+
 /// Writes what changed between two files, and reports what of them can't be read.
 pub(crate) fn diff<'a, R: Files, O: Write, E: Write>(
     rt: &R,
     task: &'a DiffTask<'a>,
     console: &mut Console<'_, O, E>,
 ) -> Result<u8, ProgramError> {
-    let Some(old) = open(rt, task.old, console) else {
-        return Ok(FAILED);
-    };
-    match open(rt, task.new, console) {
-        Some(new) => {
-            let done = diff_databases(&old, &new, task, console);
-            drop(new);
-            drop(old);
+    match open_two(rt, task.old, task.new, console) {
+        Some(databases) => {
+            let done = diff_databases(&databases, task, console);
+            drop(databases);
             done
         }
-        None => {
-            drop(old);
-            Ok(FAILED)
-        }
+        None => Ok(FAILED),
     }
 }

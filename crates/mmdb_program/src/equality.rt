@@ -12,18 +12,18 @@ use std::alloc::Global;
 
 /// How deep maps and arrays may stand in one another. What is larger than these three is not seen to be equal: they are
 /// far below the limits within which a value can be read.
-const MOST_LEVELS: usize = 32;
+pub(crate) const MOST_LEVELS: usize = 32;
 
 /// How many values and keys there may be.
-const MOST_VALUES: usize = 8192;
+pub(crate) const MOST_VALUES: usize = 8192;
 
 /// How many bytes keys, texts and byte strings may have.
-const MOST_BYTES: usize = 1 << 18;
+pub(crate) const MOST_BYTES: usize = 1 << 18;
 
-// A decoder that stands at a record.
+/// A decoder that stands at a record.
 #[derive(Drop)]
-struct AtRecord<'de> {
-    decoder: Decoder<'de>,
+pub(crate) struct AtRecord<'de> {
+    pub(crate) decoder: Decoder<'de>,
 }
 
 impl<'de> Decode<'de> for AtRecord<'de> {
@@ -210,8 +210,8 @@ impl<'de> SideBySide<'de> {
     }
 }
 
-// Leaves an array whose elements were read.
-fn leave(d: &mut Decoder<'_>, items: Items) {
+/// Leaves an array whose elements were read.
+pub(crate) fn leave(d: &mut Decoder<'_>, items: Items) {
     let mut items = items;
     for _ in 0..d.remaining(&items) {
         let _ = d.next_item(&mut items);
@@ -231,8 +231,8 @@ fn are_same<T: PartialEq + Copy>(old: Option<T>, new: Option<T>) -> bool {
     }
 }
 
-// A decoder at the record that was found, if there is one.
-fn at_record<'r>(alloc: Global, found: &Found<'r>) -> Option<AtRecord<'r>> {
+/// A decoder at the record that was found, if there is one.
+pub(crate) fn at_record<'r>(alloc: Global, found: &Found<'r>) -> Option<AtRecord<'r>> {
     found.decode(alloc).ok().flatten()
 }
 

@@ -18,8 +18,11 @@ mod output;
 mod paths;
 mod program;
 mod progress;
+mod readable;
+mod same;
 mod show;
 mod task;
+mod two_databases;
 mod verify;
 
 pub use error::ProgramError;
