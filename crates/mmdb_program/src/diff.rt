@@ -59,6 +59,13 @@ struct SoFar<'a, 'r> {
 }
 
 impl SoFar<'_, '_> {
+    // Says of the records of a stretch that waits that they came last of those that are the same.
+    fn keep_last(&mut self, index: usize) {
+        if let Some(offsets) = self.waiting.offsets.get(index) {
+            self.pairs.keep_last(*offsets);
+        }
+    }
+
     // Counts what can't be read, before which what waits is written.
     fn begin_fault<O: Write>(&mut self, out: &mut O) -> Result<(), ProgramError> {
         self.faults = self.faults.saturating_add(1);
@@ -175,6 +182,7 @@ fn compare_waiting<'r, O: Write, E: Write>(
 ) -> Result<(), ProgramError> {
     for (index, is_same) in known_of(so_far).iter().enumerate() {
         if *is_same {
+            so_far.keep_last(index);
             continue;
         }
         let Some(stretch) = so_far.waiting.stretches.get(index).copied() else {
@@ -199,7 +207,11 @@ fn take_part<'r, O: Write, E: Write>(
         Part::Stretch(stretch) => {
             let old = comparison.offset_in_old(stretch);
             let new = comparison.offset_in_new(stretch);
-            if so_far.waiting.add(stretch, Offsets::of(old, new))? {
+            let offsets = Offsets::of(old, new);
+            if so_far.pairs.were_last_same(offsets) {
+                return Ok(());
+            }
+            if so_far.waiting.add(stretch, offsets)? {
                 compare_waiting(task, comparison, so_far, console)?;
             }
             Ok(())

@@ -1,6 +1,7 @@
 //! The program `mmdb`: what people ask of databases.
 #![tactic(auto)]
 
+mod allowance;
 mod changes;
 mod conditions;
 mod counts;
@@ -11,6 +12,7 @@ mod enrich;
 mod equality;
 mod error;
 mod export;
+mod known_maps;
 mod layout;
 mod metadata;
 mod networks;

@@ -5,6 +5,9 @@ use crate::readable::RecordReader;
 use mmdb_reader::{IpNetwork, MaxMindDbError, Value, WithinOptions};
 use std::alloc::{AllocError, Global};
 
+/// How many of the records that came last are kept.
+const LAST: usize = 1 << 10;
+
 // The records that were seen to be readable.
 #[derive(Drop)]
 struct Records<'a> {
@@ -13,6 +16,8 @@ struct Records<'a> {
     reader: RecordReader,
     /// A bit for each offset of the data section.
     seen: Vec<u64>,
+    /// Offsets of the last ones, each at its place: few enough for the first cache.
+    last: Vec<usize>,
 }
 
 // Whether the values at some paths of a record can be read.
@@ -42,7 +47,21 @@ impl<'a> Records<'a> {
             layout,
             reader: RecordReader::new(alloc)?,
             seen: vec![in alloc; 0u64; words]?,
+            last: vec![in alloc; usize::MAX; LAST]?,
         })
+    }
+
+    // Whether the record at an offset is among those that came last. From now on it is.
+    #[inline(always)]
+    fn is_last(&mut self, offset: usize) -> bool {
+        match self.last.get_mut(offset % LAST) {
+            Some(kept) => {
+                let is_same = *kept == offset;
+                *kept = offset;
+                is_same
+            }
+            None => false,
+        }
     }
 
     // Whether the record at an offset was not yet asked for. From now on it was.
@@ -61,20 +80,20 @@ impl<'a> Records<'a> {
 
     // Whether what is shown of a record is seen to be readable.
     #[inline(never)]
-    fn can_show(&mut self, found: &Found<'_>) -> bool {
+    fn can_show(&mut self, found: Found<'_>) -> bool {
         match self.layout {
-            Layout::Records => self.reader.can_read(found),
+            Layout::Records => self.reader.can_read(&found),
             Layout::Values(fields) | Layout::Cells(fields) => {
-                can_read_values(self.alloc, fields, found)
+                can_read_values(self.alloc, fields, &found)
             }
         }
     }
 
     // Whether what is shown of a network's record is seen to be readable, which is asked once of each.
     #[inline(always)]
-    fn takes(&mut self, found: &Found<'_>) -> bool {
+    fn takes(&mut self, found: Found<'_>) -> bool {
         match found.offset() {
-            Some(offset) => !self.is_new(offset) || self.can_show(found),
+            Some(offset) => { self.is_last(offset) || !self.is_new(offset) || self.can_show(found) }
             None => true,
         }
     }
@@ -85,11 +104,13 @@ impl<'a> Records<'a> {
             return false;
         };
         for item in networks {
-            let is_readable = match &item {
+            let is_readable = match item {
                 Ok(found) => self.takes(found),
-                Err(_) => false,
+                Err(error) => {
+                    drop(error);
+                    false
+                }
             };
-            drop(item);
             if !is_readable {
                 return false;
             }
