@@ -1,7 +1,7 @@
 //! What differs, written as the fewest networks: neighbours with the same two values are joined.
 use crate::counts::{ABSENT, Counts, Presence};
 use crate::database::Found;
-use crate::differences::{Answers, Shown, put_difference};
+use crate::differences::{Answers, Shown, ShownPairs, put_difference};
 use crate::error::ProgramError;
 use crate::layout::Layout;
 use mmdb_blocks::{Block, Joiner};
@@ -47,6 +47,7 @@ pub(crate) struct Changes<'a, 'r> {
     alloc: Global,
     layout: &'a Layout<'a>,
     joiner: Joiner,
+    pairs: ShownPairs,
     run: Option<Run<'r>>,
     /// What the first address of each block that waits in the joiner has, by how many zero bits that address ends
     /// with. It is another number for each: they stand side by side, and each is smaller than the one before.
@@ -74,6 +75,7 @@ impl<'a, 'r> Changes<'a, 'r> {
             alloc,
             layout,
             joiner: Joiner::new(alloc)?,
+            pairs: ShownPairs::new(alloc)?,
             run: None,
             presences: [ABSENT; ENDINGS],
             counts: Counts::new(),
@@ -173,7 +175,7 @@ impl<'a, 'r> Changes<'a, 'r> {
         answers: Answers<'_, 'r>,
         out: &mut O,
     ) -> Result<(), ProgramError> {
-        let shown = Shown::of(self.alloc, self.layout, answers)?;
+        let shown = self.pairs.shown(self.alloc, self.layout, answers)?;
         if !self.has_same_values(stretch, &shown) {
             self.finish(out)?;
         }

@@ -1,12 +1,14 @@
 //! What changed between two files.
 use crate::changes::{Changes, network_of};
 use crate::counts::Counts;
-use crate::database::{Database, open};
+use crate::database::Database;
 use crate::differences::{Answers, Offsets, Pairs, Unreadable, put_names};
 use crate::error::ProgramError;
 use crate::export::Where;
 use crate::output::{Console, DIFFERENT, DONE, FAILED};
+use crate::same::are_all_readable;
 use crate::task::DiffTask;
+use crate::two_databases::{TwoDatabases, open_two};
 use mmdb_diff::{Comparison, Part, Side, Stretch, UnreadLeaf};
 use mmdb_reader::{IpNetwork, MaxMindDbError};
 use std::alloc::{AllocError, Global};
@@ -57,6 +59,13 @@ struct SoFar<'a, 'r> {
 }
 
 impl SoFar<'_, '_> {
+    // Says of the records of a stretch that waits that they came last of those that are the same.
+    fn keep_last(&mut self, index: usize) {
+        if let Some(offsets) = self.waiting.offsets.get(index) {
+            self.pairs.keep_last(*offsets);
+        }
+    }
+
     // Counts what can't be read, before which what waits is written.
     fn begin_fault<O: Write>(&mut self, out: &mut O) -> Result<(), ProgramError> {
         self.faults = self.faults.saturating_add(1);
@@ -173,6 +182,7 @@ fn compare_waiting<'r, O: Write, E: Write>(
 ) -> Result<(), ProgramError> {
     for (index, is_same) in known_of(so_far).iter().enumerate() {
         if *is_same {
+            so_far.keep_last(index);
             continue;
         }
         let Some(stretch) = so_far.waiting.stretches.get(index).copied() else {
@@ -197,7 +207,11 @@ fn take_part<'r, O: Write, E: Write>(
         Part::Stretch(stretch) => {
             let old = comparison.offset_in_old(stretch);
             let new = comparison.offset_in_new(stretch);
-            if so_far.waiting.add(stretch, Offsets::of(old, new))? {
+            let offsets = Offsets::of(old, new);
+            if so_far.pairs.were_last_same(offsets) {
+                return Ok(());
+            }
+            if so_far.waiting.add(stretch, offsets)? {
                 compare_waiting(task, comparison, so_far, console)?;
             }
             Ok(())
@@ -292,18 +306,14 @@ fn compare<'a, 'r, O: Write, E: Write>(
     compare_with(task, comparison, &mut so_far, console)
 }
 
-// Compares two databases, and answers the status.
-fn diff_databases<'a, O: Write, E: Write>(
-    old: &Database,
-    new: &Database,
+// Compares two databases in a range, and answers the status.
+fn compare_range<'a, O: Write, E: Write>(
+    databases: &TwoDatabases,
+    range: IpNetwork,
     task: &'a DiffTask<'a>,
     console: &mut Console<'_, O, E>,
 ) -> Result<u8, ProgramError> {
-    let range = match task.range {
-        Some(range) => range,
-        None => all_of(old, new)?,
-    };
-    match Comparison::new(console.alloc, old, new, range) {
+    match Comparison::new(console.alloc, databases.old(), databases.newer(), range) {
         Ok(mut comparison) => {
             let done = compare(task, &mut comparison, console);
             drop(comparison);
@@ -317,25 +327,45 @@ fn diff_databases<'a, O: Write, E: Write>(
     }
 }
 
+// Writes that nothing differs, and answers the status.
+fn report_none<O: Write, E: Write>(
+    task: &DiffTask<'_>,
+    console: &mut Console<'_, O, E>,
+) -> Result<u8, ProgramError> {
+    put_names(console.alloc, &task.layout, console.out)?;
+    report_counts(Counts::new(), 0, task.exit_code, console)
+}
+
+// Compares two databases, and answers the status.
+fn diff_databases<'a, O: Write, E: Write>(
+    databases: &TwoDatabases,
+    task: &'a DiffTask<'a>,
+    console: &mut Console<'_, O, E>,
+) -> Result<u8, ProgramError> {
+    let range = match task.range {
+        Some(range) => range,
+        None => all_of(databases.old(), databases.newer())?,
+    };
+    if databases.have_same_bytes()
+        && are_all_readable(console.alloc, databases.old(), range, &task.layout)
+    {
+        return report_none(task, console);
+    }
+    compare_range(databases, range, task, console)
+}
+
 /// Writes what changed between two files, and reports what of them can't be read.
 pub(crate) fn diff<'a, R: Files, O: Write, E: Write>(
     rt: &R,
     task: &'a DiffTask<'a>,
     console: &mut Console<'_, O, E>,
 ) -> Result<u8, ProgramError> {
-    let Some(old) = open(rt, task.old, console) else {
-        return Ok(FAILED);
-    };
-    match open(rt, task.new, console) {
-        Some(new) => {
-            let done = diff_databases(&old, &new, task, console);
-            drop(new);
-            drop(old);
+    match open_two(rt, task.old, task.new, console) {
+        Some(databases) => {
+            let done = diff_databases(&databases, task, console);
+            drop(databases);
             done
         }
-        None => {
-            drop(old);
-            Ok(FAILED)
-        }
+        None => Ok(FAILED),
     }
 }

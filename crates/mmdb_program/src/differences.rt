@@ -2,6 +2,7 @@
 use crate::database::Found;
 use crate::equality::are_seen_equal;
 use crate::error::ProgramError;
+use crate::known_maps::KnownMaps;
 use crate::layout::{Fields, Layout, line_of_cells, line_of_names, write_values};
 use crate::output::put;
 use json::{Token, Writer};
@@ -11,10 +12,19 @@ use mmdb_reader::{IpNetwork, MaxMindDbError, Value};
 use std::alloc::{AllocError, Global};
 use std::io::Write;
 
-/// How many sets of pairs are kept that are shown the same, and how many of others.
+/// How many sets of pairs are kept that are shown the same, how many of those of them that came last, and how many of
+/// others.
 const SETS_OF_SAME: usize = 1 << 17;
 
+const SETS_OF_LAST: usize = 1 << 8;
+
 const SETS_OF_DIFFERENT: usize = 1 << 14;
+
+/// How many pairs are kept with what is shown of them.
+const SHOWN_PLACES: usize = 1 << 11;
+
+/// The most bytes of what is shown of a pair that is kept.
+const MOST_SHOWN: usize = 4096;
 
 /// The offset of no record.
 const NO_RECORD: u32 = u32::MAX;
@@ -45,7 +55,11 @@ struct Table<const SETS: usize> {
 #[derive(Drop)]
 pub(crate) struct Pairs {
     same: Table<SETS_OF_SAME>,
+    /// Some of the same, in a table that the first cache holds.
+    last: Table<SETS_OF_LAST>,
     different: Table<SETS_OF_DIFFERENT>,
+    /// Maps that are equal in the two databases.
+    known: KnownMaps,
 }
 
 /// Why a value can't be shown: the database that it is of, and its error.
@@ -67,6 +81,19 @@ pub(crate) struct Answers<'f, 'r> {
 pub(crate) struct Shown {
     old: Vec<u8>,
     new: Vec<u8>,
+}
+
+// A pair, and what is shown of it.
+#[derive(Drop)]
+struct ShownPair {
+    offsets: Offsets,
+    shown: Shown,
+}
+
+/// What is shown of the pairs that were shown last, each at the place that its offsets give.
+#[derive(Drop)]
+pub(crate) struct ShownPairs {
+    kept: Vec<Option<ShownPair>>,
 }
 
 // An object of the values at some paths, each null where there is no record.
@@ -173,10 +200,11 @@ fn have_same_text(
 // Whether two records are shown the same.
 fn are_same_records<'r>(
     alloc: Global,
+    known: &mut KnownMaps,
     old: &Found<'r>,
     new: &Found<'r>,
 ) -> Result<bool, Unreadable> {
-    if are_seen_equal(alloc, old, new) {
+    if are_seen_equal(alloc, known, old, new) {
         return Ok(true);
     }
     let old = record_in(alloc, Side::Old, old)?;
@@ -192,10 +220,11 @@ fn are_same_records<'r>(
 fn are_same(
     alloc: Global,
     layout: &Layout<'_>,
+    known: &mut KnownMaps,
     answers: Answers<'_, '_>,
 ) -> Result<bool, Unreadable> {
     if let (Layout::Records, Some(old), Some(new)) = (layout, answers.old, answers.new) {
-        return are_same_records(alloc, old, new);
+        return are_same_records(alloc, known, old, new);
     }
     let old_text = text_in(alloc, layout, Side::Old, answers.old)?;
     let new_text = text_in(alloc, layout, Side::New, answers.new)?;
@@ -222,8 +251,8 @@ impl Answers<'_, '_> {
 }
 
 impl Shown {
-    /// Of what two databases have.
-    pub(crate) fn of(
+    // Of what two databases have.
+    fn of(
         alloc: Global,
         layout: &Layout<'_>,
         answers: Answers<'_, '_>,
@@ -232,6 +261,68 @@ impl Shown {
             old: value_text(alloc, layout, answers.old)?,
             new: value_text(alloc, layout, answers.new)?,
         })
+    }
+
+    fn copy(&self, alloc: Global) -> Result<Shown, AllocError> {
+        Ok(Shown {
+            old: self.old.as_slice().to_vec(alloc)?,
+            new: self.new.as_slice().to_vec(alloc)?,
+        })
+    }
+
+    // Whether it may be kept.
+    fn is_short(&self) -> bool {
+        self.old.len() <= MOST_SHOWN && self.new.len() <= MOST_SHOWN
+    }
+}
+
+impl ShownPairs {
+    /// None yet.
+    pub(crate) fn new(alloc: Global) -> Result<ShownPairs, AllocError> {
+        let mut kept = Vec::with_capacity(alloc, SHOWN_PLACES)?;
+        for _ in 0..SHOWN_PLACES {
+            kept.push(None)?;
+        }
+        Ok(ShownPairs { kept })
+    }
+
+    // What is shown of a pair, if that is kept.
+    fn shown_at(&self, offsets: Offsets) -> Option<&Shown> {
+        match self.kept.get(place_among(SHOWN_PLACES, offsets)) {
+            Some(Some(pair)) if pair.offsets.are(offsets) => Some(&pair.shown),
+            _ => None,
+        }
+    }
+
+    // Keeps what is shown of a pair, if it is short and there is memory.
+    fn keep(&mut self, alloc: Global, offsets: Offsets, shown: &Shown) {
+        if !shown.is_short() {
+            return;
+        }
+        if let Some(kept) = self.kept.get_mut(place_among(SHOWN_PLACES, offsets)) {
+            *kept = match shown.copy(alloc) {
+                Ok(shown) => Some(ShownPair { offsets, shown }),
+                Err(_) => None,
+            };
+        }
+    }
+
+    /// What is shown of two answers.
+    pub(crate) fn shown(
+        &mut self,
+        alloc: Global,
+        layout: &Layout<'_>,
+        answers: Answers<'_, '_>,
+    ) -> Result<Shown, MaxMindDbError> {
+        let Some(offsets) = answers.offsets() else {
+            return Shown::of(alloc, layout, answers);
+        };
+        if let Some(shown) = self.shown_at(offsets) {
+            return Ok(shown.copy(alloc)?);
+        }
+        let shown = Shown::of(alloc, layout, answers)?;
+        self.keep(alloc, offsets, &shown);
+        Ok(shown)
     }
 }
 
@@ -305,7 +396,9 @@ impl Pairs {
     pub(crate) fn new(alloc: Global) -> Result<Pairs, AllocError> {
         Ok(Pairs {
             same: Table::new(alloc)?,
+            last: Table::new(alloc)?,
             different: Table::new(alloc)?,
+            known: KnownMaps::new(alloc)?,
         })
     }
 
@@ -318,6 +411,22 @@ impl Pairs {
         }
     }
 
+    /// Whether two records are among the last of those that are kept so.
+    #[inline(always)]
+    pub(crate) fn were_last_same(&self, offsets: Option<Offsets>) -> bool {
+        match offsets {
+            Some(offsets) => self.last.has(offsets),
+            None => false,
+        }
+    }
+
+    /// Says of two records that are kept so that they came last.
+    pub(crate) fn keep_last(&mut self, offsets: Option<Offsets>) {
+        if let Some(offsets) = offsets {
+            self.last.keep(offsets);
+        }
+    }
+
     /// Whether a network is shown the same in both databases.
     pub(crate) fn is_same(
         &mut self,
@@ -326,7 +435,7 @@ impl Pairs {
         answers: Answers<'_, '_>,
     ) -> Result<bool, Unreadable> {
         let Some(offsets) = answers.offsets() else {
-            return are_same(alloc, layout, answers);
+            return are_same(alloc, layout, &mut self.known, answers);
         };
         if self.same.has(offsets) {
             return Ok(true);
@@ -334,7 +443,7 @@ impl Pairs {
         if self.different.has(offsets) {
             return Ok(false);
         }
-        let is_same = are_same(alloc, layout, answers)?;
+        let is_same = are_same(alloc, layout, &mut self.known, answers)?;
         if is_same {
             self.same.keep(offsets);
         } else {

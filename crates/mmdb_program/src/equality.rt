@@ -1,29 +1,22 @@
-//! Whether two records are equal, as far as that is seen while both are read side by side. No memory is taken.
+//! Whether two records are equal, as far as that is seen while both are read side by side, without memory for their values.
 ghost use Rattle.std.specs.Prelude.{true, false};
 ghost use Rattle.mmdb_decode.specs.Skipping.{skip_at};
 
+use crate::allowance::{Allowance, MOST_LEVELS, VALUE, is_text};
 use crate::database::Found;
+use crate::known_maps::{KnownMaps, SharedMap, is_behind_pointer};
 use mmdb_decode::decoder::Decoder;
 use mmdb_decode::items::{Entries, Items};
 use mmdb_format::error::DecodeResult;
 use mmdb_format::kind::Kind;
 use mmdb_record::decode::Decode;
 use std::alloc::Global;
+use std::mem;
 
-/// How deep maps and arrays may stand in one another. What is larger than these three is not seen to be equal: they are
-/// far below the limits within which a value can be read.
-const MOST_LEVELS: usize = 32;
-
-/// How many values and keys there may be.
-const MOST_VALUES: usize = 8192;
-
-/// How many bytes keys, texts and byte strings may have.
-const MOST_BYTES: usize = 1 << 18;
-
-// A decoder that stands at a record.
+/// A decoder that stands at a record.
 #[derive(Drop)]
-struct AtRecord<'de> {
-    decoder: Decoder<'de>,
+pub(crate) struct AtRecord<'de> {
+    pub(crate) decoder: Decoder<'de>,
 }
 
 impl<'de> Decode<'de> for AtRecord<'de> {
@@ -44,42 +37,20 @@ impl<'de> Decode<'de> for AtRecord<'de> {
     }
 }
 
-// Two values that are read side by side, and how much may still be read of each.
+// Two values that are read side by side, the maps that are known to be equal, and what may still be read.
 #[derive(Drop)]
 struct SideBySide<'de> {
     alloc: Global,
     old: Decoder<'de>,
     new: Decoder<'de>,
-    values: usize,
-    bytes: usize,
+    known: KnownMaps,
+    allowance: Allowance,
 }
 
 impl<'de> SideBySide<'de> {
-    // Takes one value of those that may still be read, if one is left.
-    fn takes_value(&mut self) -> bool {
-        match self.values.checked_sub(1) {
-            Some(left) => {
-                self.values = left;
-                true
-            }
-            None => false,
-        }
-    }
-
-    // Takes so many bytes of those that may still be read, if as many are left.
-    fn takes_bytes(&mut self, count: usize) -> bool {
-        match self.bytes.checked_sub(count) {
-            Some(left) => {
-                self.bytes = left;
-                true
-            }
-            None => false,
-        }
-    }
-
     fn has_same_text(&mut self) -> bool {
         match (self.old.try_str(), self.new.try_str()) {
-            (Ok(old), Ok(new)) => old == new && self.takes_bytes(old.len()),
+            (Ok(old), Ok(new)) => old == new && self.allowance.takes(old.len()),
             _ => false,
         }
     }
@@ -89,7 +60,7 @@ impl<'de> SideBySide<'de> {
             self.old.read_bytes(self.alloc),
             self.new.read_bytes(self.alloc),
         ) {
-            (Ok(old), Ok(new)) => old == new && self.takes_bytes(old.len()),
+            (Ok(old), Ok(new)) => old == new && self.allowance.takes(old.len()),
             _ => false,
         }
     }
@@ -119,7 +90,7 @@ impl<'de> SideBySide<'de> {
     // Reads a value of both, whose containers nest at most so deep. Whether they are seen to be equal.
     #[cycle(equality)]
     fn has_same_value(&mut self, depth: usize) -> bool {
-        if !self.takes_value() {
+        if !self.allowance.takes(VALUE) {
             return false;
         }
         // of another kind the new value can't be read as one of this
@@ -137,10 +108,7 @@ impl<'de> SideBySide<'de> {
     fn has_same_key(&mut self, old: &mut Entries, new: &mut Entries) -> bool {
         match (self.old.try_next(old), self.new.try_next(new)) {
             (Ok(Some(old)), Ok(Some(new))) => {
-                old == new
-                    && self.takes_value()
-                    && self.takes_bytes(old.len())
-                    && str::from_utf8(old).is_ok()
+                old == new && self.allowance.takes(VALUE.saturating_add(old.len())) && is_text(old)
             }
             _ => false,
         }
@@ -160,9 +128,33 @@ impl<'de> SideBySide<'de> {
         true
     }
 
+    // Reads the pairs of two maps to which pointers lead, unless the two are known to be equal.
+    #[cycle(equality)]
+    fn has_same_shared(&mut self, depth: usize, old: &mut Entries, new: &mut Entries) -> bool {
+        let map = SharedMap {
+            old: self.old.offset(),
+            new: self.new.offset(),
+            pairs: old.left(),
+        };
+        if map.pairs != new.left() {
+            return false;
+        }
+        if let Some(cost) = self.known.cost_of(map, depth) {
+            return self.allowance.takes(cost);
+        }
+        let before = self.allowance;
+        let is_same = self.has_same_pairs(depth, old, new);
+        if is_same {
+            let cost = self.allowance.taken_since(before);
+            self.known.keep(map, depth, cost);
+        }
+        is_same
+    }
+
     // Reads a map of both.
     #[cycle(equality)]
     fn has_same_map(&mut self, depth: usize) -> bool {
+        let (old_at, new_at) = (self.old.offset(), self.new.offset());
         let Ok(mut old) = self.old.try_map() else {
             return false;
         };
@@ -170,7 +162,13 @@ impl<'de> SideBySide<'de> {
             old.forget();
             return false;
         };
-        let is_same = self.has_same_pairs(depth, &mut old, &mut new);
+        let are_shared = is_behind_pointer(old_at, &self.old)
+            && is_behind_pointer(new_at, &self.new);
+        let is_same = if are_shared {
+            self.has_same_shared(depth, &mut old, &mut new)
+        } else {
+            self.has_same_pairs(depth, &mut old, &mut new)
+        };
         old.spend();
         new.spend();
         self.old.end_map(old);
@@ -210,8 +208,8 @@ impl<'de> SideBySide<'de> {
     }
 }
 
-// Leaves an array whose elements were read.
-fn leave(d: &mut Decoder<'_>, items: Items) {
+/// Leaves an array whose elements were read.
+pub(crate) fn leave(d: &mut Decoder<'_>, items: Items) {
     let mut items = items;
     for _ in 0..d.remaining(&items) {
         let _ = d.next_item(&mut items);
@@ -231,13 +229,19 @@ fn are_same<T: PartialEq + Copy>(old: Option<T>, new: Option<T>) -> bool {
     }
 }
 
-// A decoder at the record that was found, if there is one.
-fn at_record<'r>(alloc: Global, found: &Found<'r>) -> Option<AtRecord<'r>> {
+/// A decoder at the record that was found, if there is one.
+pub(crate) fn at_record<'r>(alloc: Global, found: &Found<'r>) -> Option<AtRecord<'r>> {
     found.decode(alloc).ok().flatten()
 }
 
-/// Whether two records are seen to be equal, and can be read. Others may be equal too.
-pub(crate) fn are_seen_equal<'r>(alloc: Global, old: &Found<'r>, new: &Found<'r>) -> bool {
+/// Whether two records are seen to be equal, and can be read. Others may be equal too. The maps are those that are known
+/// to be equal in the two databases.
+pub(crate) fn are_seen_equal<'r>(
+    alloc: Global,
+    known: &mut KnownMaps,
+    old: &Found<'r>,
+    new: &Found<'r>,
+) -> bool {
     let (Some(old), Some(new)) = (at_record(alloc, old), at_record(alloc, new)) else {
         return false;
     };
@@ -245,8 +249,10 @@ pub(crate) fn are_seen_equal<'r>(alloc: Global, old: &Found<'r>, new: &Found<'r>
         alloc,
         old: old.decoder,
         new: new.decoder,
-        values: MOST_VALUES,
-        bytes: MOST_BYTES,
+        known: mem::replace(known, KnownMaps::none(alloc)),
+        allowance: Allowance::whole(),
     };
-    both.has_same_value(MOST_LEVELS)
+    let is_same = both.has_same_value(MOST_LEVELS);
+    *known = both.known;
+    is_same
 }

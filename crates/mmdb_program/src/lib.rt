@@ -1,6 +1,7 @@
 //! The program `mmdb`: what people ask of databases.
 #![tactic(auto)]
 
+mod allowance;
 mod changes;
 mod conditions;
 mod counts;
@@ -11,6 +12,7 @@ mod enrich;
 mod equality;
 mod error;
 mod export;
+mod known_maps;
 mod layout;
 mod metadata;
 mod networks;
@@ -18,8 +20,11 @@ mod output;
 mod paths;
 mod program;
 mod progress;
+mod readable;
+mod same;
 mod show;
 mod task;
+mod two_databases;
 mod verify;
 
 pub use error::ProgramError;

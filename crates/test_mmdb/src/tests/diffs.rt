@@ -37,6 +37,10 @@ const AFTER: Database<'static> = (CHANGED, b"\xC1\x06", IPV4);
 
 const FAULTY: Database<'static> = (DAMAGED, b"\xC1\x07", IPV4);
 
+const SPLIT: Database<'static> = (TORN, b"\xC1\x04", IPV4);
+
+const UNCLEAN: Database<'static> = (MARRED, b"\xC1\x04", IPV4);
+
 const SHORT: Database<'static> = (HALF, b"\xC1\x01", IPV4);
 
 const FIRST_LACKS: Database<'static> = (EARLIER, b"\xC1\x02", IPV4);
@@ -145,7 +149,7 @@ const ROWS: &[Row<'static>] = &[
     // networks on both sides of one that can't be read are not joined
     (
         SHORT,
-        (TORN, b"\xC1\x04", IPV4),
+        SPLIT,
         &["--field", "c.i", "--format", "csv"],
         "network,old.c.i,new.c.i\n0.0.0.0/3,DE,AT\n64.0.0.0/2,DE,AT\n",
         &[
@@ -156,7 +160,7 @@ const ROWS: &[Row<'static>] = &[
     ),
     (
         SHORT,
-        (MARRED, b"\xC1\x04", IPV4),
+        UNCLEAN,
         &["--field", "c.i", "--format", "csv"],
         "network,old.c.i,new.c.i\n0.0.0.0/3,DE,AT\n64.0.0.0/2,DE,AT\n",
         &[
@@ -210,6 +214,76 @@ const ROWS: &[Row<'static>] = &[
         &["1 (2147483648) added, 0 (0) removed, 0 (0) changed"],
         0,
     ),
+    // two copies: nothing differs, in a range or as fields too
+    (BEFORE, BEFORE, &["32.1.2.0/24", "--exit-code"], "", &[NOTHING], 0),
+    (BEFORE, BEFORE, &["--field", "c.i"], "", &[NOTHING], 0),
+    (BEFORE, BEFORE, &["--field", "n", "--format", "csv"], "network,old.n,new.n\n", &[NOTHING], 0),
+    (BEFORE, BEFORE, &["::/0"], "", &["mmdb: here.mmdb: invalid input: cannot iterate IPv6"], 1),
+    // two copies: what can't be read is reported as of other files
+    (
+        FAULTY,
+        FAULTY,
+        &[],
+        "",
+        &[
+            "mmdb: here.mmdb: 32.0.0.0/3: invalid database at offset 89: invalid UTF-8 in string",
+            "mmdb: here.mmdb: a network behind 96.0.0.0/3: invalid database: ",
+            "mmdb: new.mmdb: a network behind 96.0.0.0/3: invalid database: ",
+            NOTHING,
+        ],
+        1,
+    ),
+    (
+        FAULTY,
+        FAULTY,
+        &["--field", "n", "--format", "csv", "--exit-code"],
+        "network,old.n,new.n\n",
+        &[
+            "mmdb: here.mmdb: a network behind 96.0.0.0/3: invalid database: ",
+            "mmdb: new.mmdb: a network behind 96.0.0.0/3: invalid database: ",
+            NOTHING,
+        ],
+        1,
+    ),
+    (FAULTY, FAULTY, &["32.0.0.0/3"], "", &["mmdb: here.mmdb: 32.0.0.0/3: invalid database", NOTHING], 1),
+    (FAULTY, FAULTY, &["64.0.0.0/2", "--exit-code"], "", &[NOTHING], 0),
+    (FAULTY, FAULTY, &["0.0.0.0/2", "--field", "n"], "", &[NOTHING], 0),
+    (
+        SPLIT,
+        SPLIT,
+        &["32.0.0.0/3", "--exit-code"],
+        "",
+        &[
+            "mmdb: here.mmdb: a network before any other: invalid database: ",
+            "mmdb: new.mmdb: a network before any other: invalid database: ",
+            NOTHING,
+        ],
+        1,
+    ),
+    (UNCLEAN, UNCLEAN, &["--exit-code"], "", &["mmdb: here.mmdb: 32.0.0.0/3: ", NOTHING], 1),
+    (UNCLEAN, UNCLEAN, &["--field", "n"], "", &[NOTHING], 0),
+    (
+        UNCLEAN,
+        UNCLEAN,
+        &["--field", "n", "--field", "c", "--format", "csv"],
+        "network,old.n,old.c,new.n,new.c\n",
+        &["mmdb: here.mmdb: 32.0.0.0/3: ", NOTHING],
+        1,
+    ),
+    // two copies: a path that meets a value of another type, which only some records have
+    (
+        BEFORE,
+        BEFORE,
+        &["64.0.0.0/2", "--field", "n.x", "--exit-code"],
+        "",
+        &[
+            "mmdb: here.mmdb: 64.0.0.0/3: decoding error at offset 24 (path: /n/x): ",
+            "mmdb: here.mmdb: 96.0.0.0/3: decoding error at offset 11 (path: /n/x): ",
+            NOTHING,
+        ],
+        1,
+    ),
+    (BEFORE, BEFORE, &["128.0.0.0/3", "--field", "n.x"], "", &[NOTHING], 0),
     (SHORT, WIDE, &["2000::/3"], "", &["mmdb: here.mmdb: invalid input"], 1),
     (WIDE, WIDE, &["2000::/3"], "", &[NOTHING], 0),
     (SHORT, SHORT, &["x"], "", &["x: not a network"], 2),
@@ -291,6 +365,14 @@ const VALUES: &[Values<'static>] = &[
     (b"\xE2\x41a\x20\x09\x41b\xA1\x02\x01\x04\xA1\x01", b"\xE2\x41a\x01\x04\xA1\x01\x41b\xA1\x03", 7),
     (b"\xE2\x41a\x20\x09\x41b\xA1\x02\xE1\x41c\xA1\x01", b"\xE2\x41a\xE1\x41c\xA1\x01\x41b\xA1\x02", 0),
     (b"\xE2\x41a\x20\x09\x41b\xA1\x02\xE1\x41c\xA1\x01", b"\xE2\x41a\xE1\x41c\xA1\x01\x41b\xA1\x03", 7),
+    // a map to which pointers lead again and again, and one of them in a copy alone
+    (b"\x03\x04\x20\x10\x20\x10\x20\x10--------\xE1\x41a\xA1\x05", b"\x03\x04\x20\x10\x20\x10\x20\x10--------\xE1\x41a\xA1\x05", 0),
+    (b"\x03\x04\x20\x10\x20\x10\x20\x10--------\xE1\x41a\xA1\x05", b"\x03\x04\x20\x10\x20\x10\x20\x10--------\xE1\x41a\xA1\x06", 7),
+    (b"\x02\x04\x20\x0E\x20\x0E--------\xE1\x41a\xA1\x05", b"\x02\x04\x20\x0E\x20\x13--------\xE1\x41a\xA1\x05\xE1\x41a\xA1\x05", 0),
+    (b"\x02\x04\x20\x0E\x20\x0E--------\xE1\x41a\xA1\x05", b"\x02\x04\x20\x0E\x20\x13--------\xE1\x41a\xA1\x05\xE1\x41a\xA1\x06", 7),
+    (b"\x02\x04\x20\x0E\x20\x0E--------\xE1\x41a\x41\xFF", b"\x02\x04\x20\x0E\x20\x0E--------\xE1\x41a\x41\xFF", 1),
+    // a key that is not ASCII
+    (b"\xE1\x42\xC3\xA9\xA1\x01", b"\xE1\x42\xC3\xA9\xA1\x01", 0),
     // neither a text nor a key that is not UTF-8 can be read
     (b"\x41\xFF", b"\x41\xFF", 1),
     (b"\xE1\x41\xFF\xA1\x01", b"\xE1\x41\xFF\xA1\x01", 1),
@@ -344,6 +426,102 @@ fn values_at_any_depth(rt: HostRuntime) {
         let six = nested(rt.alloc(), depth, 6);
         assert_values(&rt, rt.alloc(), (five.as_slice(), five.as_slice(), 0));
         assert_values(&rt, rt.alloc(), (five.as_slice(), six.as_slice(), 7));
+    }
+}
+
+// An array of so many pointers to one map of 20 pairs, of which the first has a number.
+fn of_one_map(alloc: Global, pointers: u16, number: u8) -> Vec<u8> {
+    let [high, low] = pointers.saturating_sub(285).to_be_bytes();
+    let behind = 4 + 3 * u32::from(pointers);
+    let [_, _, third, fourth] = behind.saturating_sub(2048).to_be_bytes();
+    let mut data = Vec::new(alloc);
+    let _ = data.extend_from_slice(&[0x1E, 4, high, low]);
+    for _ in 0..pointers {
+        let _ = data.extend_from_slice(&[0x28, third, fourth]);
+    }
+    let _ = data.extend_from_slice(&[0xF4, 0x41, b'a', 0xA1, number]);
+    for _ in 0..19 {
+        let _ = data.extend_from_slice(b"\x41a\xA1\x01");
+    }
+    data
+}
+
+#[test]
+fn maps_that_stand_often(rt: HostRuntime) {
+    // 2,000 of them are more than 65,536 keys and values
+    for (pointers, is_read) in [(700u16, true), (1000, true), (2000, false)] {
+        let five = of_one_map(rt.alloc(), pointers, 5);
+        let six = of_one_map(rt.alloc(), pointers, 6);
+        let (same, other) = if is_read { (0, 7) } else { (1, 1) };
+        assert_values(&rt, rt.alloc(), (five.as_slice(), five.as_slice(), same));
+        assert_values(&rt, rt.alloc(), (five.as_slice(), six.as_slice(), other));
+    }
+}
+
+/// How many bytes each map of `deeper_and_deeper` has.
+const DEEP: u16 = 95;
+
+// So many maps, each of 30 more in one another and a pointer to the map before, and behind them a pointer to each.
+fn deeper_and_deeper(alloc: Global, count: u16) -> Vec<u8> {
+    let mut data = Vec::new(alloc);
+    for index in 0..count {
+        for _ in 0..31 {
+            let _ = data.extend_from_slice(b"\xE1\x41a");
+        }
+        let [high, low] = index.saturating_sub(1).saturating_mul(DEEP).to_be_bytes();
+        let end = if index == 0 {
+            [0xA1, 1]
+        } else {
+            [0x20 | high, low]
+        };
+        let _ = data.extend_from_slice(&end);
+    }
+    for index in 0..count {
+        let [high, low] = index.saturating_mul(DEEP).to_be_bytes();
+        let _ = data.extend_from_slice(&[0x20 | high, low]);
+    }
+    data
+}
+
+// Nodes in a row, of which each leads to a pointer of `deeper_and_deeper` and to the next node.
+fn nodes_in_a_row(alloc: Global, count: u16) -> Vec<(u32, u32)> {
+    let all = u32::from(count);
+    let mut nodes = Vec::new(alloc);
+    for index in 0..count {
+        let at = u32::from(index);
+        let _ = nodes.push((all + 16 + all * u32::from(DEEP) + 2 * at, at + 1));
+    }
+    nodes
+}
+
+fn deep_file(rt: &impl Abort, alloc: Global, count: u16) -> Vec<u8> {
+    let nodes = nodes_in_a_row(alloc, count);
+    let tree = nodes_24(alloc, nodes.as_slice()).expect(rt, "nodes");
+    let data = deeper_and_deeper(alloc, count);
+    let changes = [
+        (Field::NodeCount, &[0xC1, count.min(255) as u8] as &[u8]),
+        (Field::IpVersion, IPV4),
+    ];
+    changed_file(alloc, tree.as_slice(), data.as_slice(), &changes).expect(rt, "a file")
+}
+
+#[test]
+fn copies_of_maps_that_nest(rt: HostRuntime) {
+    // of twenty such maps the last ones are deeper than 512 levels
+    for (count, status) in [(1u16, 0), (3, 0), (10, 0), (20, 1)] {
+        let bytes = deep_file(&rt, rt.alloc(), count);
+        let run = diff_of(
+            rt.alloc(),
+            bytes.as_slice(),
+            bytes.as_slice(),
+            &["--exit-code"],
+        );
+        assert_of(
+            &rt,
+            &["deep"],
+            &run,
+            run.status == status && run.out().is_empty(),
+        );
     }
 }
 
