@@ -214,12 +214,22 @@ const ROWS: &[Row<'static>] = &[
         &["1 (2147483648) added, 0 (0) removed, 0 (0) changed"],
         0,
     ),
-    // two copies: nothing differs, in a range or as fields too
+    (SHORT, WIDE, &["2000::/3"], "", &["mmdb: here.mmdb: invalid input"], 1),
+    (WIDE, WIDE, &["2000::/3"], "", &[NOTHING], 0),
+    (SHORT, SHORT, &["x"], "", &["x: not a network"], 2),
+    (SHORT, SHORT, &["--format", "csv"], "", &["--format csv: needs a --field"], 2),
+    (SHORT, SHORT, &["--field", "+1"], "", &["+1: not a path"], 2),
+];
+
+/// Two copies of a database.
+#[rattlefmt::skip]
+const COPIES: &[Row<'static>] = &[
+    // nothing differs, in a range or as fields too
     (BEFORE, BEFORE, &["32.1.2.0/24", "--exit-code"], "", &[NOTHING], 0),
     (BEFORE, BEFORE, &["--field", "c.i"], "", &[NOTHING], 0),
     (BEFORE, BEFORE, &["--field", "n", "--format", "csv"], "network,old.n,new.n\n", &[NOTHING], 0),
     (BEFORE, BEFORE, &["::/0"], "", &["mmdb: here.mmdb: invalid input: cannot iterate IPv6"], 1),
-    // two copies: what can't be read is reported as of other files
+    // what can't be read is reported as of other files
     (
         FAULTY,
         FAULTY,
@@ -270,7 +280,7 @@ const ROWS: &[Row<'static>] = &[
         &["mmdb: here.mmdb: 32.0.0.0/3: ", NOTHING],
         1,
     ),
-    // two copies: a path that meets a value of another type, which only some records have
+    // a path that meets a value of another type, which only some records have
     (
         BEFORE,
         BEFORE,
@@ -284,11 +294,6 @@ const ROWS: &[Row<'static>] = &[
         1,
     ),
     (BEFORE, BEFORE, &["128.0.0.0/3", "--field", "n.x"], "", &[NOTHING], 0),
-    (SHORT, WIDE, &["2000::/3"], "", &["mmdb: here.mmdb: invalid input"], 1),
-    (WIDE, WIDE, &["2000::/3"], "", &[NOTHING], 0),
-    (SHORT, SHORT, &["x"], "", &["x: not a network"], 2),
-    (SHORT, SHORT, &["--format", "csv"], "", &["--format csv: needs a --field"], 2),
-    (SHORT, SHORT, &["--field", "+1"], "", &["+1: not a path"], 2),
 ];
 
 fn bytes_of(rt: &impl Abort, alloc: Global, database: Database<'_>) -> Vec<u8> {
@@ -319,6 +324,13 @@ fn assert_row(rt: &impl Abort, alloc: Global, row: &Row<'_>) {
 #[test]
 fn differences_of_two_files(rt: HostRuntime) {
     for row in ROWS {
+        assert_row(&rt, rt.alloc(), row);
+    }
+}
+
+#[test]
+fn copies_of_a_file(rt: HostRuntime) {
+    for row in COPIES {
         assert_row(&rt, rt.alloc(), row);
     }
 }
