@@ -182,6 +182,9 @@ const OBJECTS: &[(&str, &str, &str)] = &[
     ("{\"a\":\"200.0.0.1\"}\r\n", "{\"a\":\"200.0.0.1\",\"geo\":{\"r\":\"x\"}}\r\n", "1 lines with a record"),
     ("{\"b\":\"}\",\"a\":\"200.0.0.1\"}", "{\"b\":\"}\",\"a\":\"200.0.0.1\",\"geo\":{\"r\":\"x\"}}", "1 lines with a record"),
     ("{\"a\":\"1.1.1.1\",\"a\":\"200.0.0.1\"}", "{\"a\":\"1.1.1.1\",\"a\":\"200.0.0.1\",\"geo\":{\"r\":\"x\"}}", "1 lines with a record"),
+    // keys and texts with escapes; the last of equal keys counts, also where it has no text
+    ("{\"\\u0061\":\"200.0.0\\u002e1\"}\n", "{\"\\u0061\":\"200.0.0\\u002e1\",\"geo\":{\"r\":\"x\"}}\n", "1 lines with a record"),
+    ("{\"a\":\"200.0.0.1\",\"a\":2}\n{\"a\":\"200.0.0.1\",\"a\":{}}\n", "{\"a\":\"200.0.0.1\",\"a\":2}\n{\"a\":\"200.0.0.1\",\"a\":{}}\n", "2 without an address"),
     // no record; an error
     ("{\"a\":\"1.1.1.1\"}\n", "{\"a\":\"1.1.1.1\"}\n", "0 lines with a record, 1 without, 0 without an address, 0 with an error"),
     ("{\"a\":\"::1\"}\n", "{\"a\":\"::1\"}\n", "0 lines with a record, 0 without, 0 without an address, 1 with an error"),
@@ -190,6 +193,7 @@ const OBJECTS: &[(&str, &str, &str)] = &[
     ("{\"a\":2}\n{\"a\":[\"200.0.0.1\"]}\n{\"a\":\"200.0.0\"}\n", "{\"a\":2}\n{\"a\":[\"200.0.0.1\"]}\n{\"a\":\"200.0.0\"}\n", "3 without an address"),
     // no object; no JSON
     ("[{\"a\":\"200.0.0.1\"}]\n\"{}\"\n{\"a\":\"200.0.0.1\"}}\n\n", "[{\"a\":\"200.0.0.1\"}]\n\"{}\"\n{\"a\":\"200.0.0.1\"}}\n\n", "0 without an address, 0 with an error, 4 not objects of JSON"),
+    ("{\"a\":\"200.0.0.1\"} {}\n{\"a\":[\"200.0.0.1\"}\n", "{\"a\":\"200.0.0.1\"} {}\n{\"a\":[\"200.0.0.1\"}\n", "2 not objects of JSON"),
     ("{\"a\":\"200.0.0.1\",}\n200.0.0.1\n", "{\"a\":\"200.0.0.1\",}\n200.0.0.1\n", "0 without an address, 0 with an error, 2 not objects of JSON"),
 ];
 
@@ -201,6 +205,19 @@ const JSON_LINES: &[Lines<'static>] = &[
         "{\"client\":{\"ips\":[0,{\"ip v\":\"200.0.0.1\"}]}}\n",
         "{\"client\":{\"ips\":[0,{\"ip v\":\"200.0.0.1\"}]},\"a\\\"b\":{}}\n",
         "1 lines with a record",
+    ),
+    // an index into an array, one past its end, and a key in its stead; of equal keys the last
+    (
+        &["enrich", "here.mmdb", "--json", "a.1"],
+        "{\"a\":[[2],\"200.0.0.1\",3]}\n{\"a\":[\"200.0.0.1\"]}\n{\"a\":{\"1\":\"200.0.0.1\"}}\n",
+        "{\"a\":[[2],\"200.0.0.1\",3],\"geo\":{}}\n{\"a\":[\"200.0.0.1\"]}\n{\"a\":{\"1\":\"200.0.0.1\"}}\n",
+        "1 lines with a record, 0 without, 2 without an address",
+    ),
+    (
+        &["enrich", "here.mmdb", "--json", "a.b"],
+        "{\"a\":{\"b\":\"200.0.0.1\"},\"a\":{}}\n",
+        "{\"a\":{\"b\":\"200.0.0.1\"},\"a\":{}}\n",
+        "0 lines with a record, 0 without, 1 without an address",
     ),
     (&["enrich", "here.mmdb", "--json", ""], "{}\n\"200.0.0.1\"\n", "{}\n\"200.0.0.1\"\n", "1 without an address, 0 with an error, 1 not objects of JSON"),
 ];
@@ -317,6 +334,33 @@ fn long_objects(rt: HostRuntime) {
             &run,
             is_of_object(&run, text.as_str(), message),
         );
+    }
+}
+
+// An object with an address that nests so deep.
+fn nested_object(alloc: Global, depth: usize) -> Result<String, AllocError> {
+    let mut text = String::from_str(alloc, "{\"b\":")?;
+    for _ in 1..depth {
+        text.push_str("[")?;
+    }
+    for _ in 1..depth {
+        text.push_str("]")?;
+    }
+    text.push_str(",\"a\":\"200.0.0.1\"}")?;
+    Ok(text)
+}
+
+#[test]
+fn deep_objects(rt: HostRuntime) {
+    for (depth, is_read) in [(128, true), (129, false)] {
+        let text = nested_object(rt.alloc(), depth).expect(&rt, "a text");
+        let run = run_of(rt.alloc(), BASE_FILE, IN_JSON, text.as_str());
+        let holds = if is_read {
+            has_member(text.as_str(), run.out())
+        } else {
+            run.out() == text.as_str() && run.err().contains("1 not objects of JSON")
+        };
+        assert_of(&rt, IN_JSON, &run, holds);
     }
 }
 
