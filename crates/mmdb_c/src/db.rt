@@ -183,7 +183,7 @@ pub extern "C" fn mmdb_c_children(db: &Db<'_>, node: usize) -> Children
 {
     let nodes = db.nodes();
     Children {
-        left: nodes.child(node, false),
-        right: nodes.child(node, true),
+        left: nodes.left(node),
+        right: nodes.right(node),
     }
 }

@@ -50,7 +50,7 @@ impl Position {
             } else {
                 self.address
             },
-            number: walker.tree.nodes.child(self.number, right),
+            number: walker.tree.nodes.half(self.number, right),
             prefix: self.prefix + 1,
         }
     }

@@ -114,8 +114,8 @@ impl Nodes<'_> {
         }
     }
 
-    /// The number that a node has for a bit, the left one for 0 ("Node Layout" of the specification), from a load of
-    /// four bytes: the byte after a record of three is one of the tree or of the separator.
+    /// The number that a node has for a bit of an address, the left one for 0 ("Node Layout" of the specification), from
+    /// a load of four bytes: the byte after a record of three is one of the tree or of the separator.
     #[tactic(auto, unfolding(crate::specs::Tree::step, crate::specs::Tree::child))]
     #[inline(always)]
     pub fn child(&self, node: usize, right: bool) -> usize
@@ -135,6 +135,59 @@ impl Nodes<'_> {
             _ => unreachable!(),
         };
         number as usize
+    }
+
+    /// The left number of a node, as `child` has it for 0. The four highest bits of a record of 28 bits are in the last
+    /// byte of the load.
+    #[tactic(auto, unfolding(crate::specs::Tree::step, crate::specs::Tree::child))]
+    #[inline(always)]
+    pub fn left(&self, node: usize) -> usize
+        requires { node < self.now.node_count }
+        ensures bound { result < 2 ^ 32 }
+        ensures value { result ≡ step (tree_in self.now) node false }
+    {
+        let number = match self.record_size {
+            24 => word_at(self.bytes, node * 6) >> 8,
+            28 => {
+                let word = word_at(self.bytes, node * 7);
+                (word >> 8) + word % 256 / 16 * (1 << 24)
+            }
+            32 => word_at(self.bytes, node * 8),
+            _ => unreachable!(),
+        };
+        number as usize
+    }
+
+    /// The right number of a node, as `child` has it for 1. A record of 28 bits is the end of one load.
+    #[tactic(auto, unfolding(crate::specs::Tree::step, crate::specs::Tree::child))]
+    #[inline(always)]
+    pub fn right(&self, node: usize) -> usize
+        requires { node < self.now.node_count }
+        ensures bound { result < 2 ^ 32 }
+        ensures value { result ≡ step (tree_in self.now) node true }
+    {
+        let number = match self.record_size {
+            24 => word_at(self.bytes, node * 6 + 3) >> 8,
+            28 => word_at(self.bytes, node * 7 + 3) % (1 << 28),
+            32 => word_at(self.bytes, node * 8 + 4),
+            _ => unreachable!(),
+        };
+        number as usize
+    }
+
+    /// The right or the left number of a node, as `child` has it, for a caller who knows the side: then it is no work to
+    /// choose it.
+    #[inline(always)]
+    pub fn half(&self, node: usize, right: bool) -> usize
+        requires { node < self.now.node_count }
+        ensures bound { result < 2 ^ 32 }
+        ensures value { result ≡ step (tree_in self.now) node right }
+    {
+        if right {
+            self.right(node)
+        } else {
+            self.left(node)
+        }
     }
 
     /// Where IPv4 begins: after the 96 zero bits of an IPv6 database, as far as the walk takes them, and at node 0

@@ -46,8 +46,8 @@ impl Nodes<'_> {
             }
             return;
         }
-        let lower = self.child(number, false);
-        let upper = self.child(number, true);
+        let lower = self.left(number);
+        let upper = self.right(number);
         self.push_entries(table, lower, left - 1);
         self.push_entries(table, upper, left - 1);
     }
@@ -63,7 +63,7 @@ impl Nodes<'_> {
             return entry;
         }
         Entry {
-            number: self.child(number, right) as u32,
+            number: self.half(number, right) as u32,
             taken: taken + 1,
         }
     }

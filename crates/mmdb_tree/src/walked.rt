@@ -79,7 +79,7 @@ impl Walker<'_> {
         ensures { result ≡ half_of (walked_by self.now) point right }
     {
         Point {
-            number: self.nodes.child(point.number, right),
+            number: self.nodes.half(point.number, right),
             prefix: point.prefix + 1,
             high: point.high || right && usize::from(point.prefix) + 32 < self.width,
         }

@@ -18,7 +18,7 @@ push_entries-requires t c =
     let half = pow-halves c.args.left c.if-left-eq0.false in
     let room = c.requires.room in
     let less = c.decreases in
-    (omega arith, (omega arith, (c.child-lower.ensures.bound, omega (arith, half, room))))
+    (omega arith, (omega arith, (c.left-lower.ensures.bound, omega (arith, half, room))))
 
 pub push_entries-requires-2 : goal.push_entries-requires-2
 push_entries-requires-2 t c =
@@ -27,13 +27,13 @@ push_entries-requires-2 t c =
     let less = c.decreases in
     let len = c.push_entries.ensures.len in
     let capacity = c.push_entries.ensures.capacity in
-    (omega arith, (omega arith, (c.child-upper.ensures.bound, omega (arith, half, room, len, capacity))))
+    (omega arith, (omega arith, (c.right-upper.ensures.bound, omega (arith, half, room, len, capacity))))
 
 pub returns-clause-entries : goal.returns-clause-entries
 returns-clause-entries t c =
     let some = c.if-left-eq0.false in
     Appends-node (search_tree c.args.self.now.bytes.now c.args.self.now.node_count c.args.self.now.record_size) c.args.left (16 - c.args.left) c.args.number (c.args.left - 1) (16 - (c.args.left - 1)) _ _ _ _ _
-    c.if-number-self.false (omega arith) (omega arith) c.child-lower.ensures.value c.child-upper.ensures.value c.push_entries.ensures.entries c.push_entries-2.ensures.entries
+    c.if-number-self.false (omega arith) (omega arith) c.left-lower.ensures.value c.right-upper.ensures.value c.push_entries.ensures.entries c.push_entries-2.ensures.entries
 
 pub returns-clause-len : goal.returns-clause-len
 returns-clause-len t c =
