@@ -6,7 +6,7 @@ mod path;
 
 pub use mmdb_geoip2 as geoip2;
 pub use mmdb_reader::{
-    Checked, Decode, DecodeResult, Decoder, Double, Entries, Float, IpNetwork, IpNetworkError,
+    Checked, Decode, DecodeResult, Decoder, Double, Entries, Float, FoundLeaf, IpNetwork, IpNetworkError,
     Ipv4Network, Ipv6Network, Items, Kind, LookupMany, LookupResult, MaxMindDbError, Metadata,
     OwnedBytes, PathElement, RawValue, Reader, Steps, Value, Within, WithinOptions, check_value,
     decoding, decoding_at, decoding_at_path, empty_container, fuzzing as fuzzing, geonet as geonet,

@@ -97,6 +97,14 @@ impl<'de> Decoder<'de> {
         }
     }
 
+    /// The type of the value at the offset, or behind one pointer there, as `peek_kind` reads it. No error is made.
+    #[inline(always)]
+    pub fn try_kind(&self) -> Option<Kind>
+        ensures { result ≡ kind_at self.now.section self.now.offset }
+    {
+        kind_of_value(self.section, self.offset).ok()
+    }
+
     // The header at the offset.
     #[inline(always)]
     fn header_here(&self) -> Result<Header, DecodeErrorKind>

@@ -11,6 +11,7 @@ use mmdb_format::kind::{ARRAY, Kind, MAP};
 use mmdb_format::message::{Message, Text};
 
 /// The type of the value at an offset, or behind one pointer there.
+#[inline(always)]
 #[tactic(auto, unfolding(crate::specs::Peeking::kind_at))]
 pub(crate) fn kind_of_value(section: &[u8], offset: usize) -> Result<Kind, DecodeErrorKind>
     ensures { result_ok result ≡ kind_at section.now offset }

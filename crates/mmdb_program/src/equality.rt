@@ -94,7 +94,7 @@ impl<'de> SideBySide<'de> {
             return false;
         }
         // of another kind the new value can't be read as one of this
-        match self.old.peek_kind(self.alloc).ok() {
+        match self.old.try_kind() {
             Some(Kind::Map) => self.has_same_map(depth),
             Some(Kind::Array) => self.has_same_array(depth),
             Some(Kind::Text) => self.has_same_text(),

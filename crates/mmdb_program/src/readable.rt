@@ -1,7 +1,6 @@
 //! Whether a record can be read, as far as that is seen without memory for its values.
 use crate::allowance::{Allowance, MOST_LEVELS, VALUE, is_text};
-use crate::database::Found;
-use crate::equality::{at_record, leave};
+use crate::equality::leave;
 use crate::known_maps::{KnownMaps, SharedMap, is_behind_pointer};
 use mmdb_decode::decoder::Decoder;
 use mmdb_decode::items::Entries;
@@ -27,12 +26,9 @@ impl RecordReader {
         })
     }
 
-    /// Whether a record is seen to be readable. Others may be readable too.
-    pub(crate) fn can_read(&mut self, found: &Found<'_>) -> bool {
-        let Some(record) = at_record(self.alloc, found) else {
-            return false;
-        };
-        let mut decoder = record.decoder;
+    /// Whether the record at an offset of the data section is seen to be readable. Others may be readable too.
+    pub(crate) fn can_read(&mut self, section: &[u8], offset: usize) -> bool {
+        let mut decoder = Decoder::new(section, offset);
         self.allowance = Allowance::whole();
         self.reads_value(&mut decoder, MOST_LEVELS)
     }
@@ -72,7 +68,7 @@ impl RecordReader {
         if !self.allowance.takes(VALUE) {
             return false;
         }
-        match d.peek_kind(self.alloc).ok() {
+        match d.try_kind() {
             Some(Kind::Map) => self.reads_map(d, depth),
             Some(Kind::Array) => self.reads_array(d, depth),
             Some(Kind::Text) => self.reads_text(d),

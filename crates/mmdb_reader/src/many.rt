@@ -1,5 +1,5 @@
 //! Lookups of several addresses, whose walks go on side by side.
-ghost use Rattle.std.specs.Prelude.{◌≡◌, ℕ, ◌<◌, ◌≤◌, ◌⊎◌, ◌↔◌, IfOk, IfErr, IfSome, MatchOption, length, slice_index_or, nat_eq, nat_lt};
+ghost use Rattle.std.specs.Prelude.{◌≡◌, ℕ, ◌<◌, ◌≤◌, ◌^◌, ◌⊎◌, ◌↔◌, IfOk, IfErr, IfSome, MatchOption, length, slice_index_or, nat_eq, nat_lt};
 ghost use Rattle.std.specs.declared.net.ip_addr.IpAddr.{IpAddr as SpecIpAddr};
 ghost use Rattle.mmdb_format.specs.Error.{OfDatabase, OfInput, kind_of, FailsAs};
 ghost use Rattle.mmdb_net.specs.Address.{bits_of_address};
@@ -28,6 +28,17 @@ impl Reached {
             taken: leaf.taken as usize,
         }
     }
+
+    #[inline(always)]
+    fn leaf(self) -> FoundLeaf
+        requires { (self.number < 2 ^ 32) × (self.taken < 2 ^ 32) }
+        ensures { result ≡ record { number = self.number; taken = self.taken } }
+    {
+        FoundLeaf {
+            number: self.number as u32,
+            taken: self.taken as u32,
+        }
+    }
 }
 
 // How many addresses are walked side by side.
@@ -50,6 +61,19 @@ impl<S: AsSlice<u8> + Drop> Reader<S> {
         ensures { result ≡ nat_lt most_cached (tree_len self.now) }
     {
         self.nodes().outgrow_caches()
+    }
+
+    // Where the walks of addresses end, one walk after the other.
+    fn find_each(&self, addresses: &[IpAddr], leaves: &mut [FoundLeaf])
+        requires { length leaves.old ≡ length addresses.now }
+        ensures length { length leaves.new ≡ length leaves.old }
+        ensures found { (i : ℕ) (a : SpecIpAddr) (d : _) → i < length addresses.now
+            → IsFoundFor self.now (slice_index_or addresses.now i a)
+            (slice_index_or leaves.new i d) }
+    {
+        for i in 0..addresses.len() {
+            leaves[i] = self.walk_one(&addresses[i]).leaf();
+        }
     }
 
     // Where the walks of up to 64 addresses end.
@@ -83,9 +107,8 @@ impl<S: AsSlice<u8> + Drop> Reader<S> {
         count
     }
 
-    /// Where the walks of addresses end, for `lookup_found`: each in its place of `leaves`. Both kinds may be mixed. Up to
-    /// 64 of them are walked together, side by side where one is of IPv4, and no memory is taken.
-    pub fn find_leaves(&self, addresses: &[IpAddr], leaves: &mut [FoundLeaf])
+    // Where the walks of addresses end, up to 64 of which are walked together.
+    fn find_groups(&self, addresses: &[IpAddr], leaves: &mut [FoundLeaf])
         requires { length leaves.old ≡ length addresses.now }
         ensures length { length leaves.new ≡ length leaves.old }
         ensures found { (i : ℕ) (a : SpecIpAddr) (d : _) → i < length addresses.now
@@ -98,6 +121,23 @@ impl<S: AsSlice<u8> + Drop> Reader<S> {
             let count = self.find_group(&addresses[done..], &mut group);
             leaves[done..done + count].copy_from_slice(&group[..count]);
             done += count;
+        }
+    }
+
+    /// Where the walks of addresses end, for `lookup_found`: each in its place of `leaves`. Both kinds may be mixed. In a
+    /// tree that outgrows the caches up to 64 of them are walked together, side by side where one is of IPv4, and else one
+    /// is walked after the other. No memory is taken.
+    pub fn find_leaves(&self, addresses: &[IpAddr], leaves: &mut [FoundLeaf])
+        requires { length leaves.old ≡ length addresses.now }
+        ensures length { length leaves.new ≡ length leaves.old }
+        ensures found { (i : ℕ) (a : SpecIpAddr) (d : _) → i < length addresses.now
+            → IsFoundFor self.now (slice_index_or addresses.now i a)
+            (slice_index_or leaves.new i d) }
+    {
+        if self.outgrows_caches() {
+            self.find_groups(addresses, leaves);
+        } else {
+            self.find_each(addresses, leaves);
         }
     }
 
@@ -125,8 +165,9 @@ impl<S: AsSlice<u8> + Drop> Reader<S> {
     /// Where the walk of an address ends.
     #[inline(always)]
     pub(crate) fn walk_one(&self, address: &IpAddr) -> Reached
-        ensures { IsFoundFor self.now address.now
+        ensures found { IsFoundFor self.now address.now
             (record { number = result.number; taken = result.taken }) }
+        ensures bound { (result.number < 2 ^ 32) × (result.taken < 2 ^ 32) }
     {
         let nodes = self.nodes();
         match address {

@@ -162,8 +162,9 @@ impl<S: AsSlice<u8> + Drop> Reader<S> {
         self.data_start
     }
 
-    // The data section.
-    pub(crate) fn data_section(&self) -> &[u8]
+    /// The data section: from what stands behind the separator up to the metadata's marker. The offsets of answers are
+    /// places of it.
+    pub fn data_section(&self) -> &[u8]
         ensures { result.now ≡ data_section self.now }
     {
         &self.source.as_slice()[self.data_start..self.marker]

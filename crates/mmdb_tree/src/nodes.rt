@@ -92,6 +92,7 @@ impl Nodes<'_> {
     pub fn descend(&self, start: usize, address: u64, width: usize) -> Descent
         requires width { width ≤ 64 }
         ensures reached { EndsAt (tree_in self.now) start (bits_of width address) result }
+        ensures bound { start < 2 ^ 32 → result.number < 2 ^ 32 }
         ensures within { result.taken ≤ width }
         ensures read { result.read ≡ result.taken }
     {

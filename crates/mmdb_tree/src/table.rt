@@ -141,6 +141,7 @@ impl Nodes<'_> {
     pub fn descend_ipv4(&self, table: &[Entry], bits: u32) -> Descent
         requires { length table.now ≡ 65536 }
         ensures reached { EndsByTable (tree_in self.now) table.now (bits_of 32 bits) result }
+        ensures bound { (result.number < 2 ^ 32) × (result.taken < 512) }
         ensures read { ReadsByTable (tree_in self.now) table.now result }
     {
         let entry = table[(bits >> 16) as usize];
@@ -158,6 +159,7 @@ impl Nodes<'_> {
     pub fn descend_ipv6(&self, table: &[Entry], bits: u128) -> Descent
         requires { length table.now ≡ 65536 }
         ensures reached { EndsByTable (tree_in self.now) table.now (bits_of 128 bits) result }
+        ensures bound { (result.number < 2 ^ 32) × (result.taken < 512) }
         ensures read { ReadsByTable (tree_in self.now) table.now result }
     {
         let entry = table[(bits >> 112) as usize];

@@ -88,6 +88,11 @@ fn sections_of_the_base_file(rt: HostRuntime) -> Result<(), Failures> {
     let mut failures = Failures::new(rt.alloc());
     let sizes = reader_of(rt.alloc(), &BASE).map(|reader| sizes_of(&reader));
     failures.expect(&"the base file", sizes.ok() == Some((6, 2, 161)));
+    let is_data = match reader_of(rt.alloc(), &BASE) {
+        Ok(reader) => reader.data_section() == BASE_DATA,
+        Err(_) => false,
+    };
+    failures.expect(&"its data section", is_data);
     failures.verdict()
 }
 

@@ -11,7 +11,7 @@ answer_found-requires g c =
     let rest = c.in_ok-first.rest.now in
     let is : left ≡ first ∷ rest = c.in_ok-first.ensures.cases.0 in
     elim c.if-self.branch [
-      | then-self w ↦ rw w.found-is w.walk_one-found.ensures
+      | then-self w ↦ rw w.found-is w.walk_one-found.ensures.found
       | else-self w ↦ rw (w.found-is, w.at-found.ensures) (elim w.if-self-2.branch [
         | then-self-2 u ↦
             let found = u.find_group-self-inside in

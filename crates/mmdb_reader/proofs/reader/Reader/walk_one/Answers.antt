@@ -8,14 +8,14 @@ use Rattle.mmdb_tree.proofs.TableLemmas.{walked-from}
 use Rattle.mmdb_reader.proofs.LeafLemmas.{reader_of, start-is}
 use Rattle.mmdb_reader.proofs.reader.Reader.walk_one.Goals as goal
 
-pub returns-in_default : goal.returns-in_default
-returns-in_default g c =
+pub returns-in_default-clause-found : goal.returns-in_default-clause-found
+returns-in_default-clause-found g c =
     let db = c.args.self.now in
     let known = reader_of db _ c.self.inside.data_start c.self.inside.ipv4_start c.self.inside.ipv4_depth c.self.inside.ipv4_table.items c.self.inside.ipv6_table.items c.self.view_is c.self.invariant in
     rw c.in-V4.is (λ walk. absurd (omega (arith, walk, start-is db c.self.inside.ipv4_start c.self.inside.ipv4_depth known.ipv4, ap (λ t. t.node_count) c.nodes-nodes.ensures.tree, c.if-self-nodes.false)))
 
-pub returns-in-V4 : goal.returns-in-V4
-returns-in-V4 g c =
+pub returns-in-V4-clause-found : goal.returns-in-V4-clause-found
+returns-in-V4-clause-found g c =
     let db = c.args.self.now in
     let start = c.self.inside.ipv4_start in
     let known = reader_of db _ c.self.inside.data_start start c.self.inside.ipv4_depth c.self.inside.ipv4_table.items c.self.inside.ipv6_table.items c.self.view_is c.self.invariant in
@@ -24,8 +24,8 @@ returns-in-V4 g c =
     let P : ℕ → Type 0 = λ s. Descends (tree_of db) s (bits_of 32 (ipv4_bits c.in-V4.v4)) c.descend_ipv4-walk.result.taken c.descend_ipv4-walk.result.number in
     rw c.in-V4.is (λ _. subst P (start-is db start c.self.inside.ipv4_depth known.ipv4) walked)
 
-pub returns-in-V6 : goal.returns-in-V6
-returns-in-V6 g c =
+pub returns-in-V6-clause-found : goal.returns-in-V6-clause-found
+returns-in-V6-clause-found g c =
     let db = c.args.self.now in
     let known = reader_of db _ c.self.inside.data_start c.self.inside.ipv4_start c.self.inside.ipv4_depth c.self.inside.ipv4_table.items c.self.inside.ipv6_table.items c.self.view_is c.self.invariant in
     let six : db.metadata.ip_version ≡ 6 = omega (arith, ap (λ d. d.metadata.ip_version) c.self.view_is, c.if-self-eq6.true) in

@@ -6,7 +6,7 @@ use borrow.Rule.Slice.PartMut.{put_mid, post_of, same_len_mid}
 use Rattle.mmdb_tree.specs.declared.group.FoundLeaf.{FoundLeaf}
 use Rattle.mmdb_reader.specs.File.{Database}
 use Rattle.mmdb_reader.specs.Many.{IsFoundFor}
-use Rattle.mmdb_reader.proofs.reader.Reader.find_leaves.Goals as goal
+use Rattle.mmdb_reader.proofs.reader.Reader.find_groups.Goals as goal
 
 module _ (db : Database) (addresses : List IpAddr) (leaves group : List FoundLeaf) (done count k : ℕ) (within : done ≤ length leaves) (few : count ≤ length group)
     (before : (i : ℕ) (a : IpAddr) (d : FoundLeaf) → i < done → IsFoundFor db (get_or addresses i a) (get_or leaves i d))

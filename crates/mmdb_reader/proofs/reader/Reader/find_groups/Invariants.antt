@@ -2,7 +2,7 @@ use Rattle.std.proofs.Common.{◌≡◌, ℕ, ◌-◌, ◌<◌, ◌≤◌, lengt
 use Rattle.std.specs.declared.net.ip_addr.IpAddr.{IpAddr}
 use Rattle.mmdb_tree.specs.declared.group.FoundLeaf.{FoundLeaf}
 use Rattle.mmdb_reader.specs.Many.{IsFoundFor}
-use Rattle.mmdb_reader.proofs.reader.Reader.find_leaves.Given as goal
+use Rattle.mmdb_reader.proofs.reader.Reader.find_groups.Given as goal
 
 abbrev pub invariant-loop-done : goal.invariant-loop-done
 invariant-loop-done g l = record {
