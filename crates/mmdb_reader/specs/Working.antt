@@ -1,5 +1,5 @@
 -- What contracts of private functions and proofs name.
-use Rattle.std.specs.Prelude.{◌≡◌, ℕ, Bool, List, ◌++◌, take, Option, Some, None, ◌+◌, ◌<◌, ◌≤◌, length, ◌-◌, ◌⊎◌, ◌^◌, zero, suc, [], ◌∷◌, false, if◌then◌else◌, ◌↔◌, Result, IfSome, IfOk, IfErr, Ok, Err}
+use Rattle.std.specs.Prelude.{◌≡◌, ℕ, Bool, List, ◌++◌, take, Option, Some, None, ◌+◌, ◌*◌, ◌<◌, ◌≤◌, length, ◌-◌, ◌⊎◌, ◌^◌, zero, suc, [], ◌∷◌, false, if◌then◌else◌, ◌↔◌, Result, IfSome, IfOk, IfErr, Ok, Err}
 use Rattle.std.specs.declared.net.ip_addr.IpAddr.{IpAddr}
 use Rattle.mmdb_net.specs.Bits.{IsPrefix, bits_of}
 use Rattle.mmdb_tree.specs.declared.record.TreeRecord.{TreeRecord}
@@ -26,8 +26,9 @@ use Rattle.mmdb_reader.specs.declared.lookup_result.LookupResult.{LookupResult}
 use Rattle.mmdb_reader.specs.declared.reader.Leaf.{Leaf}
 use Rattle.mmdb_reader.specs.Numbered.{numbered_block}
 use Rattle.mmdb_reader.specs.Found.{database_asked, leaf_of, offset_found, shown_as_ipv4}
-use Rattle.mmdb_tree.specs.Walked.{HoldsOffsetsOf}
-use Rattle.mmdb_reader.specs.Stops.{walked_tree}
+use Rattle.mmdb_tree.specs.declared.walked.Walked.{Walked}
+use Rattle.mmdb_tree.specs.Walked.{HoldsOffsetsOf, IsVerdict}
+use Rattle.mmdb_reader.specs.Stops.{walked_tree, walk_cost}
 
 -- the leaf is the one on the address's bits, and its walk leads to that number
 pub record IsLeafAt (db : Database) (address : IpAddr) (leaf : List Bool) (number : ℕ) : Type 0 where
@@ -134,3 +135,9 @@ FaultsAreOfDatabase answer = IfSome answer (λ a. IfErr a (λ e. kind_of e ≡ O
 -- the set holds exactly the offsets of the stops
 abbrev pub HoldsOffsets : Database → List Bool → Type 0
 HoldsOffsets db set = HoldsOffsetsOf (walked_tree db) set
+
+-- what a walk of a whole tree found of it: its end, the offsets in the set, and how many positions it took
+pub record IsWalkOf (db : Database) (walked : Walked) (set : List Bool) : Type 0 where
+  pub verdict : IsVerdict (walked_tree db) set walked.taken walked.end
+  pub counted : walked.taken ≡ walk_cost db
+  pub bound : walked.taken ≤ 6 * db.metadata.node_count + 130

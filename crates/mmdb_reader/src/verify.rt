@@ -1,11 +1,11 @@
 //! Verification of a whole database.
-ghost use Rattle.std.specs.Prelude.{◌≡◌, ◌≤◌, ◌<◌, ◌+◌, ◌*◌, ◌^◌, length, IfOk, IfErr, OnOk};
+ghost use Rattle.std.specs.Prelude.{◌≡◌, ◌≤◌, ◌<◌, ◌+◌, ◌*◌, ◌^◌, length, IfOk, IfErr, IfSome, OnOk};
 ghost use Rattle.mmdb_format.specs.Error.{OfDatabase, MemoryApart, IsOfOrMemory};
 ghost use Rattle.mmdb_check.specs.Checking.{CanAddAll, none};
 ghost use Rattle.mmdb_reader.specs.File.{data_section};
 ghost use Rattle.mmdb_tree.specs.Stops.{offsets};
 ghost use Rattle.mmdb_reader.specs.Stops.{stops, walk_cost};
-ghost use Rattle.mmdb_reader.specs.Working.{HoldsOffsets};
+ghost use Rattle.mmdb_reader.specs.Working.{HoldsOffsets, IsWalkOf};
 ghost use Rattle.mmdb_reader.specs.Whole.{HasWholeMetadata, HasWholeTree, HasZeroSeparator, IsWhole};
 ghost use Rattle.mmdb_reader.specs.WholeLaws.{AnswersAll};
 
@@ -65,6 +65,48 @@ impl<S: AsSlice<u8> + Drop> Reader<S> {
         Ok(())
     }
 
+    // What the sweep finds of the tree, unless it fails or may fail. It stays out of line and keeps its stack and its set
+    // to itself, so that they are in registers.
+    #[inline(never)]
+    fn sweep_tree(&self, alloc: Global) -> Result<Option<(Walked, OffsetSet)>, AllocError>
+        requires few { self.now.metadata.node_count < 2 ^ 32 }
+        ensures { IfOk result (λ swept. IfSome swept (λ w. IsWalkOf self.now w.0 w.1)) }
+    {
+        let walker = self.tree_walker();
+        let mut stack = Vec::with_capacity(alloc, usize::from(self.width()))?;
+        let mut set = OffsetSet::new(alloc, self.data_len())?;
+        let Some(taken) = walker.sweep(&mut stack, &mut set) else {
+            return Ok(None);
+        };
+        let walked = Walked {
+            taken,
+            end: WalkEnd::Whole,
+        };
+        Ok(Some((walked, set)))
+    }
+
+    // What the walk in order finds of the tree.
+    fn walk_in_order(&self, alloc: Global) -> Result<(Walked, OffsetSet), AllocError>
+        requires few { self.now.metadata.node_count < 2 ^ 32 }
+        ensures { IfOk result (λ w. IsWalkOf self.now w.0 w.1) }
+    {
+        let mut stack = Vec::with_capacity(alloc, usize::from(self.width()))?;
+        let mut set = OffsetSet::new(alloc, self.data_len())?;
+        let walked = self.tree_walker().walk(&mut stack, &mut set);
+        Ok((walked, set))
+    }
+
+    // What is found of the tree: by the sweep, and where that fails by the walk in order.
+    fn walk_once(&self, alloc: Global) -> Result<(Walked, OffsetSet), AllocError>
+        requires few { self.now.metadata.node_count < 2 ^ 32 }
+        ensures { IfOk result (λ w. IsWalkOf self.now w.0 w.1) }
+    {
+        match self.sweep_tree(alloc)? {
+            Some(swept) => Ok(swept),
+            None => self.walk_in_order(alloc),
+        }
+    }
+
     // The offsets of walked leaves, if no walked leaf is faulty and there are not too many stops.
     #[tactic(auto, using(crate::proofs::WholeLemmas::clean_of_tree))]
     fn walk_tree(
@@ -85,20 +127,7 @@ impl<S: AsSlice<u8> + Drop> Reader<S> {
             (λ e. MemoryApart e (steps.new ≡ steps.old + walk_cost self.now)) }
         ensures most { steps.new ≤ steps.old + walk_cost self.now }
     {
-        let walker = self.tree_walker();
-        let mut stack = Vec::with_capacity(alloc, usize::from(self.width()))?;
-        let mut set = OffsetSet::new(alloc, self.data_len())?;
-        let walked = match walker.sweep(&mut stack, &mut set) {
-            Some(taken) => Walked {
-                taken,
-                end: WalkEnd::Whole,
-            },
-            None => {
-                stack.clear();
-                set = OffsetSet::new(alloc, self.data_len())?;
-                walker.walk(&mut stack, &mut set)
-            }
-        };
+        let (walked, set) = self.walk_once(alloc)?;
         steps.add(walked.taken);
         match walked.end {
             WalkEnd::Whole => Ok(set),

@@ -181,7 +181,7 @@ impl Nodes<'_> {
 
     // These nodes, with the size of their records as the caller names it.
     #[inline(always)]
-    fn with_size(&self, record_size: u16) -> Nodes<'_>
+    pub(crate) fn with_size(&self, record_size: u16) -> Nodes<'_>
         requires { record_size ≡ self.now.record_size }
         ensures { tree_in result ≡ tree_in self.now }
     {

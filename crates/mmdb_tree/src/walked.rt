@@ -127,6 +127,7 @@ impl Walker<'_> {
     /// Walks the whole tree, from the root. `stack` keeps the upper halves that are still to come, and `set` the
     /// offsets that were found. It goes behind no alias, and ends at the first faulty leaf, or after three stops for
     /// each node and one more.
+    #[inline(never)]
     pub fn walk(&self, stack: &mut Vec<Point>, set: &mut OffsetSet) -> Walked
         requires empty { stack.old.items ≡ [] }
         requires room { self.now.width ≤ vec_capacity stack.old }
@@ -175,10 +176,26 @@ impl Walker<'_> {
         }
     }
 
-    /// Walks the whole tree, a node at a time, and gives the positions that it took. Both halves of a node are looked
-    /// at together, so the offsets come in another order than the leaves. None where the walk fails, or may fail:
-    /// where it stops is then reported by `walk`.
-    pub fn sweep(&self, stack: &mut Vec<Point>, set: &mut OffsetSet) -> Option<usize>
+    // This walker, with the size of its nodes' records as the caller names it.
+    #[inline(always)]
+    fn with_size(&self, record_size: u16) -> Walker<'_>
+        requires { record_size ≡ self.now.nodes.record_size }
+        ensures walks { walked_by result ≡ walked_by self.now }
+        ensures nodes { result.nodes.node_count ≡ self.now.nodes.node_count }
+        ensures width { result.width ≡ self.now.width }
+        ensures data { result.data_len ≡ self.now.data_len }
+    {
+        Walker {
+            nodes: self.nodes.with_size(record_size),
+            width: self.width,
+            ipv4_start: self.ipv4_start,
+            data_len: self.data_len,
+        }
+    }
+
+    // The sweep over nodes whose size of records is known where it is called.
+    #[inline(always)]
+    fn sweep_nodes(&self, stack: &mut Vec<Point>, set: &mut OffsetSet) -> Option<usize>
         requires empty { stack.old.items ≡ [] }
         requires room { self.now.width ≤ vec_capacity stack.old }
         requires set { length set.old ≡ self.now.data_len }
@@ -216,5 +233,29 @@ impl Walker<'_> {
             point = next;
         }
         None
+    }
+
+    /// Walks the whole tree, a node at a time, and gives the positions that it took. Both halves of a node are looked
+    /// at together, so the offsets come in another order than the leaves. None where the walk fails, or may fail:
+    /// where it stops is then reported by `walk`. What it asks at each node is in registers where the stack and the set are
+    /// the caller's own and go nowhere else.
+    #[inline(always)]
+    pub fn sweep(&self, stack: &mut Vec<Point>, set: &mut OffsetSet) -> Option<usize>
+        requires empty { stack.old.items ≡ [] }
+        requires room { self.now.width ≤ vec_capacity stack.old }
+        requires set { length set.old ≡ self.now.data_len }
+        requires none { (q : ℕ) → holds set.old q ≡ false }
+        ensures whole { IfSome result
+            (λ taken. IsVerdict (walked_by self.now) set.new taken Whole) }
+        ensures counted { IfSome result (λ taken. taken ≡ walk_cost_of (walked_by self.now)) }
+        ensures bound { IfSome result
+            (λ taken. taken ≤ 6 * self.now.nodes.node_count) }
+        ensures kept { vec_capacity stack.new ≡ vec_capacity stack.old }
+    {
+        match self.nodes.record_size {
+            24 => self.with_size(24).sweep_nodes(stack, set),
+            28 => self.with_size(28).sweep_nodes(stack, set),
+            _ => self.with_size(32).sweep_nodes(stack, set),
+        }
     }
 }

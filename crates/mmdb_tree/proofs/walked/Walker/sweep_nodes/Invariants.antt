@@ -3,7 +3,7 @@ use Rattle.std.specs.Vec.{vec_capacity}
 use Rattle.mmdb_offsets.specs.OffsetSet.{holds}
 use Rattle.mmdb_tree.specs.Walked.{walked_by}
 use Rattle.mmdb_tree.proofs.Sweeps.{IsSwept, AreNodes}
-use Rattle.mmdb_tree.proofs.walked.Walker.sweep.Given as goal
+use Rattle.mmdb_tree.proofs.walked.Walker.sweep_nodes.Given as goal
 
 abbrev pub invariant-loop-nodes : goal.invariant-loop-nodes
 invariant-loop-nodes l = record {

@@ -6,7 +6,7 @@ use Rattle.mmdb_tree.specs.Walked.{walked_by, half_of}
 use Rattle.mmdb_tree.specs.Working.{Takes, GoesOn}
 use Rattle.mmdb_tree.specs.declared.walked.Point.{Point}
 use Rattle.mmdb_tree.proofs.Sweeps.{IsSwept, AreNodes, AreNodes-top, AreNodes-push, node-room, nodes-below, nodes-left, swept-start, swept-node, swept-taken, swept-both, swept-whole}
-use Rattle.mmdb_tree.proofs.walked.Walker.sweep.Goals as goal
+use Rattle.mmdb_tree.proofs.walked.Walker.sweep_nodes.Goals as goal
 
 abbrev root : Point
 root = record { number = 0; prefix = 0; high = false }
