@@ -2,12 +2,9 @@
 
 use crate::subject::{Subject, node_count};
 use maxminddb::geoip2::{City, Country};
-use maxminddb::{FoundLeaf, LookupResult, MaxMindDbError, Reader, Value, WithinOptions, path};
+use maxminddb::{LookupResult, MaxMindDbError, Reader, Value, WithinOptions, path};
 use std::alloc::Global;
 use std::net::IpAddr;
-
-/// How many addresses are looked up together.
-const GROUP: usize = 32;
 
 /// A piece of work, whose answer is a sum over all that it found. Two programs that did the same work
 /// have the same sum.
@@ -164,30 +161,11 @@ fn lookups(reader: &Reader<Vec<u8>>, addresses: &[IpAddr]) -> Result<u64, MaxMin
     Ok(sum)
 }
 
-// The same of a group, whose walks are found before the answers.
-fn group_lookups(
-    reader: &Reader<Vec<u8>>,
-    addresses: &[IpAddr],
-    leaves: &mut [FoundLeaf],
-) -> Result<u64, MaxMindDbError> {
-    let Some(leaves) = leaves.get_mut(..addresses.len()) else {
-        return Ok(0);
-    };
-    reader.find_leaves(addresses, leaves);
-    let mut sum = 0u64;
-    for at in 0..addresses.len() {
-        let found = reader.lookup_found(addresses[at], leaves[at])?;
-        sum = sum.wrapping_add(offset_term(&found));
-    }
-    Ok(sum)
-}
-
-// The same, a group at a time.
+// The same, by the walks that go on side by side.
 fn many_lookups(reader: &Reader<Vec<u8>>, addresses: &[IpAddr]) -> Result<u64, MaxMindDbError> {
-    let mut leaves = [FoundLeaf::default(); GROUP];
     let mut sum = 0u64;
-    for group in addresses.chunks(GROUP) {
-        sum = sum.wrapping_add(group_lookups(reader, group, leaves.as_mut_slice())?);
+    for (_, answer) in reader.lookup_many(addresses) {
+        sum = sum.wrapping_add(offset_term(&answer?));
     }
     Ok(sum)
 }

@@ -154,7 +154,8 @@ impl Nodes<'_> {
     }
 
     /// Walks along the 128 bits of an IPv6 address, for whose first sixteen a table has where they lead. Of the nodes
-    /// only those after the table's entry are counted as read.
+    /// only those after the table's entry are counted as read. Most walks end in the table, and none of these asks for the
+    /// other bits.
     #[inline(always)]
     pub fn descend_ipv6(&self, table: &[Entry], bits: u128) -> Descent
         requires { length table.now ≡ 65536 }
@@ -163,7 +164,15 @@ impl Nodes<'_> {
         ensures read { ReadsByTable (tree_in self.now) table.now result }
     {
         let entry = table[(bits >> 112) as usize];
-        let high = self.descend(entry.number as usize, (bits >> 64) as u64, 48);
+        let number = entry.number as usize;
+        if number >= self.node_count {
+            return Descent {
+                number,
+                taken: usize::from(entry.taken),
+                read: 0,
+            };
+        }
+        let high = self.descend(number, (bits >> 64) as u64, 48);
         let low = self.descend(high.number, (bits % (1 << 64)) as u64, 64);
         Descent {
             number: low.number,
