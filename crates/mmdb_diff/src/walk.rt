@@ -110,15 +110,9 @@ impl<'a, S: AsSlice<u8> + Drop> Walk<'a, S> {
     #[inline(always)]
     fn take(&mut self, found: &LookupResult<'a, S>) {
         self.offset = found.offset();
-        match found.network().unwrap() {
-            IpNetwork::V4(network) => {
-                let first = u128::from(network.ip().to_bits());
-                self.stand_at(first, 96 + network.prefix(), true);
-            }
-            IpNetwork::V6(network) => {
-                self.stand_at(network.ip().to_bits(), network.prefix(), false);
-            }
-        }
+        let network = found.numbered_network();
+        let prefix = 128 - network.width + network.prefix;
+        self.stand_at(network.first, prefix as u8, network.width == 32);
     }
 
     // Keeps a leaf behind the network that it stands at, which can't be read.

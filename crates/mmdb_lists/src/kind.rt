@@ -3,7 +3,7 @@ ghost use Rattle.std.specs.Prelude.{◌≡◌, ◌↔◌, IsTrue};
 ghost use Rattle.mmdb_lists.specs.Kinds.{IsWanted, kind_of};
 
 use mmdb_blocks::Block;
-use mmdb_reader::{IpNetwork, IpNetworkError};
+use mmdb_reader::{IpNetwork, IpNetworkError, NumberedNetwork};
 use std::net::{IpAddr, Ipv4Addr, Ipv6Addr};
 
 /// A kind of addresses.
@@ -34,12 +34,14 @@ impl Kinds {
 
 impl Kind {
     /// The kind of a network's addresses.
-    pub fn of(network: IpNetwork) -> Kind
+    #[inline(always)]
+    pub fn of(network: NumberedNetwork) -> Kind
         ensures { result ≡ kind_of network }
     {
-        match network {
-            IpNetwork::V4(_) => Kind::Ipv4,
-            IpNetwork::V6(_) => Kind::Ipv6,
+        if network.width == 32 {
+            Kind::Ipv4
+        } else {
+            Kind::Ipv6
         }
     }
 

@@ -2,7 +2,7 @@
 use crate::kind::{Kind, Kinds};
 use crate::syntax::Syntax;
 use mmdb_blocks::{Block, Joiner};
-use mmdb_reader::{IpNetwork, IpNetworkError};
+use mmdb_reader::{IpNetwork, IpNetworkError, NumberedNetwork};
 use std::alloc::{AllocError, Global};
 use std::io::{self, Write};
 
@@ -48,6 +48,16 @@ pub(crate) fn put<O: Write>(text: &str, out: &mut O) -> Result<(), ListError> {
     match out.write_all(text.as_bytes()) {
         Ok(()) => Ok(()),
         Err(error) => Err(ListError::Write(error)),
+    }
+}
+
+// The block of a network.
+#[inline(always)]
+fn block_of(network: NumberedNetwork) -> Block {
+    let behind = network.width.saturating_sub(network.prefix);
+    Block {
+        first: network.first,
+        prefix: 128usize.saturating_sub(behind) as u8,
     }
 }
 
@@ -164,13 +174,17 @@ impl<'a> List<'a> {
 
     /// Takes the next network, if its kind is wanted, and writes those that nothing can join any more.
     #[inline(always)]
-    pub fn push<O: Write>(&mut self, network: IpNetwork, out: &mut O) -> Result<(), ListError> {
+    pub fn push<O: Write>(
+        &mut self,
+        network: NumberedNetwork,
+        out: &mut O,
+    ) -> Result<(), ListError> {
         let kind = Kind::of(network);
         if !self.kinds.has(kind) {
             return Ok(());
         }
         self.change_to(kind, out)?;
-        match self.joiner.push(Block::of_network(network)) {
+        match self.joiner.push(block_of(network)) {
             Ok(()) if self.joiner.settled().is_empty() => Ok(()),
             Ok(()) => self.put_settled(kind, out),
             Err(_) => Err(ListError::OutOfOrder),

@@ -4,7 +4,7 @@ use crate::error::ProgramError;
 use crate::layout::Layout;
 use crate::output::{Console, put};
 use mmdb_lists::{Choice, Kind, Kinds, List};
-use mmdb_reader::{IpNetwork, MaxMindDbError, WithinOptions};
+use mmdb_reader::{IpNetwork, MaxMindDbError, NumberedNetwork, WithinOptions};
 use std::alloc::{AllocError, Global};
 use std::io::Write;
 
@@ -155,13 +155,9 @@ impl<'a> Rows<'a> {
     }
 
     // Writes the row of an answer.
-    fn write<O: Write>(
-        &mut self,
-        found: &Found<'_>,
-        network: IpNetwork,
-        out: &mut O,
-    ) -> Result<(), ProgramError> {
+    fn write<O: Write>(&mut self, found: &Found<'_>, out: &mut O) -> Result<(), ProgramError> {
         let (alloc, place) = (self.alloc, self.layout.place_of_network());
+        let network = found.network()?;
         let row = self.row(found)?;
         write_row(alloc, row, place, network, out)
     }
@@ -180,11 +176,11 @@ impl Writing<'_> {
     fn write<O: Write>(
         &mut self,
         found: &Found<'_>,
-        network: IpNetwork,
+        network: NumberedNetwork,
         out: &mut O,
     ) -> Result<(), ProgramError> {
         match self {
-            Writing::Rows(rows) => rows.write(found, network, out),
+            Writing::Rows(rows) => rows.write(found, out),
             Writing::List(list) => Ok(list.push(network, out)?),
         }
     }
@@ -248,9 +244,9 @@ impl<'a, 'r> Export<'a, 'r> {
         &mut self,
         found: &Found<'_>,
         kept: Option<bool>,
-        network: IpNetwork,
         out: &mut O,
     ) -> Result<(), ProgramError> {
+        let network = found.numbered_network();
         if !self.kinds.has(Kind::of(network)) {
             return Ok(());
         }
@@ -278,11 +274,11 @@ impl<'a, 'r> Export<'a, 'r> {
         kept: Option<bool>,
         console: &mut Console<'_, O, E>,
     ) -> Result<(), ProgramError> {
-        let network = found.network().unwrap();
-        match self.write_chosen(found, kept, network, console.out) {
+        match self.write_chosen(found, kept, console.out) {
             Err(ProgramError::Database(MaxMindDbError::Memory)) => Err(ProgramError::Memory),
             Err(ProgramError::Database(error)) => {
-                let reported = self.report(Where::At(network), &error, console);
+                let place = Where::At(found.network().unwrap());
+                let reported = self.report(place, &error, console);
                 drop(error);
                 reported
             }

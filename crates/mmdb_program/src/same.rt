@@ -127,7 +127,11 @@ impl<'a> Records<'a> {
     // Whether the records that were met are seen to be readable, as far as they are shown.
     fn can_show_all(&self, database: &Database) -> bool {
         match self.layout {
-            Layout::Records => can_read_all(self.alloc, database.data_section(), self.met.as_slice()),
+            Layout::Records => can_read_all(
+                self.alloc,
+                database.data_section(),
+                self.met.as_slice(),
+            ),
             Layout::Values(_) | Layout::Cells(_) => true,
         }
     }

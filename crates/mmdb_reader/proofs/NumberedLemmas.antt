@@ -1,11 +1,15 @@
 -- Addresses as numbers.
-use Rattle.std.proofs.Common.{◌≡◌, ℕ, ◌≤◌, ◌<◌, ◌^◌, ◌++◌, List, Bool, true, false, take, nat_eq, refl, ap, sym, subst, ◌∙◌, arith}
+use Rattle.std.proofs.Common.{◌≡◌, ℕ, ◌≤◌, ◌<◌, ◌^◌, ◌+◌, ◌-◌, ◌*◌, ◌/◌, ◌++◌, inl, inr, List, Bool, true, false, take, nat_eq, refl, ap, sym, subst, ◌∙◌, arith}
 use Rattle.std.specs.declared.net.ip_addr.IpAddr.{IpAddr}
 use Rattle.std.specs.declared.net.ip_addr.IpAddr.TheVariants.{V4, V6}
 use Rattle.std.specs.declared.net.ipv4_addr.Ipv4Addr.{Ipv4Addr}
 use Rattle.std.specs.declared.net.ipv6_addr.Ipv6Addr.{Ipv6Addr}
 use Rattle.std.specs.Net.Addr.{is_ipv4, ipv4_bits, ipv6_bits}
 use Rattle.mmdb_reader.specs.declared.lookup_result.NumberedAddress.{NumberedAddress}
+use Rattle.std.proofs.Math.Nat.{mul-div_cancel}
+use Rattle.std.proofs.lemmas.Nat.{pow_pos}
+use Rattle.std.proofs.lemmas.Bool.{cases_Bool, eqb-true}
+use Rattle.mmdb_net.proofs.BitLaws.{take-bits_of}
 use Rattle.mmdb_net.specs.Bits.{bits_of}
 use Rattle.mmdb_net.specs.Address.{address_width, IsMaskedIp}
 use Rattle.mmdb_net.specs.Network.{ip_of, prefix_of}
@@ -23,6 +27,24 @@ short_block db width bits a prefix w same = rw (w, same) refl
 -- and of an IPv6 address
 pub long_block : (db : Database) (width bits a prefix : ℕ) → nat_eq width 32 ≡ false → a ≡ bits → take prefix (bits_of 128 a) ≡ numbered_block db width bits prefix
 long_block db width bits a prefix w same = rw (w, same) refl
+
+-- the first bits of a number whose last ones were cleared
+same-front : (prefix width shift n : ℕ) → width ≡ prefix + shift → take prefix (bits_of width (n / 2 ^ shift * 2 ^ shift)) ≡ take prefix (bits_of width n)
+same-front prefix width shift n sum =
+    let back : n / 2 ^ shift * 2 ^ shift / 2 ^ shift ≡ n / 2 ^ shift = mul-div_cancel (n / 2 ^ shift) (pow_pos shift) in
+    take-bits_of prefix width shift (n / 2 ^ shift * 2 ^ shift) sum ∙ (ap (bits_of prefix) back ∙ sym (take-bits_of prefix width shift n sum))
+
+-- the block stays where the bits behind it are cleared
+pub cleared_block : (db : Database) (width bits prefix : ℕ) → (nat_eq width 32 ≡ false → width ≡ 128) → prefix ≤ width
+    → numbered_block db width (bits / 2 ^ (width - prefix) * 2 ^ (width - prefix)) prefix ≡ numbered_block db width bits prefix
+cleared_block db width bits prefix long within = elim (cases_Bool (nat_eq width 32)) [
+  | inl short ↦
+      let w : width ≡ 32 = eqb-true width 32 short in
+      rw w (ap (λ (front : List Bool). before_ipv4 db ++ front) (same-front prefix 32 (32 - prefix) bits (omega (arith, within, w))))
+  | inr other ↦
+      let w : width ≡ 128 = long other in
+      rw w (same-front prefix 128 (128 - prefix) bits (omega (arith, within, w)))
+]
 
 -- the network of a masked address shows the block of the number
 pub shown_numbered : (db : Database) (a b : IpAddr) (width bits prefix : ℕ) (network : IpNetwork) → address_width a ≡ width → is_ipv4 a ≡ nat_eq width 32 → block_at db a prefix ≡ numbered_block db width bits prefix → prefix ≤ width → IsMaskedIp a prefix b → ip_of network ≡ b → prefix_of network ≡ prefix → IsShownBy db (numbered_block db width bits prefix) (nat_eq width 32) network

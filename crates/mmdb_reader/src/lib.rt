@@ -23,7 +23,7 @@ mod walked;
 mod within;
 
 pub use lookup_many::LookupMany;
-pub use lookup_result::LookupResult;
+pub use lookup_result::{LookupResult, NumberedNetwork};
 pub use metadata::Metadata;
 pub use mmdb_net as geonet;
 pub use mmdb_net::{IpNetwork, IpNetworkError, Ipv4Network, Ipv6Network, mask_ip};

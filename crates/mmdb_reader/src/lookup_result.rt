@@ -1,10 +1,10 @@
 //! What lookups find.
-ghost use Rattle.std.specs.Prelude.{◌≡◌, ◌≤◌, ◌<◌, ◌^◌, ℕ, false, ⊤, IsOkAnd, is_some, nat_eq};
+ghost use Rattle.std.specs.Prelude.{◌≡◌, ◌≤◌, ◌<◌, ◌^◌, ◌*◌, ◌/◌, ℕ, false, ⊤, IsOkAnd, is_some, nat_eq};
 ghost use Rattle.std.specs.Net.Addr.{is_ipv4};
 ghost use Rattle.mmdb_net.specs.Address.{address_width};
 ghost use Rattle.mmdb_reader.specs.File.{Database};
 ghost use Rattle.mmdb_reader.specs.Lookup.{block_at};
-ghost use Rattle.mmdb_reader.specs.Numbered.{numbered_block};
+ghost use Rattle.mmdb_reader.specs.Numbered.{numbered_block, HasZerosAfter};
 
 use crate::reader::Reader;
 use mmdb_format::error::MaxMindDbError;
@@ -57,6 +57,15 @@ impl NumberedAddress {
     }
 }
 
+/// A network as numbers: its first address, how many bits an address has, 32 or 128, and how many of them all addresses of
+/// the network share. The bits behind those are 0.
+#[derive(Clone, Copy)]
+pub struct NumberedNetwork {
+    pub first: u128,
+    pub width: usize,
+    pub prefix: usize,
+}
+
 /// A leaf of a database: its network, and the place of its value in the data section. Its fields fill it, as
 /// far as they can: an `IpAddr` would be copied in pieces.
 pub struct LookupResult<'a, S: AsSlice<u8> + Drop> {
@@ -78,6 +87,19 @@ impl<'a, S: AsSlice<u8> + Drop> Clone for LookupResult<'a, S> {
 
     fn clone(&self) -> Result<LookupResult<'a, S>, AllocError> {
         Ok(*self)
+    }
+}
+
+// A number with its last bits 0.
+#[inline(always)]
+fn without_last(bits: u128, count: usize) -> u128
+    requires { count ≤ 128 }
+    ensures { result ≡ bits / 2 ^ count * 2 ^ count }
+{
+    if count < 128 {
+        bits >> count << count
+    } else {
+        0
     }
 }
 
@@ -110,5 +132,22 @@ impl<'a, S: AsSlice<u8> + Drop> LookupResult<'a, S> {
         let prefix = self.prefix as u8;
         let masked = mask_ip(self.address.address(), prefix);
         Ok(IpNetwork::new(masked, prefix)?)
+    }
+
+    /// The numbers of the network that `network` gives, for programs that reckon with many.
+    #[inline(always)]
+    pub fn numbered_network(&self) -> NumberedNetwork
+        ensures kind { nat_eq result.width 32 ≡ shown_as_ipv4 self.now }
+        ensures leaf { let db = database_asked self.now in
+            numbered_block db result.width result.first result.prefix ≡ leaf_of self.now }
+        ensures masked { HasZerosAfter result.width result.prefix result.first }
+        ensures within { (result.prefix ≤ result.width) × (result.width ≤ 128) }
+    {
+        let NumberedAddress { bits, width } = self.address;
+        NumberedNetwork {
+            first: without_last(bits, width - self.prefix),
+            width,
+            prefix: self.prefix,
+        }
     }
 }

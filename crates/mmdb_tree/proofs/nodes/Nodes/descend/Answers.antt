@@ -12,9 +12,11 @@ loop-taken-preserved c =
     let width = c.args.width in
     let address = c.args.address in
     let more : c.loop-taken.taken < width = omega arith in
-    let len = length-bits_of width address in
-    (Walks-more _ _ _ _ _ _ c.loop-taken.invariant.0 (omega arith) c.if-number-self.false
-    (c.child-number.ensures.value ∙ step-child _ _ _ c.if-number-self.false ∙ ap (child c.args.self.now.bytes.now c.args.self.now.record_size c.loop-taken.number) (sym (get_or-bits_of width address c.loop-taken.taken _ more))), λ _. c.child-number.ensures.bound)
+    let len = length-bits_of width address in (
+      Walks-more _ _ _ _ _ _ c.loop-taken.invariant.0 (omega arith) c.if-number-self.false
+          (c.child-number.ensures.value ∙ step-child _ _ _ c.if-number-self.false ∙ ap (child c.args.self.now.bytes.now c.args.self.now.record_size c.loop-taken.number) (sym (get_or-bits_of width address c.loop-taken.taken _ more))),
+      λ _. c.child-number.ensures.bound,
+    )
 
 pub returns-clause-reached : goal.returns-clause-reached
 returns-clause-reached c =
