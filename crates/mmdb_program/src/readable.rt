@@ -10,7 +10,6 @@ use std::alloc::{AllocError, Global};
 /// Reads records of one database.
 #[derive(Drop)]
 pub(crate) struct RecordReader {
-    alloc: Global,
     known: KnownMaps,
     /// What may still be read of a record.
     allowance: Allowance,
@@ -20,7 +19,6 @@ impl RecordReader {
     /// Of a database of which nothing was read.
     pub(crate) fn new(alloc: Global) -> Result<RecordReader, AllocError> {
         Ok(RecordReader {
-            alloc,
             known: KnownMaps::new(alloc)?,
             allowance: Allowance::whole(),
         })
@@ -40,24 +38,13 @@ impl RecordReader {
         }
     }
 
-    fn reads_bytes(&mut self, d: &mut Decoder<'_>) -> bool {
-        match d.read_bytes(self.alloc) {
-            Ok(bytes) => self.allowance.takes(bytes.len()),
-            Err(_) => false,
-        }
-    }
-
-    // Reads a number or a truth value of a kind.
+    // Reads a number or a truth value of a kind that records mostly have. Of the others it is not seen that they can be read.
     fn reads_scalar(&self, d: &mut Decoder<'_>, kind: Kind) -> bool {
         match kind {
             Kind::U16 => d.try_u16().is_ok(),
             Kind::U32 => d.try_u32().is_ok(),
             Kind::Bool => d.try_bool().is_ok(),
             Kind::Double => d.try_double().is_ok(),
-            Kind::U64 => d.read_u64(self.alloc).is_ok(),
-            Kind::U128 => d.read_u128(self.alloc).is_ok(),
-            Kind::I32 => d.read_i32(self.alloc).is_ok(),
-            Kind::Float => d.read_float(self.alloc).is_ok(),
             _ => false,
         }
     }
@@ -72,7 +59,6 @@ impl RecordReader {
             Some(Kind::Map) => self.reads_map(d, depth),
             Some(Kind::Array) => self.reads_array(d, depth),
             Some(Kind::Text) => self.reads_text(d),
-            Some(Kind::Bytes) => self.reads_bytes(d),
             Some(kind) => self.reads_scalar(d, kind),
             None => false,
         }

@@ -1,5 +1,5 @@
 //! The files of these tests, and what they answer, as text.
-use mmdb_reader::{LookupResult, MaxMindDbError, Reader};
+use mmdb_reader::{IpNetwork, LookupResult, MaxMindDbError, NumberedNetwork, Reader};
 use mmdb_vectors::answer::{reported, shown};
 use mmdb_vectors::base::{high, low};
 use mmdb_vectors::builder::{
@@ -68,13 +68,26 @@ fn line_of(
     format!(in alloc; "{network} {has_data} {offset:?}")
 }
 
-// The full text of the network that was found, whether there is data, and their offset.
+// Whether these are a network's numbers.
+fn are_numbers_of(network: IpNetwork, numbers: NumberedNetwork) -> bool {
+    let (first, width) = match network.ip() {
+        IpAddr::V4(address) => (u128::from(address.to_bits()), 32),
+        IpAddr::V6(address) => (address.to_bits(), 128),
+    };
+    let is_first = numbers.first == first && numbers.width == width;
+    is_first && numbers.prefix == usize::from(network.prefix())
+}
+
+// The full text of the network that was found, whether there is data, and their offset. Its numbers have to agree.
 fn text_of<S: AsSlice<u8> + Drop>(
     alloc: Global,
     found: LookupResult<'_, S>,
 ) -> Result<String, AllocError> {
     let (has_data, offset) = (found.has_data(), found.offset());
     match found.network() {
+        Ok(network) if !are_numbers_of(network, found.numbered_network()) => {
+            String::from_str(alloc, "other numbers")
+        }
         Ok(network) => line_of(alloc, network.full_text(alloc), has_data, offset),
         Err(error) => reported(alloc, Err::<(), _>(error)),
     }
