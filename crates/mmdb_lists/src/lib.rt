@@ -11,5 +11,5 @@ mod syntax;
 pub use choice::Choice;
 pub use condition::{Condition, Wanted, split_condition};
 pub use kind::{Kind, Kinds};
-pub use list::{List, ListError};
+pub use list::{List, ListError, Taken};
 pub use syntax::{Syntax, is_set_name};

@@ -29,6 +29,17 @@ impl From<IpNetworkError> for ListError {
     }
 }
 
+/// What became of a network that a list was given.
+#[derive(Clone, Copy, PartialEq, Eq)]
+pub enum Taken {
+    /// It is of the list, and nothing is to be written.
+    Whole,
+    /// It is of the list, and blocks are to be written that nothing can join any more.
+    Settled,
+    /// It is not taken: `push` takes it, or says why not.
+    Not,
+}
+
 /// A list of networks, of which IPv4 and IPv6 networks are joined apart. Networks are pushed in ascending order, those of
 /// a kind together.
 #[derive(Drop)]
@@ -137,8 +148,7 @@ impl<'a> List<'a> {
         Ok(())
     }
 
-    // Writes the blocks that nothing can join any more.
-    #[inline(never)]
+    // Writes the blocks of a kind that nothing can join any more.
     fn put_settled<O: Write>(&mut self, kind: Kind, out: &mut O) -> Result<(), ListError> {
         for index in 0..self.joiner.settled().len() {
             if let Some(block) = self.joiner.settled().get(index) {
@@ -161,7 +171,6 @@ impl<'a> List<'a> {
     }
 
     // Writes what is left of the kind before, where there was one.
-    #[inline(always)]
     fn change_to<O: Write>(&mut self, kind: Kind, out: &mut O) -> Result<(), ListError> {
         if let Some(before) = self.kind {
             if before != kind {
@@ -172,8 +181,29 @@ impl<'a> List<'a> {
         Ok(())
     }
 
-    /// Takes the next network, if its kind is wanted, and writes those that nothing can join any more.
+    /// Takes the next network, if it is of the kind of the last one, and writes nothing.
     #[inline(always)]
+    pub fn take(&mut self, network: NumberedNetwork) -> Taken {
+        if self.kind != Some(Kind::of(network)) {
+            return Taken::Not;
+        }
+        match self.joiner.push(block_of(network)) {
+            Ok(()) if self.joiner.settled().is_empty() => Taken::Whole,
+            Ok(()) => Taken::Settled,
+            Err(_) => Taken::Not,
+        }
+    }
+
+    /// Writes the blocks that nothing can join any more.
+    #[inline(never)]
+    pub fn write_settled<O: Write>(&mut self, out: &mut O) -> Result<(), ListError> {
+        match self.kind {
+            Some(kind) => self.put_settled(kind, out),
+            None => Ok(()),
+        }
+    }
+
+    /// Takes the next network, if its kind is wanted, and writes those that nothing can join any more.
     pub fn push<O: Write>(
         &mut self,
         network: NumberedNetwork,
@@ -184,10 +214,10 @@ impl<'a> List<'a> {
             return Ok(());
         }
         self.change_to(kind, out)?;
-        match self.joiner.push(block_of(network)) {
-            Ok(()) if self.joiner.settled().is_empty() => Ok(()),
-            Ok(()) => self.put_settled(kind, out),
-            Err(_) => Err(ListError::OutOfOrder),
+        match self.take(network) {
+            Taken::Whole => Ok(()),
+            Taken::Settled => self.put_settled(kind, out),
+            Taken::Not => Err(ListError::OutOfOrder),
         }
     }
 

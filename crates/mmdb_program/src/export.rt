@@ -3,7 +3,7 @@ use crate::database::{Database, Found, Networks};
 use crate::error::ProgramError;
 use crate::layout::Layout;
 use crate::output::{Console, put};
-use mmdb_lists::{Choice, Kind, Kinds, List};
+use mmdb_lists::{Choice, Kind, Kinds, List, Taken};
 use mmdb_reader::{IpNetwork, MaxMindDbError, NumberedNetwork, WithinOptions};
 use std::alloc::{AllocError, Global};
 use std::io::Write;
@@ -184,6 +184,24 @@ impl Writing<'_> {
             Writing::List(list) => Ok(list.push(network, out)?),
         }
     }
+
+    // Takes a chosen network into a list, where nothing is to be written before it.
+    #[inline(always)]
+    fn take(&mut self, network: NumberedNetwork) -> Taken {
+        match self {
+            Writing::Rows(_) => Taken::Not,
+            Writing::List(list) => list.take(network),
+        }
+    }
+
+    // Writes what a list has for it.
+    #[inline(never)]
+    fn write_settled<O: Write>(&mut self, out: &mut O) -> Result<(), ProgramError> {
+        match self {
+            Writing::Rows(_) => Ok(()),
+            Writing::List(list) => Ok(list.write_settled(out)?),
+        }
+    }
 }
 
 /// An export of the chosen networks.
@@ -257,7 +275,6 @@ impl<'a, 'r> Export<'a, 'r> {
     }
 
     // Reports a network that is not named and can't be read.
-    #[inline(never)]
     fn report_next<O: Write, E: Write>(
         &mut self,
         error: &MaxMindDbError,
@@ -297,6 +314,29 @@ impl<'a, 'r> Export<'a, 'r> {
         all
     }
 
+    // Takes a network that waits into a list, where it is known to be chosen and nothing is to be written before it. Most
+    // chosen networks of a list go this way, which has no error to make.
+    #[inline(always)]
+    fn take_chosen(&mut self, index: usize, kept: Option<bool>) -> Taken {
+        match self.waiting.get(index) {
+            Some(found) if kept == Some(true) => self.writing.take(found.numbered_network()),
+            _ => Taken::Not,
+        }
+    }
+
+    // Writes a network that waits, if it is chosen, or reports why it can't be.
+    fn write_waiting_at<O: Write, E: Write>(
+        &mut self,
+        index: usize,
+        kept: Option<bool>,
+        console: &mut Console<'_, O, E>,
+    ) -> Result<(), ProgramError> {
+        match self.waiting.get(index).copied() {
+            Some(found) => self.write_found(&found, kept, console),
+            None => Ok(()),
+        }
+    }
+
     // Writes the networks that wait, as far as they are chosen, or reports why they can't be.
     #[inline(never)]
     fn write_waiting<O: Write, E: Write>(
@@ -307,10 +347,11 @@ impl<'a, 'r> Export<'a, 'r> {
             if *kept == Some(false) {
                 continue;
             }
-            let Some(found) = self.waiting.get(index).copied() else {
-                break;
-            };
-            self.write_found(&found, *kept, console)?;
+            match self.take_chosen(index, *kept) {
+                Taken::Whole => {}
+                Taken::Settled => self.writing.write_settled(console.out)?,
+                Taken::Not => self.write_waiting_at(index, *kept, console)?,
+            }
         }
         if let Some(found) = self.waiting.last() {
             self.last = Some(*found);
@@ -319,25 +360,29 @@ impl<'a, 'r> Export<'a, 'r> {
         Ok(())
     }
 
-    /// Writes an item of a list of networks, if it is chosen, or reports why it can't be. Some items wait for others.
+    /// Writes what was found in a network, if it is chosen, or reports why it can't be. Some networks wait for others.
+    #[inline(always)]
     pub(crate) fn write<O: Write, E: Write>(
         &mut self,
-        item: &Result<Found<'r>, MaxMindDbError>,
+        found: Found<'r>,
         console: &mut Console<'_, O, E>,
     ) -> Result<(), ProgramError> {
-        match item {
-            Ok(found) => {
-                self.waiting.push(*found)?;
-                if self.waiting.len() < MOST_WAITING {
-                    return Ok(());
-                }
-                self.write_waiting(console)
-            }
-            Err(error) => {
-                self.write_waiting(console)?;
-                self.report_next(error, console)
-            }
+        self.waiting.push(found)?;
+        if self.waiting.len() < MOST_WAITING {
+            return Ok(());
         }
+        self.write_waiting(console)
+    }
+
+    /// Reports a network that can't be read, behind those that wait.
+    #[inline(never)]
+    pub(crate) fn write_unread<O: Write, E: Write>(
+        &mut self,
+        error: MaxMindDbError,
+        console: &mut Console<'_, O, E>,
+    ) -> Result<(), ProgramError> {
+        self.write_waiting(console)?;
+        self.report_next(&error, console)
     }
 
     /// Writes what waits, and what stands behind the last network.

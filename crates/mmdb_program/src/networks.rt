@@ -41,9 +41,10 @@ fn export_all<'r, O: Write, E: Write>(
     console: &mut Console<'_, O, E>,
 ) -> Result<(), ProgramError> {
     for item in networks {
-        let written = export.write(&item, console);
-        drop(item);
-        written?;
+        match item {
+            Ok(found) => export.write(found, console)?,
+            Err(error) => export.write_unread(error, console)?,
+        }
     }
     export.finish(console)
 }
