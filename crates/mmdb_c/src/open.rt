@@ -1,15 +1,35 @@
 //! Opening a database over bytes that C holds, and whether a file is whole.
-ghost use Rattle.std.specs.Prelude.{◌≡◌, ◌≢◌, length, OnOk, IfErr};
+ghost use Rattle.std.specs.Prelude.{◌≡◌, ◌≢◌, ℕ, List, length, OnOk, IfErr};
 ghost use Rattle.mmdb_format.specs.Error.{MemoryApart};
 ghost use Rattle.mmdb_reader.specs.Source.{IsNoDatabase};
-ghost use Rattle.mmdb_c.specs.Opened.{HasDatabase, IsOpened, IsOfFile, IsWholeFile};
+ghost use Rattle.mmdb_reader.specs.Kept.{IsLayoutOf, database_of};
+ghost use Rattle.mmdb_c.specs.Opened.{HasDatabase, IsOf, IsOpened, IsOfFile, IsWholeFile};
 
 use crate::db::Facts;
 use crate::status::{FOUND, code_of};
 use mmdb_reader::laws::source_decides;
 use mmdb_reader::reader::Reader;
-use mmdb_reader::{Entry, MaxMindDbError};
+use mmdb_reader::{Entry, Layout, MaxMindDbError};
 use std::alloc::Global;
+
+// The numbers of a database.
+fn facts_of(layout: &Layout) -> Facts
+    ensures { (file : List ℕ) → IsLayoutOf file layout.now → IsOf (database_of file layout.now) result }
+{
+    let metadata = &layout.metadata;
+    Facts {
+        node_count: metadata.node_count as usize,
+        ipv4_start: layout.ipv4_start,
+        data_start: layout.data_start,
+        marker: layout.marker,
+        build_epoch: metadata.build_epoch,
+        record_size: metadata.record_size,
+        ip_version: metadata.ip_version,
+        major_version: metadata.binary_format_major_version,
+        minor_version: metadata.binary_format_minor_version,
+        ipv4_depth: layout.ipv4_depth,
+    }
+}
 
 /// Opens the database that the bytes of a file are: fills the tables and writes its numbers.
 ///
@@ -32,31 +52,19 @@ pub extern "C" fn mmdb_c_open(
     ensures is_of { result ≡ 0 → IsOfFile file.now facts.new }
     ensures opened { result ≡ 0 → IsOpened file.now facts.new ipv4_table.new ipv6_table.new }
 {
-    let reader = match Reader::from_source(alloc, file) {
-        Ok(reader) => reader,
+    let layout = match Layout::of(alloc, file) {
+        Ok(layout) => layout,
         Err(error) => return code_of(&error),
     };
     source_decides();
-    let metadata = reader.metadata();
-    let kept = reader.kept();
-    *facts = Facts {
-        node_count: metadata.node_count as usize,
-        ipv4_start: kept.ipv4_start,
-        data_start: kept.data_start,
-        marker: kept.marker,
-        build_epoch: metadata.build_epoch,
-        record_size: metadata.record_size,
-        ip_version: metadata.ip_version,
-        major_version: metadata.binary_format_major_version,
-        minor_version: metadata.binary_format_minor_version,
-        ipv4_depth: kept.ipv4_depth,
-    };
-    if kept.ipv4_start < metadata.node_count as usize {
-        ipv4_table.copy_from_slice(kept.ipv4_table);
+    let nodes = layout.nodes(file);
+    if layout.ipv4_start < nodes.node_count {
+        nodes.fill_table(ipv4_table, layout.ipv4_start);
     }
-    if metadata.ip_version == 6 {
-        ipv6_table.copy_from_slice(kept.ipv6_table);
+    if layout.metadata.ip_version == 6 {
+        nodes.fill_table(ipv6_table, 0);
     }
+    *facts = facts_of(&layout);
     FOUND
 }
 

@@ -3,6 +3,7 @@
 
 mod decode_path;
 mod go_along;
+pub mod layout;
 pub mod laws;
 mod lookup_many;
 mod lookup_result;
@@ -22,6 +23,7 @@ mod verify;
 mod walked;
 mod within;
 
+pub use layout::Layout;
 pub use lookup_many::LookupMany;
 pub use lookup_result::{LookupResult, NumberedNetwork};
 pub use metadata::Metadata;
@@ -38,7 +40,7 @@ pub use mmdb_value::{
 };
 pub use options::WithinOptions;
 pub use path::{PathElement, render_path};
-pub use reader::{Kept, Reader};
+pub use reader::Reader;
 pub use sections::Sections;
 pub use steps::Steps;
 pub use within::Within;

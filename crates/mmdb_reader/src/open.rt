@@ -1,34 +1,17 @@
 //! Readers from the bytes of a file.
-ghost use Rattle.std.specs.Prelude.{◌≡◌, ◌⊎◌, false, Some, IfOk, IfErr, IfSome};
+ghost use Rattle.std.specs.Prelude.{◌≡◌, ◌⊎◌, IfOk, IfErr, IfSome};
 ghost use Rattle.mmdb_format.specs.Error.{OfIo, OfMemory, kind_of, MemoryApart};
-ghost use Rattle.mmdb_decode.specs.Errors.{Fails};
-ghost use Rattle.mmdb_reader.specs.Metadata.{metadata_datum};
-ghost use Rattle.mmdb_reader.specs.Source.{metadata_read, IsDatabaseOf, IsNoDatabase};
+ghost use Rattle.mmdb_reader.specs.Source.{IsDatabaseOf, IsNoDatabase};
 
-use crate::marker::{MARKER, find_marker};
-use crate::metadata::Metadata;
-use crate::offsets::counted_from_start;
+use crate::layout::Layout;
 use crate::reader::Reader;
-use mmdb_format::error::{DecodeResult, MaxMindDbError};
-use mmdb_format::message::{Message, Text};
-use mmdb_record::fuzzing;
+use mmdb_format::error::MaxMindDbError;
 use std::alloc::Global;
 use std::convert::AsSlice;
 use std::fs::{File, OpenFile};
 use std::io::{self, Read};
 use std::path::AsPath;
 use std::rt::Files;
-
-// What stands at the beginning of a metadata section, which begins at a place of its file.
-fn read_metadata(alloc: Global, section: &[u8], start: usize) -> DecodeResult<Metadata>
-    ensures ok { IfOk result (λ m. metadata_read section.now ≡ Some (metadata_datum m)) }
-    ensures err { IfErr result (λ e. Fails false e (metadata_read section.now)) }
-{
-    match fuzzing::decode::<Metadata>(alloc, section) {
-        Ok(metadata) => Ok(metadata),
-        Err(error) => Err(counted_from_start(error, start)),
-    }
-}
 
 // All bytes that are left in a file, for which memory is taken at once where it is known how many there
 // are.
@@ -68,16 +51,8 @@ impl<S: AsSlice<u8> + Drop> Reader<S> {
         ensures accepted { IfOk result (λ reader. IsDatabaseOf (S.items buf) reader) }
         ensures rejected { IfErr result (λ e. MemoryApart e (IsNoDatabase (S.items buf))) }
     {
-        let bytes = buf.as_slice();
-        let Some(marker) = find_marker(bytes) else {
-            return Err(MaxMindDbError::InvalidDatabase {
-                message: Message::Fixed(Text::NoMarker),
-                offset: None,
-            });
-        };
-        let start = marker + MARKER.len();
-        let metadata = read_metadata(alloc, &bytes[start..], start)?;
-        Reader::from_parts(alloc, buf, marker, metadata)
+        let layout = Layout::of(alloc, buf.as_slice())?;
+        Ok(Reader::from_layout(alloc, buf, layout)?)
     }
 }
 

@@ -4,6 +4,7 @@ ghost use Rattle.mmdb_format.specs.Error.{OfDatabase, OfInput, kind_of, MemoryAp
 ghost use Rattle.mmdb_reader.specs.Metadata.{metadata_datum};
 ghost use Rattle.mmdb_reader.specs.File.{database, IsSupported, HasRoom, data_start, data_length, data_section, marker_bytes, metadata_section, separator, tree_len};
 
+use crate::layout::Layout;
 use crate::lookup_result::{LookupResult, NumberedAddress};
 use crate::marker::MARKER;
 use crate::metadata::Metadata;
@@ -11,7 +12,7 @@ use crate::steps::Steps;
 use mmdb_format::error::MaxMindDbError;
 use mmdb_format::message::{Message, Text};
 use mmdb_tree::{Entry, Nodes, SEPARATOR, TreeRecord};
-use std::alloc::Global;
+use std::alloc::{AllocError, Global};
 use std::convert::AsSlice;
 use std::marker::Model;
 use std::net::IpAddr;
@@ -25,18 +26,6 @@ pub(crate) struct Leaf {
     pub(crate) ghost is_width: { nat_eq address.width 32 ≡ false → address.width ≡ 128 },
     pub(crate) ghost fits: { address.bits < 2 ^ address.width },
     pub(crate) ghost is_prefix: { prefix ≤ address.width },
-}
-
-/// What a reader keeps beside its source: where the parts of the file begin, where IPv4 begins in the
-/// tree and after how many bits, and where the first sixteen bits of addresses lead.
-#[derive(Clone, Copy)]
-pub struct Kept<'a> {
-    pub data_start: usize,
-    pub marker: usize,
-    pub ipv4_start: usize,
-    pub ipv4_depth: u8,
-    pub ipv4_table: &'a [Entry],
-    pub ipv6_table: &'a [Entry],
 }
 
 /// A database over the bytes that a source holds or lends.
@@ -74,7 +63,7 @@ impl<S: AsSlice<u8> + Drop> Model for Reader<S> {
 impl<S: AsSlice<u8> + Drop> Reader<S> {
     ghost use Rattle.mmdb_reader.specs.Found.{database_asked, leaf_of, offset_found, shown_as_ipv4};
     ghost use Rattle.mmdb_reader.specs.Counting.{CountsAnswer, CountsNodes};
-    ghost use Rattle.mmdb_reader.specs.Kept.{IsReader};
+    ghost use Rattle.mmdb_reader.specs.Kept.{IsLayoutOf, database_of};
     ghost use Rattle.mmdb_reader.specs.Lookup.{CanAsk, Answers, IsInvalidAt, outcome_of, outcome_at, record_at};
     ghost use Rattle.mmdb_reader.specs.Working.{IsLeafAt, IsLookup, block_of};
     ghost use Rattle.mmdb_reader.specs.Shown.{is_shown_as_ipv4, has_ipv4_subtree, ipv4_start};
@@ -82,53 +71,31 @@ impl<S: AsSlice<u8> + Drop> Reader<S> {
     ghost use Rattle.mmdb_tree.specs.declared.record.TreeRecord.TheVariants.{Invalid};
     ghost use Rattle.mmdb_reader.specs.File.{tree_of, width, data_section};
 
-    /// A reader of a source whose marker stands at this place, and whose metadata are these.
-    pub(crate) fn from_parts(
+    // A reader of a source with this layout.
+    pub(crate) fn from_layout(
         alloc: Global,
         source: S,
-        marker: usize,
-        metadata: Metadata,
-    ) -> Result<Reader<S>, MaxMindDbError>
-        requires within { marker + length marker_bytes ≤ length (S.items source) }
-        ensures reader { IfOk result
-            (λ r. r ≡ database (S.items source) marker (metadata_datum metadata)) }
-        ensures supported { OnOk result (IsSupported (metadata_datum metadata)) }
-        ensures room { OnOk result
-            (HasRoom (database (S.items source) marker (metadata_datum metadata))) }
-        ensures rejected { let db = database (S.items source) marker (metadata_datum metadata) in
-            IfErr result (λ e. MemoryApart e ((kind_of e ≡ OfDatabase)
-            × ¬ (IsSupported db.metadata × HasRoom db))) }
+        layout: Layout,
+    ) -> Result<Reader<S>, AllocError>
+        requires { IsLayoutOf (S.items source) layout }
+        ensures { IfOk result (λ r. r ≡ database_of (S.items source) layout) }
     {
-        metadata.check_supported(alloc)?;
-        let node_count = metadata.node_count as usize;
-        let data_start = node_count * (metadata.record_size as usize / 4) + SEPARATOR;
-        if data_start > marker {
-            return Err(MaxMindDbError::InvalidDatabase {
-                message: Message::Fixed(Text::TreeTooLarge),
-                offset: None,
-            });
-        }
-        let nodes = Nodes {
-            bytes: source.as_slice(),
-            node_count,
-            record_size: metadata.record_size,
-        };
-        let start = nodes.ipv4_start(metadata.ip_version);
-        let ipv4_table = nodes.table(alloc, start.number)?;
-        let ipv6_table = if metadata.ip_version == 6 {
+        let nodes = layout.nodes(source.as_slice());
+        let ipv4_table = nodes.table(alloc, layout.ipv4_start)?;
+        let ipv6_table = if layout.metadata.ip_version == 6 {
             nodes.table(alloc, 0)?
         } else {
             Vec::new(alloc)
         };
         Ok(Reader {
             source,
-            marker,
-            metadata,
-            data_start,
-            ipv4_start: start.number,
-            ipv4_depth: start.taken as u8,
+            marker: layout.marker,
+            data_start: layout.data_start,
+            ipv4_start: layout.ipv4_start,
+            ipv4_depth: layout.ipv4_depth,
             ipv4_table,
             ipv6_table,
+            metadata: layout.metadata,
         })
     }
 
@@ -137,22 +104,6 @@ impl<S: AsSlice<u8> + Drop> Reader<S> {
         ensures { metadata_datum result.now ≡ self.now.metadata }
     {
         &self.metadata
-    }
-
-    /// What it keeps beside its source, for lookups in the same bytes without a reader.
-    pub fn kept(&self) -> Kept<'_>
-        ensures marker { result.marker ≡ self.now.marker }
-        ensures kept { IsReader self.now result.data_start result.ipv4_start result.ipv4_depth
-            result.ipv4_table.now result.ipv6_table.now }
-    {
-        Kept {
-            data_start: self.data_start,
-            marker: self.marker,
-            ipv4_start: self.ipv4_start,
-            ipv4_depth: self.ipv4_depth,
-            ipv4_table: &self.ipv4_table,
-            ipv6_table: &self.ipv6_table,
-        }
     }
 
     // Where the data section begins.

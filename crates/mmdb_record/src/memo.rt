@@ -6,7 +6,7 @@ ghost use Rattle.mmdb_record.specs.Memos.{IsPlaceOf};
 ghost use Rattle.mmdb_record.specs.Tables.{data_of, record_of};
 ghost use Rattle.mmdb_record.specs.TableReads.{TakesPart};
 
-use crate::fields::{Fields, read_part, read_part_into};
+use crate::fields::{Fields, read_part_into};
 use mmdb_decode::decoder::Decoder;
 use mmdb_decode::failed::Failed;
 use std::alloc::Global;
@@ -20,6 +20,7 @@ pub struct Place<'de> {
 }
 
 /// Reads a part as `read_part` does, and notes where its pairs stand.
+#[inline(never)]
 pub fn read_part_noting<'de, R: Fields<'de>>(
     alloc: Global,
     d: &mut Decoder<'de>,
@@ -61,7 +62,8 @@ fn reuse<'de, R: Fields<'de>>(d: &mut Decoder<'de>, known: &R, place: &Option<Pl
     true
 }
 
-/// Reads a part as `read_part` does, or takes a known one whose pairs are the same.
+/// Reads a part as `read_part` does, or takes a known one whose pairs are the same. Both ways read by one function.
+#[inline(always)]
 pub fn read_part_or_reuse<'de, R: Fields<'de> + Copy>(
     alloc: Global,
     d: &mut Decoder<'de>,
@@ -81,5 +83,5 @@ pub fn read_part_or_reuse<'de, R: Fields<'de> + Copy>(
         *met = true;
         return Ok(());
     }
-    read_part(alloc, d, name, met, part)
+    read_part_noting(alloc, d, name, met, part, &mut None)
 }

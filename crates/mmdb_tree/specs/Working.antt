@@ -35,11 +35,11 @@ pub record Appends (tree : SearchTree) (width taken number : ℕ) (old new : Lis
 abbrev pub Follows : SearchTree → ℕ → Bool → Entry → Entry → Type 0
 Follows tree width bit old new = (start : ℕ) (bits : List Bool) → length bits ≡ width → Descends tree start bits old.taken old.number → Descends tree start (bits ++ (bit ∷ [])) new.taken new.number
 
--- One entry for each string of so many bits, in the order of the numbers that they give: where the walk from `start`
--- along it ends, and after how many bits.
-pub record IsLevel (tree : SearchTree) (start width : ℕ) (entries : List Entry) : Type 0 where
-  pub size : length entries ≡ 2 ^ width
-  pub each : (i : ℕ) (d : Entry) → i < 2 ^ width → Descends tree start (bits_of width i) (slice_index_or entries i d).taken (slice_index_or entries i d).number
+-- The first entries are one for each string of so many bits, in the order of the numbers that they give: where the walk
+-- from `start` along it ends, and after how many bits.
+abbrev pub HasLevel : SearchTree → ℕ → ℕ → List Entry → Type 0
+HasLevel tree start width entries =
+    (i : ℕ) (d : Entry) → i < 2 ^ width → Descends tree start (bits_of width i) (slice_index_or entries i d).taken (slice_index_or entries i d).number
 
 -- A walk along these bits that had come to the old place has come to the new one, wherever it began.
 abbrev pub WalksOn : SearchTree → List Bool → FoundLeaf → FoundLeaf → Type 0

@@ -1,10 +1,9 @@
 //! Tables of the first sixteen bits of addresses.
-ghost use Rattle.std.specs.Prelude.{◌≡◌, ℕ, ◌+◌, ◌-◌, ◌^◌, ◌<◌, ◌≤◌, [], IfOk, length};
+ghost use Rattle.std.specs.Prelude.{◌≡◌, ℕ, ◌+◌, ◌-◌, ◌^◌, ◌<◌, ◌≤◌, IfOk, length};
 ghost use Rattle.std.specs.Vec.{vec_len, vec_capacity};
 
 use crate::nodes::{Descent, Nodes};
 use std::alloc::{AllocError, Global};
-use std::mem;
 
 /// How many bits of an address a table is for.
 const TABLE_BITS: u8 = 16;
@@ -21,7 +20,7 @@ pub struct Entry {
 impl Nodes<'_> {
     ghost use Rattle.mmdb_tree.specs.Nodes.{tree_in, EndsByTable, ReadsByTable};
     ghost use Rattle.mmdb_tree.specs.Table.{IsFull, IsTable};
-    ghost use Rattle.mmdb_tree.specs.Working.{Appends, Follows, IsLevel};
+    ghost use Rattle.mmdb_tree.specs.Working.{Appends, Follows, HasLevel};
     ghost use Rattle.mmdb_net.specs.Bits.{bits_of};
 
     // Appends an entry for each string of the last `left` of the sixteen bits, where the bits before them
@@ -68,42 +67,55 @@ impl Nodes<'_> {
         }
     }
 
-    // Appends the entries of strings of one bit more, both halves for each. No read waits for another.
-    fn push_level(&self, level: &[Entry], next: &mut Vec<Entry>, taken: u8)
+    // Has the first entries for strings of one bit more, from the last back: both halves of an entry stand where no
+    // entry is that is still to be read. No read waits for another.
+    fn spread_level(&self, table: &mut [Entry], taken: u8)
         requires taken { taken < 16 }
-        requires few { length level.now ≤ 32768 }
+        requires size { length table.old ≡ 65536 }
         requires node_count { self.now.node_count < 2 ^ 32 }
-        requires empty { next.old.items ≡ [] }
-        requires room { 65536 ≤ vec_capacity next.old }
-        ensures level { (start : ℕ) → IsLevel (tree_in self.now) start taken level.now
-            → IsLevel (tree_in self.now) start (taken + 1) next.new.items }
-        ensures capacity { vec_capacity next.new ≡ vec_capacity next.old }
+        ensures level { (start : ℕ) → HasLevel (tree_in self.now) start taken table.old
+            → HasLevel (tree_in self.now) start (taken + 1) table.new }
+        ensures size { length table.new ≡ 65536 }
     {
-        for i in 0..level.len() {
-            let entry = level[i];
-            next.push_reserved(self.follow(entry, false, taken));
-            next.push_reserved(self.follow(entry, true, taken));
+        let mut left = 1usize << taken;
+        while left > 0 {
+            left -= 1;
+            let entry = table[left];
+            table[2 * left] = self.follow(entry, false, taken);
+            table[2 * left + 1] = self.follow(entry, true, taken);
         }
     }
 
-    // Makes the table a level of the tree at a time, of the level before.
+    /// Fills a table of the walks that begin at a node: an entry for each string of sixteen bits, in the order of the
+    /// numbers that they give. It is made in place, a level of the tree at a time.
+    pub fn fill_table(&self, table: &mut [Entry], start: usize)
+        requires size { length table.old ≡ 65536 }
+        requires start { start < self.now.node_count }
+        requires node_count { self.now.node_count < 2 ^ 32 }
+        ensures { IsFull (tree_in self.now) start table.new }
+    {
+        table[0] = Entry {
+            number: start as u32,
+            taken: 0,
+        };
+        for taken in 0..TABLE_BITS {
+            self.spread_level(table, taken);
+        }
+    }
+
+    // Makes the table a level of the tree at a time.
     fn table_by_levels(&self, alloc: Global, start: usize) -> Result<Vec<Entry>, AllocError>
         requires start { start < self.now.node_count }
         requires node_count { self.now.node_count < 2 ^ 32 }
         ensures { IfOk result (λ table. IsFull (tree_in self.now) start table.items) }
     {
-        let mut level = Vec::with_capacity(alloc, 1 << TABLE_BITS)?;
-        let mut next = Vec::with_capacity(alloc, 1 << TABLE_BITS)?;
-        level.push_reserved(Entry {
-            number: start as u32,
+        let none = Entry {
+            number: 0,
             taken: 0,
-        });
-        for taken in 0..TABLE_BITS {
-            self.push_level(&level, &mut next, taken);
-            mem::swap(&mut level, &mut next);
-            next.clear();
-        }
-        Ok(level)
+        };
+        let mut table = Vec::from_elem(alloc, none, 1 << TABLE_BITS)?;
+        self.fill_table(&mut table, start);
+        Ok(table)
     }
 
     // Makes the table from its first entry to its last.
