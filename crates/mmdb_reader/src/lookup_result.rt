@@ -94,7 +94,8 @@ impl<'a, S: AsSlice<u8> + Drop> Clone for LookupResult<'a, S> {
 #[inline(always)]
 fn without_last(bits: u128, count: usize) -> u128
     requires { count ≤ 128 }
-    ensures { result ≡ bits / 2 ^ count * 2 ^ count }
+    ensures value { result ≡ bits / 2 ^ count * 2 ^ count }
+    ensures bound { result ≤ bits }
 {
     if count < 128 {
         bits >> count << count
@@ -142,6 +143,8 @@ impl<'a, S: AsSlice<u8> + Drop> LookupResult<'a, S> {
             numbered_block db result.width result.first result.prefix ≡ leaf_of self.now }
         ensures masked { HasZerosAfter result.width result.prefix result.first }
         ensures within { (result.prefix ≤ result.width) × (result.width ≤ 128) }
+        ensures is_width { nat_eq result.width 32 ≡ false → result.width ≡ 128 }
+        ensures fits { result.first < 2 ^ result.width }
     {
         let NumberedAddress { bits, width } = self.address;
         NumberedNetwork {
