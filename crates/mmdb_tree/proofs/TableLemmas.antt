@@ -1,7 +1,7 @@
 -- The table of the first sixteen bits of IPv4 addresses.
-use Rattle.std.proofs.Common.{◌≡◌, ℕ, zero, suc, ◌+◌, ◌-◌, ◌*◌, ◌/◌, ◌^◌, ◌<◌, ◌≤◌, ◌⊎◌, ◌≢◌, Bool, true, false, List, [], ◌∷◌, ◌++◌, length, get_or, replicate, refl, ap, arith, sym, ◌∙◌, subst, inl, inr, length-append, append_assoc}
+use Rattle.std.proofs.Common.{◌≡◌, ℕ, zero, suc, ◌+◌, ◌-◌, ◌*◌, ◌/◌, ◌^◌, ◌<◌, ◌≤◌, ◌⊎◌, ◌≢◌, Bool, true, false, List, [], ◌∷◌, ◌++◌, length, get_or, take, replicate, if◌then◌else◌, is_ok, Result, Ok, Err, OnOk, refl, ap, arith, sym, ◌∙◌, subst, inl, inr, length-append, append_assoc}
 use Rattle.std.proofs.lemmas.Bool.{cases_lt}
-use Rattle.std.proofs.lemmas.List.{length-replicate, get_or-replicate, get_or_append_left, get_or-append_right}
+use Rattle.std.proofs.lemmas.List.{take_all, length-replicate, get_or-replicate, get_or_append_left, get_or-append_right}
 use Rattle.mmdb_net.specs.Bits.{bits_of}
 use Rattle.mmdb_net.proofs.BitLaws.{length-bits_of, bits_of-split}
 use Rattle.mmdb_tree.specs.declared.table.Entry.{Entry}
@@ -70,6 +70,14 @@ Appends-end tree width taken number entry old new count ended same_number same_t
   items = is ∙ ap (λ (n : ℕ). old ++ replicate n entry) all;
   entries = HasEntries-end tree width taken number entry ended same_number same_taken;
 }
+
+-- A vector that was filled up to so many entries more has grown by them.
+pub Appends-filled : {E : Type 0} (tree : SearchTree) (width taken number : ℕ) (entry : Entry) (old new : List Entry) (len size added : ℕ) (result : Result (Unit {0}) E) → tree.node_count ≤ number → entry.number ≡ number → entry.taken ≡ taken → added ≡ 2 ^ width → len ≡ length old → size ≡ len + added → new ≡ (if is_ok result then take size old ++ replicate (size - len) entry else old) → OnOk result (Appends tree width taken number old new)
+Appends-filled tree width taken number entry old new len size added (Ok _) off same_number same_taken all same_len grown is =
+    let kept : take size old ≡ old = take_all size old (omega (arith, same_len, grown)) in
+    let filled : size - len ≡ added = omega (arith, grown) in
+    Appends-end tree width taken number entry old new added (inl off) same_number same_taken all (is ∙ (rw (kept, filled) refl))
+Appends-filled tree width taken number entry old new len size added (Err e) off same_number same_taken all same_len grown is = tt
 
 pub Appends-node : (tree : SearchTree) (width taken number : ℕ) (left deep lower upper : ℕ) (old middle new : List Entry) → number < tree.node_count → width ≡ suc left → deep ≡ suc taken → lower ≡ step tree number false → upper ≡ step tree number true → Appends tree left deep lower old middle → Appends tree left deep upper middle new → Appends tree width taken number old new
 Appends-node tree width taken number left deep lower upper old middle new on is_width is_deep is_lower is_upper a b =

@@ -1,5 +1,5 @@
 //! Tables of the first sixteen bits of addresses.
-ghost use Rattle.std.specs.Prelude.{◌≡◌, ℕ, ◌+◌, ◌-◌, ◌^◌, ◌<◌, ◌≤◌, IfOk, length};
+ghost use Rattle.std.specs.Prelude.{◌≡◌, ℕ, ◌+◌, ◌-◌, ◌^◌, ◌<◌, ◌≤◌, IfOk, OnOk, length};
 ghost use Rattle.std.specs.Vec.{vec_len, vec_capacity};
 
 use crate::nodes::{Descent, Nodes};
@@ -26,29 +26,30 @@ impl Nodes<'_> {
     // Appends an entry for each string of the last `left` of the sixteen bits, where the bits before them
     // led to this number. Below a node both halves follow, and below any other number all entries are
     // the same.
-    fn push_entries(&self, table: &mut Vec<Entry>, number: usize, left: u8)
+    fn push_entries(
+        &self,
+        table: &mut Vec<Entry>,
+        number: usize,
+        left: u8,
+    ) -> Result<(), AllocError>
         requires left { left ≤ 16 }
         requires number { number < 2 ^ 32 }
-        requires room { vec_len table.old + 2 ^ left ≤ vec_capacity table.old }
-        ensures entries { let tree = tree_in self.now in
-            Appends tree left (16 - left) number table.old.items table.new.items }
-        ensures len { vec_len table.new ≡ vec_len table.old + 2 ^ left }
-        ensures capacity { vec_capacity table.new ≡ vec_capacity table.old }
+        ensures { OnOk result (Appends (tree_in self.now) left (16 - left) number
+            table.old.items table.new.items) }
     {
-        if left == 0 || number >= self.node_count {
-            let entry = Entry {
-                number: number as u32,
-                taken: TABLE_BITS - left,
-            };
-            for _ in 0..1u32 << left {
-                table.push_reserved(entry);
-            }
-            return;
+        let entry = Entry {
+            number: number as u32,
+            taken: TABLE_BITS - left,
+        };
+        if left == 0 {
+            table.push(entry)?;
+            return Ok(());
         }
-        let lower = self.left(number);
-        let upper = self.right(number);
-        self.push_entries(table, lower, left - 1);
-        self.push_entries(table, upper, left - 1);
+        if number >= self.node_count {
+            return table.resize(table.len() + (1 << left), entry);
+        }
+        self.push_entries(table, self.left(number), left - 1)?;
+        self.push_entries(table, self.right(number), left - 1)
     }
 
     // Where a walk that has come to an entry goes on by a bit. A walk that has left the nodes stays where it is.
@@ -125,7 +126,7 @@ impl Nodes<'_> {
         ensures { IfOk result (λ table. IsFull (tree_in self.now) start table.items) }
     {
         let mut table = Vec::with_capacity(alloc, 1 << TABLE_BITS)?;
-        self.push_entries(&mut table, start, TABLE_BITS);
+        self.push_entries(&mut table, start, TABLE_BITS)?;
         Ok(table)
     }
 
