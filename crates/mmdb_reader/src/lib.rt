@@ -3,8 +3,8 @@
 
 mod decode_path;
 mod go_along;
-pub mod layout;
 pub mod laws;
+pub mod layout;
 mod lookup_many;
 mod lookup_result;
 mod many;
