@@ -1,5 +1,5 @@
 //! Tables of the first sixteen bits of addresses.
-ghost use Rattle.std.specs.Prelude.{◌≡◌, ℕ, ◌+◌, ◌-◌, ◌^◌, ◌<◌, ◌≤◌, IfOk, OnOk, length};
+ghost use Rattle.std.specs.Prelude.{◌≡◌, ℕ, ◌+◌, ◌-◌, ◌^◌, ◌<◌, ◌≤◌, true, false, IfOk, OnOk, length};
 ghost use Rattle.std.specs.Vec.{vec_len, vec_capacity};
 
 use crate::nodes::{Descent, Nodes};
@@ -15,6 +15,16 @@ const TABLE_BITS: u8 = 16;
 pub struct Entry {
     pub number: u32,
     pub taken: u8,
+}
+
+impl Entry {
+    // Made of its parts, and so without the bytes that fill it up.
+    #[inline(always)]
+    fn new(number: u32, taken: u8) -> Entry
+        ensures { (result.number ≡ number) × (result.taken ≡ taken) }
+    {
+        Entry { number, taken }
+    }
 }
 
 impl Nodes<'_> {
@@ -52,24 +62,27 @@ impl Nodes<'_> {
         self.push_entries(table, self.right(number), left - 1)
     }
 
-    // Where a walk that has come to an entry goes on by a bit. A walk that has left the nodes stays where it is.
+    // Where a walk that has come to an entry goes on by a bit of 0, and by one of 1. A walk that has left the nodes stays
+    // where it is.
     #[inline(always)]
-    fn follow(&self, entry: Entry, right: bool, taken: u8) -> Entry
+    fn halves(&self, entry: Entry, taken: u8) -> (Entry, Entry)
         requires { taken < 16 }
-        ensures { Follows (tree_in self.now) taken right entry result }
+        ensures lower { Follows (tree_in self.now) taken false entry result.0 }
+        ensures upper { Follows (tree_in self.now) taken true entry result.1 }
     {
-        let number = entry.number as usize;
-        if number >= self.node_count {
-            return entry;
+        let (number, before) = (entry.number, entry.taken);
+        let node = number as usize;
+        if node >= self.node_count {
+            return (Entry::new(number, before), Entry::new(number, before));
         }
-        Entry {
-            number: self.half(number, right) as u32,
-            taken: taken + 1,
-        }
+        let lower = Entry::new(self.left(node) as u32, taken + 1);
+        let upper = Entry::new(self.right(node) as u32, taken + 1);
+        (lower, upper)
     }
 
     // Has the first entries for strings of one bit more, from the last back: both halves of an entry stand where no
     // entry is that is still to be read. No read waits for another.
+    #[inline(always)]
     fn spread_level(&self, table: &mut [Entry], taken: u8)
         requires taken { taken < 16 }
         requires size { length table.old ≡ 65536 }
@@ -81,15 +94,15 @@ impl Nodes<'_> {
         let mut left = 1usize << taken;
         while left > 0 {
             left -= 1;
-            let entry = table[left];
-            table[2 * left] = self.follow(entry, false, taken);
-            table[2 * left + 1] = self.follow(entry, true, taken);
+            let (lower, upper) = self.halves(table[left], taken);
+            table[2 * left] = lower;
+            table[2 * left + 1] = upper;
         }
     }
 
-    /// Fills a table of the walks that begin at a node: an entry for each string of sixteen bits, in the order of the
-    /// numbers that they give. It is made in place, a level of the tree at a time.
-    pub fn fill_table(&self, table: &mut [Entry], start: usize)
+    // Fills a table over nodes whose size of records is known where it is called.
+    #[inline(always)]
+    fn fill_levels(&self, table: &mut [Entry], start: usize)
         requires size { length table.old ≡ 65536 }
         requires start { start < self.now.node_count }
         requires node_count { self.now.node_count < 2 ^ 32 }
@@ -101,6 +114,21 @@ impl Nodes<'_> {
         };
         for taken in 0..TABLE_BITS {
             self.spread_level(table, taken);
+        }
+    }
+
+    /// Fills a table of the walks that begin at a node: an entry for each string of sixteen bits, in the order of the
+    /// numbers that they give. It is made in place, a level of the tree at a time, by code for each size of records.
+    pub fn fill_table(&self, table: &mut [Entry], start: usize)
+        requires size { length table.old ≡ 65536 }
+        requires start { start < self.now.node_count }
+        requires node_count { self.now.node_count < 2 ^ 32 }
+        ensures { IsFull (tree_in self.now) start table.new }
+    {
+        match self.record_size {
+            24 => self.with_size(24).fill_levels(table, start),
+            28 => self.with_size(28).fill_levels(table, start),
+            _ => self.with_size(32).fill_levels(table, start),
         }
     }
 

@@ -22,7 +22,7 @@ loop-left-preserved c =
     let next : left + 1 ≡ c.loop-left.left = omega (arith, some) in
     let P : ℕ → Type 0 = λ n. IsSpread tree c.args.taken n before table in
     record {
-      spread = IsSpread-both tree c.args.taken left before table _ c.follow.result c.follow-in-loop-left.result (omega (arith, some, few)) (omega (arith, most, size)) (λ d. get_or_default table left d _ inside) (subst P (sym next) spread) c.follow.ensures c.follow-in-loop-left.ensures;
+      spread = IsSpread-both tree c.args.taken left before table _ c.halves.result.0 c.halves.result.1 (omega (arith, some, few)) (omega (arith, most, size)) (λ d. get_or_default table left d _ inside) (subst P (sym next) spread) c.halves.ensures.lower c.halves.ensures.upper;
       few = omega (arith, few);
     }
 

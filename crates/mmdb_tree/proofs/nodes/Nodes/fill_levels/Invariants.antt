@@ -1,7 +1,7 @@
 use Rattle.std.proofs.Common.{◌≡◌, length}
 use Rattle.mmdb_tree.specs.Nodes.{tree_in}
 use Rattle.mmdb_tree.specs.Working.{HasLevel}
-use Rattle.mmdb_tree.proofs.nodes.Nodes.fill_table.Given as goal
+use Rattle.mmdb_tree.proofs.nodes.Nodes.fill_levels.Given as goal
 
 abbrev pub invariant-loop-taken : goal.invariant-loop-taken
 invariant-loop-taken l = record {

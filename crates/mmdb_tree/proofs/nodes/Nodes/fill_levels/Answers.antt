@@ -2,7 +2,7 @@ use Rattle.std.proofs.Common.{arith, refl, ◌∙◌}
 use Rattle.std.proofs.lemmas.List.{length-set}
 use Rattle.mmdb_tree.specs.Nodes.{tree_in}
 use Rattle.mmdb_tree.proofs.LevelLemmas.{HasLevel-first}
-use Rattle.mmdb_tree.proofs.nodes.Nodes.fill_table.Goals as goal
+use Rattle.mmdb_tree.proofs.nodes.Nodes.fill_levels.Goals as goal
 
 pub loop-taken-init : goal.loop-taken-init
 loop-taken-init c =
