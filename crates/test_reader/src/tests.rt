@@ -2,6 +2,7 @@
 mod answers;
 mod files;
 mod interrupted;
+mod layouts;
 mod lookups;
 mod many;
 mod metadata;

@@ -24,8 +24,8 @@ pub enum File {
 /// The base file.
 pub const BASE: File = File::Of(BASE_NODE, BASE_DATA, &[]);
 
-// The bytes of a file.
-fn made(alloc: Global, file: &File) -> Result<Vec<u8>, AllocError> {
+/// The bytes of a file.
+pub fn bytes_of(alloc: Global, file: &File) -> Result<Vec<u8>, AllocError> {
     match file {
         File::Of(nodes, data, changes) => changed_file(alloc, nodes, data, changes),
         File::WithAlias => file_with_alias(alloc),
@@ -49,7 +49,7 @@ fn opened(
 
 /// A reader of a file, or its error.
 pub fn reader_of(alloc: Global, file: &File) -> Result<Reader<Vec<u8>>, MaxMindDbError> {
-    opened(alloc, made(alloc, file))
+    opened(alloc, bytes_of(alloc, file))
 }
 
 /// The address that a text spells. A text that spells none has that of no data.
