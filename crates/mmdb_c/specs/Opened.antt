@@ -87,6 +87,6 @@ pub record HasNoIpv6 (file : List ℕ) : Type 0 where
   pub is : IsDatabaseOf file db
   pub ipv4 : db.metadata.ip_version ≢ 6
 
--- the number that a node of the database has for a bit ("Node Layout")
+-- the number that a node of the database has for a bit ("Node FileLayout")
 abbrev pub IsChild : List ℕ → ℕ → Bool → ℕ → Type 0
 IsChild file node right number = (db : Database) → IsDatabaseOf file db → number ≡ step (tree_of db) node right

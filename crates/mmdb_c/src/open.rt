@@ -9,12 +9,13 @@ use crate::db::Facts;
 use crate::status::{FOUND, code_of};
 use mmdb_reader::laws::source_decides;
 use mmdb_reader::reader::Reader;
-use mmdb_reader::{Entry, Layout, MaxMindDbError};
+use mmdb_reader::{Entry, FileLayout, MaxMindDbError};
 use std::alloc::Global;
 
 // The numbers of a database.
-fn facts_of(layout: &Layout) -> Facts
-    ensures { (file : List ℕ) → IsLayoutOf file layout.now → IsOf (database_of file layout.now) result }
+fn facts_of(layout: &FileLayout) -> Facts
+    ensures { (file : List ℕ) → IsLayoutOf file layout.now
+        → IsOf (database_of file layout.now) result }
 {
     let metadata = &layout.metadata;
     Facts {
@@ -52,7 +53,7 @@ pub extern "C" fn mmdb_c_open(
     ensures is_of { result ≡ 0 → IsOfFile file.now facts.new }
     ensures opened { result ≡ 0 → IsOpened file.now facts.new ipv4_table.new ipv6_table.new }
 {
-    let layout = match Layout::of(alloc, file) {
+    let layout = match FileLayout::of(alloc, file) {
         Ok(layout) => layout,
         Err(error) => return code_of(&error),
     };

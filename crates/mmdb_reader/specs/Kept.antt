@@ -6,24 +6,24 @@ use Rattle.mmdb_tree.specs.Table.{IsTable, IsFull}
 use Rattle.mmdb_reader.specs.File.{Database, database, tree_of, has_ipv6, before_ipv4, data_start, IsAccepted}
 use Rattle.mmdb_reader.specs.Metadata.{metadata_datum}
 use Rattle.mmdb_reader.specs.Source.{IsDatabaseOf}
-use Rattle.mmdb_reader.specs.declared.layout.Layout.{Layout}
+use Rattle.mmdb_reader.specs.declared.file_layout.FileLayout.{FileLayout}
 
 -- the database of the bytes of a file, by the marker and the metadata of a layout
-abbrev pub database_of : List ℕ → Layout → Database
+abbrev pub database_of : List ℕ → FileLayout → Database
 database_of file layout = database file layout.marker (metadata_datum layout.metadata)
 
 -- The layout has where a database's data section begins, and where IPv4 begins in its tree and after how many bits.
-pub record HasPlaces (db : Database) (layout : Layout) : Type 0 where
+pub record HasPlaces (db : Database) (layout : FileLayout) : Type 0 where
   pub section : layout.data_start ≡ data_start db
   pub ipv4 : Descends (tree_of db) 0 (before_ipv4 db) layout.ipv4_depth layout.ipv4_start
 
 -- The file is a database, and the layout is its.
-pub record IsLayoutOf (file : List ℕ) (layout : Layout) : Type 0 where
+pub record IsLayoutOf (file : List ℕ) (layout : FileLayout) : Type 0 where
   pub is : IsDatabaseOf file (database_of file layout)
   pub has : HasPlaces (database_of file layout) layout
 
 -- The layout is that of a database that a reader accepts.
-pub record IsLayout (db : Database) (layout : Layout) : Type 0 where
+pub record IsLayout (db : Database) (layout : FileLayout) : Type 0 where
   pub accepted : IsAccepted db
   pub marker : layout.marker ≡ db.marker
   pub metadata : metadata_datum layout.metadata ≡ db.metadata

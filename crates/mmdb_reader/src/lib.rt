@@ -2,9 +2,9 @@
 #![tactic(auto)]
 
 mod decode_path;
+pub mod file_layout;
 mod go_along;
 pub mod laws;
-pub mod layout;
 mod lookup_many;
 mod lookup_result;
 mod many;
@@ -23,7 +23,7 @@ mod verify;
 mod walked;
 mod within;
 
-pub use layout::Layout;
+pub use file_layout::FileLayout;
 pub use lookup_many::LookupMany;
 pub use lookup_result::{LookupResult, NumberedNetwork};
 pub use metadata::Metadata;

@@ -3,7 +3,7 @@ ghost use Rattle.std.specs.Prelude.{◌≡◌, ◌⊎◌, IfOk, IfErr, IfSome};
 ghost use Rattle.mmdb_format.specs.Error.{OfIo, OfMemory, kind_of, MemoryApart};
 ghost use Rattle.mmdb_reader.specs.Source.{IsDatabaseOf, IsNoDatabase};
 
-use crate::layout::Layout;
+use crate::file_layout::FileLayout;
 use crate::reader::Reader;
 use mmdb_format::error::MaxMindDbError;
 use std::alloc::Global;
@@ -51,7 +51,7 @@ impl<S: AsSlice<u8> + Drop> Reader<S> {
         ensures accepted { IfOk result (λ reader. IsDatabaseOf (S.items buf) reader) }
         ensures rejected { IfErr result (λ e. MemoryApart e (IsNoDatabase (S.items buf))) }
     {
-        let layout = Layout::of(alloc, buf.as_slice())?;
+        let layout = FileLayout::of(alloc, buf.as_slice())?;
         Ok(Reader::from_layout(alloc, buf, layout)?)
     }
 }

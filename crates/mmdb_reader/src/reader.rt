@@ -4,7 +4,7 @@ ghost use Rattle.mmdb_format.specs.Error.{OfDatabase, OfInput, kind_of, MemoryAp
 ghost use Rattle.mmdb_reader.specs.Metadata.{metadata_datum};
 ghost use Rattle.mmdb_reader.specs.File.{database, IsSupported, HasRoom, data_start, data_length, data_section, marker_bytes, metadata_section, separator, tree_len};
 
-use crate::layout::Layout;
+use crate::file_layout::FileLayout;
 use crate::lookup_result::{LookupResult, NumberedAddress};
 use crate::marker::MARKER;
 use crate::metadata::Metadata;
@@ -75,7 +75,7 @@ impl<S: AsSlice<u8> + Drop> Reader<S> {
     pub(crate) fn from_layout(
         alloc: Global,
         source: S,
-        layout: Layout,
+        layout: FileLayout,
     ) -> Result<Reader<S>, AllocError>
         requires { IsLayoutOf (S.items source) layout }
         ensures { IfOk result (λ r. r ≡ database_of (S.items source) layout) }

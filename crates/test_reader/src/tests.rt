@@ -1,8 +1,8 @@
 //! What no clause says: worked rows over public calls, printed texts, and files.
 mod answers;
+mod file_layouts;
 mod files;
 mod interrupted;
-mod layouts;
 mod lookups;
 mod many;
 mod metadata;

@@ -20,7 +20,7 @@ use std::alloc::Global;
 /// What opening a file finds before it makes tables: the metadata, where the metadata's marker stands and the data
 /// section begins, and where IPv4 begins in the tree, after how many bits.
 #[derive(Drop)]
-pub struct Layout {
+pub struct FileLayout {
     pub metadata: Metadata,
     pub marker: usize,
     pub data_start: usize,
@@ -39,14 +39,14 @@ fn read_metadata(alloc: Global, section: &[u8], start: usize) -> DecodeResult<Me
     }
 }
 
-impl Layout {
+impl FileLayout {
     // Of a file whose marker stands at this place, and whose metadata are these.
     fn from_parts(
         alloc: Global,
         file: &[u8],
         marker: usize,
         metadata: Metadata,
-    ) -> Result<Layout, MaxMindDbError>
+    ) -> Result<FileLayout, MaxMindDbError>
         requires within { marker + length marker_bytes ≤ length file.now }
         ensures layout { IfOk result
             (λ layout. IsLayout (database file.now marker (metadata_datum metadata)) layout) }
@@ -69,7 +69,7 @@ impl Layout {
             record_size: metadata.record_size,
         };
         let start = nodes.ipv4_start(metadata.ip_version);
-        Ok(Layout {
+        Ok(FileLayout {
             metadata,
             marker,
             data_start,
@@ -79,7 +79,7 @@ impl Layout {
     }
 
     /// The layout of the bytes of a file. They are accepted and rejected as `Reader::from_source` does.
-    pub fn of(alloc: Global, file: &[u8]) -> Result<Layout, MaxMindDbError>
+    pub fn of(alloc: Global, file: &[u8]) -> Result<FileLayout, MaxMindDbError>
         ensures accepted { IfOk result (λ layout. IsLayoutOf file.now layout) }
         ensures rejected { IfErr result (λ e. MemoryApart e (IsNoDatabase file.now)) }
     {
@@ -91,7 +91,7 @@ impl Layout {
         };
         let start = marker + MARKER.len();
         let metadata = read_metadata(alloc, &file[start..], start)?;
-        Layout::from_parts(alloc, file, marker, metadata)
+        FileLayout::from_parts(alloc, file, marker, metadata)
     }
 
     /// The nodes of the search tree of the file that it is the layout of.

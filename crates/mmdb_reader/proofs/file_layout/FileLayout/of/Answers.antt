@@ -3,7 +3,7 @@ use Rattle.std.proofs.lemmas.List.{take_rest}
 use Rattle.std.proofs.lemmas.Result.{err_from_is_err_and, IfErr-weaker}
 use Rattle.mmdb_reader.proofs.Sources.{apart, apart_from_reading, no_marker, no_metadata, not_accepted}
 use Rattle.mmdb_reader.specs.Metadata.{metadata_datum}
-use Rattle.mmdb_reader.proofs.layout.Layout.of.Goals as goal
+use Rattle.mmdb_reader.proofs.file_layout.FileLayout.of.Goals as goal
 
 pub returns-in_default-clause-rejected : goal.returns-in_default-clause-rejected
 returns-in_default-clause-rejected c = no_marker _ _ refl c.in_default.ensures

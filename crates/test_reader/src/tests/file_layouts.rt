@@ -1,6 +1,6 @@
 //! What opening a file finds, and tables that are filled for others.
 use super::answers::{BASE, File, bytes_of};
-use mmdb_reader::{Entry, Layout, MaxMindDbError};
+use mmdb_reader::{Entry, FileLayout, MaxMindDbError};
 use mmdb_vectors::answer::{OK, reported};
 use mmdb_vectors::failures::Failures;
 use std::alloc::{AllocError, Global};
@@ -16,7 +16,7 @@ const FOUND: &[Found] = &[
 ];
 
 // Whether a layout is that of a row.
-fn is_found(layout: &Layout, row: &Found) -> bool {
+fn is_found(layout: &FileLayout, row: &Found) -> bool {
     let parts = (layout.marker, layout.data_start);
     parts == row.1 && (layout.ipv4_start, layout.ipv4_depth) == row.2
 }
@@ -24,7 +24,7 @@ fn is_found(layout: &Layout, row: &Found) -> bool {
 // Notes where the layout of a file is another one, or the file is rejected.
 fn expect_found(
     failures: &mut Failures,
-    found: Result<Layout, MaxMindDbError>,
+    found: Result<FileLayout, MaxMindDbError>,
     alloc: Global,
     row: &Found,
 ) {
@@ -39,7 +39,7 @@ fn layouts_of_files(rt: HostRuntime) -> Result<(), Failures> {
     let (alloc, mut failures) = (rt.alloc(), Failures::new(rt.alloc()));
     for row in FOUND {
         match bytes_of(alloc, &row.0) {
-            Ok(bytes) => expect_found(&mut failures, Layout::of(alloc, &bytes), alloc, row),
+            Ok(bytes) => expect_found(&mut failures, FileLayout::of(alloc, &bytes), alloc, row),
             Err(_) => failures.expect(&row.1, false),
         }
     }
@@ -81,7 +81,7 @@ fn entry_of(
     start: usize,
     index: usize,
 ) -> Result<Option<Entry>, MaxMindDbError> {
-    let layout = Layout::of(alloc, file)?;
+    let layout = FileLayout::of(alloc, file)?;
     let nodes = layout.nodes(file);
     let none = Entry {
         number: 0,
