@@ -14,7 +14,7 @@ stays_inside true s x r k = refl
 stays_inside false true x r k = refl
 stays_inside false false x r k = refl
 
-lex_plain : (x : ℕ) (z : List ℕ) → (x == 34) ≡ false → (x == 92) ≡ false → lex in_string (x ∷ z) ≡ lex in_string z
+pub lex_plain : (x : ℕ) (z : List ℕ) → (x == 34) ≡ false → (x == 92) ≡ false → lex in_string (x ∷ z) ≡ lex in_string z
 unfolding lex
 lex_plain x z q b =
     (λ i. lex_byte in_string (cond (q i) quote (cond (b i) backslash (cond (is_operator x) operator (cond (is_space x) space other)))) x z (λ n. lex n z))

@@ -10,10 +10,12 @@ mod enrichment;
 mod json_enrichment;
 mod kept_cells;
 pub mod laws;
+mod lexemes;
 mod members;
 mod objects;
 mod quotes;
 mod row_memory;
+mod short_object;
 
 pub use columns::delimiter_of;
 pub use enrichment::Enrichment;

@@ -1,0 +1,331 @@
+-- The lexemes that stand at a byte of a text.
+use Rattle.std.proofs.Common.{◌≡◌, ℕ, ◌+◌, ◌-◌, ◌<◌, ◌≤◌, suc, Bool, true, false, cond, ◌&&◌, ◌||◌, ◌==◌, nat_eq, List, [], ◌∷◌, length, take, drop, get_or, Option, Some, None, option_and_then, ⊎_elim, refl, sym, ap, ap₂, ◌∙◌, subst, arith}
+use Rattle.std.proofs.lemmas.Bool.{true≢false, false≢true, false_from_ne_true, eqb-true, eq-eqb, ne_eqb, or_parts, or_cases, and_parts, not-true}
+use Rattle.std.proofs.lemmas.List.{drop_more, drop-drop, length-drop}
+use Rattle.std.specs.Option.{IfSome}
+use Rattle.std.specs.List.{prefix_len, starts_with}
+use Rattle.std.specs.Char.{is_ascii_digit}
+use Rattle.json.specs.Token.{Token, number, boolean, null, bad}
+use Rattle.json.specs.Text.{content, plain, prepend, after_backslash}
+use Rattle.json.specs.Word.{is_operator, is_space, head, ends_word, after_digits, after_minus, after_sign, after_whole, after_fraction, after_exponent, after_number, number_before, literal, word}
+use Rattle.json.specs.Ascii.{true_text, false_text, null_text}
+use Rattle.json.specs.Lex.{Lexeme, token, comma, colon, quote, backslash, operator, space, other, class, Mode, between, in_word, in_string, lex, lex_byte, string_token}
+use Rattle.json.specs.Json as json
+use Rattle.mmdb_enrich.specs.Scanned.{lexemes_at, bytes_between, is_plain, EndsAt, EndsString, IsWordOf, HasWord, begins_number, HasName, HasKey}
+use Rattle.mmdb_enrich.proofs.WordLaws.{ends, each_space, each_operator, no_digit_ends, NoneEnds}
+use Rattle.mmdb_enrich.proofs.StringLaws.{lex_plain}
+
+-- ---- the byte that stands first
+
+front : (c : ℕ) (xs : List ℕ) → (32 == c) ≡ false → head xs ≡ c → xs ≡ c ∷ drop 1 xs
+front c [] apart e = absurd (true≢false (sym (eq-eqb 32 c e) ∙ apart))
+front c (x ∷ xs) apart e = ap (λ y. y ∷ xs) e
+
+pub front_at : (c : ℕ) (text : List ℕ) (at : ℕ) → (32 == c) ≡ false → head (drop at text) ≡ c → drop at text ≡ c ∷ drop (at + 1) text
+front_at c text at apart e = front c (drop at text) apart e ∙ ap (λ l. c ∷ l) (drop-drop 1 at text)
+
+pub at_space : (text : List ℕ) (at : ℕ) → at < length text → is_space (get_or text at 0) ≡ true → lexemes_at text (at + 1) ≡ lexemes_at text at
+unfolding lex
+at_space text at below e =
+    let spaced = each_space (λ x. lex between (x ∷ drop (at + 1) text) ≡ lex between (drop (at + 1) text)) refl refl refl refl (get_or text at 0) e in
+    sym (ap (lex between) (drop_more text at 0 below) ∙ spaced)
+
+pub at_comma : (text : List ℕ) (at : ℕ) → head (drop at text) ≡ 44 → lexemes_at text at ≡ comma ∷ lexemes_at text (at + 1)
+unfolding lex
+at_comma text at e = ap (lex between) (front_at 44 text at refl e)
+
+pub at_colon : (text : List ℕ) (at : ℕ) → head (drop at text) ≡ 58 → lexemes_at text at ≡ colon ∷ lexemes_at text (at + 1)
+unfolding lex
+at_colon text at e = ap (lex between) (front_at 58 text at refl e)
+
+pub at_open_brace : (text : List ℕ) (at : ℕ) → head (drop at text) ≡ 123 → lexemes_at text at ≡ token Token.begin_object ∷ lexemes_at text (at + 1)
+unfolding lex
+at_open_brace text at e = ap (lex between) (front_at 123 text at refl e)
+
+pub at_close_brace : (text : List ℕ) (at : ℕ) → head (drop at text) ≡ 125 → lexemes_at text at ≡ token Token.end_object ∷ lexemes_at text (at + 1)
+unfolding lex
+at_close_brace text at e = ap (lex between) (front_at 125 text at refl e)
+
+pub at_open_bracket : (text : List ℕ) (at : ℕ) → head (drop at text) ≡ 91 → lexemes_at text at ≡ token Token.begin_array ∷ lexemes_at text (at + 1)
+unfolding lex
+at_open_bracket text at e = ap (lex between) (front_at 91 text at refl e)
+
+pub at_close_bracket : (text : List ℕ) (at : ℕ) → head (drop at text) ≡ 93 → lexemes_at text at ≡ token Token.end_array ∷ lexemes_at text (at + 1)
+unfolding lex
+at_close_bracket text at e = ap (lex between) (front_at 93 text at refl e)
+
+-- ---- strings all of whose bytes stand for themselves
+
+record Plain (xs : List ℕ) (n : ℕ) : Type 0 where
+  bytes : content plain xs ≡ Some (take n xs)
+  passed : lex in_string xs ≡ lex between (drop (suc n) xs)
+
+plain_byte : (x : ℕ) (xs : List ℕ) (n : ℕ) → is_plain x ≡ true → Plain xs n → Plain (x ∷ xs) (suc n)
+unfolding content
+plain_byte x xs n e rest =
+    let none = or_parts ((x == 34) || (x == 92)) _ (not-true _ e) in
+    let tests = or_parts (x == 34) _ none.0 in
+    record {
+      bytes = (λ i. cond (tests.0 i) (Some []) (cond (tests.1 i) (content after_backslash xs) (cond (none.1 i) None (prepend (x ∷ []) (rest.bytes i)))));
+      passed = lex_plain x xs tests.0 tests.1 ∙ rest.passed;
+    }
+
+-- which bytes pass is a variable here, so that nothing computes
+module _ (passes : ℕ → Bool) (all_plain : (x : ℕ) → passes x ≡ true → is_plain x ≡ true) where
+  plain_step : (x : ℕ) (xs : List ℕ) (b : Bool) (n : ℕ) → passes x ≡ b → head (drop (cond b (1 + n) 0) (x ∷ xs)) ≡ 34
+      → (head (drop n xs) ≡ 34 → Plain xs n) → Plain (x ∷ xs) (cond b (1 + n) 0)
+  unfolding content lex
+  plain_step x xs true n e stop rest =
+      let next : suc n ≡ 1 + n = omega arith in
+      subst (Plain (x ∷ xs)) next (plain_byte x xs n (all_plain x e) (rest (ap (λ k. head (drop k (x ∷ xs))) next ∙ stop)))
+  plain_step x xs false n e stop rest = record {
+    bytes = ap (λ y. content plain (y ∷ xs)) stop;
+    passed = ap (λ y. lex in_string (y ∷ xs)) stop;
+  }
+
+  plain_run : (xs : List ℕ) → head (drop (prefix_len passes xs) xs) ≡ 34 → Plain xs (prefix_len passes xs)
+  plain_run [] e = absurd (false≢true (eq-eqb 32 34 e))
+  plain_run (x ∷ xs) e = plain_step x xs (passes x) (prefix_len passes xs) refl e (plain_run xs)
+
+below : (c : ℕ) (xs : List ℕ) → (32 == c) ≡ false → head xs ≡ c → 0 < length xs
+below c [] apart e = absurd (true≢false (sym (eq-eqb 32 c e) ∙ apart))
+below c (x ∷ xs) apart e = omega arith
+
+pub string_ends : (text : List ℕ) (from end : ℕ) → end ≡ from + prefix_len is_plain (drop from text) → head (drop end text) ≡ 34 → EndsString text from end
+string_ends text from end is e =
+    let n = prefix_len is_plain (drop from text) in
+    let there : drop n (drop from text) ≡ drop end text = drop-drop n from text ∙ ap (λ k. drop k text) (sym is) in
+    let run = plain_run is_plain (λ x e. e) (drop from text) (ap head there ∙ e) in
+    let count : n ≡ end - from = omega arith in
+    let behind : from + suc n ≡ end + 1 = omega arith in
+    let some = below 34 (drop end text) refl e in
+    record {
+      low = omega arith;
+      high = omega (arith, some, length-drop end text);
+      bytes = run.bytes ∙ ap (λ k. Some (take k (drop from text))) count;
+      passed = run.passed ∙ ap (lex between) (drop-drop (suc n) from text ∙ ap (λ k. drop k text) behind);
+    }
+
+-- a string from its first end on
+pub at_string : (text : List ℕ) (from end : ℕ) → head (drop from text) ≡ 34 → EndsString text (from + 1) end
+    → lexemes_at text from ≡ token (Token.string (bytes_between text (from + 1) end)) ∷ lexemes_at text (end + 1)
+unfolding lex
+at_string text from end e closed =
+    ap (lex between) (front_at 34 text from refl e)
+    ∙ (λ i. token (string_token (closed.bytes i)) ∷ closed.passed i)
+
+-- ---- words
+
+in_word_class : (q b o s : Bool) (x : ℕ) (r : List ℕ) (k : Mode → List Lexeme) → o ≡ false → s ≡ false → lex_byte in_word (cond q quote (cond b backslash (cond o operator (cond s space other)))) x r k ≡ k in_word
+in_word_class true b o s x r k e f = refl
+in_word_class false true o s x r k e f = refl
+in_word_class false false true s x r k e f = absurd (true≢false e)
+in_word_class false false false true x r k e f = absurd (true≢false f)
+in_word_class false false false false x r k e f = refl
+
+passed_byte : (x : ℕ) (xs : List ℕ) → ends x ≡ false → lex in_word (x ∷ xs) ≡ lex in_word xs
+unfolding lex
+passed_byte x xs e =
+    let parts = or_parts (is_operator x) (is_space x) e in
+    in_word_class (x == 34) (x == 92) (is_operator x) (is_space x) x xs (λ n. lex n xs) parts.0 parts.1
+
+digit_passes : (x : ℕ) → is_ascii_digit x ≡ true → ends x ≡ false
+digit_passes x e = false_from_ne_true (ends x) (λ h. true≢false (sym e ∙ no_digit_ends x h))
+
+one_passes : (c : ℕ) (t : List ℕ) → ends c ≡ false → (head t == c) ≡ true → lex in_word t ≡ lex in_word (drop 1 t)
+one_passes c [] apart e = absurd (true≢false (ap ends (eqb-true 32 c e) ∙ apart))
+one_passes c (x ∷ xs) apart e = passed_byte x xs (ap ends (eqb-true x c e) ∙ apart)
+
+-- what an optional part leaves passes as the whole does
+either_passes : (b : Bool) (t : List ℕ) → (b ≡ true → lex in_word t ≡ lex in_word (drop 1 t)) → lex in_word t ≡ lex in_word (cond b (drop 1 t) t)
+either_passes true t f = f refl
+either_passes false t f = refl
+
+minus_passes : (t : List ℕ) → lex in_word t ≡ lex in_word (after_minus t)
+minus_passes t = either_passes (head t == 45) t (one_passes 45 t refl)
+
+sign_passes : (t : List ℕ) → lex in_word t ≡ lex in_word (after_sign t)
+sign_passes t =
+    either_passes ((head t == 45) || (head t == 43)) t (λ e. ⊎_elim (one_passes 45 t refl) (one_passes 43 t refl) (or_cases _ _ e))
+
+digits_step : (x : ℕ) (xs : List ℕ) (b : Bool) → is_ascii_digit x ≡ b → lex in_word xs ≡ lex in_word (drop (prefix_len is_ascii_digit xs) xs)
+    → lex in_word (x ∷ xs) ≡ lex in_word (drop (cond b (1 + prefix_len is_ascii_digit xs) 0) (x ∷ xs))
+digits_step x xs true e rest =
+    let next : suc (prefix_len is_ascii_digit xs) ≡ 1 + prefix_len is_ascii_digit xs = omega arith in
+    passed_byte x xs (digit_passes x e) ∙ rest ∙ ap (λ k. lex in_word (drop k (x ∷ xs))) next
+digits_step x xs false e rest = refl
+
+digits_pass : (t : List ℕ) → lex in_word t ≡ lex in_word (drop (prefix_len is_ascii_digit t) t)
+digits_pass [] = refl
+digits_pass (x ∷ xs) = digits_step x xs (is_ascii_digit x) refl (digits_pass xs)
+
+-- A part of a number passes over what it reads.
+abbrev Passes : List ℕ → Option (List ℕ) → Type 0
+Passes t None = Unit {0}
+Passes t (Some r) = lex in_word t ≡ lex in_word r
+
+by_test : (t : List ℕ) (b : Bool) (x y : Option (List ℕ)) → (b ≡ true → Passes t x) → Passes t y → Passes t (cond b x y)
+by_test t true x y f g = f refl
+by_test t false x y f g = g
+
+earlier : (t u : List ℕ) (o : Option (List ℕ)) → lex in_word t ≡ lex in_word u → Passes u o → Passes t o
+earlier t u None e p = tt
+earlier t u (Some r) e p = e ∙ p
+
+then : (t : List ℕ) (f : List ℕ → Option (List ℕ)) (o : Option (List ℕ)) → Passes t o → ((u : List ℕ) → Passes u (f u)) → Passes t (option_and_then f o)
+then t f None p g = tt
+then t f (Some r) p g = earlier t r (f r) p (g r)
+
+after_digits_pass : (t : List ℕ) → Passes t (after_digits t)
+after_digits_pass t = by_test t (prefix_len is_ascii_digit t == 0) None _ (λ e. tt) (digits_pass t)
+
+after_whole_passes : (t : List ℕ) → Passes t (after_whole t)
+after_whole_passes t = by_test t (head t == 48) (Some (drop 1 t)) _ (one_passes 48 t refl) (after_digits_pass t)
+
+after_fraction_passes : (t : List ℕ) → Passes t (after_fraction t)
+after_fraction_passes t =
+    by_test t (head t == 46) _ (Some t) (λ e. earlier t (drop 1 t) _ (one_passes 46 t refl e) (after_digits_pass (drop 1 t))) refl
+
+after_exponent_passes : (t : List ℕ) → Passes t (after_exponent t)
+after_exponent_passes t =
+    by_test t ((head t == 101) || (head t == 69)) _ (Some t)
+    (λ e. earlier t (after_sign (drop 1 t)) _ (⊎_elim (one_passes 101 t refl) (one_passes 69 t refl) (or_cases _ _ e) ∙ sign_passes (drop 1 t)) (after_digits_pass (after_sign (drop 1 t)))) refl
+
+number_passes : (t : List ℕ) → Passes t (after_number t)
+unfolding after_number
+number_passes t =
+    then t after_exponent _ (then t after_fraction _ (earlier t (after_minus t) _ (minus_passes t) (after_whole_passes (after_minus t))) after_fraction_passes) after_exponent_passes
+
+name_passes : (name t : List ℕ) → NoneEnds name → starts_with nat_eq t name ≡ true → lex in_word t ≡ lex in_word (drop (length name) t)
+name_passes [] t none e = refl
+name_passes (n ∷ ns) [] none e = absurd (false≢true e)
+name_passes (n ∷ ns) (x ∷ xs) none e =
+    let both = and_parts (nat_eq n x) _ e in
+    passed_byte x xs (ap ends (sym (eqb-true n x both.0)) ∙ none.0) ∙ name_passes ns xs none.1 both.1
+
+word_ended : (r : List ℕ) → ends_word r ≡ true → lex in_word r ≡ lex between r
+unfolding lex
+word_ended [] e = refl
+word_ended (x ∷ xs) e =
+    let P = λ (y : ℕ). lex in_word (y ∷ xs) ≡ lex between (y ∷ xs) in
+    ⊎_elim (each_operator P refl refl refl refl refl refl x) (each_space P refl refl refl refl x) (or_cases (is_operator x) (is_space x) e)
+
+in_class : (t : List ℕ) (r : List ℕ) (k : Token) → class (head t) ≡ other → word t ≡ k → lex in_word t ≡ lex in_word r → ends_word r ≡ true → lex between t ≡ token k ∷ lex between r
+unfolding lex
+in_class [] r k is e passes ended = absurd (cc)
+in_class (x ∷ xs) r k is e passes ended =
+    ap (λ c. lex_byte between c x xs (λ n. lex n xs)) is
+    ∙ ap₂ (λ w l. token w ∷ l) e (sym (ap (λ c. lex_byte in_word c x xs (λ n. lex n xs)) is) ∙ passes ∙ word_ended r ended)
+
+not_one : (c x : ℕ) → begins_number c ≡ false → begins_number x ≡ true → (x == c) ≡ false
+not_one c x apart e = ne_eqb x c (λ same. true≢false (sym e ∙ ap begins_number same ∙ apart))
+
+number_ends : (x : ℕ) → begins_number x ≡ true → ends x ≡ false
+number_ends x e = ⊎_elim (λ m. ap ends (eqb-true x 45 m)) (digit_passes x) (or_cases (x == 45) (is_ascii_digit x) e)
+
+number_class : (x : ℕ) → begins_number x ≡ true → class x ≡ other
+number_class x e =
+    let parts = or_parts (is_operator x) (is_space x) (number_ends x e) in
+    λ i. cond (not_one 34 x refl e i) quote (cond (not_one 92 x refl e i) backslash (cond (parts.0 i) operator (cond (parts.1 i) space other)))
+
+number_word : (t r : List ℕ) → begins_number (head t) ≡ true → after_number t ≡ Some r → ends_word r ≡ true → word t ≡ number (take (length t - length r) t)
+unfolding word
+number_word t r begins e ended =
+    (λ i. cond (not_one 116 (head t) refl begins i) (literal true_text (boolean true) t)
+    (cond (not_one 102 (head t) refl begins i) (literal false_text (boolean false) t)
+    (cond (not_one 110 (head t) refl begins i) (literal null_text null t) (number_before t (e i)))))
+    ∙ ap (λ b. cond b (number (take (length t - length r) t)) bad) ended
+
+pub has_number : (text : List ℕ) (from end : ℕ) → begins_number (head (drop from text)) ≡ true → Some (drop end text) ≡ after_number (drop from text) → ends_word (drop end text) ≡ true
+    → (j : json.Json) × HasWord text from end j
+has_number text from end begins e ended =
+    let t = drop from text in
+    let r = drop end text in
+    let passes = subst (Passes t) (sym e) (number_passes t) in (
+      json.number (take (length t - length r) t),
+      record {
+        word = number (take (length t - length r) t);
+        is = refl;
+        reads = in_class t r _ (number_class (head t) begins) (number_word t r begins (sym e) ended) passes ended;
+      },
+    )
+
+literal_is : (name t : List ℕ) (k : Token) → starts_with nat_eq t name ≡ true → ends_word (drop (length name) t) ≡ true → literal name k t ≡ k
+literal_is name t k e ended = ap₂ (λ a b. cond (a && b) k bad) e ended
+
+-- a literal of this name, for whose first byte `word` looks for it
+has_literal : (name : List ℕ) (text : List ℕ) (from end : ℕ) (k : Token) (j : json.Json) → NoneEnds name → IsWordOf j k
+    → class (head (drop from text)) ≡ other → word (drop from text) ≡ literal name k (drop from text)
+    → starts_with nat_eq (drop from text) name ≡ true → end ≡ from + length name → ends_word (drop end text) ≡ true
+    → (j : json.Json) × HasWord text from end j
+has_literal name text from end k j none is here looks e same ended =
+    let t = drop from text in
+    let there : drop (length name) t ≡ drop end text = drop-drop (length name) from text ∙ ap (λ n. drop n text) (sym same) in (
+      j,
+      record {
+        word = k;
+        is = is;
+        reads = in_class t (drop end text) k here (looks ∙ literal_is name t k e (ap ends_word there ∙ ended)) (name_passes name t none e ∙ ap (lex in_word) there) ended;
+      },
+    )
+
+first_t : (t : List ℕ) → head t ≡ 116 → word t ≡ literal true_text (boolean true) t
+unfolding word
+first_t t e =
+    ap (λ x. cond (x == 116) (literal true_text (boolean true) t) (cond (x == 102) (literal false_text (boolean false) t)
+    (cond (x == 110) (literal null_text null t) (number_before t (after_number t))))) e
+
+first_f : (t : List ℕ) → head t ≡ 102 → word t ≡ literal false_text (boolean false) t
+unfolding word
+first_f t e =
+    ap (λ x. cond (x == 116) (literal true_text (boolean true) t) (cond (x == 102) (literal false_text (boolean false) t)
+    (cond (x == 110) (literal null_text null t) (number_before t (after_number t))))) e
+
+first_n : (t : List ℕ) → head t ≡ 110 → word t ≡ literal null_text null t
+unfolding word
+first_n t e =
+    ap (λ x. cond (x == 116) (literal true_text (boolean true) t) (cond (x == 102) (literal false_text (boolean false) t)
+    (cond (x == 110) (literal null_text null t) (number_before t (after_number t))))) e
+
+pub has_true : (text : List ℕ) (from end : ℕ) → head (drop from text) ≡ 116 → HasName text from end true_text → (j : json.Json) × HasWord text from end j
+has_true text from end first is =
+    has_literal true_text text from end (boolean true) (json.boolean true) (refl, (refl, (refl, (refl, tt)))) refl (ap class first) (first_t (drop from text) first) is.starts is.there is.ended
+
+pub has_false : (text : List ℕ) (from end : ℕ) → head (drop from text) ≡ 102 → HasName text from end false_text → (j : json.Json) × HasWord text from end j
+has_false text from end first is =
+    has_literal false_text text from end (boolean false) (json.boolean false) (refl, (refl, (refl, (refl, (refl, tt))))) refl (ap class first) (first_f (drop from text) first) is.starts is.there is.ended
+
+pub has_null : (text : List ℕ) (from end : ℕ) → head (drop from text) ≡ 110 → HasName text from end null_text → (j : json.Json) × HasWord text from end j
+has_null text from end first is =
+    has_literal null_text text from end null json.null (refl, (refl, (refl, (refl, tt)))) refl (ap class first) (first_n (drop from text) first) is.starts is.there is.ended
+
+-- a word from the name of a literal
+pub option_word : (text : List ℕ) (from : ℕ) (name : List ℕ) (end : Option ℕ) → ((e : ℕ) → HasName text from e name → (j : json.Json) × HasWord text from e j)
+    → IfSome end (λ e. HasName text from e name) → IfSome end (λ e. (j : json.Json) × HasWord text from e j)
+option_word text from name None f is = tt
+option_word text from name (Some e) f is = f e is
+
+later : (text : List ℕ) (from at : ℕ) (end : Option ℕ) (rest : Option (List ℕ)) → from ≤ at → EndsAt text at end rest → EndsAt text from end rest
+later text from at None rest le is = is
+later text from at (Some e) rest le is = (is.0, (omega arith, is.1.1))
+
+-- an exponent, from its letter on
+pub exponent_ends : (text : List ℕ) (from sign : ℕ) (end : Option ℕ) → ((head (drop from text) == 101) || (head (drop from text) == 69)) ≡ true
+    → from ≤ sign → drop sign text ≡ after_sign (drop (from + 1) text) → EndsAt text sign end (after_digits (drop sign text)) → EndsAt text from end (after_exponent (drop from text))
+exponent_ends text from sign end letter low is digits =
+    let t = drop from text in
+    let behind : drop sign text ≡ after_sign (drop 1 t) = is ∙ ap after_sign (sym (drop-drop 1 from text)) in
+    let all : after_digits (drop sign text) ≡ after_exponent t = ap after_digits behind ∙ sym (ap (λ b. cond b (after_digits (after_sign (drop 1 t))) (Some t)) letter) in
+    later text from sign end (after_exponent t) low (subst (EndsAt text sign end) all digits)
+
+-- ---- keys
+
+pub key_at : (text : List ℕ) (from end mark value : ℕ) → head (drop from text) ≡ 34 → EndsString text (from + 1) end → end + 1 ≤ mark → lexemes_at text mark ≡ lexemes_at text (end + 1)
+    → head (drop mark text) ≡ 58 → mark + 1 ≤ value → value ≤ length text → lexemes_at text value ≡ lexemes_at text (mark + 1) → HasKey text from end value
+key_at text from end mark value first closed low before is high within behind = record {
+  low = omega (arith, closed.low);
+  high = omega arith;
+  within = within;
+  reads = at_string text from end first closed
+      ∙ ap (λ l. token (Token.string (bytes_between text (from + 1) end)) ∷ l) (sym before ∙ at_colon text mark is ∙ ap (λ l. colon ∷ l) (sym behind));
+}
