@@ -3,18 +3,19 @@ use Rattle.std.proofs.Common.{◌≡◌, ℕ, ◌+◌, ◌-◌, ◌<◌, ◌≤�
 use Rattle.std.proofs.lemmas.List.{take_all, drop_all}
 use Rattle.std.specs.Option.{IfSome}
 use Rattle.json.specs.Token.{Token}
+use Rattle.json.specs.Text.{content, plain}
 use Rattle.json.specs.Word.{head}
 use Rattle.json.specs.Find.{later_or, get_member, get, as_str, as_object}
 use Rattle.std.specs.Borrow.{Bor}
 use Rattle.std.specs.Str.{bytes_eq}
 use Rattle.mmdb_reader.specs.declared.path.PathElement.{PathElement}
 use Rattle.mmdb_reader.specs.declared.path.PathElement.TheVariants.{Key}
-use Rattle.mmdb_enrich.specs.declared.short_object.Followed.{Followed}
+use Rattle.mmdb_enrich.specs.declared.one_pass.Followed.{Followed}
 use Rattle.mmdb_enrich.specs.Objects.{text_along}
-use Rattle.json.specs.Lex.{Lexeme, comma, between, lex, Place, fresh, after_value, after_comma, may_begin, begins_colon, punctuate}
+use Rattle.json.specs.Lex.{Lexeme, comma, between, in_string, lex, Place, fresh, after_value, after_comma, may_begin, begins_colon, punctuate}
 use Rattle.json.specs.Json.{Json, Items, no_items, item, Members, no_members, member, value, if_last, document}
 use Rattle.json.specs.Json as json
-use Rattle.mmdb_enrich.specs.Scanned.{lexemes_at, bytes_between, EndsString, IsWordOf, HasWord, HasKey, BeginWithValue, BeginWithItems, BeginWithMembers, HasValue, HasItems, HasMembers}
+use Rattle.mmdb_enrich.specs.Scanned.{lexemes_at, bytes_between, IsWordOf, HasWord, HasKey, BeginWithValue, BeginWithItems, BeginWithMembers, HasValue, HasItems, HasMembers}
 use Rattle.mmdb_enrich.proofs.ScanLaws.{at_string, at_comma, at_open_brace, at_close_brace, at_open_bracket, at_close_bracket}
 use Rattle.mmdb_enrich.proofs.GrammarLaws.{word_value, string_value, array_value, object_value, items_none, items_last, items_go_on, members_none, members_last, members_go_on}
 
@@ -41,15 +42,13 @@ word_found text from end depth j has =
       no_object = λ apart. others.1;
     }
 
-pub string_found : (text : List ℕ) (from end depth : ℕ) → head (drop from text) ≡ 34 → EndsString text (from + 1) end
-    → HasValue text from (end + 1) depth (json.string (bytes_between text (from + 1) end))
-string_found text from end depth first closed =
-    let s = bytes_between text (from + 1) end in
-    record {
-      begins = subst (λ ls. BeginWithValue depth ls (json.string s) (lexemes_at text (end + 1))) (sym (at_string text from end first closed)) (string_value depth s (lexemes_at text (end + 1)));
-      no_string = λ apart. absurd (apart first);
-      no_object = λ apart. refl;
-    }
+pub string_found : (text s : List ℕ) (from end depth : ℕ) → head (drop from text) ≡ 34 → content plain (drop (from + 1) text) ≡ Some s → lex in_string (drop (from + 1) text) ≡ lexemes_at text (end + 1)
+    → HasValue text from (end + 1) depth (json.string s)
+string_found text s from end depth first bytes passed = record {
+  begins = subst (λ ls. BeginWithValue depth ls (json.string s) (lexemes_at text (end + 1))) (sym (at_string text s from end first bytes passed)) (string_value depth s (lexemes_at text (end + 1)));
+  no_string = λ apart. absurd (apart first);
+  no_object = λ apart. refl;
+}
 
 pub object_found : (text : List ℕ) (from end depth : ℕ) (ms : Members) → head (drop from text) ≡ 123 → 0 < depth → HasMembers text (from + 1) end (depth - 1) ms → HasValue text from end depth (json.object ms)
 object_found text from end depth ms first deep inside = record {

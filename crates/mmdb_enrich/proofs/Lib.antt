@@ -15,3 +15,4 @@ pub mod GainLaws
 pub mod ScanLaws
 pub mod GrammarLaws
 pub mod FoundLaws
+pub mod VectorLaws

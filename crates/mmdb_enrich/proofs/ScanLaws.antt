@@ -2,18 +2,18 @@
 use Rattle.std.proofs.Common.{◌≡◌, ℕ, ◌+◌, ◌-◌, ◌<◌, ◌≤◌, suc, Bool, true, false, cond, ◌&&◌, ◌||◌, ◌==◌, nat_eq, List, [], ◌∷◌, length, take, drop, get_or, Option, Some, None, option_and_then, ⊎_elim, refl, sym, ap, ap₂, ◌∙◌, subst, arith}
 use Rattle.std.proofs.lemmas.Bool.{true≢false, false≢true, false_from_ne_true, eqb-true, eq-eqb, ne_eqb, or_parts, or_cases, and_parts, not-true}
 use Rattle.std.proofs.lemmas.List.{drop_more, drop-drop, length-drop}
-use Rattle.std.specs.Option.{IfSome}
+use Rattle.std.specs.Option.{IfSome, is_some}
 use Rattle.std.specs.List.{prefix_len, starts_with}
 use Rattle.std.specs.Char.{is_ascii_digit}
 use Rattle.json.specs.Token.{Token, number, boolean, null, bad}
-use Rattle.json.specs.Text.{content, plain, prepend, after_backslash}
+use Rattle.json.specs.Text.{content, plain, prepend, after_backslash, after_u, short_escape}
 use Rattle.json.specs.Word.{is_operator, is_space, head, ends_word, after_digits, after_minus, after_sign, after_whole, after_fraction, after_exponent, after_number, number_before, literal, word}
 use Rattle.json.specs.Ascii.{true_text, false_text, null_text}
 use Rattle.json.specs.Lex.{Lexeme, token, comma, colon, quote, backslash, operator, space, other, class, Mode, between, in_word, in_string, lex, lex_byte, string_token}
 use Rattle.json.specs.Json as json
-use Rattle.mmdb_enrich.specs.Scanned.{lexemes_at, bytes_between, is_plain, EndsAt, EndsString, IsWordOf, HasWord, begins_number, HasName, HasKey}
+use Rattle.mmdb_enrich.specs.Scanned.{lexemes_at, bytes_between, is_plain, EndsAt, EndsPlain, EndsString, IsWordOf, HasWord, begins_number, HasName, HasKey}
 use Rattle.mmdb_enrich.proofs.WordLaws.{ends, each_space, each_operator, no_digit_ends, NoneEnds}
-use Rattle.mmdb_enrich.proofs.StringLaws.{lex_plain}
+use Rattle.mmdb_enrich.proofs.StringLaws.{lex_plain, lex_backslash, lex_escaped}
 
 -- ---- the byte that stands first
 
@@ -91,7 +91,7 @@ below : (c : ℕ) (xs : List ℕ) → (32 == c) ≡ false → head xs ≡ c → 
 below c [] apart e = absurd (true≢false (sym (eq-eqb 32 c e) ∙ apart))
 below c (x ∷ xs) apart e = omega arith
 
-pub string_ends : (text : List ℕ) (from end : ℕ) → end ≡ from + prefix_len is_plain (drop from text) → head (drop end text) ≡ 34 → EndsString text from end
+pub string_ends : (text : List ℕ) (from end : ℕ) → end ≡ from + prefix_len is_plain (drop from text) → head (drop end text) ≡ 34 → EndsPlain text from end
 string_ends text from end is e =
     let n = prefix_len is_plain (drop from text) in
     let there : drop n (drop from text) ≡ drop end text = drop-drop n from text ∙ ap (λ k. drop k text) (sym is) in
@@ -106,13 +106,98 @@ string_ends text from end is e =
       passed = run.passed ∙ ap (lex between) (drop-drop (suc n) from text ∙ ap (λ k. drop k text) behind);
     }
 
--- a string from its first end on
-pub at_string : (text : List ℕ) (from end : ℕ) → head (drop from text) ≡ 34 → EndsString text (from + 1) end
-    → lexemes_at text from ≡ token (Token.string (bytes_between text (from + 1) end)) ∷ lexemes_at text (end + 1)
+-- a string from its first quote on
+pub at_string : (text s : List ℕ) (from end : ℕ) → head (drop from text) ≡ 34 → content plain (drop (from + 1) text) ≡ Some s → lex in_string (drop (from + 1) text) ≡ lexemes_at text (end + 1)
+    → lexemes_at text from ≡ token (Token.string s) ∷ lexemes_at text (end + 1)
 unfolding lex
-at_string text from end e closed =
-    ap (lex between) (front_at 34 text from refl e)
-    ∙ (λ i. token (string_token (closed.bytes i)) ∷ closed.passed i)
+at_string text s from end e bytes passed =
+    ap (lex between) (front_at 34 text from refl e) ∙ (λ i. token (string_token (bytes i)) ∷ passed i)
+
+-- ---- strings with escapes
+
+-- what a string is follows from what its rest is
+pub record Goes (xs rest : List ℕ) : Type 0 where
+  pub bytes : (s : List ℕ) → content plain rest ≡ Some s → (t : List ℕ) × (content plain xs ≡ Some t)
+  pub passed : lex in_string xs ≡ lex in_string rest
+
+pub goes_on : (xs ys zs : List ℕ) → Goes xs ys → Goes ys zs → Goes xs zs
+goes_on xs ys zs a b = record {
+  bytes = λ s e. let (t, f) = b.bytes s e in a.bytes t f;
+  passed = a.passed ∙ b.passed;
+}
+
+pub goes_nowhere : (xs : List ℕ) → Goes xs xs
+goes_nowhere xs = record { bytes = λ s e. (s, e); passed = refl }
+
+goes_byte : (x : ℕ) (xs : List ℕ) → is_plain x ≡ true → Goes (x ∷ xs) xs
+unfolding content
+goes_byte x xs e =
+    let none = or_parts ((x == 34) || (x == 92)) _ (not-true _ e) in
+    let tests = or_parts (x == 34) _ none.0 in
+    record {
+      bytes = λ s f. (x ∷ s, λ i. cond (tests.0 i) (Some []) (cond (tests.1 i) (content after_backslash xs) (cond (none.1 i) None (prepend (x ∷ []) (f i)))));
+      passed = lex_plain x xs tests.0 tests.1;
+    }
+
+module _ (passes : ℕ → Bool) (all_plain : (x : ℕ) → passes x ≡ true → is_plain x ≡ true) where
+  goes_step : (x : ℕ) (xs : List ℕ) (b : Bool) (n : ℕ) → passes x ≡ b → Goes xs (drop n xs) → Goes (x ∷ xs) (drop (cond b (1 + n) 0) (x ∷ xs))
+  goes_step x xs true n e rest =
+      let next : suc n ≡ 1 + n = omega arith in
+      subst (λ k. Goes (x ∷ xs) (drop k (x ∷ xs))) next (goes_on (x ∷ xs) xs (drop n xs) (goes_byte x xs (all_plain x e)) rest)
+  goes_step x xs false n e rest = goes_nowhere (x ∷ xs)
+
+  goes_run : (xs : List ℕ) → Goes xs (drop (prefix_len passes xs) xs)
+  goes_run [] = goes_nowhere []
+  goes_run (x ∷ xs) = goes_step x xs (passes x) (prefix_len passes xs) refl (goes_run xs)
+
+escape_read : (c : ℕ) (xs s : List ℕ) (o : Option ℕ) → short_escape c ≡ o → is_some o ≡ true → (c == 117) ≡ false → content plain xs ≡ Some s → (t : List ℕ) × (content after_backslash (c ∷ xs) ≡ Some t)
+unfolding content
+escape_read c xs s None is e other_byte f = absurd (false≢true e)
+escape_read c xs s (Some u) is e other_byte f = (u ∷ s, λ i. cond (other_byte i) (content after_u xs) (option_and_then (λ k. prepend (k ∷ []) (f i)) (is i)))
+
+not_u : (c : ℕ) → is_some (short_escape c) ≡ true → (c == 117) ≡ false
+unfolding short_escape
+not_u c e = ne_eqb c 117 (λ same. true≢false (sym e ∙ ap (λ x. is_some (short_escape x)) same))
+
+goes_escape : (c : ℕ) (xs : List ℕ) → is_some (short_escape c) ≡ true → Goes (92 ∷ c ∷ xs) xs
+unfolding content
+goes_escape c xs e = record {
+  bytes = λ s f. escape_read c xs s (short_escape c) refl e (not_u c e) f;
+  passed = lex_backslash 92 (c ∷ xs) refl ∙ lex_escaped c xs;
+}
+
+pub some_escape : (xs : List ℕ) → is_some (short_escape (head xs)) ≡ true → 0 < length xs
+unfolding short_escape
+some_escape [] e = absurd (false≢true e)
+some_escape (x ∷ xs) e = omega arith
+
+first_escape : (xs : List ℕ) → is_some (short_escape (head xs)) ≡ true → xs ≡ head xs ∷ drop 1 xs
+unfolding short_escape
+first_escape [] e = absurd (false≢true e)
+first_escape (x ∷ xs) e = refl
+
+-- plain bytes and an escape
+pub past_escape : (text : List ℕ) (at stop : ℕ) → stop ≡ at + prefix_len is_plain (drop at text) → head (drop stop text) ≡ 92 → is_some (short_escape (head (drop (stop + 1) text))) ≡ true
+    → Goes (drop at text) (drop (stop + 2) text)
+past_escape text at stop is e short =
+    let there = drop-drop (prefix_len is_plain (drop at text)) at text ∙ ap (λ k. drop k text) (sym is) in
+    let run = subst (Goes (drop at text)) there (goes_run is_plain (λ x f. f) (drop at text)) in
+    let behind : stop + 1 + 1 ≡ stop + 2 = omega arith in
+    let second = first_escape (drop (stop + 1) text) short ∙ ap (λ l. head (drop (stop + 1) text) ∷ l) (drop-drop 1 (stop + 1) text ∙ ap (λ k. drop k text) behind) in
+    let both = front_at 92 text stop refl e ∙ ap (λ l. 92 ∷ l) second in
+    goes_on (drop at text) (drop stop text) (drop (stop + 2) text) run
+    (subst (λ l. Goes l (drop (stop + 2) text)) (sym both) (goes_escape (head (drop (stop + 1) text)) (drop (stop + 2) text) short))
+
+-- a string whose rest has no escapes
+pub last_run : (text : List ℕ) (from at stop : ℕ) → from ≤ at → Goes (drop from text) (drop at text) → stop ≡ at + prefix_len is_plain (drop at text) → head (drop stop text) ≡ 34 → EndsString text from stop
+last_run text from at stop low so_far is e =
+    let closed = string_ends text at stop is e in
+    record {
+      low = omega (arith, closed.low);
+      high = closed.high;
+      bytes = so_far.bytes (bytes_between text at stop) closed.bytes;
+      passed = so_far.passed ∙ closed.passed;
+    }
 
 -- ---- words
 
@@ -320,12 +405,12 @@ exponent_ends text from sign end letter low is digits =
 
 -- ---- keys
 
-pub key_at : (text : List ℕ) (from end mark value : ℕ) → head (drop from text) ≡ 34 → EndsString text (from + 1) end → end + 1 ≤ mark → lexemes_at text mark ≡ lexemes_at text (end + 1)
+pub key_at : (text : List ℕ) (from end mark value : ℕ) → head (drop from text) ≡ 34 → EndsPlain text (from + 1) end → end + 1 ≤ mark → lexemes_at text mark ≡ lexemes_at text (end + 1)
     → head (drop mark text) ≡ 58 → mark + 1 ≤ value → value ≤ length text → lexemes_at text value ≡ lexemes_at text (mark + 1) → HasKey text from end value
 key_at text from end mark value first closed low before is high within behind = record {
   low = omega (arith, closed.low);
   high = omega arith;
   within = within;
-  reads = at_string text from end first closed
+  reads = at_string text (bytes_between text (from + 1) end) from end first closed.bytes closed.passed
       ∙ ap (λ l. token (Token.string (bytes_between text (from + 1) end)) ∷ l) (sym before ∙ at_colon text mark is ∙ ap (λ l. colon ∷ l) (sym behind));
 }

@@ -20,11 +20,11 @@ lex_plain x z q b =
     (λ i. lex_byte in_string (cond (q i) quote (cond (b i) backslash (cond (is_operator x) operator (cond (is_space x) space other)))) x z (λ n. lex n z))
     ∙ stays_inside (is_operator x) (is_space x) x z (λ n. lex n z)
 
-lex_backslash : (x : ℕ) (z : List ℕ) → (x == 92) ≡ true → lex in_string (x ∷ z) ≡ lex in_escape z
+pub lex_backslash : (x : ℕ) (z : List ℕ) → (x == 92) ≡ true → lex in_string (x ∷ z) ≡ lex in_escape z
 unfolding lex
 lex_backslash x z b = ap (λ y. lex in_string (y ∷ z)) (eqb-true x 92 b)
 
-lex_escaped : (x : ℕ) (z : List ℕ) → lex in_escape (x ∷ z) ≡ lex in_string z
+pub lex_escaped : (x : ℕ) (z : List ℕ) → lex in_escape (x ∷ z) ≡ lex in_string z
 unfolding lex
 lex_escaped x z = refl
 

@@ -18,9 +18,12 @@ lexemes_at text at = lex between (drop at text)
 abbrev pub bytes_between : List ℕ → ℕ → ℕ → List ℕ
 bytes_between text from end = take (end - from) (drop from text)
 
--- a byte of a string that stands for itself
+-- a byte that does not stand for itself in a string
+abbrev pub is_stop : ℕ → Bool
+is_stop x = (x == 34) || (x == 92) || nat_lt x 32
+
 abbrev pub is_plain : ℕ → Bool
-is_plain x = not ((x == 34) || (x == 92) || nat_lt x 32)
+is_plain x = not (is_stop x)
 
 -- `end` is where the rest of a text begins, at or behind `from`.
 abbrev pub EndsAt : List ℕ → ℕ → Option ℕ → Option (List ℕ) → Type 0
@@ -28,10 +31,17 @@ EndsAt text from end rest =
     (option_map (λ e. drop e text) end ≡ rest) × IfSome end (λ e. (from ≤ e) × (e ≤ length text))
 
 -- From a byte on the rest of a string stands, all of whose bytes stand for themselves, up to this quote.
-pub record EndsString (text : List ℕ) (from quote : ℕ) : Type 0 where
+pub record EndsPlain (text : List ℕ) (from quote : ℕ) : Type 0 where
   pub low : from ≤ quote
   pub high : quote < length text
   pub bytes : content plain (drop from text) ≡ Some (bytes_between text from quote)
+  pub passed : lex in_string (drop from text) ≡ lexemes_at text (quote + 1)
+
+-- From a byte on the rest of a string stands, which may have escapes, up to this quote.
+pub record EndsString (text : List ℕ) (from quote : ℕ) : Type 0 where
+  pub low : from ≤ quote
+  pub high : quote < length text
+  pub bytes : (s : List ℕ) × (content plain (drop from text) ≡ Some s)
   pub passed : lex in_string (drop from text) ≡ lexemes_at text (quote + 1)
 
 -- the value of a word

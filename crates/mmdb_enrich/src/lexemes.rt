@@ -1,10 +1,14 @@
 //! Strings and words of JSON: where they end.
-ghost use Rattle.std.specs.Prelude.{◌≡◌, ◌+◌, ◌<◌, ◌≤◌, IfSome, ◌||◌, length, drop, nat_eq, true};
+ghost use Rattle.std.specs.Prelude.{◌≡◌, ◌+◌, ◌<◌, ◌≤◌, IfSome, ◌||◌, length, drop, map, nat_eq, true, is_some};
 ghost use Rattle.std.specs.List.{prefix_len, starts_with};
 ghost use Rattle.std.specs.Char.{is_ascii_digit};
+ghost use Rattle.std.specs.Simd.Lanes.{mask_l};
 ghost use Rattle.json.specs.Word.{is_operator, is_space as spec_is_space, head, ends_word, after_digits, after_minus, after_sign, after_whole, after_fraction, after_exponent, after_number};
 ghost use Rattle.json.specs.Json.{Json};
-ghost use Rattle.mmdb_enrich.specs.Scanned.{is_plain as spec_is_plain, lexemes_at, EndsAt, EndsString, HasWord, HasName, begins_number};
+ghost use Rattle.json.specs.Text.{short_escape};
+ghost use Rattle.mmdb_enrich.specs.Scanned.{is_plain as spec_is_plain, is_stop, lexemes_at, EndsAt, EndsPlain, EndsString, HasWord, HasName, begins_number};
+
+use std::simd::prelude::*;
 
 /// Whether a byte is white space of JSON.
 #[inline(always)]
@@ -37,12 +41,35 @@ pub(crate) fn space_end(text: &[u8], from: usize) -> usize
     at
 }
 
+// Which of these bytes do not stand for themselves in a string.
+#[inline(always)]
+fn stops(bytes: u8x16) -> u64
+    ensures { result ≡ mask_l (map is_stop bytes) }
+{
+    (bytes.simd_eq(u8x16::splat(b'"'))
+        | bytes.simd_eq(u8x16::splat(b'\\'))
+        | bytes.simd_lt(u8x16::splat(0x20))).to_bitmask()
+}
+
 // Whether a byte of a string stands for itself.
 #[inline(always)]
 fn is_plain(byte: u8) -> bool
     ensures { result ≡ spec_is_plain byte }
 {
     byte > b'\\' || (byte >= b' ' && byte != b'"' && byte != b'\\')
+}
+
+// Where the bytes that stand for themselves end, byte by byte.
+#[inline(always)]
+fn short_plain_end(text: &[u8], from: usize) -> usize
+    requires { from ≤ length text.now }
+    ensures { result ≡ from + prefix_len spec_is_plain (drop from text.now) }
+{
+    let mut at = from;
+    while at < text.len() && is_plain(text[at]) {
+        at += 1;
+    }
+    at
 }
 
 // Where the bytes that stand for themselves end.
@@ -53,24 +80,68 @@ fn plain_end(text: &[u8], from: usize) -> usize
     ensures bound { result ≤ length text.now }
 {
     let mut at = from;
-    while at < text.len() && is_plain(text[at]) {
-        at += 1;
+    while text.len() - at >= 16 {
+        let found = stops(u8x16::from_slice(&text[at..]));
+        if found != 0 {
+            return at + found.trailing_zeros() as usize;
+        }
+        at += 16;
     }
-    at
+    short_plain_end(text, at)
 }
 
 /// The quote that ends a string, from the byte behind its first quote on; none where a byte does
 /// not stand for itself.
 #[inline(always)]
-pub(crate) fn string_end(text: &[u8], from: usize) -> Option<usize>
+pub(crate) fn plain_string_end(text: &[u8], from: usize) -> Option<usize>
     requires { from ≤ length text.now }
-    ensures { IfSome result (EndsString text.now from) }
+    ensures { IfSome result (EndsPlain text.now from) }
 {
     let quote = plain_end(text, from);
     if byte_at(text, quote) == b'"' {
         Some(quote)
     } else {
         None
+    }
+}
+
+// Whether a byte makes an escape with a backslash before it. A `u` does not: four digits follow.
+#[inline(always)]
+#[tactic(auto, unfolding(json::specs::Text::short_escape))]
+fn is_short_escape(byte: u8) -> bool
+    ensures { result ≡ is_some (short_escape byte) }
+{
+    byte == b'"'
+        || byte == b'\\'
+        || byte == b'/'
+        || byte == b'b'
+        || byte == b'f'
+        || byte == b'n'
+        || byte == b'r'
+        || byte == b't'
+}
+
+/// The quote that ends a string, from the byte behind its first quote on; none where it has an
+/// escape with `\u`.
+#[inline(always)]
+pub(crate) fn string_end(text: &[u8], from: usize) -> Option<usize>
+    requires { from ≤ length text.now }
+    ensures { IfSome result (EndsString text.now from) }
+{
+    let mut at = from;
+    loop {
+        let stop = plain_end(text, at);
+        let byte = byte_at(text, stop);
+        if byte == b'"' {
+            return Some(stop);
+        }
+        if byte != b'\\' {
+            return None;
+        }
+        if !is_short_escape(byte_at(text, stop + 1)) {
+            return None;
+        }
+        at = stop + 2;
     }
 }
 

@@ -13,9 +13,9 @@ pub mod laws;
 mod lexemes;
 mod members;
 mod objects;
+mod one_pass;
 mod quotes;
 mod row_memory;
-mod short_object;
 
 pub use columns::delimiter_of;
 pub use enrichment::Enrichment;

@@ -2,20 +2,16 @@
 ghost use Rattle.std.specs.Prelude.{◌≡◌, ◌≤◌, ℕ, true, false, IfOk, MatchOption, length, option_map, IfSome, Some};
 ghost use Rattle.json.specs.Find.{BeginsWith, Finds};
 ghost use Rattle.json.specs.Json.{Json, Members, object, document};
-ghost use Rattle.json.specs.Word.{is_space as spec_is_space};
 ghost use Rattle.mmdb_enrich.specs.Objects.{EndsWithBrace, step_in as spec_step_in, text_along as spec_text_along};
 ghost use Rattle.mmdb_enrich.specs.Working.{ReadsLine, ReadsValue};
 ghost use Rattle.mmdb_enrich.specs.Columns.{ReadsAddress};
 
 use crate::lexemes::is_space;
-use crate::short_object::text_in_object;
+use crate::one_pass::text_in_object;
 use json::{Element, Error, Scratch, Tape};
 use mmdb_reader::PathElement;
 use std::alloc::{AllocError, Global};
 use std::net::IpAddr;
-
-// Up to how many bytes one pass over a line costs less than a tape of it.
-const SHORT: usize = 256;
 
 /// A line that is an object with an address.
 #[derive(Clone, Copy)]
@@ -123,15 +119,12 @@ fn address_of(text: Option<&[u8]>) -> Option<IpAddr>
     }
 }
 
-// What a short text is of which so many bytes stand from the last brace on; none where one pass
-// over it does not say that.
-fn read_short(text: &[u8], path: &[PathElement<'_>], behind: usize) -> Option<ReadLine>
+// What a text is of which so many bytes stand from the last brace on; none where one pass over it
+// does not say that.
+fn read_in_one_pass(text: &[u8], path: &[PathElement<'_>], behind: usize) -> Option<ReadLine>
     ensures { IfSome result (λ line. (j : Json) × (document text.now ≡ Some j)
         × ReadsValue j behind path.now line) }
 {
-    if text.len() > SHORT {
-        return None;
-    }
     let found = text_in_object(text, path)?;
     match address_of(found) {
         Some(address) => Some(ReadLine::Object(Line {
@@ -157,7 +150,7 @@ fn read_text(
     let Ok(text) = str::from_utf8(text) else {
         return Ok(ReadLine::NoObject);
     };
-    if let Some(line) = read_short(text.as_bytes(), path, behind) {
+    if let Some(line) = read_in_one_pass(text.as_bytes(), path, behind) {
         return Ok(line);
     }
     match Tape::parse(text, scratch, Vec::new(alloc)) {

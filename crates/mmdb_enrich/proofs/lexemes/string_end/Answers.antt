@@ -1,9 +1,31 @@
-use Rattle.std.proofs.Common.{rules, ◌≡◌, drop}
+use Rattle.std.proofs.Common.{rules, ◌≡◌, ◌+◌, true, drop, arith}
+use Rattle.std.specs.Option.{is_some}
+use Rattle.std.proofs.lemmas.List.{length-drop}
+use Rattle.json.specs.Text.{short_escape}
 use Rattle.json.specs.Word.{head}
-use Rattle.mmdb_enrich.proofs.ScanLaws.{string_ends}
+use Rattle.mmdb_enrich.proofs.ScanLaws.{goes_nowhere, goes_on, some_escape, past_escape, last_run}
 use Rattle.mmdb_enrich.proofs.lexemes.string_end.Goals as goal
 
-pub returns-then-byte_at-eq34 : goal.returns-then-byte_at-eq34
-returns-then-byte_at-eq34 c =
-    let there : head (drop c.plain_end-quote.result c.args.text.now) ≡ 34 = search rules in
-    string_ends c.args.text.now c.args.from c.plain_end-quote.result c.plain_end-quote.ensures.value there
+pub loop-from-init : goal.loop-from-init
+loop-from-init c = record { low = omega arith; high = omega arith; goes = goes_nowhere (drop c.args.from c.args.text.now) }
+
+pub returns-then-byte-eq34 : goal.returns-then-byte-eq34
+returns-then-byte-eq34 c =
+    let text = c.args.text.now in
+    let stop = c.plain_end-stop in
+    let there : head (drop stop.result text) ≡ 34 = search rules in
+    last_run text c.args.from c.loop-from.at stop.result c.loop-from.invariant.low c.loop-from.invariant.goes stop.ensures.value there
+
+pub loop-from-preserved : goal.loop-from-preserved
+loop-from-preserved c =
+    let text = c.args.text.now in
+    let stop = c.plain_end-stop in
+    let there : head (drop stop.result text) ≡ 92 = search rules in
+    let short : is_some (short_escape (head (drop (stop.result + 1) text))) ≡ true = search rules in
+    let some = some_escape (drop (stop.result + 1) text) short in
+    record {
+      low = omega arith;
+      high = omega (arith, some, length-drop (stop.result + 1) text);
+      goes = goes_on (drop c.args.from text) (drop c.loop-from.at text) (drop (stop.result + 2) text) c.loop-from.invariant.goes
+          (past_escape text c.loop-from.at stop.result stop.ensures.value there short);
+    }

@@ -1,7 +1,7 @@
 use Rattle.std.proofs.Common.{rules, ◌≡◌, drop, arith}
 use Rattle.json.specs.Word.{head}
 use Rattle.mmdb_enrich.proofs.ScanLaws.{key_at}
-use Rattle.mmdb_enrich.proofs.short_object.read_key.Goals as goal
+use Rattle.mmdb_enrich.proofs.one_pass.read_key.Goals as goal
 
 pub returns : goal.returns
 returns c =

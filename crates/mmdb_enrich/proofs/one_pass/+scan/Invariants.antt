@@ -2,7 +2,7 @@ use Rattle.std.proofs.Common.{◌≡◌, ◌+◌, ◌-◌, ◌*◌, ◌≤◌, t
 use Rattle.json.specs.Json.{Items, Members}
 use Rattle.json.specs.Lex.{Lexeme, Place, fresh, may_begin}
 use Rattle.mmdb_enrich.specs.Scanned.{lexemes_at, BeginWithItems, BeginWithMembers}
-use Rattle.mmdb_enrich.proofs.short_object.+scan.Given as goal
+use Rattle.mmdb_enrich.proofs.one_pass.+scan.Given as goal
 
 abbrev pub decreases-value_end : goal.decreases-value_end
 decreases-value_end l = 2 * l.depth

@@ -3,13 +3,14 @@ use Rattle.json.specs.Json.{no_items, item, no_members, member, string, array, o
 use Rattle.json.specs.Word.{head}
 use Rattle.mmdb_enrich.specs.Scanned.{lexemes_at, bytes_between, HasWord, HasItems, HasMembers}
 use Rattle.mmdb_enrich.proofs.FoundLaws.{if_found, word_found, string_found, object_found, array_found, first_items, no_item, last_item, next_item, first_members, no_member, last_member, next_member}
-use Rattle.mmdb_enrich.proofs.short_object.+scan.Goals as goal
+use Rattle.mmdb_enrich.proofs.one_pass.+scan.Goals as goal
 
 pub value_end-returns-in_ok-quote-clause-value : goal.value_end-returns-in_ok-quote-clause-value
 value_end-returns-in_ok-quote-clause-value t c =
     let text = c.args.text.now in
     let first : head (drop c.args.from text) ≡ 34 = search rules in
-    (string (bytes_between text (c.args.from + 1) c.in_ok-quote.quote), string_found text c.args.from c.in_ok-quote.quote c.args.depth first c.in_ok-quote.ensures)
+    let closed = c.in_ok-quote.ensures in
+    (string closed.bytes.0, string_found text closed.bytes.0 c.args.from c.in_ok-quote.quote c.args.depth first closed.bytes.1 closed.passed)
 
 pub value_end-returns-then-depth-gt0-clause-value : goal.value_end-returns-then-depth-gt0-clause-value
 value_end-returns-then-depth-gt0-clause-value t c =

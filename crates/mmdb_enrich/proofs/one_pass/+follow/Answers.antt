@@ -4,7 +4,7 @@ use Rattle.json.specs.Json.{no_members, member}
 use Rattle.json.specs.Word.{head}
 use Rattle.mmdb_enrich.specs.Scanned.{lexemes_at, bytes_between}
 use Rattle.mmdb_enrich.proofs.FoundLaws.{object_followed, first_members, no_member, last_member, next_member, text_found, text_goes_on}
-use Rattle.mmdb_enrich.proofs.short_object.+follow.Goals as goal
+use Rattle.mmdb_enrich.proofs.one_pass.+follow.Goals as goal
 
 pub follow-returns-clause-value : goal.follow-returns-clause-value
 follow-returns-clause-value t c =

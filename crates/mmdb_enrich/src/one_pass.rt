@@ -1,4 +1,7 @@
-//! Values of JSON: where they end, found in one pass over the bytes.
+//! Objects of JSON, read in one pass over their bytes.
+//!
+//! Most lines are read so. What this pass does not know, as escapes with `\u`, and every error are
+//! left to the reader of the crate `json`.
 ghost use Rattle.std.specs.Prelude.{◌≡◌, ◌+◌, ◌<◌, ◌≤◌, IfSome, Some, length, option_map, option_and_then, cond};
 ghost use Rattle.std.specs.Str.{bytes_eq};
 ghost use Rattle.json.specs.Find.{as_str, get_member};
@@ -6,7 +9,7 @@ ghost use Rattle.json.specs.Json.{Json, Items, Members, object, document};
 ghost use Rattle.mmdb_enrich.specs.Scanned.{HasKey, HasValue, HasItems, HasMembers};
 ghost use Rattle.mmdb_enrich.specs.Objects.{text_along};
 
-use crate::lexemes::{byte_at, space_end, string_end, word_end};
+use crate::lexemes::{byte_at, plain_string_end, space_end, string_end, word_end};
 use json::MAX_DEPTH;
 use mmdb_reader::PathElement;
 
@@ -26,7 +29,7 @@ fn read_key(text: &[u8], from: usize) -> Option<Key>
     if byte_at(text, from) != b'"' {
         return None;
     }
-    let quote = string_end(text, from + 1)?;
+    let quote = plain_string_end(text, from + 1)?;
     let colon = space_end(text, quote + 1);
     if byte_at(text, colon) != b':' {
         return None;
@@ -59,6 +62,7 @@ fn value_end(text: &[u8], from: usize, depth: usize) -> Option<usize>
 
 // Where an array ends, from behind its open bracket on.
 #[cycle(scan)]
+#[inline(never)]
 fn items_end(text: &[u8], from: usize, depth: usize) -> Option<usize>
     requires { from ≤ length text.now }
     ensures bounds { IfSome result (λ end. (from ≤ end) × (end ≤ length text.now)) }
@@ -84,6 +88,7 @@ fn items_end(text: &[u8], from: usize, depth: usize) -> Option<usize>
 
 // Where an object ends, from behind its open brace on.
 #[cycle(scan)]
+#[inline(never)]
 fn members_end(text: &[u8], from: usize, depth: usize) -> Option<usize>
     requires { from ≤ length text.now }
     ensures bounds { IfSome result (λ end. (from ≤ end) × (end ≤ length text.now)) }
@@ -124,7 +129,7 @@ fn follow_no_further(text: &[u8], from: usize, depth: usize) -> Option<Followed<
         × (option_map (λ s. s.now) f.text ≡ as_str j)) }
 {
     if byte_at(text, from) == b'"' {
-        let quote = string_end(text, from + 1)?;
+        let quote = plain_string_end(text, from + 1)?;
         Some(Followed {
             end: quote + 1,
             text: Some(&text[from + 1..quote]),

@@ -1,7 +1,7 @@
 use Rattle.std.proofs.Common.{refl, sym, ◌∙◌}
 use Rattle.json.specs.Json.{object}
 use Rattle.mmdb_enrich.proofs.ObjectLaws.{not_empty}
-use Rattle.mmdb_enrich.proofs.objects.read_short.Goals as goal
+use Rattle.mmdb_enrich.proofs.objects.read_in_one_pass.Goals as goal
 
 pub returns-in-Some : goal.returns-in-Some
 returns-in-Some c =

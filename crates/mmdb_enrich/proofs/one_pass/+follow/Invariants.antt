@@ -4,7 +4,7 @@ use Rattle.json.specs.Json.{Members}
 use Rattle.json.specs.Lex.{Lexeme, Place, fresh, may_begin}
 use Rattle.mmdb_enrich.specs.Scanned.{lexemes_at, BeginWithMembers}
 use Rattle.mmdb_enrich.proofs.FoundLaws.{text_or}
-use Rattle.mmdb_enrich.proofs.short_object.+follow.Given as goal
+use Rattle.mmdb_enrich.proofs.one_pass.+follow.Given as goal
 
 abbrev pub decreases-follow : goal.decreases-follow
 decreases-follow l = 3 * length l.path.now

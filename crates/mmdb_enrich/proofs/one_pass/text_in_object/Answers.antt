@@ -1,7 +1,7 @@
 use Rattle.std.proofs.Common.{◌≡◌, ◌<◌, ◌≤◌, drop, length, sym, ◌∙◌, arith}
 use Rattle.json.specs.Word.{head}
 use Rattle.mmdb_enrich.proofs.FoundLaws.{whole_object, whole_path}
-use Rattle.mmdb_enrich.proofs.short_object.text_in_object.Goals as goal
+use Rattle.mmdb_enrich.proofs.one_pass.text_in_object.Goals as goal
 
 pub returns : goal.returns
 returns c =
