@@ -1,19 +1,19 @@
 -- The lexemes that stand at a byte of a text.
-use Rattle.std.proofs.Common.{◌≡◌, ℕ, ◌+◌, ◌-◌, ◌<◌, ◌≤◌, suc, Bool, true, false, cond, ◌&&◌, ◌||◌, ◌==◌, nat_eq, List, [], ◌∷◌, length, take, drop, get_or, Option, Some, None, option_and_then, ⊎_elim, refl, sym, ap, ap₂, ◌∙◌, subst, arith}
-use Rattle.std.proofs.lemmas.Bool.{true≢false, false≢true, false_from_ne_true, eqb-true, eq-eqb, ne_eqb, or_parts, or_cases, and_parts, not-true}
+use Rattle.std.proofs.Common.{◌≡◌, ℕ, ◌+◌, ◌-◌, ◌*◌, ◌<◌, ◌≤◌, suc, Bool, true, false, cond, ◌&&◌, ◌||◌, ◌==◌, nat_eq, List, [], ◌∷◌, ◌++◌, nat_le, nat_lt, length, take, drop, get_or, Option, Some, None, option_and_then, ⊎_elim, refl, sym, ap, ap₂, ◌∙◌, subst, arith}
+use Rattle.std.proofs.lemmas.Bool.{true≢false, false≢true, false_from_ne_true, leb-true, lt-ltb, eqb-true, eq-eqb, ne_eqb, or_parts, or_cases, and_parts, not-true}
 use Rattle.std.proofs.lemmas.List.{drop_more, drop-drop, length-drop}
 use Rattle.std.specs.Option.{IfSome, is_some}
 use Rattle.std.specs.List.{prefix_len, starts_with}
-use Rattle.std.specs.Char.{is_ascii_digit}
+use Rattle.std.specs.Char.{is_ascii_digit, digit_value, encode_utf8}
 use Rattle.json.specs.Token.{Token, number, boolean, null, bad}
-use Rattle.json.specs.Text.{content, plain, prepend, after_backslash, after_u, short_escape}
+use Rattle.json.specs.Text.{content, plain, prepend, after_backslash, after_u, after_high, short_escape, code_unit, is_high_surrogate, is_low_surrogate}
 use Rattle.json.specs.Word.{is_operator, is_space, head, ends_word, after_digits, after_minus, after_sign, after_whole, after_fraction, after_exponent, after_number, number_before, literal, word}
 use Rattle.json.specs.Ascii.{true_text, false_text, null_text}
-use Rattle.json.specs.Lex.{Lexeme, token, comma, colon, quote, backslash, operator, space, other, class, Mode, between, in_word, in_string, lex, lex_byte, string_token}
+use Rattle.json.specs.Lex.{Lexeme, token, comma, colon, quote, backslash, operator, space, other, class, Mode, between, in_word, in_string, in_escape, lex, lex_byte, string_token}
 use Rattle.json.specs.Json as json
-use Rattle.mmdb_enrich.specs.Scanned.{lexemes_at, bytes_between, is_plain, EndsAt, EndsPlain, EndsString, IsWordOf, HasWord, begins_number, HasName, HasKey}
+use Rattle.mmdb_enrich.specs.Scanned.{lexemes_at, bytes_between, is_plain, EndsAt, EndsPlain, EndsString, EndsEscape, IsCode, IsWordOf, HasWord, begins_number, HasName, HasKey}
 use Rattle.mmdb_enrich.proofs.WordLaws.{ends, each_space, each_operator, no_digit_ends, NoneEnds}
-use Rattle.mmdb_enrich.proofs.StringLaws.{lex_plain, lex_backslash, lex_escaped}
+use Rattle.mmdb_enrich.proofs.StringLaws.{lex_plain, lex_backslash, lex_escaped, lex_unit}
 
 -- ---- the byte that stands first
 
@@ -159,34 +159,91 @@ not_u : (c : ℕ) → is_some (short_escape c) ≡ true → (c == 117) ≡ false
 unfolding short_escape
 not_u c e = ne_eqb c 117 (λ same. true≢false (sym e ∙ ap (λ x. is_some (short_escape x)) same))
 
-goes_escape : (c : ℕ) (xs : List ℕ) → is_some (short_escape c) ≡ true → Goes (92 ∷ c ∷ xs) xs
-unfolding content
-goes_escape c xs e = record {
-  bytes = λ s f. escape_read c xs s (short_escape c) refl e (not_u c e) f;
-  passed = lex_backslash 92 (c ∷ xs) refl ∙ lex_escaped c xs;
-}
-
-pub some_escape : (xs : List ℕ) → is_some (short_escape (head xs)) ≡ true → 0 < length xs
-unfolding short_escape
-some_escape [] e = absurd (false≢true e)
-some_escape (x ∷ xs) e = omega arith
-
-first_escape : (xs : List ℕ) → is_some (short_escape (head xs)) ≡ true → xs ≡ head xs ∷ drop 1 xs
+first_escape : (xs : List ℕ) → is_some (short_escape (head xs)) ≡ true → (0 < length xs) × (xs ≡ head xs ∷ drop 1 xs)
 unfolding short_escape
 first_escape [] e = absurd (false≢true e)
-first_escape (x ∷ xs) e = refl
+first_escape (x ∷ xs) e = (omega arith, refl)
+
+-- an escape by one byte
+pub short_ends : (text : List ℕ) (from : ℕ) → is_some (short_escape (head (drop from text))) ≡ true → EndsEscape text from (from + 1)
+short_ends text from e =
+    let c = head (drop from text) in
+    let (some, is) = first_escape (drop from text) e in
+    let here : drop from text ≡ c ∷ drop (from + 1) text = is ∙ ap (λ l. c ∷ l) (drop-drop 1 from text) in
+    record {
+      low = omega arith;
+      high = omega (arith, some, length-drop from text);
+      bytes = λ s f.
+          let (t, g) = escape_read c (drop (from + 1) text) s (short_escape c) refl e (not_u c e) f in
+          (t, ap (content after_backslash) here ∙ g);
+      passed = ap (lex in_escape) here ∙ lex_escaped c (drop (from + 1) text);
+    }
+
+not_surrogate : (u : ℕ) → u < 55296 → (is_high_surrogate u ≡ false) × (is_low_surrogate u ≡ false)
+not_surrogate u h =
+    let low = false_from_ne_true (nat_le 55296 u) (λ e. let le = leb-true 55296 u e in let never : ⊥ = omega arith in never) in
+    let lower = false_from_ne_true (nat_le 56320 u) (λ e. let le = leb-true 56320 u e in let never : ⊥ = omega arith in never) in
+    (ap (λ b. b && nat_lt u 56320) low, ap (λ b. b && nat_lt u 57344) lower)
+
+unit_small : (x y z w : ℕ) → x < 10 → y < 16 → z < 16 → w < 16 → x * 4096 + y * 256 + z * 16 + w < 55296
+unit_small x y z w p q r s = omega arith
+
+lt-more : (x : ℕ) → x < 10 → x < 16
+lt-more x h = omega arith
+
+unit_of : (a b c d : ℕ) → digit_value a < 10 → digit_value b < 16 → digit_value c < 16 → digit_value d < 16
+    → (u : ℕ) × (u < 55296) × (code_unit a b c d ≡ Some u)
+unfolding code_unit
+unit_of a b c d p q r s =
+    let u = digit_value a * 4096 + digit_value b * 256 + digit_value c * 16 + digit_value d in
+    (u, unit_small (digit_value a) (digit_value b) (digit_value c) (digit_value d) p q r s, λ i. cond (lt-ltb (digit_value a) 16 (lt-more (digit_value a) p) i && lt-ltb (digit_value b) 16 q i && lt-ltb (digit_value c) 16 r i && lt-ltb (digit_value d) 16 s i) (Some u) None)
+
+unit_read : (a b c d u : ℕ) (xs s : List ℕ) → code_unit a b c d ≡ Some u → u < 55296 → content plain xs ≡ Some s → content after_backslash (117 ∷ a ∷ b ∷ c ∷ d ∷ xs) ≡ Some (encode_utf8 u ++ s)
+unfolding content
+unit_read a b c d u xs s is small f =
+    let apart = not_surrogate u small in
+    ap (option_and_then (λ k. cond (is_high_surrogate k) (content (after_high k) xs) (cond (is_low_surrogate k) None (prepend (encode_utf8 k) (content plain xs))))) is
+    ∙ (λ i. cond (apart.0 i) (content (after_high u) xs) (cond (apart.1 i) None (prepend (encode_utf8 u) (f i))))
+
+five : (text : List ℕ) (i : ℕ) → i + 4 ≤ length text → drop i text ≡ get_or text i 0 ∷ get_or text (i + 1) 0 ∷ get_or text (i + 2) 0 ∷ get_or text (i + 3) 0 ∷ drop (i + 4) text
+five d i h =
+    let more : (j k : ℕ) → k ≡ j + 1 → j < length d → drop j d ≡ get_or d j 0 ∷ drop k d = λ j k e l. drop_more d j 0 l ∙ ap (λ n. get_or d j 0 ∷ drop n d) (sym e) in
+    more i (i + 1) refl (omega arith) ∙ ap (λ l. get_or d i 0 ∷ l) (more (i + 1) (i + 2) (omega arith) (omega arith) ∙ ap (λ l. get_or d (i + 1) 0 ∷ l)
+    (more (i + 2) (i + 3) (omega arith) (omega arith) ∙ ap (λ l. get_or d (i + 2) 0 ∷ l) (more (i + 3) (i + 4) (omega arith) (omega arith))))
+
+-- an escape by the four digits behind a `u`
+pub code_ends : (text : List ℕ) (from end : ℕ) → head (drop from text) ≡ 117 → IsCode text (from + 1) end → EndsEscape text from end
+code_ends text from end e code =
+    let i = from + 1 in
+    let a = get_or text i 0 in
+    let b = get_or text (i + 1) 0 in
+    let c = get_or text (i + 2) 0 in
+    let d = get_or text (i + 3) 0 in
+    let there : drop (i + 4) text ≡ drop end text = ap (λ k. drop k text) (sym code.there) in
+    let here : drop from text ≡ 117 ∷ a ∷ b ∷ c ∷ d ∷ drop end text =
+    front_at 117 text from refl e ∙ ap (λ l. 117 ∷ l) (five text i (omega (arith, code.there, code.within)) ∙ ap (λ l. a ∷ b ∷ c ∷ d ∷ l) there) in
+    let (u, small, is) = unit_of a b c d code.first code.second code.third code.fourth in
+    record {
+      low = omega (arith, code.there);
+      high = code.within;
+      bytes = λ s f. (encode_utf8 u ++ s, ap (content after_backslash) here ∙ unit_read a b c d u (drop end text) s is small f);
+      passed = ap (lex in_escape) here ∙ lex_escaped 117 (a ∷ b ∷ c ∷ d ∷ drop end text) ∙ lex_unit a b c d u (drop end text) is;
+    }
+
+goes_escape : (xs rest : List ℕ) → ((s : List ℕ) → content plain rest ≡ Some s → (t : List ℕ) × (content after_backslash xs ≡ Some t)) → lex in_escape xs ≡ lex in_string rest → Goes (92 ∷ xs) rest
+unfolding content
+goes_escape xs rest bytes passed = record {
+  bytes = λ s f. bytes s f;
+  passed = lex_backslash 92 xs refl ∙ passed;
+}
 
 -- plain bytes and an escape
-pub past_escape : (text : List ℕ) (at stop : ℕ) → stop ≡ at + prefix_len is_plain (drop at text) → head (drop stop text) ≡ 92 → is_some (short_escape (head (drop (stop + 1) text))) ≡ true
-    → Goes (drop at text) (drop (stop + 2) text)
-past_escape text at stop is e short =
+pub past_escape : (text : List ℕ) (at stop end : ℕ) → stop ≡ at + prefix_len is_plain (drop at text) → head (drop stop text) ≡ 92 → EndsEscape text (stop + 1) end → Goes (drop at text) (drop end text)
+past_escape text at stop end is e escape =
     let there = drop-drop (prefix_len is_plain (drop at text)) at text ∙ ap (λ k. drop k text) (sym is) in
     let run = subst (Goes (drop at text)) there (goes_run is_plain (λ x f. f) (drop at text)) in
-    let behind : stop + 1 + 1 ≡ stop + 2 = omega arith in
-    let second = first_escape (drop (stop + 1) text) short ∙ ap (λ l. head (drop (stop + 1) text) ∷ l) (drop-drop 1 (stop + 1) text ∙ ap (λ k. drop k text) behind) in
-    let both = front_at 92 text stop refl e ∙ ap (λ l. 92 ∷ l) second in
-    goes_on (drop at text) (drop stop text) (drop (stop + 2) text) run
-    (subst (λ l. Goes l (drop (stop + 2) text)) (sym both) (goes_escape (head (drop (stop + 1) text)) (drop (stop + 2) text) short))
+    goes_on (drop at text) (drop stop text) (drop end text) run
+    (subst (λ l. Goes l (drop end text)) (sym (front_at 92 text stop refl e)) (goes_escape (drop (stop + 1) text) (drop end text) escape.bytes escape.passed))
 
 -- a string whose rest has no escapes
 pub last_run : (text : List ℕ) (from at stop : ℕ) → from ≤ at → Goes (drop from text) (drop at text) → stop ≡ at + prefix_len is_plain (drop at text) → head (drop stop text) ≡ 34 → EndsString text from stop
@@ -414,3 +471,7 @@ key_at text from end mark value first closed low before is high within behind = 
   reads = at_string text (bytes_between text (from + 1) end) from end first closed.bytes closed.passed
       ∙ ap (λ l. token (Token.string (bytes_between text (from + 1) end)) ∷ l) (sym before ∙ at_colon text mark is ∙ ap (λ l. colon ∷ l) (sym behind));
 }
+
+pub if_code : (text : List ℕ) (from : ℕ) (end : Option ℕ) → head (drop from text) ≡ 117 → IfSome end (IsCode text (from + 1)) → IfSome end (EndsEscape text from)
+if_code text from None first is = tt
+if_code text from (Some e) first is = code_ends text from e first is

@@ -39,7 +39,7 @@ all_hex : (b : Bool) (u v : ℕ) → cond b (Some u) None ≡ Some v → b ≡ t
 all_hex true u v e = refl
 all_hex false u v e = absurd (cc)
 
-lex_unit : (a b c d u : ℕ) (z : List ℕ) → code_unit a b c d ≡ Some u → lex in_string (a ∷ b ∷ c ∷ d ∷ z) ≡ lex in_string z
+pub lex_unit : (a b c d u : ℕ) (z : List ℕ) → code_unit a b c d ≡ Some u → lex in_string (a ∷ b ∷ c ∷ d ∷ z) ≡ lex in_string z
 unfolding code_unit
 lex_unit a b c d u z e =
     let p = and_parts (is_digit a 16 && is_digit b 16 && is_digit c 16) (is_digit d 16) (all_hex _ _ u e) in

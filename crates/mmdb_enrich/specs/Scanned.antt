@@ -1,12 +1,12 @@
 -- What one pass over a text of JSON finds. Only contracts of private functions and proofs name it.
-use Rattle.std.specs.Prelude.{◌≡◌, ◌≢◌, ℕ, ◌+◌, ◌-◌, ◌<◌, ◌≤◌, List, ◌∷◌, length, take, drop, Bool, true, false, not, ◌||◌, ◌==◌, nat_lt, Option, Some, None, option_map, IfSome, nat_eq}
+use Rattle.std.specs.Prelude.{◌≡◌, ◌≢◌, ℕ, ◌+◌, ◌-◌, ◌<◌, ◌≤◌, List, ◌∷◌, length, take, drop, get_or, Bool, true, false, not, ◌||◌, ◌==◌, nat_lt, Option, Some, None, option_map, IfSome, nat_eq}
 use Rattle.std.specs.List.{starts_with}
-use Rattle.std.specs.Char.{is_ascii_digit}
+use Rattle.std.specs.Char.{is_ascii_digit, digit_value}
 use Rattle.json.specs.Word.{head, ends_word}
 use Rattle.json.specs.Find.{as_str, as_object}
 use Rattle.json.specs.Token.{Token, number, string, boolean, null, begin_object, begin_array, end_object, end_array, key, bad}
-use Rattle.json.specs.Text.{content, plain}
-use Rattle.json.specs.Lex.{Lexeme, token, colon, between, in_string, lex, Place, fresh, after_value, begins_colon, may_begin, punctuate}
+use Rattle.json.specs.Text.{content, plain, after_backslash}
+use Rattle.json.specs.Lex.{Lexeme, token, colon, between, in_string, in_escape, lex, Place, fresh, after_value, begins_colon, may_begin, punctuate}
 use Rattle.json.specs.Json.{Json, Items, Members, items, members, value}
 use Rattle.json.specs.Json as json
 
@@ -43,6 +43,23 @@ pub record EndsString (text : List ℕ) (from quote : ℕ) : Type 0 where
   pub high : quote < length text
   pub bytes : (s : List ℕ) × (content plain (drop from text) ≡ Some s)
   pub passed : lex in_string (drop from text) ≡ lexemes_at text (quote + 1)
+
+-- Four digits of an escape stand from a byte on, the first of them decimal.
+pub record IsCode (text : List ℕ) (from end : ℕ) : Type 0 where
+  pub there : end ≡ from + 4
+  pub within : end ≤ length text
+  pub first : digit_value (get_or text from 0) < 10
+  pub second : digit_value (get_or text (from + 1) 0) < 16
+  pub third : digit_value (get_or text (from + 2) 0) < 16
+  pub fourth : digit_value (get_or text (from + 3) 0) < 16
+
+-- From behind a backslash on the rest of an escape stands, which ends there.
+pub record EndsEscape (text : List ℕ) (from end : ℕ) : Type 0 where
+  pub low : from ≤ end
+  pub high : end ≤ length text
+  pub bytes : (s : List ℕ) → content plain (drop end text) ≡ Some s
+      → (t : List ℕ) × (content after_backslash (drop from text) ≡ Some t)
+  pub passed : lex in_escape (drop from text) ≡ lex in_string (drop end text)
 
 -- the value of a word
 abbrev pub IsWordOf : Json → Token → Type 0

@@ -6,7 +6,7 @@ ghost use Rattle.std.specs.Simd.Lanes.{mask_l};
 ghost use Rattle.json.specs.Word.{is_operator, is_space as spec_is_space, head, ends_word, after_digits, after_minus, after_sign, after_whole, after_fraction, after_exponent, after_number};
 ghost use Rattle.json.specs.Json.{Json};
 ghost use Rattle.json.specs.Text.{short_escape};
-ghost use Rattle.mmdb_enrich.specs.Scanned.{is_plain as spec_is_plain, is_stop, lexemes_at, EndsAt, EndsPlain, EndsString, HasWord, HasName, begins_number};
+ghost use Rattle.mmdb_enrich.specs.Scanned.{is_plain as spec_is_plain, is_stop, lexemes_at, EndsAt, EndsPlain, EndsString, EndsEscape, IsCode, HasWord, HasName, begins_number};
 
 use std::simd::prelude::*;
 
@@ -121,8 +121,41 @@ fn is_short_escape(byte: u8) -> bool
         || byte == b't'
 }
 
-/// The quote that ends a string, from the byte behind its first quote on; none where it has an
-/// escape with `\u`.
+// Where the four digits of an escape with `u` end; none where the first of them is no decimal digit,
+// as in each half of a pair.
+fn code_end(text: &[u8], from: usize) -> Option<usize>
+    requires { from ≤ length text.now }
+    ensures { IfSome result (IsCode text.now from) }
+{
+    if text.len() - from < 4 || !text[from].is_ascii_digit() {
+        return None;
+    }
+    let (b, c, d) = (text[from + 1], text[from + 2], text[from + 3]);
+    if b.is_ascii_hexdigit() && c.is_ascii_hexdigit() && d.is_ascii_hexdigit() {
+        Some(from + 4)
+    } else {
+        None
+    }
+}
+
+// Where an escape ends, from behind its backslash on.
+#[inline(never)]
+fn escape_end(text: &[u8], from: usize) -> Option<usize>
+    requires { from ≤ length text.now }
+    ensures { IfSome result (EndsEscape text.now from) }
+{
+    let byte = byte_at(text, from);
+    if is_short_escape(byte) {
+        return Some(from + 1);
+    }
+    if byte != b'u' {
+        return None;
+    }
+    code_end(text, from + 1)
+}
+
+/// The quote that ends a string, from the byte behind its first quote on; none where an escape may
+/// be half of a pair.
 #[inline(always)]
 pub(crate) fn string_end(text: &[u8], from: usize) -> Option<usize>
     requires { from ≤ length text.now }
@@ -138,10 +171,7 @@ pub(crate) fn string_end(text: &[u8], from: usize) -> Option<usize>
         if byte != b'\\' {
             return None;
         }
-        if !is_short_escape(byte_at(text, stop + 1)) {
-            return None;
-        }
-        at = stop + 2;
+        at = escape_end(text, stop + 1)?;
     }
 }
 

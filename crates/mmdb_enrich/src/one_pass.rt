@@ -1,7 +1,7 @@
 //! Objects of JSON, read in one pass over their bytes.
 //!
-//! Most lines are read so. What this pass does not know, as escapes with `\u`, and every error are
-//! left to the reader of the crate `json`.
+//! Most lines are read so. What this pass does not know, as a character in two escapes or an escape
+//! in a key, and every error are left to the reader of the crate `json`.
 ghost use Rattle.std.specs.Prelude.{◌≡◌, ◌+◌, ◌<◌, ◌≤◌, IfSome, Some, length, option_map, option_and_then, cond};
 ghost use Rattle.std.specs.Str.{bytes_eq};
 ghost use Rattle.json.specs.Find.{as_str, get_member};

@@ -1,9 +1,6 @@
-use Rattle.std.proofs.Common.{rules, ◌≡◌, ◌+◌, true, drop, arith}
-use Rattle.std.specs.Option.{is_some}
-use Rattle.std.proofs.lemmas.List.{length-drop}
-use Rattle.json.specs.Text.{short_escape}
+use Rattle.std.proofs.Common.{rules, ◌≡◌, drop, arith}
 use Rattle.json.specs.Word.{head}
-use Rattle.mmdb_enrich.proofs.ScanLaws.{goes_nowhere, goes_on, some_escape, past_escape, last_run}
+use Rattle.mmdb_enrich.proofs.ScanLaws.{goes_nowhere, goes_on, past_escape, last_run}
 use Rattle.mmdb_enrich.proofs.lexemes.string_end.Goals as goal
 
 pub loop-from-init : goal.loop-from-init
@@ -21,11 +18,10 @@ loop-from-preserved c =
     let text = c.args.text.now in
     let stop = c.plain_end-stop in
     let there : head (drop stop.result text) ≡ 92 = search rules in
-    let short : is_some (short_escape (head (drop (stop.result + 1) text))) ≡ true = search rules in
-    let some = some_escape (drop (stop.result + 1) text) short in
+    let escape = c.in_ok-at.ensures in
     record {
-      low = omega arith;
-      high = omega (arith, some, length-drop (stop.result + 1) text);
-      goes = goes_on (drop c.args.from text) (drop c.loop-from.at text) (drop (stop.result + 2) text) c.loop-from.invariant.goes
-          (past_escape text c.loop-from.at stop.result stop.ensures.value there short);
+      low = omega (arith, escape.low);
+      high = escape.high;
+      goes = goes_on (drop c.args.from text) (drop c.loop-from.at text) (drop c.in_ok-at.at text) c.loop-from.invariant.goes
+          (past_escape text c.loop-from.at stop.result c.in_ok-at.at stop.ensures.value there escape);
     }
