@@ -12,3 +12,7 @@ pub mod PlaceLaws
 pub mod ObjectTokens
 pub mod LongerLaws
 pub mod GainLaws
+pub mod ScanLaws
+pub mod GrammarLaws
+pub mod FoundLaws
+pub mod VectorLaws

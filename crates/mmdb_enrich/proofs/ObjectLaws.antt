@@ -1,11 +1,12 @@
 -- What is known of a text that was read as a value, or was not.
-use Rattle.std.proofs.Common.{◌≡◌, ◌≢◌, ℕ, List, Option, Some, None, option_map, false, true, is_none, is_some, refl, subst, sym, ap, ◌∙◌}
+use Rattle.std.proofs.Common.{◌≡◌, ◌≢◌, ℕ, List, [], ◌∷◌, Option, Some, None, option_map, false, true, is_none, is_some, refl, subst, sym, ap, ◌∙◌}
 use Rattle.std.specs.Str.{IsUtf8}
 use Rattle.json.specs.Find.{BeginsWith, InMembers, NextMember, as_object}
-use Rattle.json.specs.Json.{Json, object, Members, member, document}
+use Rattle.json.specs.Json.{Json, object, Members, no_members, member, document}
 use Rattle.json.specs.Token.{Token}
 use Rattle.mmdb_reader.specs.declared.path.PathElement.{PathElement}
-use Rattle.mmdb_enrich.specs.Objects.{EndsWithBrace, is_empty}
+use Rattle.mmdb_reader.specs.declared.path.PathElement.TheVariants.{Key, Index, IndexFromEnd}
+use Rattle.mmdb_enrich.specs.Objects.{EndsWithBrace, text_along, is_empty}
 use Rattle.mmdb_enrich.specs.Working.{ReadsLine, ReadsValue}
 use Rattle.mmdb_enrich.specs.declared.objects.ReadLine.{ReadLine}
 use Rattle.mmdb_enrich.specs.declared.objects.ReadLine.TheVariants.{NoObject, NoAddress, Object}
@@ -39,3 +40,11 @@ pub some_read : (text : List ℕ) (path : List PathElement) (behind : ℕ) (line
     → ((j : Json) → document text ≡ Some j → ReadsValue j behind path line) → ReadsLine text false path line
 some_read text path behind line None is some utf8 ends reads = absurd (cc)
 some_read text path behind line (Some j) is some utf8 ends reads = text_read text path j behind line utf8 ends is (reads j is)
+
+-- an object in which a path leads to a text has a member
+pub not_empty : (path : List PathElement) (members : Members) (found : List ℕ) → text_along path (object members) ≡ Some found → false ≡ is_empty members
+not_empty path (member k j ms) found e = refl
+not_empty [] no_members found e = absurd (cc)
+not_empty (Key name ∷ path) no_members found e = absurd (cc)
+not_empty (Index n ∷ path) no_members found e = absurd (cc)
+not_empty (IndexFromEnd n ∷ path) no_members found e = absurd (cc)

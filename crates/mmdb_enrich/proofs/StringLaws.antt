@@ -14,17 +14,17 @@ stays_inside true s x r k = refl
 stays_inside false true x r k = refl
 stays_inside false false x r k = refl
 
-lex_plain : (x : ℕ) (z : List ℕ) → (x == 34) ≡ false → (x == 92) ≡ false → lex in_string (x ∷ z) ≡ lex in_string z
+pub lex_plain : (x : ℕ) (z : List ℕ) → (x == 34) ≡ false → (x == 92) ≡ false → lex in_string (x ∷ z) ≡ lex in_string z
 unfolding lex
 lex_plain x z q b =
     (λ i. lex_byte in_string (cond (q i) quote (cond (b i) backslash (cond (is_operator x) operator (cond (is_space x) space other)))) x z (λ n. lex n z))
     ∙ stays_inside (is_operator x) (is_space x) x z (λ n. lex n z)
 
-lex_backslash : (x : ℕ) (z : List ℕ) → (x == 92) ≡ true → lex in_string (x ∷ z) ≡ lex in_escape z
+pub lex_backslash : (x : ℕ) (z : List ℕ) → (x == 92) ≡ true → lex in_string (x ∷ z) ≡ lex in_escape z
 unfolding lex
 lex_backslash x z b = ap (λ y. lex in_string (y ∷ z)) (eqb-true x 92 b)
 
-lex_escaped : (x : ℕ) (z : List ℕ) → lex in_escape (x ∷ z) ≡ lex in_string z
+pub lex_escaped : (x : ℕ) (z : List ℕ) → lex in_escape (x ∷ z) ≡ lex in_string z
 unfolding lex
 lex_escaped x z = refl
 
@@ -39,7 +39,7 @@ all_hex : (b : Bool) (u v : ℕ) → cond b (Some u) None ≡ Some v → b ≡ t
 all_hex true u v e = refl
 all_hex false u v e = absurd (cc)
 
-lex_unit : (a b c d u : ℕ) (z : List ℕ) → code_unit a b c d ≡ Some u → lex in_string (a ∷ b ∷ c ∷ d ∷ z) ≡ lex in_string z
+pub lex_unit : (a b c d u : ℕ) (z : List ℕ) → code_unit a b c d ≡ Some u → lex in_string (a ∷ b ∷ c ∷ d ∷ z) ≡ lex in_string z
 unfolding code_unit
 lex_unit a b c d u z e =
     let p = and_parts (is_digit a 16 && is_digit b 16 && is_digit c 16) (is_digit d 16) (all_hex _ _ u e) in

@@ -27,12 +27,12 @@ pub each_space : (P : ℕ → Type 0) → P 32 → P 9 → P 10 → P 13 → (x 
 each_space P a b c d x k =
     or_last P x 13 _ d (λ h. or_last P x 10 _ c (λ i. or_last P x 9 _ b (λ j. is_one P x 32 a j) (or_cases _ _ i)) (or_cases _ _ h)) (or_cases _ _ k)
 
-each_operator : (P : ℕ → Type 0) → P 123 → P 125 → P 91 → P 93 → P 58 → P 44 → (x : ℕ) → is_operator x ≡ true → P x
+pub each_operator : (P : ℕ → Type 0) → P 123 → P 125 → P 91 → P 93 → P 58 → P 44 → (x : ℕ) → is_operator x ≡ true → P x
 each_operator P a b c d e f x k =
     or_last P x 44 _ f (λ g. or_last P x 58 _ e (λ h. or_last P x 93 _ d (λ i. or_last P x 91 _ c (λ j. or_last P x 125 _ b (λ l. is_one P x 123 a l)
     (or_cases _ _ j)) (or_cases _ _ i)) (or_cases _ _ h)) (or_cases _ _ g)) (or_cases _ _ k)
 
-no_digit_ends : (x : ℕ) → ends x ≡ true → is_ascii_digit x ≡ false
+pub no_digit_ends : (x : ℕ) → ends x ≡ true → is_ascii_digit x ≡ false
 no_digit_ends x k =
     let P = λ (y : ℕ). is_ascii_digit y ≡ false in
     ⊎_elim (each_operator P refl refl refl refl refl refl x) (each_space P refl refl refl refl x) (or_cases (is_operator x) (is_space x) k)
@@ -41,7 +41,7 @@ no_digit : (r : List ℕ) → ends_word r ≡ true → prefix_len is_ascii_digit
 no_digit [] e = refl
 no_digit (x ∷ xs) e = ap (λ b. cond b (1 + prefix_len is_ascii_digit xs) 0) (no_digit_ends x e)
 
-abbrev NoneEnds : List ℕ → Type 0
+abbrev pub NoneEnds : List ℕ → Type 0
 NoneEnds [] = ⊤
 NoneEnds (n ∷ ns) = (ends n ≡ false) × NoneEnds ns
 

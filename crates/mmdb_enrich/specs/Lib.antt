@@ -15,3 +15,4 @@ pub mod Ahead
 pub mod Remembers
 -- What only contracts of private functions and proofs name.
 pub mod Working
+pub mod Scanned

@@ -10,8 +10,10 @@ mod enrichment;
 mod json_enrichment;
 mod kept_cells;
 pub mod laws;
+mod lexemes;
 mod members;
 mod objects;
+mod one_pass;
 mod quotes;
 mod row_memory;
 

@@ -1,12 +1,13 @@
 //! Lines that are objects of JSON.
-ghost use Rattle.std.specs.Prelude.{◌≡◌, ◌≤◌, ℕ, true, false, IfOk, MatchOption, length, option_map};
+ghost use Rattle.std.specs.Prelude.{◌≡◌, ◌≤◌, ℕ, true, false, IfOk, MatchOption, length, option_map, IfSome, Some};
 ghost use Rattle.json.specs.Find.{BeginsWith, Finds};
-ghost use Rattle.json.specs.Json.{Json, Members, object};
-ghost use Rattle.json.specs.Word.{is_space as spec_is_space};
+ghost use Rattle.json.specs.Json.{Json, Members, object, document};
 ghost use Rattle.mmdb_enrich.specs.Objects.{EndsWithBrace, step_in as spec_step_in, text_along as spec_text_along};
 ghost use Rattle.mmdb_enrich.specs.Working.{ReadsLine, ReadsValue};
 ghost use Rattle.mmdb_enrich.specs.Columns.{ReadsAddress};
 
+use crate::lexemes::is_space;
+use crate::one_pass::text_in_object;
 use json::{Element, Error, Scratch, Tape};
 use mmdb_reader::PathElement;
 use std::alloc::{AllocError, Global};
@@ -28,13 +29,6 @@ pub(crate) enum ReadLine {
     NoObject,
     NoAddress,
     Object(Line),
-}
-
-// Whether a byte is white space of JSON.
-fn is_space(byte: u8) -> bool
-    ensures { result ≡ spec_is_space byte }
-{
-    byte == b' ' || byte == b'\t' || byte == b'\n' || byte == b'\r'
 }
 
 // How many bytes stand from the last brace on, where behind it only white space stands.
@@ -112,6 +106,36 @@ fn line_of(value: &Element<'_, '_>, path: &[PathElement<'_>], behind: usize) -> 
     }
 }
 
+// The address that a text spells, where there is a text.
+fn address_of(text: Option<&[u8]>) -> Option<IpAddr>
+    ensures { ReadsAddress (option_map (λ s. s.now) text.entry) result }
+{
+    match text {
+        Some(text) => match IpAddr::parse_ascii(text) {
+            Ok(address) => Some(address),
+            Err(_) => None,
+        },
+        None => None,
+    }
+}
+
+// What a text is of which so many bytes stand from the last brace on; none where one pass over it
+// does not say that.
+fn read_in_one_pass(text: &[u8], path: &[PathElement<'_>], behind: usize) -> Option<ReadLine>
+    ensures { IfSome result (λ line. (j : Json) × (document text.now ≡ Some j)
+        × ReadsValue j behind path.now line) }
+{
+    let found = text_in_object(text, path)?;
+    match address_of(found) {
+        Some(address) => Some(ReadLine::Object(Line {
+            address,
+            behind,
+            is_empty: false,
+        })),
+        None => Some(ReadLine::NoAddress),
+    }
+}
+
 // What a text is of which so many bytes stand from the last brace on.
 fn read_text(
     alloc: Global,
@@ -126,6 +150,9 @@ fn read_text(
     let Ok(text) = str::from_utf8(text) else {
         return Ok(ReadLine::NoObject);
     };
+    if let Some(line) = read_in_one_pass(text.as_bytes(), path, behind) {
+        return Ok(line);
+    }
     match Tape::parse(text, scratch, Vec::new(alloc)) {
         Ok(tape) => Ok(line_of(&tape.root(), path, behind)),
         Err(Error::Invalid) => Ok(ReadLine::NoObject),

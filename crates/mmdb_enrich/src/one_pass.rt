@@ -1,0 +1,272 @@
+//! Objects of JSON, read in one pass over their bytes.
+//!
+//! Most lines are read so. What this pass does not know, as a character in two escapes or an escape
+//! in a key, and every error are left to the reader of the crate `json`.
+ghost use Rattle.std.specs.Prelude.{◌≡◌, ◌+◌, ◌<◌, ◌≤◌, IfSome, Some, length, option_map, option_and_then, cond};
+ghost use Rattle.std.specs.Str.{bytes_eq};
+ghost use Rattle.json.specs.Find.{as_str, get_member};
+ghost use Rattle.json.specs.Json.{Json, Items, Members, object, document};
+ghost use Rattle.mmdb_enrich.specs.Scanned.{HasKey, HasValue, HasItems, HasMembers};
+ghost use Rattle.mmdb_enrich.specs.Objects.{text_along};
+
+use crate::lexemes::{byte_at, plain_string_end, space_end, string_end, word_end};
+use json::MAX_DEPTH;
+use mmdb_reader::PathElement;
+
+// Where the text of a key ends, and where its value begins.
+#[derive(Clone, Copy)]
+struct Key {
+    quote: usize,
+    value: usize,
+}
+
+// The key that stands at a byte.
+#[inline(always)]
+fn read_key(text: &[u8], from: usize) -> Option<Key>
+    requires { from ≤ length text.now }
+    ensures { IfSome result (λ key. HasKey text.now from key.quote key.value) }
+{
+    if byte_at(text, from) != b'"' {
+        return None;
+    }
+    let quote = plain_string_end(text, from + 1)?;
+    let colon = space_end(text, quote + 1);
+    if byte_at(text, colon) != b':' {
+        return None;
+    }
+    Some(Key {
+        quote,
+        value: space_end(text, colon + 1),
+    })
+}
+
+// Where a value ends that stands at a byte.
+#[cycle(scan)]
+fn value_end(text: &[u8], from: usize, depth: usize) -> Option<usize>
+    requires { from ≤ length text.now }
+    ensures bounds { IfSome result (λ end. (from ≤ end) × (end ≤ length text.now)) }
+    ensures value { IfSome result (λ end. (j : Json) × HasValue text.now from end depth j) }
+{
+    let byte = byte_at(text, from);
+    if byte == b'"' {
+        let quote = string_end(text, from + 1)?;
+        Some(quote + 1)
+    } else if byte == b'{' && depth > 0 {
+        members_end(text, from + 1, depth - 1)
+    } else if byte == b'[' && depth > 0 {
+        items_end(text, from + 1, depth - 1)
+    } else {
+        word_end(text, from)
+    }
+}
+
+// Where an array ends, from behind its open bracket on.
+#[cycle(scan)]
+#[inline(never)]
+fn items_end(text: &[u8], from: usize, depth: usize) -> Option<usize>
+    requires { from ≤ length text.now }
+    ensures bounds { IfSome result (λ end. (from ≤ end) × (end ≤ length text.now)) }
+    ensures value { IfSome result (λ end. (js : Items) × HasItems text.now from end depth js) }
+{
+    let mut at = space_end(text, from);
+    if byte_at(text, at) == b']' {
+        return Some(at + 1);
+    }
+    loop {
+        let item = value_end(text, at, depth)?;
+        let end = space_end(text, item);
+        let byte = byte_at(text, end);
+        if byte == b']' {
+            return Some(end + 1);
+        }
+        if byte != b',' {
+            return None;
+        }
+        at = space_end(text, end + 1);
+    }
+}
+
+// Where an object ends, from behind its open brace on.
+#[cycle(scan)]
+#[inline(never)]
+fn members_end(text: &[u8], from: usize, depth: usize) -> Option<usize>
+    requires { from ≤ length text.now }
+    ensures bounds { IfSome result (λ end. (from ≤ end) × (end ≤ length text.now)) }
+    ensures value { IfSome result (λ end. (ms : Members) × HasMembers text.now from end depth ms) }
+{
+    let mut at = space_end(text, from);
+    if byte_at(text, at) == b'}' {
+        return Some(at + 1);
+    }
+    loop {
+        let key = read_key(text, at)?;
+        let value = value_end(text, key.value, depth)?;
+        let end = space_end(text, value);
+        let byte = byte_at(text, end);
+        if byte == b'}' {
+            return Some(end + 1);
+        }
+        if byte != b',' {
+            return None;
+        }
+        at = space_end(text, end + 1);
+    }
+}
+
+// A value that was followed along a path: where it ends, and the text that the path leads to.
+#[derive(Clone, Copy)]
+struct Followed<'a> {
+    end: usize,
+    text: Option<&'a [u8]>,
+}
+
+// Follows the end of a path.
+#[inline(always)]
+fn follow_no_further(text: &[u8], from: usize, depth: usize) -> Option<Followed<'_>>
+    requires { from ≤ length text.now }
+    ensures bounds { IfSome result (λ f. (from ≤ f.end) × (f.end ≤ length text.now)) }
+    ensures value { IfSome result (λ f. (j : Json) × HasValue text.now from f.end depth j
+        × (option_map (λ s. s.now) f.text ≡ as_str j)) }
+{
+    if byte_at(text, from) == b'"' {
+        let quote = plain_string_end(text, from + 1)?;
+        Some(Followed {
+            end: quote + 1,
+            text: Some(&text[from + 1..quote]),
+        })
+    } else {
+        let end = value_end(text, from, depth)?;
+        Some(Followed { end, text: None })
+    }
+}
+
+// Whether a key has this name.
+#[inline(always)]
+fn is_name(key: &[u8], name: &str) -> bool
+    ensures { result ≡ bytes_eq key.now name.now }
+{
+    key == name.as_bytes()
+}
+
+// Follows a path into a value.
+#[cycle(follow)]
+fn follow<'a>(
+    text: &'a [u8],
+    from: usize,
+    path: &[PathElement<'_>],
+    depth: usize,
+) -> Option<Followed<'a>>
+    requires { from ≤ length text.now }
+    ensures bounds { IfSome result (λ f. (from ≤ f.end) × (f.end ≤ length text.now)) }
+    ensures value { IfSome result (λ f. (j : Json) × HasValue text.now from f.end depth j
+        × (option_map (λ s. s.now) f.text ≡ text_along path.now j)) }
+{
+    if path.is_empty() {
+        return follow_no_further(text, from, depth);
+    }
+    let PathElement::Key(name) = &path[0] else {
+        return None;
+    };
+    if byte_at(text, from) != b'{' {
+        let end = value_end(text, from, depth)?;
+        return Some(Followed { end, text: None });
+    }
+    if depth == 0 {
+        return None;
+    }
+    follow_members(text, from + 1, name, &path[1..], depth - 1)
+}
+
+// Follows a path into a member of this name, and passes over another one, which leaves the text
+// that an earlier one gave.
+#[cycle(follow)]
+#[inline(always)]
+fn follow_member<'a>(
+    text: &'a [u8],
+    is_named: bool,
+    from: usize,
+    path: &[PathElement<'_>],
+    depth: usize,
+    earlier: Option<&'a [u8]>,
+) -> Option<Followed<'a>>
+    requires { from ≤ length text.now }
+    ensures bounds { IfSome result (λ f. (from ≤ f.end) × (f.end ≤ length text.now)) }
+    ensures value { IfSome result (λ f. (j : Json) × HasValue text.now from f.end depth j
+        × (option_map (λ s. s.now) f.text
+        ≡ cond is_named (text_along path.now j) (option_map (λ s. s.now) earlier.entry))) }
+{
+    if is_named {
+        return follow(text, from, path, depth);
+    }
+    let end = value_end(text, from, depth)?;
+    Some(Followed { end, text: earlier })
+}
+
+// Follows a path into the last member of this name, from behind an object's open brace on.
+#[cycle(follow)]
+fn follow_members<'a>(
+    text: &'a [u8],
+    from: usize,
+    name: &str,
+    path: &[PathElement<'_>],
+    depth: usize,
+) -> Option<Followed<'a>>
+    requires { from ≤ length text.now }
+    ensures bounds { IfSome result (λ f. (from ≤ f.end) × (f.end ≤ length text.now)) }
+    ensures value { IfSome result (λ f. (ms : Members) × HasMembers text.now from f.end depth ms
+        × (option_map (λ s. s.now) f.text
+        ≡ option_and_then (text_along path.now) (get_member name.now ms))) }
+{
+    let mut found = None;
+    let mut at = space_end(text, from);
+    if byte_at(text, at) == b'}' {
+        return Some(Followed {
+            end: at + 1,
+            text: None,
+        });
+    }
+    loop {
+        let key = read_key(text, at)?;
+        let is_named = is_name(&text[at + 1..key.quote], name);
+        let member = follow_member(text, is_named, key.value, path, depth, found)?;
+        let end = space_end(text, member.end);
+        let byte = byte_at(text, end);
+        if byte == b'}' {
+            return Some(Followed {
+                end: end + 1,
+                text: member.text,
+            });
+        }
+        if byte != b',' {
+            return None;
+        }
+        found = member.text;
+        at = space_end(text, end + 1);
+    }
+}
+
+/// The text that a path leads to in the object that a text is. None where the text is no object,
+/// and where one pass over plain bytes does not say what it is.
+pub(crate) fn text_in_object<'a>(
+    text: &'a [u8],
+    path: &[PathElement<'_>],
+) -> Option<Option<&'a [u8]>>
+    ensures { IfSome result (λ found. (ms : Members) × (document text.now ≡ Some (object ms))
+        × (option_map (λ s. s.now) found ≡ text_along path.now (object ms))) }
+{
+    if path.is_empty() {
+        return None;
+    }
+    let PathElement::Key(name) = &path[0] else {
+        return None;
+    };
+    let from = space_end(text, 0);
+    if byte_at(text, from) != b'{' {
+        return None;
+    }
+    let object = follow_members(text, from + 1, name, &path[1..], MAX_DEPTH - 1)?;
+    if space_end(text, object.end) < text.len() {
+        return None;
+    }
+    Some(object.text)
+}
