@@ -134,6 +134,22 @@ fn have_same_text(
     Ok(old_text == new_text)
 }
 
+// Whether a record of the old database is shown as what was found in the new one.
+fn is_shown_as<'r>(
+    alloc: Global,
+    old: &Option<Value<'r>>,
+    new: &Found<'r>,
+) -> Result<bool, Unreadable> {
+    let new = record_in(alloc, Side::New, new)?;
+    let is_same = if *old == new {
+        Ok(true)
+    } else {
+        have_same_text(alloc, old, &new)
+    };
+    drop(new);
+    is_same
+}
+
 // Whether two records are shown the same.
 fn are_same_records<'r>(
     alloc: Global,
@@ -145,11 +161,9 @@ fn are_same_records<'r>(
         return Ok(true);
     }
     let old = record_in(alloc, Side::Old, old)?;
-    let new = record_in(alloc, Side::New, new)?;
-    if old == new {
-        return Ok(true);
-    }
-    have_same_text(alloc, &old, &new)
+    let is_same = is_shown_as(alloc, &old, new);
+    drop(old);
+    is_same
 }
 
 // Whether the values of a network in both databases are shown the same.

@@ -1,7 +1,7 @@
 //! Two files with the same bytes: nothing differs where all that they have can be read.
 use mmdb_equality::RecordReader;
 use mmdb_layout::{Database, Fields, Found, Layout};
-use mmdb_reader::{IpNetwork, MaxMindDbError, Value, WithinOptions};
+use mmdb_reader::{IpNetwork, MaxMindDbError, PathElement, Value, WithinOptions};
 use std::alloc::{AllocError, Global};
 
 // The records of a range that were met. Of each the fields that are shown are read where it is met first; whole records
@@ -14,14 +14,21 @@ struct Records<'a> {
     met: Vec<u64>,
 }
 
+// Whether something was read.
+fn is_read<T: Drop, E: Drop>(read: Result<T, E>) -> bool {
+    read.is_ok()
+}
+
+// Whether the value at a path of a record can be read.
+fn can_read_value(alloc: Global, found: &Found<'_>, path: &[PathElement<'_>]) -> bool {
+    let value: Result<Option<Value<'_>>, MaxMindDbError> = found.decode_path(alloc, path);
+    is_read(value)
+}
+
 // Whether the values at some paths of a record can be read.
 fn can_read_values(alloc: Global, fields: &Fields<'_>, found: &Found<'_>) -> bool {
     for path in &fields.paths {
-        let value: Result<Option<Value<'_>>, MaxMindDbError> = found.decode_path(
-            alloc,
-            path.as_slice(),
-        );
-        if value.is_err() {
+        if !can_read_value(alloc, found, path.as_slice()) {
             return false;
         }
     }
@@ -103,20 +110,25 @@ impl<'a> Records<'a> {
         }
     }
 
+    // Whether a network was read, and the fields that are shown of its record can be.
+    #[inline(always)]
+    fn takes_item(&mut self, item: Result<Found<'_>, MaxMindDbError>) -> bool {
+        match item {
+            Ok(found) => self.takes(found),
+            Err(error) => {
+                drop(error);
+                false
+            }
+        }
+    }
+
     // Meets all records of a range. Whether the range can be asked, and the fields that are shown can be read.
     fn takes_all(&mut self, database: &Database, range: IpNetwork) -> bool {
         let Ok(networks) = database.within(self.alloc, range, WithinOptions::default()) else {
             return false;
         };
         for item in networks {
-            let is_readable = match item {
-                Ok(found) => self.takes(found),
-                Err(error) => {
-                    drop(error);
-                    false
-                }
-            };
-            if !is_readable {
+            if !self.takes_item(item) {
                 return false;
             }
         }

@@ -32,6 +32,37 @@ impl TwoDatabases {
     }
 }
 
+// The database of bytes, if there are some, or none where there is an error, which is reported with the file.
+fn other_of<O: Write, E: Write>(
+    file: &str,
+    other: Result<Option<Vec<u8>>, MaxMindDbError>,
+    console: &mut Console<'_, O, E>,
+) -> Option<Option<Database>> {
+    match reported(file, other, console)? {
+        Some(bytes) => {
+            let other = Reader::from_source(console.alloc, bytes);
+            Some(Some(reported(file, other, console)?))
+        }
+        None => Some(None),
+    }
+}
+
+// A database and that of bytes, or none where there is an error, which is reported with the file.
+fn with_other<O: Write, E: Write>(
+    file: &str,
+    old: Database,
+    other: Result<Option<Vec<u8>>, MaxMindDbError>,
+    console: &mut Console<'_, O, E>,
+) -> Option<TwoDatabases> {
+    match other_of(file, other, console) {
+        Some(other) => Some(TwoDatabases { old, other }),
+        None => {
+            drop(old);
+            None
+        }
+    }
+}
+
 // The two databases of bytes, or none where there is an error, which is reported with the file.
 fn databases_of<O: Write, E: Write>(
     files: [&str; 2],
@@ -40,13 +71,14 @@ fn databases_of<O: Write, E: Write>(
     console: &mut Console<'_, O, E>,
 ) -> Option<TwoDatabases> {
     let [old_file, new_file] = files;
-    let alloc = console.alloc;
-    let old = reported(old_file, Reader::from_source(alloc, old), console)?;
-    let other = match reported(new_file, other, console)? {
-        Some(bytes) => Some(reported(new_file, Reader::from_source(alloc, bytes), console)?),
-        None => None,
-    };
-    Some(TwoDatabases { old, other })
+    let old = Reader::from_source(console.alloc, old);
+    match reported(old_file, old, console) {
+        Some(old) => with_other(new_file, old, other, console),
+        None => {
+            drop(other);
+            None
+        }
+    }
 }
 
 /// The databases of two files, or none if one of them has an error, which is reported: that of the old one, where both
