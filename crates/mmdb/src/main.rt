@@ -33,16 +33,16 @@ fn finished<W: Write + Drop>(rt: &HostRuntime, mut writer: W, status: u8) -> u8 
     }
 }
 
-// Runs the program on its arguments, and answers its status.
-fn program(rt: &HostRuntime) -> io::Result<u8> {
+fn arguments_of(rt: &HostRuntime) -> io::Result<Vec<String>> {
     let mut arguments = Vec::new(rt.alloc());
     for argument in env::args(rt)? {
         arguments.push(argument)?;
     }
-    let terminals = Terminals {
-        output: rt.stdout().is_terminal(),
-        errors: rt.stderr().is_terminal(),
-    };
+    Ok(arguments)
+}
+
+// Runs the program on arguments, and answers its status.
+fn program_on(rt: &HostRuntime, arguments: &[String]) -> io::Result<u8> {
     let mut out = BufWriter::with_capacity(rt.alloc(), BUFFER, rt.stdout())?;
     let mut input = BufReader::with_capacity(rt.alloc(), BUFFER, rt.stdin())?;
     let mut err = rt.stderr();
@@ -50,10 +50,21 @@ fn program(rt: &HostRuntime) -> io::Result<u8> {
         input: &mut input,
         out: &mut out,
         errors: &mut err,
-        terminals,
+        terminals: Terminals {
+            output: rt.stdout().is_terminal(),
+            errors: rt.stderr().is_terminal(),
+        },
     };
-    let status = run(rt, rt.alloc(), arguments.as_slice(), io);
+    let status = run(rt, rt.alloc(), arguments, io);
     Ok(finished(rt, out, status))
+}
+
+// Runs the program on its arguments, and answers its status.
+fn program(rt: &HostRuntime) -> io::Result<u8> {
+    let arguments = arguments_of(rt)?;
+    let done = program_on(rt, arguments.as_slice());
+    drop(arguments);
+    done
 }
 
 fn main(rt: HostRuntime) -> ExitCode {

@@ -9,7 +9,7 @@ use Rattle.mmdb_format.specs.declared.error.MaxMindDbError.{MaxMindDbError}
 use Rattle.mmdb_format.specs.declared.error.MaxMindDbError.TheVariants.{InvalidDatabase, Io, Decoding, ResourceLimit, InvalidNetwork, InvalidInput, Memory}
 use Rattle.mmdb_reader.specs.Decoding.{FailsToDecode}
 use Rattle.mmdb_reader.specs.declared.path.PathElement.{PathElement}
-use Rattle.mmdb_json.specs.Found.{WritesAlong}
+use Rattle.mmdb_found.specs.Found.{WritesAlong}
 use Rattle.mmdb_reader.specs.File.{Database, data_section}
 use Rattle.mmdb_reader.specs.Lookup.{Answers, CanAsk, IsInvalidAt, outcome_at}
 use Rattle.mmdb_filter.specs.declared.counts.Outcome.{Outcome}

@@ -5,7 +5,7 @@ use Rattle.json.specs.Print.{print}
 use Rattle.json.specs.Token.{Token, key, begin_object, end_object}
 use Rattle.mmdb_reader.specs.File.{Database, data_section}
 use Rattle.mmdb_reader.specs.declared.path.PathElement.{PathElement}
-use Rattle.mmdb_json.specs.Found.{WritesAlong}
+use Rattle.mmdb_found.specs.Found.{WritesAlong}
 use Rattle.mmdb_enrich.specs.Cells.{read_at}
 use Rattle.mmdb_enrich.specs.declared.members.Field.{Field}
 

@@ -6,7 +6,7 @@ ghost use Rattle.mmdb_enrich.specs.Working.{PutsFields, PutsFieldsOf};
 ghost use Rattle.mmdb_format.specs.Error.{MemoryApart};
 
 use json::{Token, Writer};
-use mmdb_json::write_found;
+use mmdb_found::write_found;
 use mmdb_reader::{LookupResult, MaxMindDbError, PathElement};
 use std::alloc::{AllocError, Global};
 use std::convert::AsSlice;

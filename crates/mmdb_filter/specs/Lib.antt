@@ -3,5 +3,6 @@ pub mod Counting
 pub mod Lines
 pub mod Rows
 pub mod Equality
+pub mod Cells
 -- What only contracts of private functions and proofs name.
 pub mod Working

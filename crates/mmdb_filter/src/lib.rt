@@ -7,11 +7,13 @@ mod filter;
 pub mod laws;
 mod pass;
 mod put;
+mod quotes;
 mod rows;
 mod text;
 
 pub use chunk::read_chunk;
 pub use counts::{Counts, Outcome};
 pub use filter::{Added, Additions, Progress, filter_rows};
+pub use quotes::put_csv_cell;
 pub use rows::{Position, Rows, first_row};
 pub use text::MOST_SEEN;

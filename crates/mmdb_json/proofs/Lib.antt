@@ -1,4 +1,3 @@
 pub mod ShownLaws
 pub mod ReadingBack
 pub mod WideDecimals
-pub mod FoundLaws

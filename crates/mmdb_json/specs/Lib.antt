@@ -1,6 +1,5 @@
 -- What has to be believed: what contracts of public items name.
 pub mod Shown
 pub mod Texts
-pub mod Found
 -- What only contracts of private functions and proofs name.
 pub mod Working

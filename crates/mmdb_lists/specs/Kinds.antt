@@ -1,14 +1,13 @@
 -- The kinds of addresses.
-use Rattle.std.specs.Prelude.{◌≡◌, nat_eq, if◌then◌else◌}
-use Rattle.mmdb_reader.specs.declared.lookup_result.NumberedNetwork.{NumberedNetwork}
+use Rattle.std.specs.Prelude.{◌≡◌, ℕ, nat_eq, if◌then◌else◌}
 use Rattle.mmdb_lists.specs.declared.kind.Kind.{Kind}
 use Rattle.mmdb_lists.specs.declared.kind.Kind.TheVariants.{Ipv4, Ipv6}
 use Rattle.mmdb_lists.specs.declared.kind.Kinds.{Kinds}
 use Rattle.mmdb_lists.specs.declared.kind.Kinds.TheVariants.{Both, One}
 
--- the kind of a network's addresses, which have 32 bits or 128
-abbrev pub kind_of : NumberedNetwork → Kind
-kind_of network = if nat_eq network.width 32 then Ipv4 else Ipv6
+-- the kind of addresses of so many bits, of 32 or 128
+abbrev pub kind_of : ℕ → Kind
+kind_of width = if nat_eq width 32 then Ipv4 else Ipv6
 
 -- the kind is one of those that are wanted
 abbrev pub IsWanted : Kinds → Kind → Type 0

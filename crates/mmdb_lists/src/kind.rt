@@ -3,7 +3,7 @@ ghost use Rattle.std.specs.Prelude.{◌≡◌, ◌↔◌, IsTrue};
 ghost use Rattle.mmdb_lists.specs.Kinds.{IsWanted, kind_of};
 
 use mmdb_blocks::Block;
-use mmdb_reader::{IpNetwork, IpNetworkError, NumberedNetwork};
+use mmdb_net::{IpNetwork, IpNetworkError};
 use std::net::{IpAddr, Ipv4Addr, Ipv6Addr};
 
 /// A kind of addresses.
@@ -33,16 +33,12 @@ impl Kinds {
 }
 
 impl Kind {
-    /// The kind of a network's addresses.
+    /// The kind of addresses of so many bits, of 32 or 128.
     #[inline(always)]
-    pub fn of(network: NumberedNetwork) -> Kind
-        ensures { result ≡ kind_of network }
+    pub fn of_width(width: usize) -> Kind
+        ensures { result ≡ kind_of width }
     {
-        if network.width == 32 {
-            Kind::Ipv4
-        } else {
-            Kind::Ipv6
-        }
+        if width == 32 { Kind::Ipv4 } else { Kind::Ipv6 }
     }
 
     /// The network of a block of this kind. Addresses of IPv4 are numbers below 2^32, whose blocks have prefixes of 96

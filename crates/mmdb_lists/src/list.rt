@@ -2,7 +2,7 @@
 use crate::kind::{Kind, Kinds};
 use crate::syntax::Syntax;
 use mmdb_blocks::{Block, Joiner};
-use mmdb_reader::{IpNetwork, IpNetworkError, NumberedNetwork};
+use mmdb_net::{IpNetwork, IpNetworkError};
 use std::alloc::{AllocError, Global};
 use std::io::{self, Write};
 
@@ -40,7 +40,7 @@ pub enum Taken {
     Not,
 }
 
-/// A list of networks, of which IPv4 and IPv6 networks are joined apart. Networks are pushed in ascending order, those of
+/// A list of networks, of which IPv4 and IPv6 networks are joined apart. Their blocks are pushed in ascending order, those of
 /// a kind together.
 #[derive(Drop)]
 pub struct List<'a> {
@@ -59,16 +59,6 @@ pub(crate) fn put<O: Write>(text: &str, out: &mut O) -> Result<(), ListError> {
     match out.write_all(text.as_bytes()) {
         Ok(()) => Ok(()),
         Err(error) => Err(ListError::Write(error)),
-    }
-}
-
-// The block of a network.
-#[inline(always)]
-fn block_of(network: NumberedNetwork) -> Block {
-    let behind = network.width.saturating_sub(network.prefix);
-    Block {
-        first: network.first,
-        prefix: 128usize.saturating_sub(behind) as u8,
     }
 }
 
@@ -183,11 +173,11 @@ impl<'a> List<'a> {
 
     /// Takes the next network, if it is of the kind of the last one, and writes nothing.
     #[inline(always)]
-    pub fn take(&mut self, network: NumberedNetwork) -> Taken {
-        if self.kind != Some(Kind::of(network)) {
+    pub fn take(&mut self, kind: Kind, block: Block) -> Taken {
+        if self.kind != Some(kind) {
             return Taken::Not;
         }
-        match self.joiner.push(block_of(network)) {
+        match self.joiner.push(block) {
             Ok(()) if self.joiner.settled().is_empty() => Taken::Whole,
             Ok(()) => Taken::Settled,
             Err(_) => Taken::Not,
@@ -206,15 +196,15 @@ impl<'a> List<'a> {
     /// Takes the next network, if its kind is wanted, and writes those that nothing can join any more.
     pub fn push<O: Write>(
         &mut self,
-        network: NumberedNetwork,
+        kind: Kind,
+        block: Block,
         out: &mut O,
     ) -> Result<(), ListError> {
-        let kind = Kind::of(network);
         if !self.kinds.has(kind) {
             return Ok(());
         }
         self.change_to(kind, out)?;
-        match self.take(network) {
+        match self.take(kind, block) {
             Taken::Whole => Ok(()),
             Taken::Settled => self.put_settled(kind, out),
             Taken::Not => Err(ListError::OutOfOrder),

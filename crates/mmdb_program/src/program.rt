@@ -1,15 +1,13 @@
 //! What the program does with its arguments.
-use crate::database::{Database, open};
-use crate::diff::diff;
-use crate::enrich::{enrich, enrich_json};
-use crate::error::ProgramError;
-use crate::metadata::describe;
-use crate::networks::export;
-use crate::output::{BAD_ARGUMENTS, Console, DONE, FAILED, Io, NO_MEMORY};
-use crate::show::show;
 use crate::task::{Query, Task, subject_of, task_of};
-use crate::verify::verify;
 use mmdb_arguments::{Message, NoRequest, Request, request_of};
+use mmdb_changes::diff;
+use mmdb_console::{BAD_ARGUMENTS, Console, DONE, FAILED, Io, NO_MEMORY, ProgramError, reported};
+use mmdb_export::export;
+use mmdb_layout::Database;
+use mmdb_lines::enrich;
+use mmdb_reader::Reader;
+use mmdb_show::{describe, show, verify};
 use std::alloc::Global;
 use std::io::{BufRead, Write};
 use std::rt::Files;
@@ -28,7 +26,6 @@ fn run_query<I: BufRead, O: Write, E: Write>(
             done
         }
         Query::Enrich(task) => enrich(database, task, input, console),
-        Query::EnrichJson(task) => enrich_json(database, task, input, console),
         Query::Export(task) => {
             let done = export(database, &task, console);
             drop(task);
@@ -45,7 +42,8 @@ fn query_file<R: Files, I: BufRead, O: Write, E: Write>(
     input: &mut I,
     console: &mut Console<'_, O, E>,
 ) -> Result<u8, ProgramError> {
-    match open(rt, file, console) {
+    let database = Reader::open_readfile(rt, console.alloc, file);
+    match reported(file, database, console) {
         Some(database) => {
             let done = run_query(&database, query, input, console);
             drop(database);

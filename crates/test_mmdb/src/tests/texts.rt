@@ -1,6 +1,7 @@
 //! The JSON of small values.
 use json::{Token, Writer};
-use mmdb_json::{compact, found_json, pretty, write_found, write_value};
+use mmdb_found::{found_json, write_found};
+use mmdb_json::{compact, pretty, write_value};
 use mmdb_reader::fuzzing::decode_value;
 use mmdb_reader::{LookupResult, PathElement, Reader, Value};
 use mmdb_vectors::base::high;

@@ -1,0 +1,426 @@
+//! What changed between two files.
+use crate::changes::{Changes, network_of};
+use crate::counts::Counts;
+use crate::differences::{Answers, Pairs, Unreadable, put_names};
+use crate::same::are_all_readable;
+use crate::two_databases::{TwoDatabases, open_two};
+use mmdb_arguments::{DiffArguments, NoRequest};
+use mmdb_console::{Console, DIFFERENT, DONE, FAILED, ProgramError, Where};
+use mmdb_diff::{Comparison, Part, Side, Stretch, UnreadLeaf};
+use mmdb_equality::Offsets;
+use mmdb_layout::{Database, Layout, layout_of, range_of};
+use mmdb_reader::{IpNetwork, MaxMindDbError};
+use std::alloc::{AllocError, Global};
+use std::io::Write;
+use std::net::{IpAddr, Ipv4Addr, Ipv6Addr};
+use std::rt::Files;
+
+/// How many stretches are compared together.
+const MOST_WAITING: usize = 64;
+
+/// What `diff` is asked for.
+#[derive(Drop)]
+pub struct DiffTask<'a> {
+    old: &'a str,
+    new: &'a str,
+    range: Option<IpNetwork>,
+    layout: Layout<'a>,
+    exit_code: bool,
+}
+
+/// What the arguments of `diff` ask for. An `Err` where one is not what is wanted in its place.
+pub fn diff_task<'a>(
+    alloc: Global,
+    arguments: &'a DiffArguments<'a>,
+) -> Result<DiffTask<'a>, NoRequest> {
+    Ok(DiffTask {
+        old: arguments.old,
+        new: arguments.new,
+        range: range_of(alloc, arguments.range)?,
+        layout: layout_of(alloc, arguments.is_csv, arguments.fields.as_slice())?,
+        exit_code: arguments.exit_code,
+    })
+}
+
+// Stretches that wait to be compared, and where the records of each are. What is kept of them is looked for side by side,
+// since each look waits for memory.
+#[derive(Drop)]
+struct Waiting {
+    stretches: Vec<Stretch>,
+    offsets: Vec<Option<Offsets>>,
+}
+
+impl Waiting {
+    fn new(alloc: Global) -> Result<Waiting, AllocError> {
+        Ok(Waiting {
+            stretches: Vec::with_capacity(alloc, MOST_WAITING)?,
+            offsets: Vec::with_capacity(alloc, MOST_WAITING)?,
+        })
+    }
+
+    // Adds a stretch. Whether as many wait as are compared together.
+    #[inline(always)]
+    fn add(&mut self, stretch: Stretch, offsets: Option<Offsets>) -> Result<bool, AllocError> {
+        self.stretches.push(stretch)?;
+        self.offsets.push(offsets)?;
+        Ok(self.offsets.len() >= MOST_WAITING)
+    }
+
+    fn clear(&mut self) {
+        self.stretches.clear();
+        self.offsets.clear();
+    }
+}
+
+// The pairs that were compared, what waits to be, what differs, and how many networks could not be read.
+#[derive(Drop)]
+struct SoFar<'a, 'r> {
+    pairs: Pairs,
+    waiting: Waiting,
+    changes: Changes<'a, 'r>,
+    faults: u64,
+}
+
+impl<'a, 'r> SoFar<'a, 'r> {
+    // Nothing was compared yet.
+    fn new(alloc: Global, layout: &'a Layout<'a>) -> Result<SoFar<'a, 'r>, AllocError> {
+        Ok(SoFar {
+            pairs: Pairs::new(alloc)?,
+            waiting: Waiting::new(alloc)?,
+            changes: Changes::new(alloc, layout)?,
+            faults: 0,
+        })
+    }
+
+    // Says of the records of a stretch that waits that they came last of those that are the same.
+    fn keep_last(&mut self, index: usize) {
+        if let Some(offsets) = self.waiting.offsets.get(index) {
+            self.pairs.kept.keep_last(*offsets);
+        }
+    }
+
+    // Counts what can't be read, before which what waits is written.
+    fn begin_fault<O: Write>(&mut self, out: &mut O) -> Result<(), ProgramError> {
+        self.faults = self.faults.saturating_add(1);
+        self.changes.finish(out)
+    }
+}
+
+// The file of a side.
+fn file_of<'a>(task: &DiffTask<'a>, side: Side) -> &'a str {
+    match side {
+        Side::Old => task.old,
+        Side::New => task.new,
+    }
+}
+
+// Reports an error at a place of one of the files, behind what was written.
+fn report_at<O: Write, E: Write>(
+    file: &str,
+    place: Where,
+    error: &MaxMindDbError,
+    console: &mut Console<'_, O, E>,
+) -> Result<(), ProgramError> {
+    let name = place.name(console.alloc)?;
+    console.report_behind(format!(in console.alloc; "{file}: {name}"), error)
+}
+
+// Reports a leaf that can't be read, behind what waits.
+#[inline(never)]
+fn report_leaf<O: Write, E: Write>(
+    file: &str,
+    leaf: &UnreadLeaf,
+    so_far: &mut SoFar<'_, '_>,
+    console: &mut Console<'_, O, E>,
+) -> Result<(), ProgramError> {
+    so_far.begin_fault(console.out)?;
+    let place = match leaf.behind {
+        Some(network) => Where::Behind(network),
+        None => Where::First,
+    };
+    report_at(file, place, &leaf.error, console)
+}
+
+// Reports a value that can't be read, unless memory is out, behind what waits.
+#[inline(never)]
+fn report_value<O: Write, E: Write>(
+    task: &DiffTask<'_>,
+    stretch: Stretch,
+    unreadable: &Unreadable,
+    so_far: &mut SoFar<'_, '_>,
+    console: &mut Console<'_, O, E>,
+) -> Result<(), ProgramError> {
+    so_far.begin_fault(console.out)?;
+    if let MaxMindDbError::Memory = unreadable.error {
+        return Err(ProgramError::Memory);
+    }
+    let file = file_of(task, unreadable.side);
+    let network = network_of(stretch.block, stretch.is_ipv4)?;
+    report_at(file, Where::At(network), &unreadable.error, console)
+}
+
+// Compares what was found in a stretch, and takes or reports it where there is something to say.
+fn compare_answers<'r, O: Write, E: Write>(
+    task: &DiffTask<'_>,
+    stretch: Stretch,
+    answers: Answers<'_, 'r>,
+    so_far: &mut SoFar<'_, 'r>,
+    console: &mut Console<'_, O, E>,
+) -> Result<(), ProgramError> {
+    match so_far.pairs.is_same(console.alloc, &task.layout, answers) {
+        Ok(true) => Ok(()),
+        Ok(false) => so_far.changes.push(stretch, answers, console.out),
+        Err(unreadable) => {
+            let reported = report_value(task, stretch, &unreadable, so_far, console);
+            drop(unreadable);
+            reported
+        }
+    }
+}
+
+// Compares a stretch of which it was not kept that both databases have the same.
+#[inline(never)]
+fn compare_stretch<'r, O: Write, E: Write>(
+    task: &DiffTask<'_>,
+    comparison: &Comparison<'r, Vec<u8>>,
+    stretch: Stretch,
+    so_far: &mut SoFar<'_, 'r>,
+    console: &mut Console<'_, O, E>,
+) -> Result<(), ProgramError> {
+    let old = comparison.found_in_old(stretch);
+    let new = comparison.found_in_new(stretch);
+    let answers = Answers {
+        old: old.as_ref(),
+        new: new.as_ref(),
+    };
+    compare_answers(task, stretch, answers, so_far, console)
+}
+
+// Which of the stretches that wait have the same in both databases, as far as that is kept.
+#[inline(never)]
+fn known_of(so_far: &SoFar<'_, '_>) -> [bool; MOST_WAITING] {
+    let mut known = [false; MOST_WAITING];
+    for (is_same, offsets) in known.iter_mut().zip(&so_far.waiting.offsets) {
+        *is_same = so_far.pairs.kept.keeps_same(*offsets);
+    }
+    known
+}
+
+// Compares the stretches that wait.
+fn compare_waiting<'r, O: Write, E: Write>(
+    task: &DiffTask<'_>,
+    comparison: &Comparison<'r, Vec<u8>>,
+    so_far: &mut SoFar<'_, 'r>,
+    console: &mut Console<'_, O, E>,
+) -> Result<(), ProgramError> {
+    for (index, is_same) in known_of(so_far).iter().enumerate() {
+        if *is_same {
+            so_far.keep_last(index);
+            continue;
+        }
+        let Some(stretch) = so_far.waiting.stretches.get(index).copied() else {
+            break;
+        };
+        compare_stretch(task, comparison, stretch, so_far, console)?;
+    }
+    so_far.waiting.clear();
+    Ok(())
+}
+
+// Takes the next stretch of two databases, unless it is among the last that both have the same in.
+#[inline(always)]
+fn take_stretch<'r, O: Write, E: Write>(
+    task: &DiffTask<'_>,
+    comparison: &Comparison<'r, Vec<u8>>,
+    stretch: Stretch,
+    so_far: &mut SoFar<'_, 'r>,
+    console: &mut Console<'_, O, E>,
+) -> Result<(), ProgramError> {
+    let old = comparison.offset_in_old(stretch);
+    let new = comparison.offset_in_new(stretch);
+    let offsets = Offsets::of(old, new);
+    if so_far.pairs.kept.were_last_same(offsets) {
+        return Ok(());
+    }
+    if so_far.waiting.add(stretch, offsets)? {
+        compare_waiting(task, comparison, so_far, console)?;
+    }
+    Ok(())
+}
+
+// Reports why the next part of a database can't be read, behind those before it.
+#[inline(never)]
+fn take_unread<'r, O: Write, E: Write>(
+    task: &DiffTask<'_>,
+    comparison: &mut Comparison<'r, Vec<u8>>,
+    side: Side,
+    so_far: &mut SoFar<'_, 'r>,
+    console: &mut Console<'_, O, E>,
+) -> Result<(), ProgramError> {
+    compare_waiting(task, comparison, so_far, console)?;
+    match comparison.take_unread(side) {
+        Some(leaf) => {
+            let reported = report_leaf(file_of(task, side), &leaf, so_far, console);
+            drop(leaf);
+            reported
+        }
+        None => Ok(()),
+    }
+}
+
+// Takes the next part of two databases, or reports why it can't be read behind those before it.
+#[inline(always)]
+fn take_part<'r, O: Write, E: Write>(
+    task: &DiffTask<'_>,
+    comparison: &mut Comparison<'r, Vec<u8>>,
+    part: Part,
+    so_far: &mut SoFar<'_, 'r>,
+    console: &mut Console<'_, O, E>,
+) -> Result<(), ProgramError> {
+    match part {
+        Part::Stretch(stretch) => take_stretch(task, comparison, stretch, so_far, console),
+        Part::Unread(side) => take_unread(task, comparison, side, so_far, console),
+    }
+}
+
+// Compares two databases, and writes what differs.
+#[inline(never)]
+fn compare_all<'r, O: Write, E: Write>(
+    task: &DiffTask<'_>,
+    comparison: &mut Comparison<'r, Vec<u8>>,
+    so_far: &mut SoFar<'_, 'r>,
+    console: &mut Console<'_, O, E>,
+) -> Result<(), ProgramError> {
+    for _ in 0..u64::MAX {
+        let Some(part) = comparison.next_part() else {
+            break;
+        };
+        take_part(task, comparison, part, so_far, console)?;
+    }
+    compare_waiting(task, comparison, so_far, console)?;
+    so_far.changes.finish(console.out)
+}
+
+// Reports what was counted behind what was written, and answers the status.
+fn report_counts<O: Write, E: Write>(
+    counts: Counts,
+    faults: u64,
+    exit_code: bool,
+    console: &mut Console<'_, O, E>,
+) -> Result<u8, ProgramError> {
+    console.flush()?;
+    let text = counts.text(console.alloc)?;
+    console.note(Ok(text));
+    if faults > 0 {
+        Ok(FAILED)
+    } else if exit_code && !counts.are_same() {
+        Ok(DIFFERENT)
+    } else {
+        Ok(DONE)
+    }
+}
+
+// All addresses that both databases have.
+fn all_of(old: &Database, new: &Database) -> Result<IpNetwork, MaxMindDbError> {
+    let has_ipv6 = old.metadata().ip_version == 6 && new.metadata().ip_version == 6;
+    let first = if has_ipv6 {
+        IpAddr::V6(Ipv6Addr::UNSPECIFIED)
+    } else {
+        IpAddr::V4(Ipv4Addr::UNSPECIFIED)
+    };
+    Ok(IpNetwork::new(first, 0)?)
+}
+
+// Compares two databases side by side with what is kept so far, and answers the status.
+fn compare_with<'r, O: Write, E: Write>(
+    task: &DiffTask<'_>,
+    comparison: &mut Comparison<'r, Vec<u8>>,
+    so_far: &mut SoFar<'_, 'r>,
+    console: &mut Console<'_, O, E>,
+) -> Result<u8, ProgramError> {
+    put_names(console.alloc, &task.layout, console.out)?;
+    compare_all(task, comparison, so_far, console)?;
+    report_counts(
+        so_far.changes.counts,
+        so_far.faults,
+        task.exit_code,
+        console,
+    )
+}
+
+// Compares two databases side by side, and answers the status.
+fn compare<'a, 'r, O: Write, E: Write>(
+    task: &'a DiffTask<'a>,
+    comparison: &mut Comparison<'r, Vec<u8>>,
+    console: &mut Console<'_, O, E>,
+) -> Result<u8, ProgramError> {
+    let mut so_far = SoFar::new(console.alloc, &task.layout)?;
+    let done = compare_with(task, comparison, &mut so_far, console);
+    drop(so_far);
+    done
+}
+
+// Compares two databases in a range, and answers the status.
+fn compare_range<'a, O: Write, E: Write>(
+    databases: &TwoDatabases,
+    range: IpNetwork,
+    task: &'a DiffTask<'a>,
+    console: &mut Console<'_, O, E>,
+) -> Result<u8, ProgramError> {
+    match Comparison::new(console.alloc, databases.old(), databases.newer(), range) {
+        Ok(mut comparison) => {
+            let done = compare(task, &mut comparison, console);
+            drop(comparison);
+            done
+        }
+        Err((side, error)) => {
+            console.report(file_of(task, side), &error);
+            drop(error);
+            Ok(FAILED)
+        }
+    }
+}
+
+// Writes that nothing differs, and answers the status.
+fn report_none<O: Write, E: Write>(
+    task: &DiffTask<'_>,
+    console: &mut Console<'_, O, E>,
+) -> Result<u8, ProgramError> {
+    put_names(console.alloc, &task.layout, console.out)?;
+    report_counts(Counts::new(), 0, task.exit_code, console)
+}
+
+// Compares two databases, and answers the status.
+fn diff_databases<'a, O: Write, E: Write>(
+    databases: &TwoDatabases,
+    task: &'a DiffTask<'a>,
+    console: &mut Console<'_, O, E>,
+) -> Result<u8, ProgramError> {
+    let range = match task.range {
+        Some(range) => range,
+        None => all_of(databases.old(), databases.newer())?,
+    };
+    if databases.have_same_bytes()
+        && are_all_readable(console.alloc, databases.old(), range, &task.layout)
+    {
+        return report_none(task, console);
+    }
+    compare_range(databases, range, task, console)
+}
+
+/// Writes what changed between two files, reports what of them can't be read, and answers the status. An `Err` where
+/// standard output can't be written, the networks of a database do not ascend, or out of memory.
+pub fn diff<'a, R: Files, O: Write, E: Write>(
+    rt: &R,
+    task: &'a DiffTask<'a>,
+    console: &mut Console<'_, O, E>,
+) -> Result<u8, ProgramError> {
+    match open_two(rt, task.old, task.new, console) {
+        Some(databases) => {
+            let done = diff_databases(&databases, task, console);
+            drop(databases);
+            done
+        }
+        None => Ok(FAILED),
+    }
+}

@@ -1,0 +1,340 @@
+//! The values of networks in two databases, compared by how they are shown.
+use crate::record::are_seen_equal;
+use json::{Token, Writer};
+use mmdb_console::{ProgramError, put};
+use mmdb_diff::Side;
+use mmdb_equality::{KnownMaps, KnownPairs, Offsets, Shown, ShownPairs};
+use mmdb_found::found_json;
+use mmdb_json::compact;
+use mmdb_layout::{Fields, Found, Layout, line_of_cells, line_of_names, write_values};
+use mmdb_reader::{IpNetwork, MaxMindDbError, Value};
+use std::alloc::{AllocError, Global};
+use std::io::Write;
+
+/// The pairs of records that were compared last.
+#[derive(Drop)]
+pub(crate) struct Pairs {
+    pub(crate) kept: KnownPairs,
+    /// Maps that are equal in the two databases.
+    maps: KnownMaps,
+}
+
+/// Why a value can't be shown: the database that it is of, and its error.
+#[derive(Drop)]
+pub(crate) struct Unreadable {
+    pub(crate) side: Side,
+    pub(crate) error: MaxMindDbError,
+}
+
+/// What two databases have for a network.
+#[derive(Clone, Copy)]
+pub(crate) struct Answers<'f, 'r> {
+    pub(crate) old: Option<&'f Found<'r>>,
+    pub(crate) new: Option<&'f Found<'r>>,
+}
+
+// An object of the values at some paths, each null where there is no record.
+fn write_object(
+    alloc: Global,
+    fields: &Fields<'_>,
+    found: Option<&Found<'_>>,
+    out: &mut Writer,
+) -> Result<(), MaxMindDbError> {
+    out.token(Token::BeginObject)?;
+    write_values(alloc, fields, found, out)?;
+    Ok(out.token(Token::EndObject)?)
+}
+
+fn values_text(
+    alloc: Global,
+    fields: &Fields<'_>,
+    found: Option<&Found<'_>>,
+) -> Result<Vec<u8>, MaxMindDbError> {
+    let mut out = Writer::new(Vec::with_capacity(alloc, 128)?);
+    write_object(alloc, fields, found, &mut out)?;
+    Ok(out.into_inner())
+}
+
+fn record_text(alloc: Global, found: Option<&Found<'_>>) -> Result<Vec<u8>, MaxMindDbError> {
+    let text = match found {
+        Some(found) => found_json(alloc, found, &[])?,
+        None => None,
+    };
+    match text {
+        Some(text) => Ok(text),
+        None => Ok(b"null".to_vec(alloc)?),
+    }
+}
+
+/// The value of a network as JSON: its record, or an object of the values that are asked for.
+fn value_text(
+    alloc: Global,
+    layout: &Layout<'_>,
+    found: Option<&Found<'_>>,
+) -> Result<Vec<u8>, MaxMindDbError> {
+    match layout {
+        Layout::Records => record_text(alloc, found),
+        Layout::Values(fields) | Layout::Cells(fields) => values_text(alloc, fields, found),
+    }
+}
+
+// The value of a network in one of the databases.
+fn text_in(
+    alloc: Global,
+    layout: &Layout<'_>,
+    side: Side,
+    found: Option<&Found<'_>>,
+) -> Result<Vec<u8>, Unreadable> {
+    match value_text(alloc, layout, found) {
+        Ok(text) => Ok(text),
+        Err(error) => Err(Unreadable { side, error }),
+    }
+}
+
+// The whole record of a network in one of the databases.
+fn record_in<'r>(
+    alloc: Global,
+    side: Side,
+    found: &Found<'r>,
+) -> Result<Option<Value<'r>>, Unreadable> {
+    match found.decode_path(alloc, &[]) {
+        Ok(record) => Ok(record),
+        Err(error) => Err(Unreadable { side, error }),
+    }
+}
+
+// A record as JSON.
+fn text_of(
+    alloc: Global,
+    side: Side,
+    record: &Option<Value<'_>>,
+) -> Result<Option<Vec<u8>>, Unreadable> {
+    let Some(record) = record else {
+        return Ok(None);
+    };
+    match compact(alloc, record) {
+        Ok(text) => Ok(Some(text)),
+        Err(_) => Err(Unreadable {
+            side,
+            error: MaxMindDbError::Memory,
+        }),
+    }
+}
+
+// Whether two records that are not equal are shown the same.
+#[cold]
+#[inline(never)]
+fn have_same_text(
+    alloc: Global,
+    old: &Option<Value<'_>>,
+    new: &Option<Value<'_>>,
+) -> Result<bool, Unreadable> {
+    let old_text = text_of(alloc, Side::Old, old)?;
+    let new_text = text_of(alloc, Side::New, new)?;
+    Ok(old_text == new_text)
+}
+
+// Whether a record of the old database is shown as what was found in the new one.
+fn is_shown_as<'r>(
+    alloc: Global,
+    old: &Option<Value<'r>>,
+    new: &Found<'r>,
+) -> Result<bool, Unreadable> {
+    let new = record_in(alloc, Side::New, new)?;
+    let is_same = if *old == new {
+        Ok(true)
+    } else {
+        have_same_text(alloc, old, &new)
+    };
+    drop(new);
+    is_same
+}
+
+// Whether two records are shown the same.
+fn are_same_records<'r>(
+    alloc: Global,
+    known: &mut KnownMaps,
+    old: &Found<'r>,
+    new: &Found<'r>,
+) -> Result<bool, Unreadable> {
+    if are_seen_equal(alloc, known, old, new) {
+        return Ok(true);
+    }
+    let old = record_in(alloc, Side::Old, old)?;
+    let is_same = is_shown_as(alloc, &old, new);
+    drop(old);
+    is_same
+}
+
+// Whether the values of a network in both databases are shown the same.
+#[inline(never)]
+fn are_same(
+    alloc: Global,
+    layout: &Layout<'_>,
+    known: &mut KnownMaps,
+    answers: Answers<'_, '_>,
+) -> Result<bool, Unreadable> {
+    if let (Layout::Records, Some(old), Some(new)) = (layout, answers.old, answers.new) {
+        return are_same_records(alloc, known, old, new);
+    }
+    let old_text = text_in(alloc, layout, Side::Old, answers.old)?;
+    let new_text = text_in(alloc, layout, Side::New, answers.new)?;
+    Ok(old_text == new_text)
+}
+
+fn offset_of(found: Option<&Found<'_>>) -> Option<usize> {
+    match found {
+        Some(found) => found.offset(),
+        None => None,
+    }
+}
+
+impl Answers<'_, '_> {
+    // The offsets by which the pair is kept, unless one is too large.
+    fn offsets(&self) -> Option<Offsets> {
+        Offsets::of(offset_of(self.old), offset_of(self.new))
+    }
+
+    /// Whether others are the same records of the same databases.
+    pub(crate) fn are_same_records(&self, others: Answers<'_, '_>) -> bool {
+        offset_of(self.old) == offset_of(others.old) && offset_of(self.new) == offset_of(others.new)
+    }
+}
+
+// What two databases have for a network as JSON.
+fn shown_of(
+    alloc: Global,
+    layout: &Layout<'_>,
+    answers: Answers<'_, '_>,
+) -> Result<Shown, MaxMindDbError> {
+    Ok(Shown {
+        old: value_text(alloc, layout, answers.old)?,
+        new: value_text(alloc, layout, answers.new)?,
+    })
+}
+
+// What is shown of two answers, kept from now on by the offsets of their records.
+fn shown_anew(
+    alloc: Global,
+    layout: &Layout<'_>,
+    pairs: &mut ShownPairs,
+    offsets: Offsets,
+    answers: Answers<'_, '_>,
+) -> Result<Shown, MaxMindDbError> {
+    let shown = shown_of(alloc, layout, answers)?;
+    pairs.keep(alloc, offsets, &shown);
+    Ok(shown)
+}
+
+/// What is shown of two answers, which may be kept.
+pub(crate) fn shown_by(
+    alloc: Global,
+    layout: &Layout<'_>,
+    pairs: &mut ShownPairs,
+    answers: Answers<'_, '_>,
+) -> Result<Shown, MaxMindDbError> {
+    let Some(offsets) = answers.offsets() else {
+        return shown_of(alloc, layout, answers);
+    };
+    match pairs.kept(alloc, offsets)? {
+        Some(shown) => Ok(shown),
+        None => shown_anew(alloc, layout, pairs, offsets, answers),
+    }
+}
+
+impl Pairs {
+    /// No pairs yet.
+    pub(crate) fn new(alloc: Global) -> Result<Pairs, AllocError> {
+        Ok(Pairs {
+            kept: KnownPairs::new(alloc)?,
+            maps: KnownMaps::new(alloc)?,
+        })
+    }
+
+    /// Whether a network is shown the same in both databases.
+    pub(crate) fn is_same(
+        &mut self,
+        alloc: Global,
+        layout: &Layout<'_>,
+        answers: Answers<'_, '_>,
+    ) -> Result<bool, Unreadable> {
+        let Some(offsets) = answers.offsets() else {
+            return are_same(alloc, layout, &mut self.maps, answers);
+        };
+        if let Some(is_same) = self.kept.kept(offsets) {
+            return Ok(is_same);
+        }
+        let is_same = are_same(alloc, layout, &mut self.maps, answers)?;
+        self.kept.keep(offsets, is_same);
+        Ok(is_same)
+    }
+}
+
+// Writes a line of JSON.
+fn put_object<O: Write>(
+    network: &str,
+    old: &[u8],
+    new: &[u8],
+    out: &mut O,
+) -> Result<(), ProgramError> {
+    let parts: [&[u8]; 7] = [
+        b"{\"network\":\"",
+        network.as_bytes(),
+        b"\",\"old\":",
+        old,
+        b",\"new\":",
+        new,
+        b"}\n",
+    ];
+    for part in parts {
+        put(part, out)?;
+    }
+    Ok(())
+}
+
+fn put_cells<O: Write>(
+    alloc: Global,
+    fields: &Fields<'_>,
+    network: &str,
+    answers: Answers<'_, '_>,
+    out: &mut O,
+) -> Result<(), ProgramError> {
+    let line = line_of_cells(alloc, fields, network, &[answers.old, answers.new])?;
+    put(line.as_slice(), out)
+}
+
+/// Writes the line of a network with its values in both databases.
+pub(crate) fn put_difference<O: Write>(
+    alloc: Global,
+    layout: &Layout<'_>,
+    network: IpNetwork,
+    answers: Answers<'_, '_>,
+    shown: &Shown,
+    out: &mut O,
+) -> Result<(), ProgramError> {
+    let text = network.to_string(alloc)?;
+    match layout {
+        Layout::Cells(fields) => put_cells(alloc, fields, text.as_str(), answers, out),
+        _ => put_object(
+            text.as_str(),
+            shown.old.as_slice(),
+            shown.new.as_slice(),
+            out,
+        ),
+    }
+}
+
+/// Writes the line of the columns' names, where there are columns.
+pub(crate) fn put_names<O: Write>(
+    alloc: Global,
+    layout: &Layout<'_>,
+    out: &mut O,
+) -> Result<(), ProgramError> {
+    match layout {
+        Layout::Cells(fields) => {
+            let line = line_of_names(alloc, &["old.", "new."], fields.names)?;
+            put(line.as_slice(), out)
+        }
+        Layout::Records | Layout::Values(_) => Ok(()),
+    }
+}

@@ -1,0 +1,12 @@
+//! The command `diff`: what changed between two files.
+#![tactic(auto)]
+
+mod changes;
+mod comparison;
+mod counts;
+mod differences;
+mod record;
+mod same;
+mod two_databases;
+
+pub use comparison::{DiffTask, diff, diff_task};

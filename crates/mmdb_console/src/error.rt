@@ -1,0 +1,65 @@
+//! Why the program gave up.
+use mmdb_format::error::MaxMindDbError;
+use std::alloc::{AllocError, AllocFailed};
+use std::{fmt, io};
+
+/// Why a command was not done.
+#[derive(Drop)]
+pub enum ProgramError {
+    /// An error of the database.
+    Database(MaxMindDbError),
+    /// Standard output can't be written.
+    Write(io::Error),
+    /// Standard input can't be read, or standard output not written.
+    Lines(io::Error),
+    /// The first line has no column of this name.
+    NoColumn(String),
+    /// The first line, of which the names are wanted, is too long.
+    LongHeader,
+    /// The networks of a database do not ascend.
+    OutOfOrder,
+    /// Out of memory.
+    Memory,
+}
+
+impl fmt::Display for ProgramError {
+    fn fmt<W: fmt::Write>(&self, f: &mut fmt::Formatter<W>) -> fmt::Result {
+        match self {
+            ProgramError::Database(error) => write!(f, "{error}"),
+            ProgramError::Write(error) => write!(f, "write error: {error}"),
+            ProgramError::Lines(error) => write!(f, "{error}"),
+            ProgramError::NoColumn(name) => write!(f, "the first line has no column {name}"),
+            ProgramError::LongHeader => f.write_str("the first line has more than 65536 bytes"),
+            ProgramError::OutOfOrder => f.write_str("the networks do not ascend"),
+            ProgramError::Memory => f.write_str("out of memory"),
+        }
+    }
+}
+
+impl From<io::Error> for ProgramError {
+    fn from(error: io::Error) -> ProgramError {
+        if error.kind() == io::ErrorKind::OutOfMemory {
+            ProgramError::Memory
+        } else {
+            ProgramError::Lines(error)
+        }
+    }
+}
+
+impl From<MaxMindDbError> for ProgramError {
+    fn from(error: MaxMindDbError) -> ProgramError {
+        ProgramError::Database(error)
+    }
+}
+
+impl From<AllocError> for ProgramError {
+    fn from(_error: AllocError) -> ProgramError {
+        ProgramError::Memory
+    }
+}
+
+impl<T: Drop> From<AllocFailed<T>> for ProgramError {
+    fn from(_error: AllocFailed<T>) -> ProgramError {
+        ProgramError::Memory
+    }
+}

@@ -1,0 +1,13 @@
+//! Where commands write and report, with which statuses they end, and why they give up.
+#![tactic(auto)]
+
+mod error;
+mod output;
+mod place;
+
+pub use error::ProgramError;
+pub use output::{
+    BAD_ARGUMENTS, Console, DIFFERENT, DONE, FAILED, Io, NO_MEMORY, NOT_FOUND, Terminals, line_of,
+    put, reported,
+};
+pub use place::Where;

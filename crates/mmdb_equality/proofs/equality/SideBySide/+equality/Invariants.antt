@@ -1,0 +1,27 @@
+use Rattle.std.proofs.Common.{◌≡◌, ◌+◌, ◌*◌, ◌<◌}
+use Rattle.mmdb_equality.proofs.equality.SideBySide.+equality.Given as goal
+
+-- what is below a value is less deep, and a value is read before its container, that before its parts
+abbrev pub decreases-has_same_value : goal.decreases-has_same_value
+decreases-has_same_value l = 4 * l.depth + 3
+
+abbrev pub decreases-has_same_map : goal.decreases-has_same_map
+decreases-has_same_map l = 4 * l.depth + 2
+
+abbrev pub decreases-has_same_array : goal.decreases-has_same_array
+decreases-has_same_array l = 4 * l.depth + 2
+
+abbrev pub decreases-has_same_shared : goal.decreases-has_same_shared
+decreases-has_same_shared l = 4 * l.depth + 1
+
+abbrev pub decreases-has_same_pairs : goal.decreases-has_same_pairs
+decreases-has_same_pairs l = 4 * l.depth
+
+abbrev pub decreases-has_same_elements : goal.decreases-has_same_elements
+decreases-has_same_elements l = 4 * l.depth
+
+abbrev pub invariant-has_same_elements-loop : goal.invariant-has_same_elements-loop
+invariant-has_same_elements-loop l = record { same : l.depth ≡ l.fn.depth; some : 0 < l.depth }
+
+abbrev pub invariant-has_same_pairs-loop : goal.invariant-has_same_pairs-loop
+invariant-has_same_pairs-loop l = record { same : l.depth ≡ l.fn.depth; some : 0 < l.depth }

@@ -1,0 +1,113 @@
+//! Conditions as a person writes them.
+use mmdb_arguments::NoRequest;
+use mmdb_choice::{Condition, Wanted, split_condition};
+use mmdb_layout::path_of;
+use mmdb_reader::PathElement;
+use std::alloc::{AllocError, Global};
+
+// Which condition is on a path and wants the same of it, if there is one.
+fn place_of(
+    conditions: &[Condition<'_>],
+    path: &[PathElement<'_>],
+    wanted: Wanted,
+) -> Option<usize> {
+    for (place, condition) in conditions.iter().enumerate() {
+        if condition.wanted == wanted && condition.path.as_slice() == path {
+            return Some(place);
+        }
+    }
+    None
+}
+
+// Adds a value to a condition.
+fn add_value<'a>(
+    conditions: &mut [Condition<'a>],
+    place: usize,
+    value: &'a str,
+) -> Result<(), AllocError> {
+    match conditions.get_mut(place) {
+        Some(condition) => Ok(condition.texts.push(value)?),
+        None => Ok(()),
+    }
+}
+
+// One value.
+fn one_value<'a>(alloc: Global, value: &'a str) -> Result<Vec<&'a str>, AllocError> {
+    let mut texts = Vec::new(alloc);
+    texts.push(value)?;
+    Ok(texts)
+}
+
+// A condition with one value.
+fn condition_of<'a>(
+    alloc: Global,
+    path: Vec<PathElement<'a>>,
+    wanted: Wanted,
+    value: &'a str,
+) -> Result<Condition<'a>, AllocError> {
+    Ok(Condition {
+        path,
+        texts: one_value(alloc, value)?,
+        wanted,
+    })
+}
+
+// Adds the condition that a value stands at the end of a path.
+fn put_condition<'a>(
+    alloc: Global,
+    path: Vec<PathElement<'a>>,
+    wanted: Wanted,
+    value: &'a str,
+    conditions: &mut Vec<Condition<'a>>,
+) -> Result<(), AllocError> {
+    match place_of(conditions.as_slice(), path.as_slice(), wanted) {
+        Some(place) => {
+            drop(path);
+            add_value(conditions.as_mut_slice(), place, value)
+        }
+        None => Ok(conditions.push(condition_of(alloc, path, wanted, value)?)?),
+    }
+}
+
+// Adds the condition that a text spells.
+fn add_condition<'a>(
+    alloc: Global,
+    text: &'a str,
+    wanted: Wanted,
+    conditions: &mut Vec<Condition<'a>>,
+) -> Result<(), NoRequest> {
+    let Some((path, value)) = split_condition(text) else {
+        return Err(NoRequest::bad_argument(alloc, text, "not PATH=VALUE"));
+    };
+    match path_of(alloc, path)? {
+        Some(path) => Ok(put_condition(alloc, path, wanted, value, conditions)?),
+        None => Err(NoRequest::bad_argument(alloc, text, "not a path before the =")),
+    }
+}
+
+// Adds the conditions that texts spell.
+fn add_conditions<'a>(
+    alloc: Global,
+    wheres: &[&'a str],
+    where_nots: &[&'a str],
+    conditions: &mut Vec<Condition<'a>>,
+) -> Result<(), NoRequest> {
+    for text in wheres {
+        add_condition(alloc, text, Wanted::OneOf, conditions)?;
+    }
+    for text in where_nots {
+        add_condition(alloc, text, Wanted::NoneOf, conditions)?;
+    }
+    Ok(())
+}
+
+/// The conditions that texts `PATH=VALUE` spell: of one path several wanted values are alternatives.
+pub(crate) fn conditions_of<'a>(
+    alloc: Global,
+    wheres: &[&'a str],
+    where_nots: &[&'a str],
+) -> Result<Vec<Condition<'a>>, NoRequest> {
+    let mut conditions = Vec::new(alloc);
+    add_conditions(alloc, wheres, where_nots, &mut conditions)?;
+    Ok(conditions)
+}

@@ -1,0 +1,147 @@
+//! The chosen networks of a range, written out.
+use crate::rows::Rows;
+use crate::task::{ExportTask, Shape};
+use crate::writing::{Export, Writing, networks_in, of_list};
+use mmdb_choice::Choice;
+use mmdb_console::{Console, DONE, FAILED, ProgramError, put};
+use mmdb_layout::{Database, Found, Layout, Networks};
+use mmdb_lists::{Kinds, List, Syntax};
+use mmdb_reader::MaxMindDbError;
+use std::alloc::Global;
+use std::io::Write;
+
+// Writes the header, where the layout has one.
+fn put_header<O: Write>(
+    alloc: Global,
+    layout: &Layout<'_>,
+    out: &mut O,
+) -> Result<(), ProgramError> {
+    match layout.header(alloc)? {
+        Some(header) => put(header.as_slice(), out),
+        None => Ok(()),
+    }
+}
+
+// Reports how many networks could not be read, and answers the status.
+fn report_faults<O: Write, E: Write>(
+    faults: u64,
+    console: &mut Console<'_, O, E>,
+) -> Result<u8, ProgramError> {
+    if faults == 0 {
+        return Ok(DONE);
+    }
+    let text: String = format!(in console.alloc; "mmdb: {faults} networks could not be read\n")?;
+    console.note(Ok(text));
+    Ok(FAILED)
+}
+
+// Writes what was found in a network, or reports why it can't be read.
+#[inline(always)]
+fn export_item<'r, O: Write, E: Write>(
+    item: Result<Found<'r>, MaxMindDbError>,
+    export: &mut Export<'_, 'r>,
+    console: &mut Console<'_, O, E>,
+) -> Result<(), ProgramError> {
+    match item {
+        Ok(found) => export.write(found, console),
+        Err(error) => {
+            let reported = export.write_unread(&error, console);
+            drop(error);
+            reported
+        }
+    }
+}
+
+// Writes the chosen networks, and what stands behind them.
+fn export_all<'r, O: Write, E: Write>(
+    networks: Networks<'r>,
+    export: &mut Export<'_, 'r>,
+    console: &mut Console<'_, O, E>,
+) -> Result<(), ProgramError> {
+    for item in networks {
+        export_item(item, export, console)?;
+    }
+    export.finish(console)
+}
+
+// Begins rows.
+fn begin_rows<'a, O: Write>(
+    alloc: Global,
+    layout: &'a Layout<'a>,
+    out: &mut O,
+) -> Result<Writing<'a>, ProgramError> {
+    let rows = Rows::new(alloc, layout)?;
+    put_header(alloc, layout, out)?;
+    Ok(Writing::Rows(rows))
+}
+
+// Begins a list.
+fn begin_list<'a, O: Write>(
+    alloc: Global,
+    syntax: Syntax<'a>,
+    kinds: Kinds,
+    out: &mut O,
+) -> Result<Writing<'a>, ProgramError> {
+    let list = List::new(alloc, syntax, kinds)?;
+    of_list(list.begin(out))?;
+    Ok(Writing::List(list))
+}
+
+// Begins what is written.
+fn begin_writing<'a, O: Write>(
+    alloc: Global,
+    task: &'a ExportTask<'a>,
+    out: &mut O,
+) -> Result<Writing<'a>, ProgramError> {
+    match &task.shape {
+        Shape::Rows(layout) => begin_rows(alloc, layout, out),
+        Shape::List(syntax) => begin_list(alloc, *syntax, task.kinds, out),
+    }
+}
+
+// Begins an export.
+fn begin<'a, 'r, O: Write>(
+    alloc: Global,
+    task: &'a ExportTask<'a>,
+    out: &mut O,
+) -> Result<Export<'a, 'r>, ProgramError> {
+    let choice = Choice::new(alloc, task.conditions.as_slice())?;
+    match begin_writing(alloc, task, out) {
+        Ok(writing) => Ok(Export::new(alloc, choice, task.kinds, writing)?),
+        Err(error) => {
+            drop(choice);
+            Err(error)
+        }
+    }
+}
+
+// Writes the chosen networks, reports how many could not be read, and answers the status.
+fn export_with<'a, 'r, O: Write, E: Write>(
+    networks: Networks<'r>,
+    export: Export<'a, 'r>,
+    console: &mut Console<'_, O, E>,
+) -> Result<u8, ProgramError> {
+    let mut export = export;
+    let exported = export_all(networks, &mut export, console);
+    let faults = export.faults;
+    drop(export);
+    exported?;
+    report_faults(faults, console)
+}
+
+/// Writes the chosen networks of a range, reports each that can't be read, and answers the status. An `Err` where the range
+/// can't be asked, standard output can't be written, the networks do not ascend, or out of memory.
+pub fn export<'a, O: Write, E: Write>(
+    database: &Database,
+    task: &'a ExportTask<'a>,
+    console: &mut Console<'_, O, E>,
+) -> Result<u8, ProgramError> {
+    let networks = networks_in(console.alloc, database, task.range)?;
+    match begin(console.alloc, task, console.out) {
+        Ok(export) => export_with(networks, export, console),
+        Err(error) => {
+            drop(networks);
+            Err(error)
+        }
+    }
+}

@@ -1,0 +1,140 @@
+//! The rows of an export.
+use mmdb_console::{ProgramError, put};
+use mmdb_layout::{Found, Layout};
+use mmdb_reader::{IpNetwork, MaxMindDbError};
+use std::alloc::{AllocError, Global};
+use std::io::Write;
+
+/// How many rows are kept.
+const PLACES: usize = 8192;
+
+/// The most bytes of a row that is kept among them.
+const MOST_BYTES: usize = 4096;
+
+/// The row of a record, with an empty network.
+#[derive(Drop)]
+struct Row {
+    /// Where the record stands, if the row is of one.
+    offset: Option<usize>,
+    text: Vec<u8>,
+}
+
+impl Row {
+    fn empty(alloc: Global) -> Row {
+        Row {
+            offset: None,
+            text: Vec::new(alloc),
+        }
+    }
+
+    // Whether the row is of the record at an offset.
+    fn is_of(&self, offset: Option<usize>) -> bool {
+        offset.is_some() && self.offset == offset
+    }
+}
+
+/// The rows of an export. Many networks share a record, so the last rows are kept.
+#[derive(Drop)]
+pub(crate) struct Rows<'a> {
+    alloc: Global,
+    layout: &'a Layout<'a>,
+    /// Each at the place that its record's offset gives.
+    kept: Vec<Row>,
+    /// The last one that was too long to be kept there.
+    long: Row,
+}
+
+// As many empty rows as are kept.
+fn empty_rows(alloc: Global) -> Result<Vec<Row>, AllocError> {
+    let mut kept = Vec::with_capacity(alloc, PLACES)?;
+    for _ in 0..PLACES {
+        kept.push(Row::empty(alloc))?;
+    }
+    Ok(kept)
+}
+
+// Writes a row with the text of its network.
+fn write_parts<O: Write>(
+    row: &[u8],
+    place: usize,
+    network: &[u8],
+    out: &mut O,
+) -> Result<(), ProgramError> {
+    let (before, after) = row.split_at(place.min(row.len()));
+    for part in [before, network, after] {
+        put(part, out)?;
+    }
+    Ok(())
+}
+
+// Writes a row with its network.
+fn write_row<O: Write>(
+    alloc: Global,
+    row: &[u8],
+    place: usize,
+    network: IpNetwork,
+    out: &mut O,
+) -> Result<(), ProgramError> {
+    let network = network.to_string(alloc)?;
+    write_parts(row, place, network.as_bytes(), out)
+}
+
+impl<'a> Rows<'a> {
+    /// Of no record yet.
+    pub(crate) fn new(alloc: Global, layout: &'a Layout<'a>) -> Result<Rows<'a>, AllocError> {
+        Ok(Rows {
+            alloc,
+            layout,
+            kept: empty_rows(alloc)?,
+            long: Row::empty(alloc),
+        })
+    }
+
+    // Whether the row of a record is kept at a place.
+    fn keeps(&self, place: usize, offset: Option<usize>) -> bool {
+        match self.kept.get(place) {
+            Some(row) => row.is_of(offset),
+            None => false,
+        }
+    }
+
+    // Makes the row of an answer.
+    #[inline(never)]
+    fn make(&mut self, place: usize, found: &Found<'_>) -> Result<(), MaxMindDbError> {
+        let row = Row {
+            offset: found.offset(),
+            text: self.layout.row(self.alloc, found)?,
+        };
+        let is_short = row.offset.is_some() && row.text.len() <= MOST_BYTES;
+        match self.kept.get_mut(place) {
+            Some(kept) if is_short => *kept = row,
+            _ => self.long = row,
+        }
+        Ok(())
+    }
+
+    // The row of an answer.
+    fn row(&mut self, found: &Found<'_>) -> Result<&[u8], MaxMindDbError> {
+        let offset = found.offset();
+        let place = offset.unwrap_or(0) % PLACES;
+        if !self.keeps(place, offset) && !self.long.is_of(offset) {
+            self.make(place, found)?;
+        }
+        match self.kept.get(place) {
+            Some(row) if row.is_of(offset) => Ok(row.text.as_slice()),
+            _ => Ok(self.long.text.as_slice()),
+        }
+    }
+
+    /// Writes the row of an answer.
+    pub(crate) fn write<O: Write>(
+        &mut self,
+        found: &Found<'_>,
+        out: &mut O,
+    ) -> Result<(), ProgramError> {
+        let (alloc, place) = (self.alloc, self.layout.place_of_network());
+        let network = found.network()?;
+        let row = self.row(found)?;
+        write_row(alloc, row, place, network, out)
+    }
+}

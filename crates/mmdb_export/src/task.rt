@@ -1,0 +1,82 @@
+//! What `export` is asked for.
+use crate::conditions::conditions_of;
+use mmdb_arguments::{ExportArguments, Format, NoRequest};
+use mmdb_choice::Condition;
+use mmdb_layout::{Layout, layout_of, range_of};
+use mmdb_lists::{Kind, Kinds, Syntax, is_set_name};
+use mmdb_reader::IpNetwork;
+use std::alloc::Global;
+
+/// What an export writes.
+#[derive(Drop)]
+pub(crate) enum Shape<'a> {
+    /// A row for each network.
+    Rows(Layout<'a>),
+    /// The fewest blocks that have the addresses of the networks.
+    List(Syntax<'a>),
+}
+
+/// What `export` is asked for.
+#[derive(Drop)]
+pub struct ExportTask<'a> {
+    pub(crate) range: Option<IpNetwork>,
+    pub(crate) conditions: Vec<Condition<'a>>,
+    pub(crate) kinds: Kinds,
+    pub(crate) shape: Shape<'a>,
+}
+
+// How sets are named, in a format that has some.
+fn name_of<'a>(alloc: Global, format: Format, name: Option<&'a str>) -> Result<&'a str, NoRequest> {
+    let has_sets = matches!(format, Format::Nft | Format::Ipset);
+    let (argument, wanted) = match name {
+        None => return Ok("mmdb"),
+        Some(name) if has_sets && is_set_name(name) => return Ok(name),
+        Some(name) if has_sets => (name, "not the beginning of a set's name"),
+        Some(_) => ("--name", "needs --format nft or ipset"),
+    };
+    Err(NoRequest::bad_argument(alloc, argument, wanted))
+}
+
+// A list in a syntax, of which networks have no fields.
+fn list_of<'a>(alloc: Global, syntax: Syntax<'a>, fields: &[&str]) -> Result<Shape<'a>, NoRequest> {
+    if !fields.is_empty() {
+        return Err(NoRequest::bad_argument(alloc, "--field", "not with a list of networks"));
+    }
+    Ok(Shape::List(syntax))
+}
+
+fn shape_of<'a>(alloc: Global, arguments: &'a ExportArguments<'a>) -> Result<Shape<'a>, NoRequest> {
+    let (format, fields) = (arguments.format, arguments.fields.as_slice());
+    let name = name_of(alloc, format, arguments.name)?;
+    let syntax = match format {
+        Format::JsonLines => return Ok(Shape::Rows(layout_of(alloc, false, fields)?)),
+        Format::Csv => return Ok(Shape::Rows(layout_of(alloc, true, fields)?)),
+        Format::Cidr => Syntax::Cidr,
+        Format::Nft => Syntax::Nft { name },
+        Format::Ipset => Syntax::Ipset { name },
+    };
+    list_of(alloc, syntax, fields)
+}
+
+// Which kinds of addresses are wanted: both where both are asked for, or none.
+fn kinds_of(ipv4: bool, ipv6: bool) -> Kinds {
+    match (ipv4, ipv6) {
+        (true, false) => Kinds::One(Kind::Ipv4),
+        (false, true) => Kinds::One(Kind::Ipv6),
+        _ => Kinds::Both,
+    }
+}
+
+/// What the arguments of `export` ask for. An `Err` where one is not what is wanted in its place.
+pub fn export_task<'a>(
+    alloc: Global,
+    arguments: &'a ExportArguments<'a>,
+) -> Result<ExportTask<'a>, NoRequest> {
+    let (wheres, where_nots) = (&arguments.wheres, &arguments.where_nots);
+    Ok(ExportTask {
+        range: range_of(alloc, arguments.range)?,
+        conditions: conditions_of(alloc, wheres.as_slice(), where_nots.as_slice())?,
+        kinds: kinds_of(arguments.ipv4, arguments.ipv6),
+        shape: shape_of(alloc, arguments)?,
+    })
+}

@@ -1,0 +1,302 @@
+//! The chosen networks of a range, with what their records have or as the fewest blocks.
+use crate::rows::Rows;
+use mmdb_blocks::Block;
+use mmdb_choice::Choice;
+use mmdb_console::{Console, ProgramError, Where};
+use mmdb_layout::{Database, Found, Networks};
+use mmdb_lists::{Kind, Kinds, List, ListError, Taken};
+use mmdb_reader::{IpNetwork, MaxMindDbError, NumberedNetwork, WithinOptions};
+use std::alloc::{AllocError, Global};
+use std::io::Write;
+
+/// How many networks are looked at together.
+const MOST_WAITING: usize = 64;
+
+/// What networks are written as.
+#[derive(Drop)]
+pub(crate) enum Writing<'a> {
+    Rows(Rows<'a>),
+    List(List<'a>),
+}
+
+/// What a list answered, as the program reports it.
+#[inline(always)]
+pub(crate) fn of_list(done: Result<(), ListError>) -> Result<(), ProgramError> {
+    match done {
+        Ok(()) => Ok(()),
+        Err(ListError::Write(error)) => Err(ProgramError::Write(error)),
+        Err(ListError::OutOfOrder) => Err(ProgramError::OutOfOrder),
+        Err(ListError::Memory) => Err(ProgramError::Memory),
+    }
+}
+
+// The kind of a network.
+#[inline(always)]
+fn kind_of(network: NumberedNetwork) -> Kind {
+    Kind::of_width(network.width)
+}
+
+// The block of a network.
+#[inline(always)]
+fn block_of(network: NumberedNetwork) -> Block {
+    let behind = network.width.saturating_sub(network.prefix);
+    Block {
+        first: network.first,
+        prefix: 128usize.saturating_sub(behind) as u8,
+    }
+}
+
+impl Writing<'_> {
+    // Writes the network of an answer.
+    #[inline(always)]
+    fn write<O: Write>(
+        &mut self,
+        found: &Found<'_>,
+        network: NumberedNetwork,
+        out: &mut O,
+    ) -> Result<(), ProgramError> {
+        match self {
+            Writing::Rows(rows) => rows.write(found, out),
+            Writing::List(list) => { of_list(list.push(kind_of(network), block_of(network), out)) },
+        }
+    }
+
+    // Takes a chosen network into a list, where nothing is to be written before it.
+    #[inline(always)]
+    fn take(&mut self, network: NumberedNetwork) -> Taken {
+        match self {
+            Writing::Rows(_) => Taken::Not,
+            Writing::List(list) => list.take(kind_of(network), block_of(network)),
+        }
+    }
+
+    // Writes what a list has for it.
+    #[inline(never)]
+    fn write_settled<O: Write>(&mut self, out: &mut O) -> Result<(), ProgramError> {
+        match self {
+            Writing::Rows(_) => Ok(()),
+            Writing::List(list) => of_list(list.write_settled(out)),
+        }
+    }
+}
+
+/// An export of the chosen networks.
+#[derive(Drop)]
+pub(crate) struct Export<'a, 'r> {
+    choice: Choice<'a>,
+    kinds: Kinds,
+    writing: Writing<'a>,
+    /// What was found in the last networks. What is kept of their records is looked for side by side, since each look
+    /// waits for memory.
+    waiting: Vec<Found<'r>>,
+    /// What was found in the network before them, chosen or not.
+    last: Option<Found<'r>>,
+    /// How many networks could not be written.
+    pub(crate) faults: u64,
+}
+
+impl<'a, 'r> Export<'a, 'r> {
+    /// Of no network yet.
+    pub(crate) fn new(
+        alloc: Global,
+        choice: Choice<'a>,
+        kinds: Kinds,
+        writing: Writing<'a>,
+    ) -> Result<Export<'a, 'r>, AllocError> {
+        Ok(Export {
+            choice,
+            kinds,
+            writing,
+            waiting: Vec::with_capacity(alloc, MOST_WAITING)?,
+            last: None,
+            faults: 0,
+        })
+    }
+
+    // Where a network comes that is not named.
+    fn next(&self) -> Result<Where, MaxMindDbError> {
+        match &self.last {
+            Some(found) => Ok(Where::Behind(found.network()?)),
+            None => Ok(Where::First),
+        }
+    }
+
+    // Reports why a network can't be written, behind what was written.
+    fn report<O: Write, E: Write>(
+        &mut self,
+        place: Where,
+        error: &MaxMindDbError,
+        console: &mut Console<'_, O, E>,
+    ) -> Result<(), ProgramError> {
+        self.faults = self.faults.saturating_add(1);
+        console.report_behind(place.name(console.alloc), error)
+    }
+
+    // Writes the network of an answer, if it is chosen, which is known of some.
+    #[inline(always)]
+    fn write_chosen<O: Write>(
+        &mut self,
+        found: &Found<'_>,
+        kept: Option<bool>,
+        out: &mut O,
+    ) -> Result<(), ProgramError> {
+        let network = found.numbered_network();
+        if !self.kinds.has(kind_of(network)) {
+            return Ok(());
+        }
+        if kept != Some(true) && !self.choice.chooses(found)? {
+            return Ok(());
+        }
+        self.writing.write(found, network, out)
+    }
+
+    // Reports a network that is not named and can't be read.
+    fn report_next<O: Write, E: Write>(
+        &mut self,
+        error: &MaxMindDbError,
+        console: &mut Console<'_, O, E>,
+    ) -> Result<(), ProgramError> {
+        self.report(self.next()?, error, console)
+    }
+
+    // Writes the network of an answer, if it is chosen, or reports why it can't be.
+    #[inline(never)]
+    fn write_found<O: Write, E: Write>(
+        &mut self,
+        found: &Found<'_>,
+        kept: Option<bool>,
+        console: &mut Console<'_, O, E>,
+    ) -> Result<(), ProgramError> {
+        match self.write_chosen(found, kept, console.out) {
+            Err(ProgramError::Database(MaxMindDbError::Memory)) => Err(ProgramError::Memory),
+            Err(ProgramError::Database(error)) => {
+                let place = Where::At(found.network().unwrap());
+                let reported = self.report(place, &error, console);
+                drop(error);
+                reported
+            }
+            Err(error) => Err(error),
+            Ok(()) => Ok(()),
+        }
+    }
+
+    // What is kept of the networks that wait: whether each is chosen.
+    #[inline(never)]
+    fn kept_of_waiting(&self) -> [Option<bool>; MOST_WAITING] {
+        let mut all = [None; MOST_WAITING];
+        for (kept, found) in all.iter_mut().zip(&self.waiting) {
+            *kept = self.choice.kept(found);
+        }
+        all
+    }
+
+    // Takes a network that waits into a list, where it is known to be chosen and nothing is to be written before it. Most
+    // chosen networks of a list go this way, which has no error to make.
+    #[inline(always)]
+    fn take_chosen(&mut self, index: usize, kept: Option<bool>) -> Taken {
+        match self.waiting.get(index) {
+            Some(found) if kept == Some(true) => self.writing.take(found.numbered_network()),
+            _ => Taken::Not,
+        }
+    }
+
+    // Writes a network that waits, if it is chosen, or reports why it can't be.
+    fn write_waiting_at<O: Write, E: Write>(
+        &mut self,
+        index: usize,
+        kept: Option<bool>,
+        console: &mut Console<'_, O, E>,
+    ) -> Result<(), ProgramError> {
+        match self.waiting.get(index).copied() {
+            Some(found) => self.write_found(&found, kept, console),
+            None => Ok(()),
+        }
+    }
+
+    // Writes what a list has for a network that waits, or the network.
+    #[inline(always)]
+    fn write_taken<O: Write, E: Write>(
+        &mut self,
+        index: usize,
+        kept: Option<bool>,
+        taken: Taken,
+        console: &mut Console<'_, O, E>,
+    ) -> Result<(), ProgramError> {
+        if taken == Taken::Settled {
+            self.writing.write_settled(console.out)
+        } else {
+            self.write_waiting_at(index, kept, console)
+        }
+    }
+
+    // Writes the networks that wait, as far as they are chosen, or reports why they can't be.
+    #[inline(never)]
+    fn write_waiting<O: Write, E: Write>(
+        &mut self,
+        console: &mut Console<'_, O, E>,
+    ) -> Result<(), ProgramError> {
+        for (index, kept) in self.kept_of_waiting().iter().enumerate() {
+            if *kept == Some(false) {
+                continue;
+            }
+            match self.take_chosen(index, *kept) {
+                Taken::Whole => {}
+                taken => self.write_taken(index, *kept, taken, console)?,
+            }
+        }
+        if let Some(found) = self.waiting.last() {
+            self.last = Some(*found);
+        }
+        self.waiting.clear();
+        Ok(())
+    }
+
+    /// Writes what was found in a network, if it is chosen, or reports why it can't be. Some networks wait for others.
+    #[inline(always)]
+    pub(crate) fn write<O: Write, E: Write>(
+        &mut self,
+        found: Found<'r>,
+        console: &mut Console<'_, O, E>,
+    ) -> Result<(), ProgramError> {
+        self.waiting.push(found)?;
+        if self.waiting.len() < MOST_WAITING {
+            return Ok(());
+        }
+        self.write_waiting(console)
+    }
+
+    /// Reports a network that can't be read, behind those that wait.
+    #[inline(never)]
+    pub(crate) fn write_unread<O: Write, E: Write>(
+        &mut self,
+        error: &MaxMindDbError,
+        console: &mut Console<'_, O, E>,
+    ) -> Result<(), ProgramError> {
+        self.write_waiting(console)?;
+        self.report_next(error, console)
+    }
+
+    /// Writes what waits, and what stands behind the last network.
+    pub(crate) fn finish<O: Write, E: Write>(
+        &mut self,
+        console: &mut Console<'_, O, E>,
+    ) -> Result<(), ProgramError> {
+        self.write_waiting(console)?;
+        match &mut self.writing {
+            Writing::Rows(_) => Ok(()),
+            Writing::List(list) => of_list(list.finish(console.out)),
+        }
+    }
+}
+
+/// The networks of a range, or all.
+pub(crate) fn networks_in(
+    alloc: Global,
+    database: &Database,
+    range: Option<IpNetwork>,
+) -> Result<Networks<'_>, MaxMindDbError> {
+    match range {
+        Some(range) => database.within(alloc, range, WithinOptions::default()),
+        None => database.networks(alloc, WithinOptions::default()),
+    }
+}

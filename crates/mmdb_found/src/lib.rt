@@ -1,0 +1,6 @@
+//! What lookups found, as JSON.
+#![tactic(auto)]
+
+mod found;
+
+pub use found::{found_json, write_found};

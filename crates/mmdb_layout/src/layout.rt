@@ -1,0 +1,254 @@
+//! What the rows of an export look like.
+use crate::database::Found;
+use crate::paths::paths_of;
+use json::{Token, Writer};
+use mmdb_arguments::NoRequest;
+use mmdb_filter::put_csv_cell;
+use mmdb_found::write_found;
+use mmdb_json::compact;
+use mmdb_reader::{MaxMindDbError, PathElement, Value};
+use std::alloc::{AllocError, Global};
+
+/// The name of a row's network.
+const NETWORK: &str = "network";
+
+/// What stands before the network in a line of JSON.
+const BEFORE_NETWORK: &str = "{\"network\":\"";
+
+/// Some values of a record, each by a path and under the path's text.
+#[derive(Drop)]
+pub struct Fields<'a> {
+    pub names: &'a [&'a str],
+    pub paths: Vec<Vec<PathElement<'a>>>,
+}
+
+/// How a network is written with what its record has.
+#[derive(Drop)]
+pub enum Layout<'a> {
+    /// An object with the network and the whole record.
+    Records,
+    /// An object with the network and some values.
+    Values(Fields<'a>),
+    /// The network and some values as comma-separated cells.
+    Cells(Fields<'a>),
+}
+
+// The values at the paths of these names.
+fn fields_of<'a>(alloc: Global, names: &'a [&'a str]) -> Result<Fields<'a>, NoRequest> {
+    Ok(Fields {
+        names,
+        paths: paths_of(alloc, names)?,
+    })
+}
+
+/// How rows are laid out with the values at the paths of these names. An `Err` where one is not a path, or cells have no
+/// names.
+pub fn layout_of<'a>(
+    alloc: Global,
+    is_csv: bool,
+    names: &'a [&'a str],
+) -> Result<Layout<'a>, NoRequest> {
+    match (is_csv, names.is_empty()) {
+        (true, true) => Err(NoRequest::bad_argument(alloc, "--format csv", "needs a --field")),
+        (false, true) => Ok(Layout::Records),
+        (true, false) => Ok(Layout::Cells(fields_of(alloc, names)?)),
+        (false, false) => Ok(Layout::Values(fields_of(alloc, names)?)),
+    }
+}
+
+// Adds a cell behind a comma.
+fn put_cell(cell: &[u8], row: &mut Vec<u8>) -> Result<(), AllocError> {
+    row.push(b',')?;
+    put_csv_cell(b',', cell, row)
+}
+
+// Adds the cell of a value: a text as it stands, any other value as JSON, and empty where there is none.
+fn put_value(
+    alloc: Global,
+    value: Option<&Value<'_>>,
+    row: &mut Vec<u8>,
+) -> Result<(), AllocError> {
+    match value {
+        Some(Value::String(text)) => put_cell(text.as_bytes(), row),
+        Some(value) => put_cell(compact(alloc, value)?.as_slice(), row),
+        None => put_cell(&[], row),
+    }
+}
+
+// Adds the cell of the value at a path, an empty one where there is no record.
+fn put_value_at(
+    alloc: Global,
+    found: Option<&Found<'_>>,
+    path: &[PathElement<'_>],
+    row: &mut Vec<u8>,
+) -> Result<(), MaxMindDbError> {
+    let value: Option<Value<'_>> = match found {
+        Some(found) => found.decode_path(alloc, path)?,
+        None => None,
+    };
+    let put = put_value(alloc, value.as_ref(), row);
+    drop(value);
+    Ok(put?)
+}
+
+// Adds a network, the cells of each answer, and the end of the line.
+fn put_cells(
+    alloc: Global,
+    fields: &Fields<'_>,
+    network: &str,
+    answers: &[Option<&Found<'_>>],
+    row: &mut Vec<u8>,
+) -> Result<(), MaxMindDbError> {
+    row.extend_from_slice(network.as_bytes())?;
+    for found in answers {
+        for path in &fields.paths {
+            put_value_at(alloc, *found, path.as_slice(), row)?;
+        }
+    }
+    Ok(row.push(b'\n')?)
+}
+
+/// A line of a network and the cells of each answer. Fails as `decode_path` of a `Value` does.
+pub fn line_of_cells(
+    alloc: Global,
+    fields: &Fields<'_>,
+    network: &str,
+    answers: &[Option<&Found<'_>>],
+) -> Result<Vec<u8>, MaxMindDbError> {
+    let mut row = Vec::new(alloc);
+    put_cells(alloc, fields, network, answers, &mut row)?;
+    Ok(row)
+}
+
+// Adds the name of a column.
+fn put_name(alloc: Global, prefix: &str, name: &str, row: &mut Vec<u8>) -> Result<(), AllocError> {
+    let text: String = format!(in alloc; "{prefix}{name}")?;
+    put_cell(text.as_bytes(), row)
+}
+
+// Adds the names of the columns, and the end of the line.
+fn put_names(
+    alloc: Global,
+    prefixes: &[&str],
+    names: &[&str],
+    row: &mut Vec<u8>,
+) -> Result<(), AllocError> {
+    row.extend_from_slice(NETWORK.as_bytes())?;
+    for prefix in prefixes {
+        for name in names {
+            put_name(alloc, *prefix, *name, row)?;
+        }
+    }
+    row.extend_from_slice(b"\n")
+}
+
+/// The line of the columns' names: of the network, and for each prefix of the values. An `Err` is of memory.
+pub fn line_of_names(
+    alloc: Global,
+    prefixes: &[&str],
+    names: &[&str],
+) -> Result<Vec<u8>, AllocError> {
+    let mut row = Vec::new(alloc);
+    put_names(alloc, prefixes, names, &mut row)?;
+    Ok(row)
+}
+
+// Adds the value at a path, null where there is no record.
+fn write_value(
+    alloc: Global,
+    found: Option<&Found<'_>>,
+    path: &[PathElement<'_>],
+    out: &mut Writer,
+) -> Result<bool, MaxMindDbError> {
+    match found {
+        Some(found) => write_found(alloc, found, path, out),
+        None => {
+            out.token(Token::Null)?;
+            Ok(false)
+        }
+    }
+}
+
+/// Adds the values at some paths to an object, each null where there is no record. Fails as `decode_path` of a `Value`
+/// does.
+pub fn write_values(
+    alloc: Global,
+    fields: &Fields<'_>,
+    found: Option<&Found<'_>>,
+    out: &mut Writer,
+) -> Result<(), MaxMindDbError> {
+    for (name, path) in fields.names.iter().zip(&fields.paths) {
+        out.token(Token::Key(*name))?;
+        write_value(alloc, found, path.as_slice(), out)?;
+    }
+    Ok(())
+}
+
+// The beginning of an object with an empty network.
+fn begin_object(out: &mut Writer) -> Result<(), AllocError> {
+    out.token(Token::BeginObject)?;
+    out.token(Token::Key(NETWORK))?;
+    out.token(Token::String(""))
+}
+
+impl Layout<'_> {
+    // Adds the record, or the values that are wanted of it.
+    fn write_record(
+        &self,
+        alloc: Global,
+        found: &Found<'_>,
+        out: &mut Writer,
+    ) -> Result<(), MaxMindDbError> {
+        if let Layout::Values(fields) = self {
+            return write_values(alloc, fields, Some(found), out);
+        }
+        out.token(Token::Key("record"))?;
+        write_found(alloc, found, &[], out)?;
+        Ok(())
+    }
+
+    // Writes the row of a record as an object, with an empty network.
+    fn write_object(
+        &self,
+        alloc: Global,
+        found: &Found<'_>,
+        out: &mut Writer,
+    ) -> Result<(), MaxMindDbError> {
+        begin_object(out)?;
+        self.write_record(alloc, found, out)?;
+        Ok(out.token(Token::EndObject)?)
+    }
+
+    // The row of a record as a line with an object, with an empty network.
+    fn object(&self, alloc: Global, found: &Found<'_>) -> Result<Vec<u8>, MaxMindDbError> {
+        let mut out = Writer::new(Vec::with_capacity(alloc, 256)?);
+        self.write_object(alloc, found, &mut out)?;
+        let mut row = out.into_inner();
+        row.push(b'\n')?;
+        Ok(row)
+    }
+
+    /// The row of a record, with an empty network. Fails as `decode_path` of a `Value` does.
+    pub fn row(&self, alloc: Global, found: &Found<'_>) -> Result<Vec<u8>, MaxMindDbError> {
+        match self {
+            Layout::Cells(fields) => line_of_cells(alloc, fields, "", &[Some(found)]),
+            Layout::Records | Layout::Values(_) => self.object(alloc, found),
+        }
+    }
+
+    /// Where the network stands in a row.
+    pub fn place_of_network(&self) -> usize {
+        match self {
+            Layout::Cells(_) => 0,
+            Layout::Records | Layout::Values(_) => BEFORE_NETWORK.len(),
+        }
+    }
+
+    /// The line of the columns' names, where there are columns. An `Err` is of memory.
+    pub fn header(&self, alloc: Global) -> Result<Option<Vec<u8>>, AllocError> {
+        match self {
+            Layout::Cells(fields) => Ok(Some(line_of_names(alloc, &[""], fields.names)?)),
+            Layout::Records | Layout::Values(_) => Ok(None),
+        }
+    }
+}

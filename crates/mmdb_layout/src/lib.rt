@@ -1,0 +1,12 @@
+//! Paths and ranges as a person writes them, and how networks are laid out with what their records have.
+#![tactic(auto)]
+
+mod database;
+mod layout;
+mod paths;
+mod ranges;
+
+pub use database::{Database, Found, Networks};
+pub use layout::{Fields, Layout, layout_of, line_of_cells, line_of_names, write_values};
+pub use paths::{path_of, paths_of, wanted_path};
+pub use ranges::range_of;

@@ -1,0 +1,10 @@
+//! The command `enrich`: lines with fields of records behind them.
+#![tactic(auto)]
+
+mod header;
+mod lines;
+mod progress;
+mod task;
+
+pub use lines::enrich;
+pub use task::{EnrichTask, JsonTask, RowsTask, enrich_task};

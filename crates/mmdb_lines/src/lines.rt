@@ -1,0 +1,142 @@
+//! Rows with fields behind them.
+use crate::header::column_of;
+use crate::progress::ProgressLine;
+use crate::task::{EnrichTask, JsonTask, RowsTask};
+use mmdb_console::{Console, DONE, ProgramError};
+use mmdb_enrich::{Enrichment, JsonEnrichment, JsonMemory, RowMemory};
+use mmdb_filter::{Additions, Counts, Rows, filter_rows};
+use mmdb_layout::Database;
+use std::alloc::{AllocError, Global};
+use std::io::{BufRead, Write};
+
+// How rows fared, in words.
+fn text_of_rows(alloc: Global, counts: Counts) -> Result<String, AllocError> {
+    let Counts {
+        found,
+        absent,
+        unreadable,
+        rejected,
+        ..
+    } = counts;
+    format!(in alloc;
+        "mmdb: {found} lines with a record, {absent} without, {unreadable} without an address, {rejected} with an error\n"
+    )
+}
+
+// How lines of JSON fared, in words.
+fn text_of_objects(alloc: Global, counts: Counts) -> Result<String, AllocError> {
+    let Counts {
+        found,
+        absent,
+        unreadable,
+        malformed,
+        rejected,
+    } = counts;
+    format!(in alloc;
+        "mmdb: {found} lines with a record, {absent} without, {unreadable} without an address, {rejected} with an error, {malformed} not objects of JSON\n"
+    )
+}
+
+// Copies rows with what is added to each, and counts how they fared. How many passed is shown on a terminal meanwhile.
+// Standard output is flushed.
+fn copy_rows<A: Additions, I: BufRead, O: Write, E: Write>(
+    rows: Rows,
+    additions: &A,
+    memory: &mut A::Memory,
+    input: &mut I,
+    console: &mut Console<'_, O, E>,
+) -> Result<Counts, ProgramError>
+    requires { A.fits additions.now memory.old }
+{
+    let alloc = console.alloc;
+    let mut progress = ProgressLine::new(alloc, console.terminals.errors, console.errors);
+    let counts = filter_rows(
+        alloc,
+        rows,
+        additions,
+        memory,
+        input,
+        console.out,
+        &mut progress,
+    );
+    progress.clear();
+    let counts = counts?;
+    console.flush()?;
+    Ok(counts)
+}
+
+// Copies rows with fields behind each, and reports how they fared.
+fn enrich_rows<I: BufRead, O: Write, E: Write>(
+    enrichment: &Enrichment<'_, '_, Vec<u8>>,
+    input: &mut I,
+    console: &mut Console<'_, O, E>,
+) -> Result<u8, ProgramError> {
+    let mut memory = RowMemory::new(console.alloc)?;
+    let counts = copy_rows(enrichment.rows, enrichment, &mut memory, input, console);
+    drop(memory);
+    console.note(text_of_rows(console.alloc, counts?));
+    Ok(DONE)
+}
+
+// Copies rows with fields behind each, and reports how they fared.
+fn enrich_columns<I: BufRead, O: Write, E: Write>(
+    database: &Database,
+    task: RowsTask<'_>,
+    input: &mut I,
+    console: &mut Console<'_, O, E>,
+) -> Result<u8, ProgramError> {
+    let column = column_of(console.alloc, &task, input, console.out)?;
+    let enrichment = Enrichment {
+        alloc: console.alloc,
+        reader: database,
+        rows: task.rows,
+        column,
+        paths: task.paths,
+    };
+    enrich_rows(&enrichment, input, console)
+}
+
+// Copies lines with a member more in each object, and reports how they fared.
+fn enrich_objects<I: BufRead, O: Write, E: Write>(
+    enrichment: &JsonEnrichment<'_, '_, Vec<u8>>,
+    input: &mut I,
+    console: &mut Console<'_, O, E>,
+) -> Result<u8, ProgramError> {
+    let mut memory = JsonMemory::new(console.alloc)?;
+    let counts = copy_rows(Rows::Lines, enrichment, &mut memory, input, console);
+    drop(memory);
+    console.note(text_of_objects(console.alloc, counts?));
+    Ok(DONE)
+}
+
+// Copies lines with a member more in each object, and reports how they fared.
+fn enrich_json<I: BufRead, O: Write, E: Write>(
+    database: &Database,
+    task: JsonTask<'_>,
+    input: &mut I,
+    console: &mut Console<'_, O, E>,
+) -> Result<u8, ProgramError> {
+    let enrichment = JsonEnrichment {
+        alloc: console.alloc,
+        reader: database,
+        path: task.path,
+        name: task.into,
+        fields: task.fields,
+    };
+    enrich_objects(&enrichment, input, console)
+}
+
+/// Copies lines with fields of a database in each, reports how they fared, and answers the status. An `Err` where standard
+/// input can't be read, standard output can't be written, the first row has no such column or is too long, or out of
+/// memory.
+pub fn enrich<I: BufRead, O: Write, E: Write>(
+    database: &Database,
+    task: EnrichTask<'_>,
+    input: &mut I,
+    console: &mut Console<'_, O, E>,
+) -> Result<u8, ProgramError> {
+    match task {
+        EnrichTask::Rows(task) => enrich_columns(database, task, input, console),
+        EnrichTask::Json(task) => enrich_json(database, task, input, console),
+    }
+}

@@ -1,0 +1,172 @@
+//! What `enrich` is asked for.
+use mmdb_arguments::{EnrichArguments, NoRequest};
+use mmdb_enrich::Field;
+use mmdb_filter::Rows;
+use mmdb_layout::{paths_of, wanted_path};
+use mmdb_reader::PathElement;
+use std::alloc::Global;
+
+/// A column of lines.
+#[derive(Clone, Copy)]
+pub(crate) enum Column<'a> {
+    /// Counted from 0.
+    Number(usize),
+    /// By its name in the first line.
+    Name(&'a str),
+}
+
+/// What `enrich` is asked for of rows.
+#[derive(Drop)]
+pub struct RowsTask<'a> {
+    pub(crate) rows: Rows,
+    pub(crate) column: Column<'a>,
+    pub(crate) names: &'a [&'a str],
+    pub(crate) paths: Vec<Vec<PathElement<'a>>>,
+    pub(crate) header: bool,
+}
+
+/// What `enrich` is asked for of lines of JSON.
+#[derive(Drop)]
+pub struct JsonTask<'a> {
+    /// The path of the address in an object.
+    pub(crate) path: Vec<PathElement<'a>>,
+    /// The name of the member that is added.
+    pub(crate) into: &'a str,
+    pub(crate) fields: Vec<Field<'a>>,
+}
+
+/// What `enrich` is asked for.
+#[derive(Drop)]
+pub enum EnrichTask<'a> {
+    /// Fields behind rows.
+    Rows(RowsTask<'a>),
+    /// Fields in lines of JSON.
+    Json(JsonTask<'a>),
+}
+
+// The column that a text stands for: a name only where there is a header.
+fn column_of<'a>(alloc: Global, text: &'a str, header: bool) -> Result<Column<'a>, NoRequest> {
+    match text.parse::<usize>() {
+        Ok(number) if number > 0 => Ok(Column::Number(number - 1)),
+        Err(_) if header => Ok(Column::Name(text)),
+        _ => Err(NoRequest::bad_argument(alloc, text, "not the number of a column")),
+    }
+}
+
+// What rows are, by what stands between their cells: between those of a line tabs, else they are CSV.
+fn rows_of(alloc: Global, delimiter: Option<&str>) -> Result<Rows, NoRequest> {
+    let Some(text) = delimiter else {
+        return Ok(Rows::Lines);
+    };
+    match text.as_bytes() {
+        b"\t" | b"\\t" => Ok(Rows::Lines),
+        [b'"' | b'\n' | b'\r'] => Err(NoRequest::bad_argument(
+            alloc,
+            "--delimiter",
+            "neither a quote nor a line break",
+        )),
+        [delimiter] => Ok(Rows::Csv {
+            delimiter: *delimiter,
+        }),
+        _ => Err(NoRequest::bad_argument(alloc, text, "not one ASCII character")),
+    }
+}
+
+// The last step of a path, as it is written. In quotes it is what stands between them.
+fn last_step(path: &str) -> &str {
+    if let Some(text) = path.strip_suffix('"') {
+        return match text.rsplit_once('"') {
+            Some((_, step)) => step,
+            None => path,
+        };
+    }
+    match path.rsplit_once('.') {
+        Some((_, step)) => step,
+        None => path,
+    }
+}
+
+// The name of a field and its path: `NAME=PATH`, or a path alone, of which the last step is the name.
+fn named_path(text: &str) -> (&str, &str) {
+    match text.split_once('=') {
+        Some((name, path)) if !name.contains('"') => (name, path),
+        _ => (last_step(text), text),
+    }
+}
+
+fn fields_of<'a>(alloc: Global, texts: &[&'a str]) -> Result<Vec<Field<'a>>, NoRequest> {
+    let mut fields = Vec::new(alloc);
+    for text in texts {
+        let (name, path) = named_path(*text);
+        let path = wanted_path(alloc, path)?;
+        fields.push(Field { name, path })?;
+    }
+    Ok(fields)
+}
+
+fn has_index_from_end(path: &[PathElement<'_>]) -> bool {
+    for step in path {
+        if let PathElement::IndexFromEnd(_) = step {
+            return true;
+        }
+    }
+    false
+}
+
+// The path of an address in an object: keys, and indices from the front.
+fn address_path<'a>(alloc: Global, text: &'a str) -> Result<Vec<PathElement<'a>>, NoRequest> {
+    let path = wanted_path(alloc, text)?;
+    if has_index_from_end(path.as_slice()) {
+        return Err(NoRequest::bad_argument(
+            alloc,
+            text,
+            "an index from the end, of which --json knows none",
+        ));
+    }
+    Ok(path)
+}
+
+fn enrich_json<'a>(
+    alloc: Global,
+    path: &'a str,
+    into: &'a str,
+    fields: &[&'a str],
+) -> Result<EnrichTask<'a>, NoRequest> {
+    if into.is_empty() {
+        return Err(NoRequest::bad_argument(alloc, "--into", "an empty name"));
+    }
+    Ok(EnrichTask::Json(JsonTask {
+        path: address_path(alloc, path)?,
+        into,
+        fields: fields_of(alloc, fields)?,
+    }))
+}
+
+fn enrich_rows<'a>(
+    alloc: Global,
+    arguments: &'a EnrichArguments<'a>,
+) -> Result<EnrichTask<'a>, NoRequest> {
+    let names = arguments.fields.as_slice();
+    Ok(EnrichTask::Rows(RowsTask {
+        rows: rows_of(alloc, arguments.delimiter)?,
+        column: column_of(alloc, arguments.column, arguments.header)?,
+        names,
+        paths: paths_of(alloc, names)?,
+        header: arguments.header,
+    }))
+}
+
+/// What the arguments of `enrich` ask for. An `Err` where one is not what is wanted in its place.
+pub fn enrich_task<'a>(
+    alloc: Global,
+    arguments: &'a EnrichArguments<'a>,
+) -> Result<EnrichTask<'a>, NoRequest> {
+    match (arguments.json, arguments.into) {
+        (None, None) => enrich_rows(alloc, arguments),
+        (None, Some(_)) => Err(NoRequest::bad_argument(alloc, "--into", "needs a --json")),
+        (Some(path), into) => {
+            let into = into.unwrap_or("geo");
+            enrich_json(alloc, path, into, arguments.fields.as_slice())
+        }
+    }
+}

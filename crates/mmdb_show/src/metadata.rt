@@ -1,0 +1,276 @@
+//! What a database says of itself.
+use jiff::Timestamp;
+use json::{Pretty, Token};
+use mmdb_arguments::{InfoArguments, shown_text};
+use mmdb_console::{Console, DONE, ProgramError, line_of};
+use mmdb_json::write_value;
+use mmdb_reader::{MaxMindDbError, Metadata, Reader, Sections, Value};
+use std::alloc::{AllocError, Global};
+use std::collections::BTreeMap;
+use std::fs::File;
+use std::io::{Read, Write};
+use std::rt::Files;
+
+// The date of a number of seconds since 1970, where it has one.
+fn date_of(alloc: Global, seconds: u64) -> Result<Option<String>, AllocError> {
+    let Ok(seconds) = i64::try_from(seconds) else {
+        return Ok(None);
+    };
+    match Timestamp::from_second(seconds) {
+        Ok(time) => Ok(Some(time.to_string(alloc)?)),
+        Err(_) => Ok(None),
+    }
+}
+
+/// Lines that a person reads, added one after another.
+#[derive(Drop)]
+struct Lines {
+    text: String,
+    /// Whether something was not added, as there was no memory.
+    is_cut: bool,
+}
+
+impl Lines {
+    fn new(alloc: Global) -> Lines {
+        Lines {
+            text: String::new(alloc),
+            is_cut: false,
+        }
+    }
+
+    // Adds a text that was made, if there was memory for it.
+    fn add(&mut self, made: Result<String, AllocError>) {
+        let added = match made {
+            Ok(made) => self.text.push_str(made.as_str()),
+            Err(error) => Err(error),
+        };
+        self.is_cut |= added.is_err();
+    }
+
+    // Adds a line of a text that was made, in which no text of the file begins another one.
+    fn add_line(&mut self, alloc: Global, made: Result<String, AllocError>) {
+        self.add(line_of(alloc, made));
+    }
+
+    // All that was added.
+    fn finish(self) -> Result<String, AllocError> {
+        if self.is_cut {
+            Err(AllocError)
+        } else {
+            Ok(self.text)
+        }
+    }
+}
+
+// When a database was built, by the number of seconds since 1970.
+fn built_text(alloc: Global, seconds: u64) -> Result<String, AllocError> {
+    match date_of(alloc, seconds)? {
+        Some(date) => format!(in alloc; "{date} ({seconds} s)"),
+        None => format!(in alloc; "{seconds} s after 1970"),
+    }
+}
+
+// Adds what texts the metadata has.
+fn add_texts(alloc: Global, metadata: &Metadata, lines: &mut Lines) {
+    let kind = &metadata.database_type;
+    lines.add_line(alloc, format!(in alloc; "type:        {kind}"));
+    for (language, description) in &metadata.description {
+        lines.add_line(
+            alloc,
+            format!(in alloc; "description: {description} ({language})"),
+        );
+    }
+    lines.add(format!(in alloc; "languages:  "));
+    for language in &metadata.languages {
+        lines.add(format!(in alloc; " "));
+        lines.add(shown_text(alloc, language.as_str()));
+    }
+}
+
+// Adds what numbers the metadata has, and the sizes.
+fn add_numbers(alloc: Global, metadata: &Metadata, sections: &Sections, lines: &mut Lines) {
+    let ip = metadata.ip_version;
+    lines.add(format!(in alloc; "\nIP version:  {ip}\nbuilt:       "));
+    lines.add(built_text(alloc, metadata.build_epoch));
+    let major = metadata.binary_format_major_version;
+    let minor = metadata.binary_format_minor_version;
+    let (nodes, bits) = (metadata.node_count, metadata.record_size);
+    lines.add(format!(in alloc;
+        "\nformat:      {major}.{minor}\nnodes:       {nodes}\nrecord size: {bits} bits\n"
+    ));
+    let (tree, data) = (sections.tree_bytes, sections.data_bytes);
+    let metadata = sections.metadata_bytes;
+    lines.add(format!(in alloc;
+        "tree:        {tree} bytes\ndata:        {data} bytes\nmetadata:    {metadata} bytes\n"
+    ));
+}
+
+// The lines that a person reads.
+fn text_of(alloc: Global, metadata: &Metadata, sections: &Sections) -> Result<String, AllocError> {
+    let mut lines = Lines::new(alloc);
+    add_texts(alloc, metadata, &mut lines);
+    add_numbers(alloc, metadata, sections, &mut lines);
+    lines.finish()
+}
+
+fn put_text(out: &mut Pretty, key: &str, text: &str) -> Result<(), AllocError> {
+    out.token(Token::Key(key))?;
+    out.token(Token::String(text))
+}
+
+fn put_number(alloc: Global, out: &mut Pretty, key: &str, number: u64) -> Result<(), AllocError> {
+    out.token(Token::Key(key))?;
+    write_value(alloc, &Value::U64(number), out)
+}
+
+// The descriptions, as an object.
+fn put_descriptions(
+    out: &mut Pretty,
+    descriptions: &BTreeMap<String, String>,
+) -> Result<(), AllocError> {
+    out.token(Token::Key("description"))?;
+    out.token(Token::BeginObject)?;
+    for (language, description) in descriptions {
+        put_text(out, language.as_str(), description.as_str())?;
+    }
+    out.token(Token::EndObject)
+}
+
+// The languages, as an array.
+fn put_languages(out: &mut Pretty, languages: &[String]) -> Result<(), AllocError> {
+    out.token(Token::Key("languages"))?;
+    out.token(Token::BeginArray)?;
+    for language in languages {
+        out.token(Token::String(language.as_str()))?;
+    }
+    out.token(Token::EndArray)
+}
+
+// The date of a number of seconds, where it has one.
+fn put_date(alloc: Global, out: &mut Pretty, seconds: u64) -> Result<(), AllocError> {
+    match date_of(alloc, seconds)? {
+        Some(date) => put_text(out, "build_time", date.as_str()),
+        None => Ok(()),
+    }
+}
+
+// The texts of the metadata.
+fn put_texts(alloc: Global, out: &mut Pretty, metadata: &Metadata) -> Result<(), AllocError> {
+    put_text(out, "database_type", metadata.database_type.as_str())?;
+    put_descriptions(out, &metadata.description)?;
+    put_languages(out, metadata.languages.as_slice())?;
+    put_date(alloc, out, metadata.build_epoch)
+}
+
+// The numbers of the metadata, and the sizes.
+fn put_numbers(
+    alloc: Global,
+    out: &mut Pretty,
+    metadata: &Metadata,
+    sections: &Sections,
+) -> Result<(), AllocError> {
+    for (key, number) in [
+        ("build_epoch", metadata.build_epoch),
+        (
+            "binary_format_major_version",
+            u64::from(metadata.binary_format_major_version),
+        ),
+        (
+            "binary_format_minor_version",
+            u64::from(metadata.binary_format_minor_version),
+        ),
+        ("ip_version", u64::from(metadata.ip_version)),
+        ("node_count", u64::from(metadata.node_count)),
+        ("record_size", u64::from(metadata.record_size)),
+        ("tree_bytes", sections.tree_bytes as u64),
+        ("data_bytes", sections.data_bytes as u64),
+        ("metadata_bytes", sections.metadata_bytes as u64),
+    ] {
+        put_number(alloc, out, key, number)?;
+    }
+    Ok(())
+}
+
+// The texts and numbers as an object.
+fn put_object(
+    alloc: Global,
+    out: &mut Pretty,
+    metadata: &Metadata,
+    sections: &Sections,
+) -> Result<(), AllocError> {
+    out.token(Token::BeginObject)?;
+    put_texts(alloc, out, metadata)?;
+    put_numbers(alloc, out, metadata, sections)?;
+    out.token(Token::EndObject)
+}
+
+// The text of that object.
+fn json_of(alloc: Global, metadata: &Metadata, sections: &Sections) -> Result<Vec<u8>, AllocError> {
+    let mut out = Pretty::new(alloc);
+    put_object(alloc, &mut out, metadata, sections)?;
+    let mut text = out.into_inner();
+    text.push(b'\n')?;
+    Ok(text)
+}
+
+// The text of what a file says of itself.
+fn info_text(
+    alloc: Global,
+    metadata: &Metadata,
+    sections: &Sections,
+    json: bool,
+) -> Result<Vec<u8>, AllocError> {
+    if json {
+        json_of(alloc, metadata, sections)
+    } else {
+        Ok(text_of(alloc, metadata, sections)?.into_bytes())
+    }
+}
+
+/// What the file of these bytes says of itself, and the sizes of its sections: as lines, or as an object.
+///
+/// Fails as `Reader::from_source` does.
+pub fn info(alloc: Global, bytes: &[u8], json: bool) -> Result<Vec<u8>, ProgramError> {
+    let reader = Reader::from_source(alloc, bytes)?;
+    let text = info_text(alloc, reader.metadata(), &reader.sections(), json);
+    drop(reader);
+    Ok(text?)
+}
+
+// All bytes of a file.
+fn bytes_of<R: Files>(rt: &R, alloc: Global, file: &str) -> Result<Vec<u8>, ProgramError> {
+    let mut bytes = Vec::new(alloc);
+    let done = match File::open(rt, file) {
+        Ok(mut file) => file.read_to_end(&mut bytes),
+        Err(error) => Err(error),
+    };
+    match done {
+        Ok(_) => Ok(bytes),
+        Err(error) => Err(ProgramError::Database(MaxMindDbError::Io(error))),
+    }
+}
+
+// What a file says of itself.
+fn info_of_file<R: Files>(
+    rt: &R,
+    alloc: Global,
+    file: &str,
+    json: bool,
+) -> Result<Vec<u8>, ProgramError> {
+    let bytes = bytes_of(rt, alloc, file)?;
+    info(alloc, bytes.as_slice(), json)
+}
+
+/// Writes what a database says of itself, and answers the status. An `Err` where the file is no database that can be read,
+/// standard output can't be written, or out of memory.
+pub fn describe<R: Files, O: Write, E: Write>(
+    rt: &R,
+    arguments: &InfoArguments<'_>,
+    console: &mut Console<'_, O, E>,
+) -> Result<u8, ProgramError> {
+    let text = info_of_file(rt, console.alloc, arguments.file, arguments.json)?;
+    let put = console.put(text.as_slice());
+    drop(text);
+    put?;
+    Ok(DONE)
+}
