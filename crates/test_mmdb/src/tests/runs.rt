@@ -219,6 +219,20 @@ const JSON_LINES: &[Lines<'static>] = &[
         "{\"a\":{\"b\":\"200.0.0.1\"},\"a\":{}}\n",
         "0 lines with a record, 0 without, 1 without an address",
     ),
+    // the address first, last and twice; white space in all places; a key with an escape
+    (
+        &["enrich", "here.mmdb", "--json", "a.b"],
+        "{\"a\":{\"b\":\"200.0.0.1\",\"c\":{\"b\":2}},\"b\":3}\n{\"b\":[{\"a\":{}}],\"a\":{\"c\":\"\\\\\",\"b\":\"1.1.1.1\",\"b\":\"200.0.0.1\"}}\n\t{ \"a\" :\r{ \"b\"\t: \"200.0.0.1\" } } \n{\"a\":{\"b\":\"1.1.1.1\"},\"a\":{\"\\u0062\":\"200.0.0.1\"}}\n",
+        "{\"a\":{\"b\":\"200.0.0.1\",\"c\":{\"b\":2}},\"b\":3,\"geo\":{}}\n{\"b\":[{\"a\":{}}],\"a\":{\"c\":\"\\\\\",\"b\":\"1.1.1.1\",\"b\":\"200.0.0.1\"},\"geo\":{}}\n\t{ \"a\" :\r{ \"b\"\t: \"200.0.0.1\" } ,\"geo\":{}} \n{\"a\":{\"b\":\"1.1.1.1\"},\"a\":{\"\\u0062\":\"200.0.0.1\"},\"geo\":{}}\n",
+        "4 lines with a record",
+    ),
+    // what is no object has no member
+    (
+        &["enrich", "here.mmdb", "--json", "a.b"],
+        "{\"a\":null}\n{\"a\":\"200.0.0.1\"}\n{\"a\":[{\"b\":\"200.0.0.1\"}]}\n{\"a\":{\"b\":\"200.0.0.1\"},\"a\":5}\n{\"a\":{\"a\":{\"b\":\"200.0.0.1\"}}}\n",
+        "{\"a\":null}\n{\"a\":\"200.0.0.1\"}\n{\"a\":[{\"b\":\"200.0.0.1\"}]}\n{\"a\":{\"b\":\"200.0.0.1\"},\"a\":5}\n{\"a\":{\"a\":{\"b\":\"200.0.0.1\"}}}\n",
+        "0 lines with a record, 0 without, 5 without an address, 0 with an error, 0 not objects of JSON",
+    ),
     (&["enrich", "here.mmdb", "--json", ""], "{}\n\"200.0.0.1\"\n", "{}\n\"200.0.0.1\"\n", "1 without an address, 0 with an error, 1 not objects of JSON"),
 ];
 
@@ -337,6 +351,17 @@ fn long_objects(rt: HostRuntime) {
     }
 }
 
+// Asserts that a line is read as an object with an address, or else as no object.
+fn assert_object(rt: &impl Abort, alloc: Global, text: &str, is_read: bool) {
+    let run = run_of(alloc, BASE_FILE, IN_JSON, text);
+    let holds = if is_read {
+        has_member(text, run.out())
+    } else {
+        run.out() == text && run.err().contains("1 not objects of JSON")
+    };
+    assert_of(rt, IN_JSON, &run, holds);
+}
+
 // An object with an address that nests so deep.
 fn nested_object(alloc: Global, depth: usize) -> Result<String, AllocError> {
     let mut text = String::from_str(alloc, "{\"b\":")?;
@@ -354,13 +379,48 @@ fn nested_object(alloc: Global, depth: usize) -> Result<String, AllocError> {
 fn deep_objects(rt: HostRuntime) {
     for (depth, is_read) in [(128, true), (129, false)] {
         let text = nested_object(rt.alloc(), depth).expect(&rt, "a text");
-        let run = run_of(rt.alloc(), BASE_FILE, IN_JSON, text.as_str());
-        let holds = if is_read {
-            has_member(text.as_str(), run.out())
-        } else {
-            run.out() == text.as_str() && run.err().contains("1 not objects of JSON")
-        };
-        assert_of(&rt, IN_JSON, &run, holds);
+        assert_object(&rt, rt.alloc(), text.as_str(), is_read);
+    }
+}
+
+/// Values of JSON.
+#[rattlefmt::skip]
+const VALUES: &[&str] = &[
+    "0", "-0", "12", "1.5", "-0.25", "1e3", "1E+3", "-2.5e-7",
+    "true", "false", "null", " \t\r1\t ",
+    "[]", "[ ]", "[1,[2 , null],{}]", "{}", "{ }", "{\"c\":[true,{\"\":[]}] , \"a\":\"\"}",
+    "\"\"", "\"\\\"\\\\\\/\\b\\f\\n\\r\\t\"", "\"\\u00e9\\uD83D\\uDE00 \u{e9}\u{1f600}\u{7f}\"",
+    "\"\\u0041\\u9fFf\\\\\\uABCD\"",
+    // a quote, an escape and the end around the sixteenth byte
+    "\"234567890123456\"", "\"2345678901234567\"", "\"234567890123456\\\"}\"", "\"2345678901234\\\\\"",
+    "\"12345678901234567890123456789012345\\n8\"",
+];
+
+/// Texts that are no value of JSON.
+#[rattlefmt::skip]
+const NO_VALUES: &[&str] = &[
+    "", "01", "-01", "00", "-", "+1", ".5", "1.", "1.e3", "1e", "1e+", "1.5.2", "0x1", "1a", "1-", "NaN", "Infinity",
+    "tru", "True", "nul", "nulls", "falsey", "true1", "true\"\"",
+    "\"", "\"\t\"", "\"2345678901234567\t\"", "\"\u{1}\"", "\"\\x\"", "\"\\u12\"", "\"\\u00g0\"", "\"\\u004\"", "\"\\uABC", "\"\\\"", "'c'",
+    "[1,]", "[,1]", "[1 2]", "[1", "]", "[1}", "{\"c\":1,}", "{,}", "{\"c\" 1}", "{\"c\":}", "{\"c\"}", "{c:1}", "{1:1}",
+    "{\"c\":1", "1 2", "\"c\":1", "1,", "1,\"c\"", "1:2", ":1", ",\"c\":1",
+];
+
+// An object with an address, and with this text behind it for a value.
+fn object_with(alloc: Global, value: &str) -> Result<String, AllocError> {
+    let mut text = String::from_str(alloc, "{\"a\":\"200.0.0.1\",\"b\":")?;
+    text.push_str(value)?;
+    text.push_str("}")?;
+    Ok(text)
+}
+
+#[test]
+fn objects_of_values(rt: HostRuntime) {
+    for (values, is_read) in [(VALUES, true), (NO_VALUES, false)] {
+        for value in values {
+            let text = object_with(rt.alloc(), value).expect(&rt, "a text");
+            assert_object(&rt, rt.alloc(), text.as_str(), is_read);
+        }
     }
 }
 
