@@ -4,7 +4,7 @@ use crate::task::{ExportTask, Shape};
 use crate::writing::{Export, Writing, networks_in, of_list};
 use mmdb_choice::Choice;
 use mmdb_console::{Console, DONE, FAILED, ProgramError, put};
-use mmdb_layout::{Database, Found, Layout, Networks};
+use mmdb_layout::{Database, Layout, Networks};
 use mmdb_lists::{Kinds, List, Syntax};
 use mmdb_reader::MaxMindDbError;
 use std::alloc::Global;
@@ -35,21 +35,16 @@ fn report_faults<O: Write, E: Write>(
     Ok(FAILED)
 }
 
-// Writes what was found in a network, or reports why it can't be read.
-#[inline(always)]
-fn export_item<'r, O: Write, E: Write>(
-    item: Result<Found<'r>, MaxMindDbError>,
-    export: &mut Export<'_, 'r>,
+// Reports a network that can't be read.
+#[inline(never)]
+fn report_unread<O: Write, E: Write>(
+    error: MaxMindDbError,
+    export: &mut Export<'_, '_>,
     console: &mut Console<'_, O, E>,
 ) -> Result<(), ProgramError> {
-    match item {
-        Ok(found) => export.write(found, console),
-        Err(error) => {
-            let reported = export.write_unread(&error, console);
-            drop(error);
-            reported
-        }
-    }
+    let reported = export.write_unread(&error, console);
+    drop(error);
+    reported
 }
 
 // Writes the chosen networks, and what stands behind them.
@@ -59,7 +54,10 @@ fn export_all<'r, O: Write, E: Write>(
     console: &mut Console<'_, O, E>,
 ) -> Result<(), ProgramError> {
     for item in networks {
-        export_item(item, export, console)?;
+        match item {
+            Ok(found) => export.write(found, console)?,
+            Err(error) => report_unread(error, export, console)?,
+        }
     }
     export.finish(console)
 }

@@ -213,22 +213,6 @@ impl<'a, 'r> Export<'a, 'r> {
         }
     }
 
-    // Writes what a list has for a network that waits, or the network.
-    #[inline(always)]
-    fn write_taken<O: Write, E: Write>(
-        &mut self,
-        index: usize,
-        kept: Option<bool>,
-        taken: Taken,
-        console: &mut Console<'_, O, E>,
-    ) -> Result<(), ProgramError> {
-        if taken == Taken::Settled {
-            self.writing.write_settled(console.out)
-        } else {
-            self.write_waiting_at(index, kept, console)
-        }
-    }
-
     // Writes the networks that wait, as far as they are chosen, or reports why they can't be.
     #[inline(never)]
     fn write_waiting<O: Write, E: Write>(
@@ -241,7 +225,8 @@ impl<'a, 'r> Export<'a, 'r> {
             }
             match self.take_chosen(index, *kept) {
                 Taken::Whole => {}
-                taken => self.write_taken(index, *kept, taken, console)?,
+                Taken::Settled => self.writing.write_settled(console.out)?,
+                Taken::Not => self.write_waiting_at(index, *kept, console)?,
             }
         }
         if let Some(found) = self.waiting.last() {
