@@ -1,5 +1,5 @@
 -- The cells of a record: for each path the text of the value to which it leads.
-use Rattle.std.specs.Prelude.{◌≡◌, ℕ, List, [], ◌∷◌, ◌++◌, Option, Some, None, Bool, true, false, ◌&&◌, ◌||◌, ◌==◌, nat_lt, is_some, if◌then◌else◌}
+use Rattle.std.specs.Prelude.{◌≡◌, ℕ, List, [], ◌∷◌, ◌++◌, Option, Some, None, Bool, true, false, ◌&&◌, nat_lt, is_some}
 use Rattle.std.specs.Bool.{MatchBool}
 use Rattle.mmdb_format.specs.Contents.{text}
 use Rattle.mmdb_format.specs.Unfolding.{Tree, scalar}
@@ -7,6 +7,7 @@ use Rattle.mmdb_value.specs.AnyValue.{value_at}
 use Rattle.mmdb_reader.specs.Selecting.{answer_along}
 use Rattle.mmdb_reader.specs.declared.path.PathElement.{PathElement}
 use Rattle.mmdb_json.specs.Texts.{IsCompact}
+use Rattle.mmdb_filter.specs.Cells.{csv_cell}
 use Rattle.mmdb_filter.specs.declared.rows.Rows.{Rows}
 use Rattle.mmdb_filter.specs.declared.rows.Rows.TheVariants.{Lines, Csv}
 use Rattle.mmdb_enrich.specs.Columns.{delimiter_of}
@@ -27,19 +28,6 @@ text_bytes _ = []
 abbrev pub is_any_text : Tree → Bool
 is_any_text (scalar (text x)) = true
 is_any_text _ = false
-
--- a cell of CSV is quoted where it has the delimiter, a quote or a line break
-unfoldable pub is_special : ℕ → List ℕ → Bool
-is_special delimiter [] = false
-is_special delimiter (x ∷ xs) = (x == delimiter) || (x == 34) || (x == 10) || (x == 13) || is_special delimiter xs
-
--- each quote twice
-unfoldable pub doubled : List ℕ → List ℕ
-doubled [] = []
-doubled (x ∷ xs) = if x == 34 then 34 ∷ (34 ∷ doubled xs) else x ∷ doubled xs
-
-abbrev pub csv_cell : ℕ → List ℕ → List ℕ
-csv_cell delimiter value = if is_special delimiter value then 34 ∷ (doubled value ++ (34 ∷ [])) else value
 
 -- In a line a text without control characters is its own cell, and any other value the JSON that shows it. In CSV a
 -- cell is any text, or the JSON.

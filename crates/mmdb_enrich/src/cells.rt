@@ -8,8 +8,7 @@ ghost use Rattle.mmdb_enrich.specs.Cells.{is_plain as spec_is_plain, blanks, are
 ghost use Rattle.mmdb_enrich.specs.Working.{PutsShown, PutsCell, PutsCellAlong, PutsCells, IsReadAs};
 
 use crate::columns::delimiter_of;
-use crate::quotes::put_csv_cell;
-use mmdb_filter::Rows;
+use mmdb_filter::{Rows, put_csv_cell};
 use mmdb_json::compact;
 use mmdb_reader::{LookupResult, MaxMindDbError, PathElement, Value};
 use std::alloc::{AllocError, Global};

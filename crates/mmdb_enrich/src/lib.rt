@@ -14,12 +14,10 @@ mod lexemes;
 mod members;
 mod objects;
 mod one_pass;
-mod quotes;
 mod row_memory;
 
 pub use columns::delimiter_of;
 pub use enrichment::Enrichment;
 pub use json_enrichment::{JsonEnrichment, JsonMemory};
 pub use members::Field;
-pub use quotes::put_csv_cell;
 pub use row_memory::RowMemory;
