@@ -16,23 +16,20 @@ static struct mmdb_c_address address_of(const struct sockaddr *address) {
     return (struct mmdb_c_address){.low = ntohl(((const struct sockaddr_in *)address)->sin_addr.s_addr)};
 }
 
-static MMDB_lookup_result_s result_of(const MMDB_s *m, const struct mmdb_c_found *found, int *error) {
-    *error = found->status == MMDB_C_NO_DATA ? MMDB_SUCCESS : (int)found->status;
-    return (MMDB_lookup_result_s){.found_entry = found->status == MMDB_SUCCESS,
-                                  .netmask = (uint16_t)found->netmask,
-                                  .entry = {.mmdb = m, .offset = (uint32_t)found->offset}};
+static MMDB_lookup_result_s result_of(const MMDB_s *m, struct mmdb_c_found found, int *error) {
+    *error = found.status == MMDB_C_NO_DATA ? MMDB_SUCCESS : (int)found.status;
+    return (MMDB_lookup_result_s){.found_entry = found.status == MMDB_SUCCESS,
+                                  .netmask = (uint16_t)found.netmask,
+                                  .entry = {.mmdb = m, .offset = (uint32_t)found.offset}};
 }
 
 MMDB_lookup_result_s MMDB_lookup_sockaddr(const MMDB_s *const m, const struct sockaddr *const address,
                                           int *const error) {
     const struct mmdb_c_db *db = &state_of(m)->db;
     struct mmdb_c_address bits = address_of(address);
-    struct mmdb_c_found found;
-    if (bits.is_ipv6)
-        mmdb_c_lookup_v6(db, bits.high, bits.low, &found);
-    else
-        mmdb_c_lookup_v4(db, (uint32_t)bits.low, &found);
-    return result_of(m, &found, error);
+    struct mmdb_c_found found =
+        bits.is_ipv6 ? mmdb_c_lookup_v6(db, bits.high, bits.low) : mmdb_c_lookup_v4(db, (uint32_t)bits.low);
+    return result_of(m, found, error);
 }
 
 void mmdb_lookup_many(const MMDB_s *m, const struct sockaddr *const *addresses, size_t count,
@@ -43,7 +40,7 @@ void mmdb_lookup_many(const MMDB_s *m, const struct sockaddr *const *addresses, 
         size_t now = count < MMDB_C_GROUP ? count : MMDB_C_GROUP;
         for (size_t i = 0; i < now; i++) bits[i] = address_of(addresses[i]);
         mmdb_c_lookup_many(&state_of(m)->db, bits, now, found, now);
-        for (size_t i = 0; i < now; i++) results[i] = result_of(m, &found[i], &errors[i]);
+        for (size_t i = 0; i < now; i++) results[i] = result_of(m, found[i], &errors[i]);
         addresses += now, results += now, errors += now, count -= now;
     }
 }

@@ -69,8 +69,8 @@ struct mmdb_c_part {
 uint32_t mmdb_c_open(const uint8_t *file, size_t file_len, struct mmdb_c_entry *ipv4, size_t ipv4_len,
                      struct mmdb_c_entry *ipv6, size_t ipv6_len, struct mmdb_c_facts *facts);
 uint32_t mmdb_c_verify(const uint8_t *file, size_t file_len);
-void mmdb_c_lookup_v4(const struct mmdb_c_db *db, uint32_t bits, struct mmdb_c_found *found);
-void mmdb_c_lookup_v6(const struct mmdb_c_db *db, uint64_t high, uint64_t low, struct mmdb_c_found *found);
+struct mmdb_c_found mmdb_c_lookup_v4(const struct mmdb_c_db *db, uint32_t bits);
+struct mmdb_c_found mmdb_c_lookup_v6(const struct mmdb_c_db *db, uint64_t high, uint64_t low);
 void mmdb_c_lookup_many(const struct mmdb_c_db *db, const struct mmdb_c_address *addresses, size_t count,
                         struct mmdb_c_found *found, size_t room);
 struct mmdb_c_children mmdb_c_children(const struct mmdb_c_db *db, size_t node);

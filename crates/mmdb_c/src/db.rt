@@ -136,34 +136,32 @@ impl Db<'_> {
 
 /// What the database has for an IPv4 address, whose bits spell a number.
 #[unsafe(no_mangle)]
-pub extern "C" fn mmdb_c_lookup_v4(db: &Db<'_>, bits: u32, found: &mut Found)
-    ensures { ReportsIpv4 db.now.file.now bits found.new }
+pub extern "C" fn mmdb_c_lookup_v4(db: &Db<'_>, bits: u32) -> Found
+    ensures { ReportsIpv4 db.now.file.now bits result }
 {
     if db.facts.ipv4_start >= db.facts.node_count {
-        *found = db.found(db.facts.ipv4_start, u32::from(db.facts.ipv4_depth));
-        return;
+        return db.found(db.facts.ipv4_start, u32::from(db.facts.ipv4_depth));
     }
     let leaf = db.leaf_ipv4(bits);
-    *found = db.found(leaf.number, db.before_ipv4() + leaf.taken as u32);
+    db.found(leaf.number, db.before_ipv4() + leaf.taken as u32)
 }
 
 /// What the database has for an IPv6 address, whose bits come in two halves of 64. The status is 11 where it
 /// has IPv4 alone.
 #[unsafe(no_mangle)]
-pub extern "C" fn mmdb_c_lookup_v6(db: &Db<'_>, high: u64, low: u64, found: &mut Found)
-    ensures answered { ReportsIpv6 db.now.file.now (high * 2 ^ 64 + low) found.new }
-    ensures not_asked { HasNoIpv6 db.now.file.now → found.new.status ≡ 11 }
+pub extern "C" fn mmdb_c_lookup_v6(db: &Db<'_>, high: u64, low: u64) -> Found
+    ensures answered { ReportsIpv6 db.now.file.now (high * 2 ^ 64 + low) result }
+    ensures not_asked { HasNoIpv6 db.now.file.now → result.status ≡ 11 }
 {
     if db.facts.ip_version != 6 {
-        *found = Found {
+        return Found {
             status: IPV6_IN_IPV4,
             netmask: 0,
             offset: 0,
         };
-        return;
     }
     let leaf = db.leaf_ipv6(u128::from(high) * (1 << 64) + u128::from(low));
-    *found = db.found(leaf.number, leaf.taken as u32);
+    db.found(leaf.number, leaf.taken as u32)
 }
 
 /// The numbers that a node has for the bits 0 and 1, each a node or a leaf's number.
