@@ -294,7 +294,8 @@ const AMERICAN: u8 = 1;
 
 const OTHER: u8 = 2;
 
-// Whether the record at an offset has the code of the United States, by what is known of each offset.
+// Whether the record at an offset has the code of the United States, by what is known of each offset. The code is read as a
+// value of any type, since the reading of a text has to stay in line in `path_iso_codes`.
 fn is_american(
     alloc: Global,
     found: &LookupResult<'_, Vec<u8>>,
@@ -304,8 +305,11 @@ fn is_american(
         return Ok(false);
     };
     if *kept == UNKNOWN {
-        let code: Option<&str> = found.decode_path(alloc, &path!["country", "iso_code"])?;
-        *kept = if code == Some("US") { AMERICAN } else { OTHER };
+        let code: Option<Value<'_>> = found.decode_path(alloc, &path!["country", "iso_code"])?;
+        *kept = match code {
+            Some(Value::String("US")) => AMERICAN,
+            _ => OTHER,
+        };
     }
     Ok(*kept == AMERICAN)
 }
