@@ -16,6 +16,19 @@ static struct mmdb_c_address address_of(const struct sockaddr *address) {
     return (struct mmdb_c_address){.low = ntohl(((const struct sockaddr_in *)address)->sin_addr.s_addr)};
 }
 
+/* What the database has for an IPv4 address. The processor is asked for the nodes behind the one that the first bits
+ * lead to: writers number nodes in the order of a walk, so those that the lookup comes to stand there, and it waits for
+ * memory once in place of at each bit. Nothing is read there, wherever it is. */
+static struct mmdb_c_found found_ipv4(const struct mmdb_c_db *db, uint32_t bits) {
+    enum { LINE = 64, LINES = 8 };
+    uint32_t node = db->ipv4_numbers[bits >> 16];
+    if (node < db->facts.node_count) {
+        uintptr_t at = (uintptr_t)db->file + (size_t)node * (db->facts.record_size / 4);
+        for (int i = 1; i <= LINES; i++) __builtin_prefetch((const void *)(at + i * LINE));
+    }
+    return mmdb_c_lookup_v4(db, bits);
+}
+
 static MMDB_lookup_result_s result_of(const MMDB_s *m, struct mmdb_c_found found, int *error) {
     *error = found.status == MMDB_C_NO_DATA ? MMDB_SUCCESS : (int)found.status;
     return (MMDB_lookup_result_s){.found_entry = found.status == MMDB_SUCCESS,
@@ -28,7 +41,7 @@ MMDB_lookup_result_s MMDB_lookup_sockaddr(const MMDB_s *const m, const struct so
     const struct mmdb_c_db *db = &state_of(m)->db;
     struct mmdb_c_address bits = address_of(address);
     struct mmdb_c_found found =
-        bits.is_ipv6 ? mmdb_c_lookup_v6(db, bits.high, bits.low) : mmdb_c_lookup_v4(db, (uint32_t)bits.low);
+        bits.is_ipv6 ? mmdb_c_lookup_v6(db, bits.high, bits.low) : found_ipv4(db, (uint32_t)bits.low);
     return result_of(m, found, error);
 }
 

@@ -21,20 +21,19 @@ struct mmdb_c_facts {
     uint8_t ipv4_depth;
 };
 
-struct mmdb_c_entry {
-    uint32_t number;
-    uint8_t taken;
-};
-
 /* As `mmdb_c_open` left it: nothing in it, nor in what it points to, may be changed. */
 struct mmdb_c_db {
     struct mmdb_c_facts facts;
     const uint8_t *file;
     size_t file_len;
-    const struct mmdb_c_entry *ipv4;
-    size_t ipv4_len;
-    const struct mmdb_c_entry *ipv6;
-    size_t ipv6_len;
+    const uint32_t *ipv4_numbers;
+    size_t ipv4_numbers_len;
+    const uint8_t *ipv4_depths;
+    size_t ipv4_depths_len;
+    const uint32_t *ipv6_numbers;
+    size_t ipv6_numbers_len;
+    const uint8_t *ipv6_depths;
+    size_t ipv6_depths_len;
 };
 
 struct mmdb_c_found {
@@ -66,8 +65,9 @@ struct mmdb_c_part {
     void *link, *pool;
 };
 
-uint32_t mmdb_c_open(const uint8_t *file, size_t file_len, struct mmdb_c_entry *ipv4, size_t ipv4_len,
-                     struct mmdb_c_entry *ipv6, size_t ipv6_len, struct mmdb_c_facts *facts);
+uint32_t mmdb_c_open(const uint8_t *file, size_t file_len, uint32_t *ipv4_numbers, size_t ipv4_numbers_len,
+                     uint8_t *ipv4_depths, size_t ipv4_depths_len, uint32_t *ipv6_numbers, size_t ipv6_numbers_len,
+                     uint8_t *ipv6_depths, size_t ipv6_depths_len, struct mmdb_c_facts *facts);
 uint32_t mmdb_c_verify(const uint8_t *file, size_t file_len);
 struct mmdb_c_found mmdb_c_lookup_v4(const struct mmdb_c_db *db, uint32_t bits);
 struct mmdb_c_found mmdb_c_lookup_v6(const struct mmdb_c_db *db, uint64_t high, uint64_t low);

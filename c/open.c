@@ -41,24 +41,34 @@ int mmdb_verify(const char *filename) {
     return status;
 }
 
+/* The tables as the proved reader has them: that of IPv4, and that of IPv6 where the database has one. */
+static void lend_tables(struct mmdb_c_db *db, const struct table *tables, bool has_ipv6) {
+    const struct table *ipv6 = has_ipv6 ? &tables[1] : tables;
+    db->ipv4_numbers = tables->numbers;
+    db->ipv4_depths = tables->depths;
+    db->ipv6_numbers = ipv6->numbers;
+    db->ipv6_depths = ipv6->depths;
+    db->ipv4_numbers_len = db->ipv4_depths_len = MMDB_C_TABLE;
+    db->ipv6_numbers_len = db->ipv6_depths_len = has_ipv6 ? MMDB_C_TABLE : 0;
+}
+
 /* Lets the proved reader fill the tables. An IPv4 database keeps one of them. */
 static int open_bytes(struct state *s, const MMDB_s *m) {
     struct mmdb_c_db *db = &s->db;
-    s->tables = malloc(2 * MMDB_C_TABLE * sizeof *s->tables);
-    if (!s->tables) return MMDB_OUT_OF_MEMORY_ERROR;
-    int status = (int)mmdb_c_open(m->file_content, (size_t)m->file_size, s->tables, MMDB_C_TABLE,
-                                  s->tables + MMDB_C_TABLE, MMDB_C_TABLE, &db->facts);
+    struct table *both = s->tables = calloc(2, sizeof *both);
+    if (!both) return MMDB_OUT_OF_MEMORY_ERROR;
+    int status = (int)mmdb_c_open(m->file_content, (size_t)m->file_size, both[0].numbers, MMDB_C_TABLE, both[0].depths,
+                                  MMDB_C_TABLE, both[1].numbers, MMDB_C_TABLE, both[1].depths, MMDB_C_TABLE,
+                                  &db->facts);
     if (status) return status;
     db->file = m->file_content;
     db->file_len = (size_t)m->file_size;
-    db->ipv4_len = db->ipv6_len = MMDB_C_TABLE;
-    if (db->facts.ip_version != 6) {
-        struct mmdb_c_entry *one = realloc(s->tables, MMDB_C_TABLE * sizeof *one);
+    bool has_ipv6 = db->facts.ip_version == 6;
+    if (!has_ipv6) {
+        struct table *one = realloc(both, sizeof *one);
         if (one) s->tables = one;
-        db->ipv6_len = 0;
     }
-    db->ipv4 = s->tables;
-    db->ipv6 = s->tables + (db->ipv6_len ? MMDB_C_TABLE : 0);
+    lend_tables(db, s->tables, has_ipv6);
     return MMDB_SUCCESS;
 }
 

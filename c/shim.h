@@ -11,10 +11,16 @@
 #include <maxminddb.h>
 #pragma GCC visibility pop
 
+/* Where the first sixteen bits of addresses lead: numbers of the tree, and after how many bits each is reached. */
+struct table {
+    uint32_t numbers[MMDB_C_TABLE];
+    uint8_t depths[MMDB_C_TABLE];
+};
+
 /* What stands behind an MMDB_s, which is the caller's and may not grow: `filename` points into it. */
 struct state {
     struct mmdb_c_db db;
-    struct mmdb_c_entry *tables;
+    struct table *tables;
     char name[];
 };
 

@@ -5,7 +5,6 @@ use Rattle.std.specs.declared.net.ip_addr.IpAddr.TheVariants.{V4, V6}
 use Rattle.std.specs.declared.net.ipv4_addr.Ipv4Addr.{Ipv4Addr}
 use Rattle.std.specs.declared.net.ipv6_addr.Ipv6Addr.{Ipv6Addr}
 use Rattle.std.specs.Net.Addr.{ipv4_bits, ipv6_bits}
-use Rattle.mmdb_tree.specs.declared.table.Entry.{Entry}
 use Rattle.mmdb_tree.specs.Tree.{SearchTree, search_tree, is_record_size, node_bytes, step}
 use Rattle.mmdb_tree.specs.Table.{IsFull}
 use Rattle.mmdb_tree.specs.Descents.{Descends}
@@ -51,13 +50,13 @@ abbrev pub IsOfFile : List ℕ → Facts → Type 0
 IsOfFile file facts = (db : Database) → IsDatabaseOf file db → IsOf db facts
 
 -- The tree has room in the file, and each table has where the first sixteen bits of addresses lead.
-pub record IsOpened (file : List ℕ) (facts : Facts) (ipv4 ipv6 : List Entry) : Type 0 where
+pub record IsOpened (file : List ℕ) (facts : Facts) (ipv4_numbers ipv4_depths ipv6_numbers ipv6_depths : List ℕ) : Type 0 where
   pub size : IsTrue (is_record_size facts.record_size)
   pub room : facts.node_count * node_bytes facts.record_size + 16 ≤ length file
   pub few : facts.node_count < 2 ^ 32
   pub section : facts.data_start ≤ facts.marker
-  pub ipv4_full : facts.ipv4_start < facts.node_count → IsFull (tree file facts) facts.ipv4_start ipv4
-  pub ipv6_full : facts.ip_version ≡ 6 → IsFull (tree file facts) 0 ipv6
+  pub ipv4_full : facts.ipv4_start < facts.node_count → IsFull (tree file facts) facts.ipv4_start ipv4_numbers ipv4_depths
+  pub ipv6_full : facts.ip_version ≡ 6 → IsFull (tree file facts) 0 ipv6_numbers ipv6_depths
 
 -- what the status and the offset say
 abbrev pub outcome_reported : Found → TreeRecord

@@ -9,7 +9,7 @@ ghost use Rattle.mmdb_c.specs.Opened.{IsOpened, IsOf, IsOfFile, ReportsIpv4, Rep
 ghost use Rattle.mmdb_c.specs.Opened.{outcome_reported, tree};
 
 use crate::status::{CORRUPT_TREE, FOUND, IPV6_IN_IPV4, NO_DATA};
-use mmdb_reader::{Entry, Nodes};
+use mmdb_reader::Nodes;
 use mmdb_tree::TreeRecord;
 
 /// The numbers of a database: of its metadata, where its data section and its marker begin, and where IPv4
@@ -34,10 +34,13 @@ pub struct Facts {
 pub struct Db<'a> {
     pub facts: Facts,
     pub file: &'a [u8],
-    pub ipv4_table: &'a [Entry],
-    pub ipv6_table: &'a [Entry],
+    pub ipv4_numbers: &'a [u32],
+    pub ipv4_depths: &'a [u8],
+    pub ipv6_numbers: &'a [u32],
+    pub ipv6_depths: &'a [u8],
     ghost is_of: { IsOfFile file.now facts },
-    ghost opened: { IsOpened file.now facts ipv4_table.now ipv6_table.now },
+    ghost opened: { IsOpened file.now facts
+        ipv4_numbers.now ipv4_depths.now ipv6_numbers.now ipv6_depths.now },
 }
 
 /// What a lookup found: the status 0 and the offset of a value in the data section, 1 where the address has
@@ -79,7 +82,8 @@ impl Db<'_> {
             result.taken result.number }
         ensures few { result.taken ≤ 32 }
     {
-        let descent = self.nodes().descend_ipv4(self.ipv4_table, bits);
+        let nodes = self.nodes();
+        let descent = nodes.descend_ipv4(self.ipv4_numbers, self.ipv4_depths, bits);
         Leaf {
             number: descent.number,
             taken: descent.taken,
@@ -94,7 +98,8 @@ impl Db<'_> {
             result.taken result.number }
         ensures few { result.taken ≤ 128 }
     {
-        let descent = self.nodes().descend_ipv6(self.ipv6_table, bits);
+        let nodes = self.nodes();
+        let descent = nodes.descend_ipv6(self.ipv6_numbers, self.ipv6_depths, bits);
         Leaf {
             number: descent.number,
             taken: descent.taken,

@@ -66,10 +66,12 @@ impl Db<'_> {
     {
         if address.is_ipv6 {
             if self.facts.ip_version == 6 {
-                return FoundLeaf::entered(self.ipv6_table[(ipv6_bits(address) >> 112) as usize]);
+                let index = (ipv6_bits(address) >> 112) as usize;
+                return FoundLeaf::entered(self.ipv6_numbers, self.ipv6_depths, index);
             }
         } else if self.facts.ipv4_start < self.facts.node_count {
-            return FoundLeaf::entered(self.ipv4_table[(ipv4_bits(address) >> 16) as usize]);
+            let index = (ipv4_bits(address) >> 16) as usize;
+            return FoundLeaf::entered(self.ipv4_numbers, self.ipv4_depths, index);
         }
         FoundLeaf::default()
     }

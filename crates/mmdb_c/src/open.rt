@@ -9,7 +9,7 @@ use crate::db::Facts;
 use crate::status::{FOUND, code_of};
 use mmdb_reader::laws::source_decides;
 use mmdb_reader::reader::Reader;
-use mmdb_reader::{Entry, FileLayout, MaxMindDbError};
+use mmdb_reader::{FileLayout, MaxMindDbError};
 use std::alloc::Global;
 
 // The numbers of a database.
@@ -42,16 +42,21 @@ fn facts_of(layout: &FileLayout) -> Facts
 pub extern "C" fn mmdb_c_open(
     alloc: Global,
     file: &[u8],
-    ipv4_table: &mut [Entry],
-    ipv6_table: &mut [Entry],
+    ipv4_numbers: &mut [u32],
+    ipv4_depths: &mut [u8],
+    ipv6_numbers: &mut [u32],
+    ipv6_depths: &mut [u8],
     facts: &mut Facts,
 ) -> u32
-    requires ipv4_room { length ipv4_table.old ≡ 65536 }
-    requires ipv6_room { length ipv6_table.old ≡ 65536 }
+    requires ipv4_numbers { length ipv4_numbers.old ≡ 65536 }
+    requires ipv4_depths { length ipv4_depths.old ≡ 65536 }
+    requires ipv6_numbers { length ipv6_numbers.old ≡ 65536 }
+    requires ipv6_depths { length ipv6_depths.old ≡ 65536 }
     ensures is_database { result ≡ 0 → HasDatabase file.now }
     ensures is_no_database { result ≢ 0 → result ≢ 5 → IsNoDatabase file.now }
     ensures is_of { result ≡ 0 → IsOfFile file.now facts.new }
-    ensures opened { result ≡ 0 → IsOpened file.now facts.new ipv4_table.new ipv6_table.new }
+    ensures opened { result ≡ 0 → IsOpened file.now facts.new
+        ipv4_numbers.new ipv4_depths.new ipv6_numbers.new ipv6_depths.new }
 {
     let layout = match FileLayout::of(alloc, file) {
         Ok(layout) => layout,
@@ -60,10 +65,10 @@ pub extern "C" fn mmdb_c_open(
     source_decides();
     let nodes = layout.nodes(file);
     if layout.ipv4_start < nodes.node_count {
-        nodes.fill_table(ipv4_table, layout.ipv4_start);
+        nodes.fill_table(ipv4_numbers, ipv4_depths, layout.ipv4_start);
     }
     if layout.metadata.ip_version == 6 {
-        nodes.fill_table(ipv6_table, 0);
+        nodes.fill_table(ipv6_numbers, ipv6_depths, 0);
     }
     *facts = facts_of(&layout);
     FOUND

@@ -10,7 +10,7 @@ use Rattle.std.specs.declared.net.ipv6_addr.Ipv6Addr.{Ipv6Addr}
 use Rattle.std.specs.Net.Addr.{ipv4_bits, ipv6_bits}
 use Rattle.mmdb_net.specs.Bits.{bits_of, zero_bits, IsPrefix}
 use Rattle.mmdb_net.proofs.BitLaws.{length-bits_of, length-zero_bits, take-zero_bits, bits_of-zero}
-use Rattle.mmdb_tree.specs.declared.table.Entry.{Entry}
+use Rattle.mmdb_tree.specs.declared.table.Table.{Table}
 use Rattle.mmdb_tree.specs.Tree.{walk_from, walk}
 use Rattle.mmdb_reader.specs.File.{Database, tree_of, has_ipv6, width, before_ipv4}
 use Rattle.mmdb_reader.specs.Leaves.{IsLeaf}
@@ -192,7 +192,7 @@ shown-node db a start depth d on =
 -- ---- readers
 
 -- what a reader keeps, of its value
-pub reader_of : (db seen : Database) (section start depth : ℕ) (ipv4 ipv6 : List Entry) → seen ≡ db → IsReader seen section start depth ipv4 ipv6 → IsReader db section start depth ipv4 ipv6
+pub reader_of : (db seen : Database) (section start depth : ℕ) (ipv4 ipv6 : Table) → seen ≡ db → IsReader seen section start depth ipv4 ipv6 → IsReader db section start depth ipv4 ipv6
 reader_of db seen section start depth ipv4 ipv6 same h = let P : Database → Type 0 = λ x. IsReader x section start depth ipv4 ipv6 in subst P same h
 
 pub ipv6_bits-unspecified : ipv6_bits (record { segments = 0 ∷ 0 ∷ 0 ∷ 0 ∷ 0 ∷ 0 ∷ 0 ∷ 0 ∷ [] }) ≡ 0

@@ -30,7 +30,7 @@ pub use metadata::Metadata;
 pub use mmdb_net as geonet;
 pub use mmdb_net::{IpNetwork, IpNetworkError, Ipv4Network, Ipv6Network, mask_ip};
 pub use mmdb_tree as tree;
-pub use mmdb_tree::{Descent, Entry, FoundLeaf, Nodes, read_node};
+pub use mmdb_tree::{Descent, FoundLeaf, Nodes, read_node};
 pub use mmdb_value as values;
 pub use mmdb_value::{
     Checked, Decode, DecodeResult, Decoder, Double, Entries, Float, Items, Kind, MaxMindDbError,

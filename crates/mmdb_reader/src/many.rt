@@ -150,10 +150,16 @@ impl<S: AsSlice<u8> + Drop> Reader<S> {
     {
         match address {
             IpAddr::V4(v4) if self.ipv4_start < self.metadata.node_count as usize => {
-                FoundLeaf::entered(self.ipv4_table[(v4.to_bits() >> 16) as usize])
+                let table = &self.ipv4_table;
+                FoundLeaf::entered(&table.numbers, &table.depths, (v4.to_bits() >> 16) as usize)
             }
             IpAddr::V6(v6) if self.metadata.ip_version == 6 => {
-                FoundLeaf::entered(self.ipv6_table[(v6.to_bits() >> 112) as usize])
+                let table = &self.ipv6_table;
+                FoundLeaf::entered(
+                    &table.numbers,
+                    &table.depths,
+                    (v6.to_bits() >> 112) as usize,
+                )
             }
             _ => FoundLeaf {
                 number: self.metadata.node_count,
@@ -172,14 +178,16 @@ impl<S: AsSlice<u8> + Drop> Reader<S> {
         let nodes = self.nodes();
         match address {
             IpAddr::V4(v4) if self.ipv4_start < nodes.node_count => {
-                let walk = nodes.descend_ipv4(&self.ipv4_table, v4.to_bits());
+                let table = &self.ipv4_table;
+                let walk = nodes.descend_ipv4(&table.numbers, &table.depths, v4.to_bits());
                 Reached {
                     number: walk.number,
                     taken: walk.taken,
                 }
             }
             IpAddr::V6(v6) if self.metadata.ip_version == 6 => {
-                let walk = nodes.descend_ipv6(&self.ipv6_table, v6.to_bits());
+                let table = &self.ipv6_table;
+                let walk = nodes.descend_ipv6(&table.numbers, &table.depths, v6.to_bits());
                 Reached {
                     number: walk.number,
                     taken: walk.taken,

@@ -11,7 +11,7 @@ use crate::metadata::Metadata;
 use crate::steps::Steps;
 use mmdb_format::error::MaxMindDbError;
 use mmdb_format::message::{Message, Text};
-use mmdb_tree::{Entry, Nodes, SEPARATOR, TreeRecord};
+use mmdb_tree::{Nodes, SEPARATOR, Table, TreeRecord};
 use std::alloc::{AllocError, Global};
 use std::convert::AsSlice;
 use std::marker::Model;
@@ -43,8 +43,8 @@ pub struct Reader<S: AsSlice<u8> + Drop> {
     data_start: usize,
     pub(crate) ipv4_start: usize,
     pub(crate) ipv4_depth: u8,
-    pub(crate) ipv4_table: Vec<Entry>,
-    pub(crate) ipv6_table: Vec<Entry>,
+    pub(crate) ipv4_table: Table,
+    pub(crate) ipv6_table: Table,
 }
 
 impl<S: AsSlice<u8> + Drop> Model for Reader<S> {
@@ -57,7 +57,7 @@ impl<S: AsSlice<u8> + Drop> Model for Reader<S> {
     ghost view = { λ r. database (S.items r.source) r.marker (metadata_datum r.metadata) };
 
     ghost invariant = { λ r. IsReader
-        (database (S.items r.source) r.marker (metadata_datum r.metadata)) r.data_start r.ipv4_start r.ipv4_depth r.ipv4_table.items r.ipv6_table.items };
+        (database (S.items r.source) r.marker (metadata_datum r.metadata)) r.data_start r.ipv4_start r.ipv4_depth r.ipv4_table r.ipv6_table };
 }
 
 impl<S: AsSlice<u8> + Drop> Reader<S> {
@@ -85,7 +85,7 @@ impl<S: AsSlice<u8> + Drop> Reader<S> {
         let ipv6_table = if layout.metadata.ip_version == 6 {
             nodes.table(alloc, 0)?
         } else {
-            Vec::new(alloc)
+            Table::empty(alloc)
         };
         Ok(Reader {
             source,
@@ -212,8 +212,8 @@ impl<S: AsSlice<u8> + Drop> Reader<S> {
                 prefix: usize::from(self.ipv4_depth),
             }),
             IpAddr::V4(v4) => {
-                let bits = v4.to_bits();
-                let descent = nodes.descend_ipv4(&self.ipv4_table, bits);
+                let (bits, table) = (v4.to_bits(), &self.ipv4_table);
+                let descent = nodes.descend_ipv4(&table.numbers, &table.depths, bits);
                 steps.add(descent.read);
                 Some(Leaf {
                     number: descent.number,
@@ -223,8 +223,8 @@ impl<S: AsSlice<u8> + Drop> Reader<S> {
             }
             IpAddr::V6(_) if self.metadata.ip_version != 6 => None,
             IpAddr::V6(v6) => {
-                let bits = v6.to_bits();
-                let descent = nodes.descend_ipv6(&self.ipv6_table, bits);
+                let (bits, table) = (v6.to_bits(), &self.ipv6_table);
+                let descent = nodes.descend_ipv6(&table.numbers, &table.depths, bits);
                 steps.add(descent.read);
                 Some(Leaf {
                     number: descent.number,

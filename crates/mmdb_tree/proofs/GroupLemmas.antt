@@ -9,7 +9,6 @@ use Rattle.std.specs.Net.Addr.{ipv4_bits, ipv6_bits}
 use Rattle.mmdb_net.specs.Bits.{bits_of}
 use Rattle.mmdb_net.specs.Address.{bits_of_address}
 use Rattle.mmdb_net.proofs.BitLaws.{length-bits_of, bits_of-split}
-use Rattle.mmdb_tree.specs.declared.table.Entry.{Entry}
 use Rattle.mmdb_tree.specs.declared.group.FoundLeaf.{FoundLeaf}
 use Rattle.mmdb_tree.specs.Tree.{SearchTree, child, step}
 use Rattle.mmdb_tree.specs.Descents.{Walks, Descends}
@@ -146,13 +145,12 @@ Walks-append tree start xs ys taken number w =
     }
 
 -- at the entry of a table of the first sixteen bits
-pub Walks-entry : (tree : SearchTree) (start n rest width : ℕ) (table : List Entry) (d e : Entry) (leaf : FoundLeaf) → width ≡ 16 + rest → IsFull tree start table → n / 2 ^ rest < 65536
-    → e ≡ get_or table (n / 2 ^ rest) d → leaf.number ≡ e.number → leaf.taken ≡ e.taken → Walks tree start (bits_of width n) leaf.taken leaf.number
-Walks-entry tree start n rest width table d e leaf wide full below is number taken =
-    let x : Entry = get_or table (n / 2 ^ rest) d in
-    let there = full.each (n / 2 ^ rest) d below in
-    let P : Entry → Type 0 = λ y. Walks tree start (bits_of width n) y.taken y.number in
-    let N : ℕ → Type 0 = λ m. Walks tree start (bits_of width n) e.taken m in
+pub Walks-entry : (tree : SearchTree) (start n rest width : ℕ) (numbers depths : List ℕ) (leaf : FoundLeaf) → width ≡ 16 + rest → IsFull tree start numbers depths → n / 2 ^ rest < 65536
+    → leaf.number ≡ get_or numbers (n / 2 ^ rest) 0 → leaf.taken ≡ get_or depths (n / 2 ^ rest) 0 → Walks tree start (bits_of width n) leaf.taken leaf.number
+Walks-entry tree start n rest width numbers depths leaf wide full below number taken =
+    let there = full.each (n / 2 ^ rest) below in
+    let N : ℕ → Type 0 = λ m. Walks tree start (bits_of width n) (get_or depths (n / 2 ^ rest) 0) m in
     let T : ℕ → Type 0 = λ t. Walks tree start (bits_of width n) t leaf.number in
-    let walked : Walks tree start (bits_of width n) x.taken x.number = rw (bits_of-split 16 rest width n wide) (Walks-append tree start (bits_of 16 (n / 2 ^ rest)) (bits_of rest n) x.taken x.number there.walks) in
-    subst T (sym taken) (subst N (sym number) (subst P (sym is) walked))
+    let walked : Walks tree start (bits_of width n) (get_or depths (n / 2 ^ rest) 0) (get_or numbers (n / 2 ^ rest) 0) =
+    rw (bits_of-split 16 rest width n wide) (Walks-append tree start (bits_of 16 (n / 2 ^ rest)) (bits_of rest n) (get_or depths (n / 2 ^ rest) 0) (get_or numbers (n / 2 ^ rest) 0) there.walks) in
+    subst T (sym taken) (subst N (sym number) walked)

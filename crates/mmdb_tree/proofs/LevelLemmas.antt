@@ -56,16 +56,20 @@ bits_of-odd width i =
 -- ---- a level that is made from its end back
 
 -- The entries that are left are those of the level before. Behind their halves stand those of strings of one bit more.
-pub record IsSpread (tree : SearchTree) (width left : ℕ) (old new : List Entry) : Type 0 where
-  pub size : length new ≡ length old
-  pub ahead : (i : ℕ) (d : Entry) → i < left → get_or new i d ≡ get_or old i d
-  pub behind : (start i : ℕ) (d : Entry) → HasLevel tree start width old → 2 * left ≤ i → i < 2 * 2 ^ width → Descends tree start (bits_of (width + 1) i) (get_or new i d).taken (get_or new i d).number
+pub record IsSpread (tree : SearchTree) (width left : ℕ) (old_numbers old_depths numbers depths : List ℕ) : Type 0 where
+  pub numbers_size : length numbers ≡ length old_numbers
+  pub depths_size : length depths ≡ length old_depths
+  pub numbers_ahead : (i : ℕ) → i < left → get_or numbers i 0 ≡ get_or old_numbers i 0
+  pub depths_ahead : (i : ℕ) → i < left → get_or depths i 0 ≡ get_or old_depths i 0
+  pub behind : (start i : ℕ) → HasLevel tree start width old_numbers old_depths → 2 * left ≤ i → i < 2 * 2 ^ width → Descends tree start (bits_of (width + 1) i) (get_or depths i 0) (get_or numbers i 0)
 
-pub IsSpread-none : (tree : SearchTree) (width left : ℕ) (level : List Entry) → left ≡ 2 ^ width → IsSpread tree width left level level
-IsSpread-none tree width left level all = record {
-  size = refl;
-  ahead = λ i d h. refl;
-  behind = λ start i d is low high. absurd (omega (arith, all, low, high));
+pub IsSpread-none : (tree : SearchTree) (width left : ℕ) (numbers depths : List ℕ) → left ≡ 2 ^ width → IsSpread tree width left numbers depths numbers depths
+IsSpread-none tree width left numbers depths all = record {
+  numbers_size = refl;
+  depths_size = refl;
+  numbers_ahead = λ i h. refl;
+  depths_ahead = λ i h. refl;
+  behind = λ start i is low high. absurd (omega (arith, all, low, high));
 }
 
 -- a string of the first two, or one behind them
@@ -83,64 +87,91 @@ place_of left i h = elim (cases_lt i (2 * left + 1)) [
   ]
 ]
 
-module _ (tree : SearchTree) (width left : ℕ) (old new : List Entry) (entry lower upper : Entry) (few : left < 2 ^ width) (room : 2 * 2 ^ width ≤ length old) (at : (d : Entry) → get_or new left d ≡ entry) (spread : IsSpread tree width (left + 1) old new) (low : Follows tree width false entry lower) (high : Follows tree width true entry upper) where
-  abbrev first : List Entry
-  first = set new (2 * left) lower
+-- two numbers more
+module _ (left : ℕ) (xs : List ℕ) (lower upper : ℕ) where
+  abbrev pub both_set : List ℕ
+  both_set = set (set xs (2 * left) lower) (2 * left + 1) upper
 
-  abbrev both : List Entry
-  both = set first (2 * left + 1) upper
+  pub length-both : length both_set ≡ length xs
+  length-both = length-set (set xs (2 * left) lower) (2 * left + 1) upper ∙ length-set xs (2 * left) lower
 
-  came : (start : ℕ) → HasLevel tree start width old → (d : Entry) → Descends tree start (bits_of width left) entry.taken entry.number
-  came start is d =
-      let P : Entry → Type 0 = λ e. Descends tree start (bits_of width left) e.taken e.number in
-      subst P (sym (spread.ahead left d (omega arith)) ∙ at d) (is left d few)
+  pub both-even : 2 * left < length xs → get_or both_set (2 * left) 0 ≡ lower
+  both-even inside = get_or-set_other (set xs (2 * left) lower) (2 * left + 1) (2 * left) upper 0 (λ e. absurd (omega (arith, e))) ∙ get_or-set_same xs (2 * left) lower 0 inside
 
-  -- the other entries stay
-  other : (i : ℕ) (d : Entry) → i ≢ 2 * left → i ≢ 2 * left + 1 → get_or both i d ≡ get_or new i d
-  other i d even odd = get_or-set_other first (2 * left + 1) i upper d odd ∙ get_or-set_other new (2 * left) i lower d even
+  pub both-odd : 2 * left + 1 < length xs → get_or both_set (2 * left + 1) 0 ≡ upper
+  both-odd inside = get_or-set_same (set xs (2 * left) lower) (2 * left + 1) upper 0 (omega (arith, length-set xs (2 * left) lower, inside))
 
-  behind_of : (start i : ℕ) (d : Entry) → HasLevel tree start width old → i < 2 * 2 ^ width → Place left i → Descends tree start (bits_of (width + 1) i) (get_or both i d).taken (get_or both i d).number
-  behind_of start i d is within (Behind h) =
-      let same : get_or both i d ≡ get_or new i d = other i d (λ e. absurd (omega (arith, e, h))) (λ e. absurd (omega (arith, e, h))) in
-      rw same (spread.behind start i d is h within)
-  behind_of start i d is within (Even h) =
-      let size = spread.size in
-      let goes = low start (bits_of width left) (length-bits_of width left) (came start is d) in
-      let same : get_or both (2 * left) d ≡ lower = get_or-set_other first (2 * left + 1) (2 * left) upper d (λ e. absurd (omega (arith, e))) ∙ get_or-set_same new (2 * left) lower d (omega (arith, size, room, few)) in
-      let P : ℕ → Type 0 = λ k. Descends tree start (bits_of (width + 1) k) (get_or both k d).taken (get_or both k d).number in
-      let here : P (2 * left) = rw (same, bits_of-even width left) goes in
+  pub both-other : (i : ℕ) → i ≢ 2 * left → i ≢ 2 * left + 1 → get_or both_set i 0 ≡ get_or xs i 0
+  both-other i even odd = get_or-set_other (set xs (2 * left) lower) (2 * left + 1) i upper 0 odd ∙ get_or-set_other xs (2 * left) i lower 0 even
+
+module _ (tree : SearchTree) (width left : ℕ) (old_numbers old_depths numbers depths : List ℕ) (entry lower upper : Entry) (few : left < 2 ^ width) (numbers_room : 2 * 2 ^ width ≤ length old_numbers) (depths_room : 2 * 2 ^ width ≤ length old_depths)
+    (number : entry.number ≡ get_or numbers left 0) (depth : entry.taken ≡ get_or depths left 0) (spread : IsSpread tree width (left + 1) old_numbers old_depths numbers depths) (low : Follows tree width false entry lower) (high : Follows tree width true entry upper) where
+  abbrev next_numbers : List ℕ
+  next_numbers = both_set left numbers lower.number upper.number
+
+  abbrev next_depths : List ℕ
+  next_depths = both_set left depths lower.taken upper.taken
+
+  came : (start : ℕ) → HasLevel tree start width old_numbers old_depths → Descends tree start (bits_of width left) entry.taken entry.number
+  came start is =
+      let P : ℕ → Type 0 = λ t. Descends tree start (bits_of width left) t (get_or old_numbers left 0) in
+      let Q : ℕ → Type 0 = λ n. Descends tree start (bits_of width left) entry.taken n in
+      let same_number : get_or old_numbers left 0 ≡ entry.number = sym (number ∙ spread.numbers_ahead left (omega arith)) in
+      let same_depth : get_or old_depths left 0 ≡ entry.taken = sym (depth ∙ spread.depths_ahead left (omega arith)) in
+      subst Q same_number (subst P same_depth (is left few))
+
+  -- what is behind in both lists
+  behind_of : (start i : ℕ) → HasLevel tree start width old_numbers old_depths → i < 2 * 2 ^ width → Place left i → Descends tree start (bits_of (width + 1) i) (get_or next_depths i 0) (get_or next_numbers i 0)
+  behind_of start i is within (Behind h) =
+      let even : i ≢ 2 * left = λ e. absurd (omega (arith, e, h)) in
+      let odd : i ≢ 2 * left + 1 = λ e. absurd (omega (arith, e, h)) in
+      rw (both-other left numbers lower.number upper.number i even odd, both-other left depths lower.taken upper.taken i even odd) (spread.behind start i is h within)
+  behind_of start i is within (Even h) =
+      let sized = spread.numbers_size in
+      let deep = spread.depths_size in
+      let goes = low start (bits_of width left) (length-bits_of width left) (came start is) in
+      let n = both-even left numbers lower.number upper.number (omega (arith, sized, numbers_room, few)) in
+      let d = both-even left depths lower.taken upper.taken (omega (arith, deep, depths_room, few)) in
+      let P : ℕ → Type 0 = λ k. Descends tree start (bits_of (width + 1) k) (get_or next_depths k 0) (get_or next_numbers k 0) in
+      let here : P (2 * left) = rw (n, d, bits_of-even width left) goes in
       subst P (sym h) here
-  behind_of start i d is within (Odd h) =
-      let size = spread.size in
-      let goes = high start (bits_of width left) (length-bits_of width left) (came start is d) in
-      let same : get_or both (2 * left + 1) d ≡ upper = get_or-set_same first (2 * left + 1) upper d (omega (arith, length-set new (2 * left) lower, size, room, few)) in
-      let P : ℕ → Type 0 = λ k. Descends tree start (bits_of (width + 1) k) (get_or both k d).taken (get_or both k d).number in
-      let here : P (2 * left + 1) = rw (same, bits_of-odd width left) goes in
+  behind_of start i is within (Odd h) =
+      let sized = spread.numbers_size in
+      let deep = spread.depths_size in
+      let goes = high start (bits_of width left) (length-bits_of width left) (came start is) in
+      let n = both-odd left numbers lower.number upper.number (omega (arith, sized, numbers_room, few)) in
+      let d = both-odd left depths lower.taken upper.taken (omega (arith, deep, depths_room, few)) in
+      let P : ℕ → Type 0 = λ k. Descends tree start (bits_of (width + 1) k) (get_or next_depths k 0) (get_or next_numbers k 0) in
+      let here : P (2 * left + 1) = rw (n, d, bits_of-odd width left) goes in
       subst P (sym h) here
 
   -- two entries more
-  pub IsSpread-both : IsSpread tree width left old both
+  pub IsSpread-both : IsSpread tree width left old_numbers old_depths next_numbers next_depths
   IsSpread-both =
-      let size = spread.size in
+      let sized = spread.numbers_size in
+      let deep = spread.depths_size in
       record {
-        size = length-set first (2 * left + 1) upper ∙ length-set new (2 * left) lower ∙ size;
-        ahead = λ i d h. other i d (λ e. absurd (omega (arith, e, h))) (λ e. absurd (omega (arith, e, h))) ∙ spread.ahead i d (omega (arith, h));
-        behind = λ start i d is low high. behind_of start i d is high (place_of left i low);
+        numbers_size = length-both left numbers lower.number upper.number ∙ sized;
+        depths_size = length-both left depths lower.taken upper.taken ∙ deep;
+        numbers_ahead = λ i h. both-other left numbers lower.number upper.number i (λ e. absurd (omega (arith, e, h))) (λ e. absurd (omega (arith, e, h))) ∙ spread.numbers_ahead i (omega (arith, h));
+        depths_ahead = λ i h. both-other left depths lower.taken upper.taken i (λ e. absurd (omega (arith, e, h))) (λ e. absurd (omega (arith, e, h))) ∙ spread.depths_ahead i (omega (arith, h));
+        behind = λ start i is low high. behind_of start i is high (place_of left i low);
       }
 
 -- all entries
-pub HasLevel-next : (tree : SearchTree) (start width : ℕ) (old new : List Entry) → IsSpread tree width 0 old new → HasLevel tree start width old → HasLevel tree start (width + 1) new
-HasLevel-next tree start width old new spread is i d h =
+pub HasLevel-next : (tree : SearchTree) (start width : ℕ) (old_numbers old_depths numbers depths : List ℕ) → IsSpread tree width 0 old_numbers old_depths numbers depths → HasLevel tree start width old_numbers old_depths → HasLevel tree start (width + 1) numbers depths
+HasLevel-next tree start width old_numbers old_depths numbers depths spread is i h =
     let half : 2 ^ (width + 1) ≡ 2 * 2 ^ width = let e : width + 1 ≡ suc width = omega arith in rw e (omega arith) in
-    spread.behind start i d is (omega arith) (omega (arith, h, half))
+    spread.behind start i is (omega arith) (omega (arith, h, half))
 
 -- ---- the first level
 
-pub HasLevel-first : (tree : SearchTree) (start : ℕ) (entry : Entry) (level : List Entry) → entry.number ≡ start → entry.taken ≡ 0 → 0 < length level → HasLevel tree start 0 (set level 0 entry)
-HasLevel-first tree start entry level number taken some i d h =
+pub HasLevel-first : (tree : SearchTree) (start : ℕ) (numbers depths : List ℕ) → 0 < length numbers → 0 < length depths → HasLevel tree start 0 (set numbers 0 start) (set depths 0 0)
+HasLevel-first tree start numbers depths some_number some_depth i h =
     let first : i ≡ 0 = omega (arith, h) in
-    let same : get_or (set level 0 entry) i d ≡ entry = ap (λ (k : ℕ). get_or (set level 0 entry) k d) first ∙ get_or-set_same level 0 entry d some in
+    let number : get_or (set numbers 0 start) i 0 ≡ start = ap (λ (k : ℕ). get_or (set numbers 0 start) k 0) first ∙ get_or-set_same numbers 0 start 0 some_number in
+    let depth : get_or (set depths 0 0) i 0 ≡ 0 = ap (λ (k : ℕ). get_or (set depths 0 0) k 0) first ∙ get_or-set_same depths 0 0 0 some_depth in
     let none : Descends tree start (bits_of 0 i) 0 start = Descends-none tree start (bits_of 0 i) (inr (length-bits_of 0 i)) in
-    let P : ℕ → Type 0 = λ n. Descends tree start (bits_of 0 i) n start in
-    let Q : ℕ → Type 0 = λ n. Descends tree start (bits_of 0 i) entry.taken n in
-    rw same (subst Q (sym number) (subst P (sym taken) none))
+    let P : ℕ → Type 0 = λ n. Descends tree start (bits_of 0 i) 0 n in
+    let Q : ℕ → Type 0 = λ d. Descends tree start (bits_of 0 i) d (get_or (set numbers 0 start) i 0) in
+    subst Q (sym depth) (subst P (sym number) none)

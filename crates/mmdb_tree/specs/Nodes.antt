@@ -2,7 +2,6 @@
 use Rattle.std.specs.Prelude.{◌≡◌, ℕ, ◌-◌, Bool, List}
 use Rattle.mmdb_tree.specs.declared.nodes.Nodes.{Nodes}
 use Rattle.mmdb_tree.specs.declared.nodes.Descent.{Descent}
-use Rattle.mmdb_tree.specs.declared.table.Entry.{Entry}
 use Rattle.mmdb_tree.specs.Tree.{SearchTree, search_tree}
 use Rattle.mmdb_tree.specs.Descents.{Descends}
 use Rattle.mmdb_tree.specs.Table.{IsFull}
@@ -16,9 +15,9 @@ abbrev pub EndsAt : SearchTree → ℕ → List Bool → Descent → Type 0
 EndsAt tree start bits descent = Descends tree start bits descent.taken descent.number
 
 -- The same of each walk whose first sixteen bits lead where the table says.
-abbrev pub EndsByTable : SearchTree → List Entry → List Bool → Descent → Type 0
-EndsByTable tree table bits descent = (start : ℕ) → IsFull tree start table → EndsAt tree start bits descent
+abbrev pub EndsByTable : SearchTree → List ℕ → List ℕ → List Bool → Descent → Type 0
+EndsByTable tree numbers depths bits descent = (start : ℕ) → IsFull tree start numbers depths → EndsAt tree start bits descent
 
 -- It read a node for each bit that it took after the sixteenth.
-abbrev pub ReadsByTable : SearchTree → List Entry → Descent → Type 0
-ReadsByTable tree table descent = (start : ℕ) → IsFull tree start table → descent.read ≡ descent.taken - 16
+abbrev pub ReadsByTable : SearchTree → List ℕ → List ℕ → Descent → Type 0
+ReadsByTable tree numbers depths descent = (start : ℕ) → IsFull tree start numbers depths → descent.read ≡ descent.taken - 16

@@ -14,32 +14,15 @@ use Rattle.mmdb_tree.specs.declared.record.TreeRecord.{TreeRecord}
 use Rattle.mmdb_tree.specs.declared.walked.Point.{Point}
 use Rattle.mmdb_tree.specs.Stops.{WalkedTree, record_in, is_ipv4_start, offset_of, at_stop, is_fault}
 
--- A walk that has come to `number` after `taken` bits, and goes on along these bits, ends as the entry says.
-pub record EndsAs (tree : SearchTree) (taken number : ℕ) (bits : List Bool) (entry : Entry) : Type 0 where
-  pub more : ℕ
-  pub taken_is : entry.taken ≡ taken + more
-  pub ends : Descends tree number bits more entry.number
-
--- One entry for each string of so many bits, in the order of the numbers that they give.
-pub record HasEntries (tree : SearchTree) (width taken number : ℕ) (entries : List Entry) : Type 0 where
-  pub size : length entries ≡ 2 ^ width
-  pub each : (i : ℕ) (d : Entry) → i < 2 ^ width → EndsAs tree taken number (bits_of width i) (slice_index_or entries i d)
-
--- They were appended.
-pub record Appends (tree : SearchTree) (width taken number : ℕ) (old new : List Entry) : Type 0 where
-  pub added : List Entry
-  pub items : new ≡ old ++ added
-  pub entries : HasEntries tree width taken number added
-
 -- Of a walk that had come to the old entry along so many bits, the new one has where it comes by one bit more.
 abbrev pub Follows : SearchTree → ℕ → Bool → Entry → Entry → Type 0
 Follows tree width bit old new = (start : ℕ) (bits : List Bool) → length bits ≡ width → Descends tree start bits old.taken old.number → Descends tree start (bits ++ (bit ∷ [])) new.taken new.number
 
 -- The first entries are one for each string of so many bits, in the order of the numbers that they give: where the walk
 -- from `start` along it ends, and after how many bits.
-abbrev pub HasLevel : SearchTree → ℕ → ℕ → List Entry → Type 0
-HasLevel tree start width entries =
-    (i : ℕ) (d : Entry) → i < 2 ^ width → Descends tree start (bits_of width i) (slice_index_or entries i d).taken (slice_index_or entries i d).number
+abbrev pub HasLevel : SearchTree → ℕ → ℕ → List ℕ → List ℕ → Type 0
+HasLevel tree start width numbers depths =
+    (i : ℕ) → i < 2 ^ width → Descends tree start (bits_of width i) (slice_index depths i) (slice_index numbers i)
 
 -- A walk along these bits that had come to the old place has come to the new one, wherever it began.
 abbrev pub WalksOn : SearchTree → List Bool → FoundLeaf → FoundLeaf → Type 0

@@ -1,10 +1,9 @@
 //! Walks of several addresses, side by side.
-ghost use Rattle.std.specs.Prelude.{◌≡◌, ℕ, ◌*◌, ◌<◌, ◌≤◌, Bool, List, false, nat_lt, MatchOption, get_or, length};
+ghost use Rattle.std.specs.Prelude.{◌≡◌, ℕ, ◌*◌, ◌<◌, ◌≤◌, Bool, List, false, nat_lt, MatchOption, get_or, length, slice_index};
 ghost use Rattle.mmdb_net.specs.Address.{bits_of_address};
 ghost use Rattle.mmdb_tree.specs.Working.{AreWordsOf, BeginsWith};
 
 use crate::nodes::Nodes;
-use crate::table::Entry;
 use std::net::IpAddr;
 
 // Nodes of no more bytes are mostly read from a core's caches, where a walk waits less for a read than a walk beside
@@ -19,15 +18,17 @@ pub struct FoundLeaf {
 }
 
 impl FoundLeaf {
-    /// Where the walk of an address stands by the entry of a table that its first sixteen bits lead to.
+    /// Where the walk of an address stands by a table, in which its first sixteen bits are the index.
     #[inline(always)]
-    pub fn entered(entry: Entry) -> FoundLeaf
-        ensures number { result.number ≡ entry.number }
-        ensures taken { result.taken ≡ entry.taken }
+    pub fn entered(numbers: &[u32], depths: &[u8], index: usize) -> FoundLeaf
+        requires numbers { index < length numbers.now }
+        requires depths { index < length depths.now }
+        ensures number { result.number ≡ slice_index numbers.now index }
+        ensures taken { result.taken ≡ slice_index depths.now index }
     {
         FoundLeaf {
-            number: entry.number,
-            taken: u32::from(entry.taken),
+            number: numbers[index],
+            taken: u32::from(depths[index]),
         }
     }
 }

@@ -11,5 +11,5 @@ mod walked;
 pub use group::FoundLeaf;
 pub use nodes::{Descent, Nodes, read_node};
 pub use record::{SEPARATOR, TreeRecord};
-pub use table::Entry;
+pub use table::Table;
 pub use walked::{Point, WalkEnd, Walked, Walker};

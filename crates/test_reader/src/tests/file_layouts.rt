@@ -1,6 +1,6 @@
 //! What opening a file finds, and tables that are filled for others.
 use super::answers::{BASE, File, bytes_of};
-use mmdb_reader::{Entry, FileLayout, MaxMindDbError};
+use mmdb_reader::{FileLayout, MaxMindDbError};
 use mmdb_vectors::answer::{OK, reported};
 use mmdb_vectors::failures::Failures;
 use std::alloc::{AllocError, Global};
@@ -46,7 +46,7 @@ fn layouts_of_files(rt: HostRuntime) -> Result<(), Failures> {
     failures.verdict()
 }
 
-/// Of the table of a file from a node: an index, and the number and the bits of its entry.
+/// Of the table of a file from a node: an index, and the number there and after how many bits it is reached.
 type Filled = (File, usize, usize, (u32, u8));
 
 #[rattlefmt::skip]
@@ -74,31 +74,29 @@ const FILLED: &[Filled] = &[
     (File::WithAlias, 0, 0xc000, (113, 2)),
 ];
 
-// An entry of a table that C or another caller gives, filled from a node.
+// What a table that C or another caller gives has at an index, filled from a node.
 fn entry_of(
     alloc: Global,
     file: &[u8],
     start: usize,
     index: usize,
-) -> Result<Option<Entry>, MaxMindDbError> {
+) -> Result<Option<(u32, u8)>, MaxMindDbError> {
     let layout = FileLayout::of(alloc, file)?;
     let nodes = layout.nodes(file);
-    let none = Entry {
-        number: 0,
-        taken: 0,
-    };
-    let mut table = Vec::from_elem(alloc, none, 65_536)?;
+    let mut numbers = Vec::from_elem(alloc, 0, 65_536)?;
+    let mut depths = Vec::from_elem(alloc, 0, 65_536)?;
     if start < nodes.node_count {
-        nodes.fill_table(&mut table, start);
+        nodes.fill_table(&mut numbers, &mut depths, start);
     }
-    Ok(table.get(index).copied())
+    let number = numbers.get(index).copied();
+    Ok(number.zip(depths.get(index).copied()))
 }
 
 // Whether the entry of a row is in the table.
 fn is_filled(alloc: Global, row: &Filled) -> Result<bool, AllocError> {
     let bytes = bytes_of(alloc, &row.0)?;
     match entry_of(alloc, &bytes, row.1, row.2) {
-        Ok(Some(entry)) => Ok((entry.number, entry.taken) == row.3),
+        Ok(Some(entry)) => Ok(entry == row.3),
         _ => Ok(false),
     }
 }

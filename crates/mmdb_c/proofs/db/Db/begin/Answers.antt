@@ -16,7 +16,7 @@ returns-then-self-eq6 c =
     record {
       ipv4 = λ four. absurd (cc);
       ipv6 = λ _ _. subst P c.ipv6_bits.ensures
-          (Walks-entry t 0 n 112 128 c.args.self.now.ipv6_table.now _ _ leaf refl (c.args.self.now.opened.ipv6_full c.if-self-eq6.true) below refl c.entered.ensures.number c.entered.ensures.taken);
+          (Walks-entry t 0 n 112 128 c.args.self.now.ipv6_numbers.now c.args.self.now.ipv6_depths.now leaf refl (c.args.self.now.opened.ipv6_full c.if-self-eq6.true) below c.entered.ensures.number c.entered.ensures.taken);
     }
 
 pub returns-then-self : goal.returns-then-self
@@ -30,6 +30,6 @@ returns-then-self c =
     let P : ℕ → Type 0 = λ m. Walks t facts.ipv4_start (bits_of 32 m) leaf.taken leaf.number in
     record {
       ipv4 = λ _ on. subst P c.ipv4_bits.ensures
-          (Walks-entry t facts.ipv4_start n 16 32 c.args.self.now.ipv4_table.now _ _ leaf refl (c.args.self.now.opened.ipv4_full on) below refl c.entered-then-self.ensures.number c.entered-then-self.ensures.taken);
+          (Walks-entry t facts.ipv4_start n 16 32 c.args.self.now.ipv4_numbers.now c.args.self.now.ipv4_depths.now leaf refl (c.args.self.now.opened.ipv4_full on) below c.entered-then-self.ensures.number c.entered-then-self.ensures.taken);
       ipv6 = λ six. absurd (cc);
     }

@@ -14,27 +14,27 @@ use Rattle.mmdb_reader.proofs.reader.Reader.leaf_found.Goals as goal
 
 pub invariant_of-result : goal.invariant_of-result
 invariant_of-result g c =
-    let known = reader_of c.args.self.now _ c.self.inside.data_start c.self.inside.ipv4_start c.self.inside.ipv4_depth c.self.inside.ipv4_table.items c.self.inside.ipv6_table.items c.self.view_is c.self.invariant in
+    let known = reader_of c.args.self.now _ c.self.inside.data_start c.self.inside.ipv4_start c.self.inside.ipv4_depth c.self.inside.ipv4_table c.self.inside.ipv6_table c.self.view_is c.self.invariant in
     let few = depth-le c.args.self.now c.self.inside.ipv4_start c.self.inside.ipv4_depth known.ipv4 in
     let fields = long_fields c.ipv6.result 0 c.self.inside.ipv4_depth c.ipv6.ensures (omega arith) (omega arith) in
     record { is_width = fields.0; fits = fields.1.0; is_prefix = subst (λ n. n ≤ c.ipv6.result.width) (sym c.from.ensures) fields.1.1 }
 
 pub returns-in-V4-clause-found : goal.returns-in-V4-clause-found
 returns-in-V4-clause-found g c =
-    let known = reader_of c.args.self.now _ c.self.inside.data_start c.self.inside.ipv4_start c.self.inside.ipv4_depth c.self.inside.ipv4_table.items c.self.inside.ipv6_table.items c.self.view_is c.self.invariant in
+    let known = reader_of c.args.self.now _ c.self.inside.data_start c.self.inside.ipv4_start c.self.inside.ipv4_depth c.self.inside.ipv4_table c.self.inside.ipv6_table c.self.view_is c.self.invariant in
     let off : c.args.self.now.metadata.node_count ≤ c.self.inside.ipv4_start = omega (arith, ap (λ t. t.node_count) c.nodes-nodes.ensures.tree, c.if-self-nodes.true) in
     rw (c.in-V4.is, c.from.ensures) (long_at c.ipv6.result 0 c.self.inside.ipv4_depth c.ipv6.ensures c.args.self.now (λ bits. IsLeafAt c.args.self.now (V4 c.in-V4.field-0) bits c.self.inside.ipv4_start) _ (sym ipv6_bits-unspecified) (IsLeafAt-none c.args.self.now c.self.inside.ipv4_start c.self.inside.ipv4_depth known.ipv4 c.in-V4.field-0 _ off ipv6_bits-unspecified))
 
 pub returns-in-V4-clause-shown : goal.returns-in-V4-clause-shown
 returns-in-V4-clause-shown g c =
-    let known = reader_of c.args.self.now _ c.self.inside.data_start c.self.inside.ipv4_start c.self.inside.ipv4_depth c.self.inside.ipv4_table.items c.self.inside.ipv6_table.items c.self.view_is c.self.invariant in
+    let known = reader_of c.args.self.now _ c.self.inside.data_start c.self.inside.ipv4_start c.self.inside.ipv4_depth c.self.inside.ipv4_table c.self.inside.ipv6_table c.self.view_is c.self.invariant in
     let off : c.args.self.now.metadata.node_count ≤ c.self.inside.ipv4_start = omega (arith, ap (λ t. t.node_count) c.nodes-nodes.ensures.tree, c.if-self-nodes.true) in
     long_width c.ipv6.result 0 0 c.ipv6.ensures ∙ sym (shown-none c.args.self.now c.args.address.now c.self.inside.ipv4_start c.self.inside.ipv4_depth known.ipv4 known.accepted.supported.some_node off)
 
 pub invariant_of-result-in-V4-2 : goal.invariant_of-result-in-V4-2
 invariant_of-result-in-V4-2 g c =
     let db = c.args.self.now in
-    let known = reader_of c.args.self.now _ c.self.inside.data_start c.self.inside.ipv4_start c.self.inside.ipv4_depth c.self.inside.ipv4_table.items c.self.inside.ipv6_table.items c.self.view_is c.self.invariant in
+    let known = reader_of c.args.self.now _ c.self.inside.data_start c.self.inside.ipv4_start c.self.inside.ipv4_depth c.self.inside.ipv4_table c.self.inside.ipv6_table c.self.view_is c.self.invariant in
     let F : IpAddr → Type 0 = λ a. IsFoundFor db a (record { number = c.args.found.number; taken = c.args.found.taken }) in
     let same = start-is db c.self.inside.ipv4_start c.self.inside.ipv4_depth known.ipv4 in
     let few = taken-le _ _ 32 _ _ _ (subst F c.in-V4-2.is c.requires.found (omega (arith, same, ap (λ t. t.node_count) c.nodes-nodes.ensures.tree, c.if-self-nodes.false))) in
@@ -45,7 +45,7 @@ pub returns-in-V4-2-clause-found : goal.returns-in-V4-2-clause-found
 returns-in-V4-2-clause-found g c =
     let db = c.args.self.now in
     let start = c.self.inside.ipv4_start in
-    let known = reader_of c.args.self.now _ c.self.inside.data_start c.self.inside.ipv4_start c.self.inside.ipv4_depth c.self.inside.ipv4_table.items c.self.inside.ipv6_table.items c.self.view_is c.self.invariant in
+    let known = reader_of c.args.self.now _ c.self.inside.data_start c.self.inside.ipv4_start c.self.inside.ipv4_depth c.self.inside.ipv4_table c.self.inside.ipv6_table c.self.view_is c.self.invariant in
     let F : IpAddr → Type 0 = λ a. IsFoundFor db a (record { number = c.args.found.number; taken = c.args.found.taken }) in
     let same = start-is db start c.self.inside.ipv4_depth known.ipv4 in
     let on : start < db.metadata.node_count = omega (arith, ap (λ t. t.node_count) c.nodes-nodes.ensures.tree, c.if-self-nodes.false) in
@@ -55,7 +55,7 @@ returns-in-V4-2-clause-found g c =
 
 pub returns-in-V4-2-clause-shown : goal.returns-in-V4-2-clause-shown
 returns-in-V4-2-clause-shown g c =
-    let known = reader_of c.args.self.now _ c.self.inside.data_start c.self.inside.ipv4_start c.self.inside.ipv4_depth c.self.inside.ipv4_table.items c.self.inside.ipv6_table.items c.self.view_is c.self.invariant in
+    let known = reader_of c.args.self.now _ c.self.inside.data_start c.self.inside.ipv4_start c.self.inside.ipv4_depth c.self.inside.ipv4_table c.self.inside.ipv6_table c.self.view_is c.self.invariant in
     let on : c.self.inside.ipv4_start < c.args.self.now.metadata.node_count = omega (arith, ap (λ t. t.node_count) c.nodes-nodes.ensures.tree, c.if-self-nodes.false) in
     rw c.in-V4-2.is (short_width c.ipv4.result _ 0 c.ipv4.ensures ∙ sym (shown-node c.args.self.now c.in-V4-2.v4 c.self.inside.ipv4_start c.self.inside.ipv4_depth known.ipv4 on))
 

@@ -5,6 +5,7 @@ use Rattle.mmdb_tree.proofs.nodes.Nodes.fill_levels.Given as goal
 
 abbrev pub invariant-loop-taken : goal.invariant-loop-taken
 invariant-loop-taken l = record {
-  level : HasLevel (tree_in l.self) l.start l.taken l.table;
-  size : length l.table ≡ 65536;
+  level : HasLevel (tree_in l.self) l.start l.taken l.numbers l.depths;
+  numbers_size : length l.numbers ≡ 65536;
+  depths_size : length l.depths ≡ 65536;
 }

@@ -5,7 +5,7 @@ use Rattle.mmdb_tree.proofs.nodes.Nodes.spread_level.Given as goal
 
 abbrev pub invariant-loop-left : goal.invariant-loop-left
 invariant-loop-left l = record {
-  spread : IsSpread (tree_in l.self) l.taken l.left l.fn.table l.table;
+  spread : IsSpread (tree_in l.self) l.taken l.left l.fn.numbers l.fn.depths l.numbers l.depths;
   few : l.left ≤ 2 ^ l.taken;
 }
 

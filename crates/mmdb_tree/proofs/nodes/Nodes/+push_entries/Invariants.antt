@@ -1,4 +1,0 @@
-use Rattle.mmdb_tree.proofs.nodes.Nodes.+push_entries.Given as goal
-
-abbrev pub decreases-push_entries : goal.decreases-push_entries
-decreases-push_entries l = l.left
