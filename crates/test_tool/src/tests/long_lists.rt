@@ -1,5 +1,6 @@
 //! Typed lists that are long.
-use mmdb_reader::{MaxMindDbError, fuzzing};
+use mmdb_reader::MaxMindDbError;
+use mmdb_value::fuzzing;
 use std::alloc::{AllocError, Global};
 
 /// How many elements a list has.
