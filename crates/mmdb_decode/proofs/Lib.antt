@@ -14,4 +14,3 @@ pub mod DirectLaws
 pub mod ContentLaws
 pub mod ScalarLaws
 pub mod SmallNumberLaws
-pub mod KeyLaws

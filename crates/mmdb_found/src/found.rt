@@ -6,8 +6,7 @@ ghost use Rattle.mmdb_found.specs.Found.{IsJsonAlong, WritesAlong, FailsAlong};
 
 use json::Token;
 use mmdb_json::{TokenSink, compact, write_value};
-use mmdb_reader::{LookupResult, MaxMindDbError, PathElement};
-use mmdb_value::Value;
+use mmdb_reader::{LookupResult, MaxMindDbError, PathElement, Value};
 use std::alloc::Global;
 use std::convert::AsSlice;
 

@@ -1,4 +1,5 @@
 pub mod Readings
+pub mod KeyLaws
 pub mod AnyLaws
 pub mod AnySteps
 pub mod Started

@@ -1,6 +1,8 @@
 //! The constructors of errors.
-use mmdb_reader::MaxMindDbError;
-use mmdb_value::{decoding, decoding_at, decoding_at_path, invalid_database, invalid_database_at, invalid_input, resource_limit_at};
+use mmdb_reader::{
+    MaxMindDbError, decoding, decoding_at, decoding_at_path, invalid_database, invalid_database_at,
+    invalid_input, resource_limit_at,
+};
 use std::alloc::Global;
 
 /// A constructor.

@@ -1,6 +1,5 @@
 //! Typed lists that are long.
-use mmdb_reader::MaxMindDbError;
-use mmdb_value::fuzzing;
+use mmdb_reader::{MaxMindDbError, fuzzing};
 use std::alloc::{AllocError, Global};
 
 /// How many elements a list has.

@@ -1,6 +1,8 @@
 //! The types and the calls that read values.
-use mmdb_value::{Decode, Decoder, Double, Float, OwnedBytes, RawValue, Value, empty_container, fuzzing};
 use super::asserts::assert_holds;
+use mmdb_reader::{
+    Decode, Decoder, Double, Float, OwnedBytes, RawValue, Value, empty_container, fuzzing,
+};
 use std::alloc::Global;
 use std::collections::BTreeMap;
 use std::process::Abort;
