@@ -24,6 +24,7 @@ static struct mmdb_c_found found_ipv4(const struct mmdb_c_db *db, uint32_t bits)
     uint32_t node = db->ipv4_numbers[bits >> 16];
     if (node < db->facts.node_count) {
         uintptr_t at = (uintptr_t)db->file + (size_t)node * (db->facts.record_size / 4);
+#pragma GCC unroll 8
         for (int i = 1; i <= LINES; i++) __builtin_prefetch((const void *)(at + i * LINE));
     }
     return mmdb_c_lookup_v4(db, bits);
