@@ -215,24 +215,8 @@ fn met_within(rt: &impl Abort, alloc: Global, call: &Call, given: &Given, budget
     met
 }
 
-fn block_of_the_heap(alloc: Global) -> Result<Vec<u8>, AllocError> {
-    Vec::with_capacity(alloc, 100_000)
-}
-
-// Frees a piece of the heap, before a block that is held. What a hoard notes its blocks in, and what a call is left with,
-// are cut of it, wherever the system has put the heap.
-fn with_free_heap(alloc: Global) -> Result<Vec<u8>, AllocError> {
-    let pieces = (block_of_the_heap(alloc), block_of_the_heap(alloc));
-    let more = (block_of_the_heap(alloc), block_of_the_heap(alloc));
-    let behind = block_of_the_heap(alloc);
-    drop(pieces);
-    drop(more);
-    behind
-}
-
 // How often a call fails for lack of memory, and what comes of it then.
 fn rejections(rt: &impl Abort, alloc: Global, call: &Call, given: &Given) -> (u32, Outcome) {
-    let behind = with_free_heap(alloc);
     let large = Hoard::of_large_blocks(alloc);
     let mut rejected = 0u32;
     let mut met = Outcome::Memory;
@@ -244,7 +228,6 @@ fn rejections(rt: &impl Abort, alloc: Global, call: &Call, given: &Given) -> (u3
         rejected = rejected.saturating_add(1);
     }
     drop(large);
-    drop(behind);
     (rejected, met)
 }
 
