@@ -52,7 +52,7 @@ static void lend_tables(struct mmdb_c_db *db, const struct table *tables, bool h
     db->ipv6_numbers_len = db->ipv6_depths_len = has_ipv6 ? MMDB_C_TABLE : 0;
 }
 
-/* Lets the proved reader fill the tables. An IPv4 database keeps one of them. */
+/* Lets the proved reader fill the tables. One that it leaves as it is stays zero. An IPv4 database keeps one of them. */
 static int open_bytes(struct state *s, const MMDB_s *m) {
     struct mmdb_c_db *db = &s->db;
     struct table *both = s->tables = calloc(2, sizeof *both);
