@@ -6,11 +6,13 @@ mod path;
 
 pub use mmdb_geoip2 as geoip2;
 pub use mmdb_reader::{
-    Checked, Decode, DecodeResult, Decoder, Double, Entries, Float, FoundLeaf, IpNetwork,
-    IpNetworkError, Ipv4Network, Ipv6Network, Items, Kind, LookupMany, LookupResult,
-    MaxMindDbError, Metadata, OwnedBytes, PathElement, RawValue, Reader, Steps, Value, Within,
-    WithinOptions, check_value, decoding, decoding_at, decoding_at_path, empty_container,
-    fuzzing as fuzzing, geonet as geonet, invalid_database, invalid_database_at, invalid_input,
-    mask_ip, metadata as metadata, read_node, reader as reader, render_path, resource_limit_at,
-    tree as tree, values as values,
+    FoundLeaf, IpNetwork, IpNetworkError, Ipv4Network, Ipv6Network, LookupMany, LookupResult,
+    MaxMindDbError, Metadata, PathElement, Reader, Steps, Within, WithinOptions, geonet as geonet,
+    mask_ip, metadata as metadata, read_node, reader as reader, render_path, tree as tree,
+};
+pub use mmdb_value as values;
+pub use mmdb_value::{
+    Checked, Decode, DecodeResult, Decoder, Double, Entries, Float, Items, Kind, OwnedBytes,
+    RawValue, Value, check_value, decoding, decoding_at, decoding_at_path, empty_container,
+    fuzzing as fuzzing, invalid_database, invalid_database_at, invalid_input, resource_limit_at,
 };

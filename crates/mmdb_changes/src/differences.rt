@@ -7,7 +7,8 @@ use mmdb_equality::{KnownMaps, KnownPairs, Offsets, Shown, ShownPairs};
 use mmdb_found::found_json;
 use mmdb_json::compact;
 use mmdb_layout::{Fields, Found, Layout, line_of_cells, line_of_names, write_values};
-use mmdb_reader::{IpNetwork, MaxMindDbError, Value};
+use mmdb_reader::{IpNetwork, MaxMindDbError};
+use mmdb_value::Value;
 use std::alloc::{AllocError, Global};
 use std::io::Write;
 

@@ -1,7 +1,8 @@
 //! Two files with the same bytes: nothing differs where all that they have can be read.
 use mmdb_equality::RecordReader;
 use mmdb_layout::{Database, Fields, Found, Layout};
-use mmdb_reader::{IpNetwork, MaxMindDbError, PathElement, Value, WithinOptions};
+use mmdb_reader::{IpNetwork, MaxMindDbError, PathElement, WithinOptions};
+use mmdb_value::Value;
 use std::alloc::{AllocError, Global};
 
 // The records of a range that were met. Of each the fields that are shown are read where it is met first; whole records

@@ -6,7 +6,8 @@ ghost use Rattle.mmdb_choice.specs.Conditions.{SaysOneOf, SaysAmong, wants as sp
 ghost use Rattle.mmdb_choice.specs.Working.{text_of as spec_text_of, is_container as spec_is_container, SaysFound};
 
 use mmdb_json::compact;
-use mmdb_reader::{LookupResult, MaxMindDbError, PathElement, Value};
+use mmdb_reader::{LookupResult, MaxMindDbError, PathElement};
+use mmdb_value::Value;
 use std::alloc::{AllocError, Global};
 use std::convert::AsSlice;
 

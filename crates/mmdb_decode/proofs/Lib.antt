@@ -14,3 +14,4 @@ pub mod DirectLaws
 pub mod ContentLaws
 pub mod ScalarLaws
 pub mod SmallNumberLaws
+pub mod KeyLaws

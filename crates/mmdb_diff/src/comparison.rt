@@ -12,7 +12,7 @@ use std::convert::AsSlice;
 use std::marker::Model;
 
 /// One of the two databases.
-#[derive(Clone, Copy, PartialEq, Eq)]
+#[derive(Clone, Copy)]
 pub enum Side {
     Old,
     New,

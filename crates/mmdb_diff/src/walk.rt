@@ -48,7 +48,7 @@ pub(crate) struct Walk<'a, S: AsSlice<u8> + Drop> {
 }
 
 /// What a database has at an address, as far as the same holds.
-#[derive(Clone, Copy, PartialEq, Eq)]
+#[derive(Clone, Copy)]
 pub(crate) enum Here {
     /// A record up to this address.
     Record(u128),

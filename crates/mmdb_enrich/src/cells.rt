@@ -10,7 +10,8 @@ ghost use Rattle.mmdb_enrich.specs.Working.{PutsShown, PutsCell, PutsCellAlong, 
 use crate::columns::delimiter_of;
 use mmdb_filter::{Rows, put_csv_cell};
 use mmdb_json::compact;
-use mmdb_reader::{LookupResult, MaxMindDbError, PathElement, Value};
+use mmdb_reader::{LookupResult, MaxMindDbError, PathElement};
+use mmdb_value::Value;
 use std::alloc::{AllocError, Global};
 use std::convert::AsSlice;
 

@@ -15,7 +15,7 @@ use std::alloc::Global;
 use std::io::{self, BufRead, ErrorKind, Write};
 
 /// What was added to a row.
-#[derive(Clone, Copy, Debug)]
+#[derive(Clone, Copy)]
 pub struct Added {
     /// How the row fares.
     pub outcome: Outcome,

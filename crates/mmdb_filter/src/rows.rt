@@ -8,7 +8,7 @@ use crate::text::text_length;
 use memchr::memchr;
 
 /// What a row is. Each ends with a line feed, or with the text.
-#[derive(Clone, Copy, Debug, PartialEq, Eq)]
+#[derive(Clone, Copy, PartialEq, Eq)]
 pub enum Rows {
     /// A line, whatever it holds.
     Lines,
@@ -20,7 +20,7 @@ pub enum Rows {
 }
 
 /// Where one is in a row, after some of its bytes.
-#[derive(Clone, Copy, Debug, PartialEq, Eq)]
+#[derive(Clone, Copy, PartialEq, Eq)]
 pub enum Position {
     /// A cell begins.
     Cell,

@@ -9,7 +9,7 @@ use crate::message::{Message, Text};
 use std::alloc::{AllocError, Global};
 
 /// What is wrong with the bytes of a value, or with what they ask of a reader.
-#[derive(Clone, Copy, Debug, PartialEq, Eq)]
+#[derive(Clone, Copy)]
 pub enum DecodeErrorKind {
     /// A byte of a header or of a pointer is missing.
     EndOfBuffer,
@@ -68,25 +68,25 @@ impl DecodeErrorKind {
         let text = match self {
             DecodeErrorKind::SizeOf(kind, size) => {
                 let name = kind.name();
-                format!(in alloc; "{name} of size {size}")?
+                format!(in alloc; "{name} of size {size}")
             }
-            DecodeErrorKind::PointerSize(size) => format!(in alloc; "pointer of size {size}")?,
+            DecodeErrorKind::PointerSize(size) => format!(in alloc; "pointer of size {size}"),
             DecodeErrorKind::UnknownType(number) => {
-                format!(in alloc; "unknown data type: {number}")?
+                format!(in alloc; "unknown data type: {number}")
             }
             DecodeErrorKind::KeyOfType(number) => {
-                format!(in alloc; "expected string, got type {number}")?
+                format!(in alloc; "expected string, got type {number}")
             }
             DecodeErrorKind::Cycle(offset) => {
-                format!(in alloc; "cyclic data pointer references offset {offset}")?
+                format!(in alloc; "cyclic data pointer references offset {offset}")
             }
             DecodeErrorKind::Unexpected(wanted, found) => {
                 let name = wanted.name();
-                format!(in alloc; "expected {name}, got type {found}")?
+                format!(in alloc; "expected {name}, got type {found}")
             }
             DecodeErrorKind::WrongLength(wanted, found) => format!(in alloc;
                 "expected tuple of length {wanted}, got array of length {found}"
-            )?,
+            ),
             DecodeErrorKind::EndOfBuffer => return Ok(Message::Fixed(Text::EndOfBuffer)),
             DecodeErrorKind::KeyTooLong => return Ok(Message::Fixed(Text::KeyTooLong)),
             DecodeErrorKind::InvalidUtf8 => return Ok(Message::Fixed(Text::InvalidUtf8)),
@@ -98,7 +98,7 @@ impl DecodeErrorKind {
             DecodeErrorKind::TooManyBytes => return Ok(Message::Fixed(Text::TooManyBytes)),
             DecodeErrorKind::TooMuchWork => return Ok(Message::Fixed(Text::TooMuchWork)),
         };
-        Message::of_text(alloc, text)
+        Message::of_text(alloc, text?)
     }
 
     /// The error that reports this fault at an offset, or `Memory` where its text holds a number

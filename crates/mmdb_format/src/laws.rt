@@ -20,8 +20,6 @@ pub fn scalars_equal_where_same()
     ensures double { IsEqualityOf ⟦<Double as PartialEq>⟧.eq (λ x. x.bits) }
     ensures float { IsEqualityOf ⟦<Float as PartialEq>⟧.eq (λ x. x.bits) }
     ensures kind { IsEqualityOf ⟦<Kind as PartialEq>⟧.eq (λ kind. kind) }
-    ensures fault { IsEqualityOf ⟦<DecodeErrorKind as PartialEq>⟧.eq (λ fault. fault) }
-    ensures text { IsEqualityOf ⟦<Text as PartialEq>⟧.eq (λ text. text) }
 {}
 
 /// A clone of a number, a kind, a fault, a fixed text, a header, a pointer or a content is its source, and is

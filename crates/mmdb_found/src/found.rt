@@ -6,7 +6,8 @@ ghost use Rattle.mmdb_found.specs.Found.{IsJsonAlong, WritesAlong, FailsAlong};
 
 use json::Token;
 use mmdb_json::{TokenSink, compact, write_value};
-use mmdb_reader::{LookupResult, MaxMindDbError, PathElement, Value};
+use mmdb_reader::{LookupResult, MaxMindDbError, PathElement};
+use mmdb_value::Value;
 use std::alloc::Global;
 use std::convert::AsSlice;
 

@@ -6,7 +6,8 @@ use mmdb_arguments::NoRequest;
 use mmdb_filter::put_csv_cell;
 use mmdb_found::write_found;
 use mmdb_json::compact;
-use mmdb_reader::{MaxMindDbError, PathElement, Value};
+use mmdb_reader::{MaxMindDbError, PathElement};
+use mmdb_value::Value;
 use std::alloc::{AllocError, Global};
 
 /// The name of a row's network.

@@ -14,7 +14,7 @@ pub enum Kind {
 }
 
 /// Which kinds are wanted.
-#[derive(Clone, Copy, PartialEq, Eq)]
+#[derive(Clone, Copy)]
 pub enum Kinds {
     Both,
     One(Kind),

@@ -30,7 +30,7 @@ impl From<IpNetworkError> for ListError {
 }
 
 /// What became of a network that a list was given.
-#[derive(Clone, Copy, PartialEq, Eq)]
+#[derive(Clone, Copy)]
 pub enum Taken {
     /// It is of the list, and nothing is to be written.
     Whole,

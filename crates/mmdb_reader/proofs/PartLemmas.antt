@@ -17,7 +17,7 @@ use Rattle.mmdb_decode.specs.Scalars.{direct_of}
 use Rattle.mmdb_decode.specs.Selecting.{inside_map, inside_array, into_map, into_array, to_key, to_element, from_front, from_end}
 use Rattle.mmdb_decode.specs.Skipping.{parts_of, passes, skip_within, skip_at, Skips, passed_scalar, passed_pointer, passed_container, AllSkip, none_passed, one_more_passed}
 use Rattle.mmdb_decode.proofs.PassingLaws.{no_content_1, no_content_7, no_content_11, is_skipped, skipping-is_passing}
-use Rattle.mmdb_value.proofs.KeyLaws.{key_reading, raw_key-at}
+use Rattle.mmdb_decode.proofs.KeyLaws.{key_reading, raw_key-at}
 use Rattle.mmdb_reader.specs.Parts.{past_pointer, is_spelled, value_of, element_of, count_of, inside, down, part_of, PathSelects, PathLeadsNowhere}
 use Rattle.mmdb_reader.specs.Selecting.{at_step, selected}
 use Rattle.mmdb_reader.specs.declared.path.PathElement.{PathElement}

@@ -18,15 +18,6 @@ use crate::options::WithinOptions;
 use crate::path::PathElement;
 pub use mmdb_format::laws::{errors_hold_their_causes, scalar_clones_are_same};
 pub use mmdb_net::laws::{network_clones_are_same, networks_equal_where_same};
-pub use mmdb_value::laws::{
-    answer_is_whole_value, answer_is_within_limits, any_value_is_exact, how_containers_are_read,
-    how_owned_bytes_are_read, how_scalars_are_read, how_small_numbers_are_read,
-    list_is_what_stands, no_place_is_met_again, one_tree_unfolds, one_value_stands, order_is_free,
-    owned_bytes_equal_where_same, record_is_what_stands, same_offset_same_result,
-    scalar_is_what_stands, scalars_equal_where_same, scalars_unfold, skipping_is_passing,
-    small_number_is_what_stands, table_is_what_stands, text_map_is_what_stands,
-    value_is_what_stands, values_bounded, values_equal_where_same,
-};
 
 /// Leaves are disjoint blocks, and each full address begins with exactly one.
 pub fn leaves_partition()

@@ -27,17 +27,11 @@ pub use file_layout::FileLayout;
 pub use lookup_many::LookupMany;
 pub use lookup_result::{LookupResult, NumberedNetwork};
 pub use metadata::Metadata;
+pub use mmdb_format::error::MaxMindDbError;
 pub use mmdb_net as geonet;
 pub use mmdb_net::{IpNetwork, IpNetworkError, Ipv4Network, Ipv6Network, mask_ip};
 pub use mmdb_tree as tree;
 pub use mmdb_tree::{Descent, FoundLeaf, Nodes, read_node};
-pub use mmdb_value as values;
-pub use mmdb_value::{
-    Checked, Decode, DecodeResult, Decoder, Double, Entries, Float, Items, Kind, MaxMindDbError,
-    OwnedBytes, RawValue, Value, check_value, decoding, decoding_at, decoding_at_path,
-    empty_container, fuzzing as fuzzing, invalid_database, invalid_database_at, invalid_input,
-    resource_limit_at,
-};
 pub use options::WithinOptions;
 pub use path::{PathElement, render_path};
 pub use reader::Reader;

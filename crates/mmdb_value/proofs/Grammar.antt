@@ -11,7 +11,7 @@ use Rattle.mmdb_format.specs.Header.{◌>>=◌, header_at, bytes_at}
 use Rattle.mmdb_format.specs.Pointer.{pointer_at, direct_at, behind}
 use Rattle.mmdb_format.specs.Unfolding.{Tree, scalar, array, table, pointer, Trees, no_trees, tree, Pairs, no_pairs, pair, Unfolds, scalar_here, array_here, table_here, pointer_here, AllUnfold, none_left, one_more, PairsUnfold, no_pairs_left, one_more_pair, key_levels, trees_levels, pairs_levels, value_count, trees_count, pairs_count, payload, trees_payload, pairs_payload, has_texts, trees_texts, pairs_texts, is_key, is_keyed, trees_keyed, pairs_keyed, without_pointers, trees_without, pairs_without}
 use Rattle.mmdb_value.proofs.Readings.{IsReadingOf}
-use Rattle.mmdb_value.proofs.KeyLaws.{raw_key-at}
+use Rattle.mmdb_decode.proofs.KeyLaws.{raw_key-at}
 use Rattle.mmdb_value.specs.AnyValue.{if_scalar_text, if_utf8, key_at, trees_of, pairs_of, array_of, table_of, scalar_of, pair_at, container, behind_pointer, nested, value_within}
 use Rattle.mmdb_format.specs.declared.header.Header.{Header}
 use Rattle.mmdb_format.specs.declared.header.Direct.{Direct}

@@ -15,7 +15,7 @@ use Rattle.mmdb_value.specs.AnyValue.{key_at, trees_of, pairs_of, scalar_of, pai
 use Rattle.mmdb_format.specs.declared.header.Header.{Header}
 use Rattle.mmdb_format.specs.declared.header.Pointer.{Pointer}
 use Rattle.mmdb_decode.proofs.PassingLaws.{no_content_1, no_content_7, no_content_11}
-use Rattle.mmdb_value.proofs.KeyLaws.{raw_key-at}
+use Rattle.mmdb_decode.proofs.KeyLaws.{raw_key-at}
 use Rattle.mmdb_value.proofs.Grammar.{if_cond, if_is, within_sound}
 
 abbrev at : {A : Type 0} → A → ℕ → ℕ → ℕ → Reading A

@@ -1,5 +1,4 @@
 pub mod Readings
-pub mod KeyLaws
 pub mod AnyLaws
 pub mod AnySteps
 pub mod Started
