@@ -6,5 +6,6 @@ mod helps;
 mod lists;
 mod memory;
 mod program;
+mod rows;
 mod runs;
 mod texts;

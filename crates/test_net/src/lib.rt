@@ -1,5 +1,7 @@
-//! Tests of networks: which texts are read, with which errors, and what is printed.
+//! Tests of networks: which texts are read, with which errors, and what is printed; and of joined blocks.
 #![tactic(auto)]
 
 #[cfg(test)]
-mod tests;
+mod blocks;
+#[cfg(test)]
+mod networks;

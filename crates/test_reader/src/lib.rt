@@ -1,4 +1,4 @@
-//! Tests of readers: files, their metadata, lookups of addresses, and verifications.
+//! Tests of readers: files, their metadata, lookups of addresses, walks, paths, and verifications.
 #![tactic(auto)]
 
 #[cfg(test)]

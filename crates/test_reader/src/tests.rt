@@ -1,5 +1,6 @@
 //! What no clause says: worked rows over public calls, printed texts, and files.
 mod answers;
+mod facade;
 mod file_layouts;
 mod files;
 mod interrupted;

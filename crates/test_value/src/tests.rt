@@ -2,6 +2,7 @@
 //!
 //! The offset in an error is the decoder's when it fails: that of the value that is asked for, or, where
 //! the bytes of a text, a number or a header are read and then found wrong, the place after them.
+mod checks;
 mod equalities;
 mod errors;
 mod limits;

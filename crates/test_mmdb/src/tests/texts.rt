@@ -2,8 +2,9 @@
 use json::{Token, Writer};
 use mmdb_found::{found_json, write_found};
 use mmdb_json::{compact, pretty, write_value};
-use mmdb_reader::fuzzing::decode_value;
-use mmdb_reader::{LookupResult, PathElement, Reader, Value};
+use mmdb_reader::{LookupResult, PathElement, Reader};
+use mmdb_value::Value;
+use mmdb_value::fuzzing::decode_value;
 use mmdb_vectors::base::high;
 use mmdb_vectors::builder::{BASE_NODE, changed_file};
 use std::alloc::{AllocError, Global};

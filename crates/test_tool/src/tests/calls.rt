@@ -4,11 +4,12 @@ use super::constructors::{CONSTRUCTORS, made};
 use super::growths::{Outcome, error_met};
 use super::reads::{PAIRS, is_done, of_decoders, of_types};
 use mmdb_reader::{
-    Checked, IpNetwork, Ipv4Network, Ipv6Network, Metadata, PathElement, Reader, Steps,
-    WithinOptions, check_value, fuzzing, render_path,
+    IpNetwork, Ipv4Network, Ipv6Network, Metadata, PathElement, Reader, Steps, WithinOptions,
+    render_path,
 };
 use mmdb_report::report_on;
 use mmdb_tool::{Out, Sink, list_to, lookup_line, run, run_bytes};
+use mmdb_value::{Checked, check_value, fuzzing};
 use mmdb_vectors::base::{BASE_FILE, high};
 use mmdb_vectors::file::TestFiles;
 use mmdb_vectors::words::words_of;

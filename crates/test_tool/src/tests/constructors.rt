@@ -1,5 +1,5 @@
 //! The constructors of errors.
-use mmdb_reader::{
+use mmdb_value::{
     MaxMindDbError, decoding, decoding_at, decoding_at_path, invalid_database, invalid_database_at,
     invalid_input, resource_limit_at,
 };

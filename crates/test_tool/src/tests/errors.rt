@@ -1,9 +1,10 @@
 //! What errors of lists and of reports print.
 use super::asserts::assert_printed;
-use mmdb_reader::{IpNetworkError, MaxMindDbError, invalid_database_at, resource_limit_at};
+use mmdb_reader::{IpNetworkError, MaxMindDbError};
 use mmdb_report::ReportError;
 use mmdb_report::laws::counts_are_of_networks;
 use mmdb_tool::ListError;
+use mmdb_value::{invalid_database_at, resource_limit_at};
 use std::alloc::Global;
 use std::fmt::Display;
 use std::io;

@@ -1,5 +1,5 @@
 //! Typed lists that are long.
-use mmdb_reader::{MaxMindDbError, fuzzing};
+use mmdb_value::{MaxMindDbError, fuzzing};
 use std::alloc::{AllocError, Global};
 
 /// How many elements a list has.

@@ -1,6 +1,6 @@
 //! The types and the calls that read values.
 use super::asserts::assert_holds;
-use mmdb_reader::{
+use mmdb_value::{
     Decode, Decoder, Double, Float, OwnedBytes, RawValue, Value, empty_container, fuzzing,
 };
 use std::alloc::Global;

@@ -68,7 +68,7 @@ fn assert_filtered(rt: &impl Abort, alloc: Global, row: &Row, input: &[u8], want
     for steps in STEPS {
         for rows in [Rows::Lines, Rows::Csv { delimiter: b',' }] {
             let is_right = is_filtered(alloc, rows, *steps, input, want);
-            assert!(rt; is_right, "{row:?} with {steps:?} {rows:?}");
+            assert!(rt; is_right, "{row:?} with {steps:?}");
         }
     }
 }
@@ -168,7 +168,7 @@ fn a_row_of_a_hundred_million_bytes(rt: HostRuntime) {
         malformed: 0,
         rejected: 1,
     };
-    assert!(rt; counts == one, "{counts:?}");
+    assert!(rt; counts == one, "{} rejected", counts.rejected);
     assert!(rt; bytes == 100_000_007, "{bytes}");
 }
 

@@ -1,5 +1,0 @@
-//! Tests of checks: verdicts on sections, hostile values, and running out of memory.
-#![tactic(auto)]
-
-#[cfg(test)]
-mod tests;

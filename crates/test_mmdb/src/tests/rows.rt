@@ -1,0 +1,8 @@
+//! The filter over rows, and what it adds behind them: rows around a piece, faults of the input, the output and memory, and
+//! CSV.
+mod ahead;
+mod behind;
+mod cells;
+mod faults;
+mod pieces;
+mod streams;
