@@ -7,6 +7,7 @@ use mmdb_console::{Console, DONE, FAILED, ProgramError, put};
 use mmdb_layout::{Database, Layout, Networks};
 use mmdb_lists::{Kinds, List, Syntax};
 use mmdb_reader::MaxMindDbError;
+use mmdb_texts::RecordTexts;
 use std::alloc::Global;
 use std::io::Write;
 
@@ -97,15 +98,31 @@ fn begin_writing<'a, O: Write>(
     }
 }
 
-// Begins an export.
+// The texts of the records of a data section, where rows have whole ones. Without memory for them rows are made without.
+fn texts_of<'r>(
+    alloc: Global,
+    task: &ExportTask<'_>,
+    section: &'r [u8],
+) -> Option<RecordTexts<'r>> {
+    match &task.shape {
+        Shape::Rows(layout) if layout.has_records() => RecordTexts::new(alloc, section).ok(),
+        _ => None,
+    }
+}
+
+// Begins an export of the records of a data section.
 fn begin<'a, 'r, O: Write>(
     alloc: Global,
     task: &'a ExportTask<'a>,
+    section: &'r [u8],
     out: &mut O,
 ) -> Result<Export<'a, 'r>, ProgramError> {
     let choice = Choice::new(alloc, task.conditions.as_slice())?;
     match begin_writing(alloc, task, out) {
-        Ok(writing) => Ok(Export::new(alloc, choice, task.kinds, writing)?),
+        Ok(writing) => {
+            let texts = texts_of(alloc, task, section);
+            Ok(Export::new(alloc, choice, task.kinds, writing, texts)?)
+        }
         Err(error) => {
             drop(choice);
             Err(error)
@@ -135,7 +152,7 @@ pub fn export<'a, O: Write, E: Write>(
     console: &mut Console<'_, O, E>,
 ) -> Result<u8, ProgramError> {
     let networks = networks_in(console.alloc, database, task.range)?;
-    match begin(console.alloc, task, console.out) {
+    match begin(console.alloc, task, database.data_section(), console.out) {
         Ok(export) => export_with(networks, export, console),
         Err(error) => {
             drop(networks);

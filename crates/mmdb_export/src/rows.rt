@@ -2,6 +2,7 @@
 use mmdb_console::{ProgramError, put};
 use mmdb_layout::{Found, Layout};
 use mmdb_reader::{IpNetwork, MaxMindDbError};
+use mmdb_texts::RecordTexts;
 use std::alloc::{AllocError, Global};
 use std::io::Write;
 
@@ -79,6 +80,19 @@ fn write_row<O: Write>(
     write_parts(row, place, network.as_bytes(), out)
 }
 
+// The text of the row of an answer.
+fn text_of(
+    alloc: Global,
+    layout: &Layout<'_>,
+    found: &Found<'_>,
+    texts: &mut Option<RecordTexts<'_>>,
+) -> Result<Vec<u8>, MaxMindDbError> {
+    match texts {
+        Some(texts) => layout.row_by(alloc, found, texts),
+        None => layout.row(alloc, found),
+    }
+}
+
 impl<'a> Rows<'a> {
     /// Of no record yet.
     pub(crate) fn new(alloc: Global, layout: &'a Layout<'a>) -> Result<Rows<'a>, AllocError> {
@@ -100,10 +114,15 @@ impl<'a> Rows<'a> {
 
     // Makes the row of an answer.
     #[inline(never)]
-    fn make(&mut self, place: usize, found: &Found<'_>) -> Result<(), MaxMindDbError> {
+    fn make(
+        &mut self,
+        place: usize,
+        found: &Found<'_>,
+        texts: &mut Option<RecordTexts<'_>>,
+    ) -> Result<(), MaxMindDbError> {
         let row = Row {
             offset: found.offset(),
-            text: self.layout.row(self.alloc, found)?,
+            text: text_of(self.alloc, self.layout, found, texts)?,
         };
         let is_short = row.offset.is_some() && row.text.len() <= MOST_BYTES;
         match self.kept.get_mut(place) {
@@ -114,11 +133,15 @@ impl<'a> Rows<'a> {
     }
 
     // The row of an answer.
-    fn row(&mut self, found: &Found<'_>) -> Result<&[u8], MaxMindDbError> {
+    fn row(
+        &mut self,
+        found: &Found<'_>,
+        texts: &mut Option<RecordTexts<'_>>,
+    ) -> Result<&[u8], MaxMindDbError> {
         let offset = found.offset();
         let place = offset.unwrap_or(0) % PLACES;
         if !self.keeps(place, offset) && !self.long.is_of(offset) {
-            self.make(place, found)?;
+            self.make(place, found, texts)?;
         }
         match self.kept.get(place) {
             Some(row) if row.is_of(offset) => Ok(row.text.as_slice()),
@@ -126,15 +149,16 @@ impl<'a> Rows<'a> {
         }
     }
 
-    /// Writes the row of an answer.
+    /// Writes the row of an answer, by the texts of the records of its database, if they are there.
     pub(crate) fn write<O: Write>(
         &mut self,
         found: &Found<'_>,
+        texts: &mut Option<RecordTexts<'_>>,
         out: &mut O,
     ) -> Result<(), ProgramError> {
         let (alloc, place) = (self.alloc, self.layout.place_of_network());
         let network = found.network()?;
-        let row = self.row(found)?;
+        let row = self.row(found, texts)?;
         write_row(alloc, row, place, network, out)
     }
 }

@@ -6,6 +6,7 @@ use mmdb_console::{Console, ProgramError, Where};
 use mmdb_layout::{Database, Found, Networks};
 use mmdb_lists::{Kind, Kinds, List, ListError, Taken};
 use mmdb_reader::{IpNetwork, MaxMindDbError, NumberedNetwork, WithinOptions};
+use mmdb_texts::RecordTexts;
 use std::alloc::{AllocError, Global};
 use std::io::Write;
 
@@ -53,10 +54,11 @@ impl Writing<'_> {
         &mut self,
         found: &Found<'_>,
         network: NumberedNetwork,
+        texts: &mut Option<RecordTexts<'_>>,
         out: &mut O,
     ) -> Result<(), ProgramError> {
         match self {
-            Writing::Rows(rows) => rows.write(found, out),
+            Writing::Rows(rows) => rows.write(found, texts, out),
             Writing::List(list) => { of_list(list.push(kind_of(network), block_of(network), out)) },
         }
     }
@@ -86,6 +88,8 @@ pub(crate) struct Export<'a, 'r> {
     choice: Choice<'a>,
     kinds: Kinds,
     writing: Writing<'a>,
+    /// The texts of whole records, where rows have them and there was memory.
+    texts: Option<RecordTexts<'r>>,
     /// What was found in the last networks. What is kept of their records is looked for side by side, since each look
     /// waits for memory.
     waiting: Vec<Found<'r>>,
@@ -102,11 +106,13 @@ impl<'a, 'r> Export<'a, 'r> {
         choice: Choice<'a>,
         kinds: Kinds,
         writing: Writing<'a>,
+        texts: Option<RecordTexts<'r>>,
     ) -> Result<Export<'a, 'r>, AllocError> {
         Ok(Export {
             choice,
             kinds,
             writing,
+            texts,
             waiting: Vec::with_capacity(alloc, MOST_WAITING)?,
             last: None,
             faults: 0,
@@ -147,7 +153,7 @@ impl<'a, 'r> Export<'a, 'r> {
         if kept != Some(true) && !self.choice.chooses(found)? {
             return Ok(());
         }
-        self.writing.write(found, network, out)
+        self.writing.write(found, network, &mut self.texts, out)
     }
 
     // Reports a network that is not named and can't be read.

@@ -7,6 +7,7 @@ use mmdb_filter::put_csv_cell;
 use mmdb_found::write_found;
 use mmdb_json::compact;
 use mmdb_reader::{MaxMindDbError, PathElement};
+use mmdb_texts::RecordTexts;
 use mmdb_value::Value;
 use std::alloc::{AllocError, Global};
 
@@ -192,6 +193,29 @@ fn begin_object(out: &mut Writer) -> Result<(), AllocError> {
     out.token(Token::String(""))
 }
 
+// Adds the row of the record at an offset as a line with an object, with an empty network. Whether it was laid out so.
+fn put_record_row(
+    offset: usize,
+    texts: &mut RecordTexts<'_>,
+    row: &mut Vec<u8>,
+) -> Result<bool, AllocError> {
+    row.extend_from_slice(b"{\"network\":\"\",\"record\":")?;
+    if !texts.put(offset, row) {
+        return Ok(false);
+    }
+    row.extend_from_slice(b"}\n")?;
+    Ok(true)
+}
+
+// The row of the record at an offset as a line with an object, with an empty network, where it can be laid out so.
+fn record_row(alloc: Global, offset: usize, texts: &mut RecordTexts<'_>) -> Option<Vec<u8>> {
+    let mut row = Vec::new(alloc);
+    match put_record_row(offset, texts, &mut row) {
+        Ok(true) => Some(row),
+        _ => None,
+    }
+}
+
 impl Layout<'_> {
     // Adds the record, or the values that are wanted of it.
     fn write_record(
@@ -235,6 +259,27 @@ impl Layout<'_> {
             Layout::Cells(fields) => line_of_cells(alloc, fields, "", &[Some(found)]),
             Layout::Records | Layout::Values(_) => self.object(alloc, found),
         }
+    }
+
+    /// Whether a row has a whole record, so that `row_by` may make it of the texts of records.
+    pub fn has_records(&self) -> bool {
+        matches!(self, Layout::Records)
+    }
+
+    /// The same row, of whole records by the texts of the records of the same database. Those copy what pointers lead to,
+    /// where `row` reads and lays out each value again. What they leave to others is made by `row`.
+    pub fn row_by(
+        &self,
+        alloc: Global,
+        found: &Found<'_>,
+        texts: &mut RecordTexts<'_>,
+    ) -> Result<Vec<u8>, MaxMindDbError> {
+        if let (Layout::Records, Some(offset)) = (self, found.offset()) {
+            if let Some(row) = record_row(alloc, offset, texts) {
+                return Ok(row);
+            }
+        }
+        self.row(alloc, found)
     }
 
     /// Where the network stands in a row.

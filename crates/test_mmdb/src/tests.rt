@@ -6,6 +6,7 @@ mod helps;
 mod lists;
 mod memory;
 mod program;
+mod record_texts;
 mod rows;
 mod runs;
 mod texts;

@@ -12,7 +12,7 @@ use std::process::Abort;
 
 /// Data, and the JSON of the value at their start.
 #[rattlefmt::skip]
-const ROWS: &[(&[u8], &str)] = &[
+pub(crate) const ROWS: &[(&[u8], &str)] = &[
     (b"\x41x", "\"x\""),
     // what has to be escaped, and what needs not
     (b"\x4A\"\\\n\r\t\x01/\xC3\xA9\x7F", "\"\\\"\\\\\\n\\r\\t\\u0001/\u{e9}\u{7f}\""),

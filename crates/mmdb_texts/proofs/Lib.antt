@@ -1,0 +1,4 @@
+pub mod Printing
+pub mod Containers
+pub mod ScalarTexts
+pub mod Keeping

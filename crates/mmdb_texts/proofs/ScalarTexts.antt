@@ -1,0 +1,50 @@
+-- The texts of scalars.
+use Rattle.std.proofs.Common.{◌≡◌, ◌≤◌, ◌<◌, ℕ, zero, suc, arith, length, Bool, true, false, cond, List, [], ◌∷◌, ◌++◌, Result, Ok, Err, OnOk, Some, None, is_ok, refl, sym, ap, ◌∙◌, subst}
+use Rattle.std.specs.Str.{IsUtf8, is_utf8}
+use Rattle.std.proofs.lemmas.Str.{IsUtf8-from_is_utf8}
+use Rattle.mmdb_decode.specs.Scalars.{if_text}
+use Rattle.std.specs.List.{All}
+use Rattle.json.specs.Json.{Json, null, boolean, number, string}
+use Rattle.json.specs.Print.{quoted, escape, IsNumber}
+use Rattle.json.proofs.Printed.Strings.{escape_byte_plain}
+use Rattle.json.proofs.Printed.Utf8.{IsUtf8-are_ascii, IsUtf8-quoted}
+use Rattle.mmdb_format.specs.Contents.{Scalar}
+use Rattle.mmdb_json.specs.Shown.{ShowsScalar}
+use Rattle.mmdb_texts.specs.Working.{IsTextOf, WritesScalar, IsPlain}
+use Rattle.mmdb_texts.proofs.Printing.{string_text, number_text, boolean_text, null_text}
+
+pub string_written : (s : List ℕ) → IsUtf8 s → IsTextOf (string s) (quoted s)
+string_written s utf8 = record { is = sym (string_text s); numbers = tt; utf8 = IsUtf8-quoted s utf8 }
+
+pub number_written : (s : List ℕ) → IsNumber s → IsUtf8 s → IsTextOf (number s) s
+number_written s is utf8 = record { is = sym (number_text s); numbers = is; utf8 = utf8 }
+
+pub null_written : IsTextOf null (110 ∷ 117 ∷ 108 ∷ 108 ∷ [])
+null_written = record { is = sym null_text; numbers = tt; utf8 = IsUtf8-are_ascii _ refl }
+
+pub true_written : IsTextOf (boolean true) (116 ∷ 114 ∷ 117 ∷ 101 ∷ [])
+true_written = record { is = sym (boolean_text true); numbers = tt; utf8 = IsUtf8-are_ascii _ refl }
+
+pub false_written : IsTextOf (boolean false) (102 ∷ 97 ∷ 108 ∷ 115 ∷ 101 ∷ [])
+false_written = record { is = sym (boolean_text false); numbers = tt; utf8 = IsUtf8-are_ascii _ refl }
+
+-- bytes that an extension appended are such a text
+pub grows : {T E : Type 0} (r : Result T E) (c : Scalar) (j : Json) (old new bytes : List ℕ) → new ≡ cond (is_ok r) (old ++ bytes) old → ShowsScalar c j → IsTextOf j bytes → OnOk r (WritesScalar c old new)
+grows (Ok x) c j old new bytes e s t = record { json = j; bytes = bytes; shows = s; text = t; grown = e }
+grows (Err x) c j old new bytes e s t = tt
+
+-- plain bytes stand as they are
+pub escape_plain : (d : List ℕ) → All IsPlain d → escape d ≡ d
+escape_plain [] h = refl
+escape_plain (x ∷ xs) h =
+    let (high, quote, slash) = h 0 x (omega arith) in
+    let rest = escape_plain xs (λ k d within. h (suc k) d (omega arith)) in
+    λ i. escape_byte_plain x quote slash high i ++ rest i
+
+-- what was tested is UTF-8
+tested : (b : Bool) (x y : List ℕ) → Some y ≡ cond b (Some x) None → (b ≡ true) × (y ≡ x)
+tested true x y h = (refl, cc)
+tested false x y h = absurd (cc)
+
+pub text_utf8 : (x y : List ℕ) → Some y ≡ if_text x → IsUtf8 y
+text_utf8 x y h = let (is, same) = tested (is_utf8 x) x y h in subst IsUtf8 (sym same) (IsUtf8-from_is_utf8 x is)

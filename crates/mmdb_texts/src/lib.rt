@@ -1,0 +1,10 @@
+//! The JSON texts of records, in which what a pointer leads to is laid out once and copied from then on.
+#![tactic(auto)]
+
+mod kept;
+mod numbers;
+mod record_texts;
+mod scalars;
+mod strings;
+
+pub use record_texts::RecordTexts;

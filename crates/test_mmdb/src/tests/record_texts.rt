@@ -1,0 +1,247 @@
+//! The texts of records, beside those of values that are read whole, over sections that are made.
+use super::texts::ROWS;
+use mmdb_decode::decoder::Decoder;
+use mmdb_json::compact;
+use mmdb_record::decode::Decode;
+use mmdb_texts::RecordTexts;
+use mmdb_value::Value;
+use mmdb_vectors::section::section_of;
+use std::alloc::{AllocError, Global};
+use std::process::Abort;
+
+/// The longest text that is laid out.
+const MOST_BYTES: usize = 32_768;
+
+// The text of what stands at an offset, as a value is read whole and then laid out. None where it can't be read.
+fn text_by_value(alloc: Global, section: &[u8], offset: usize) -> Option<Vec<u8>> {
+    let mut decoder = Decoder::new(section, offset);
+    match Value::decode(alloc, &mut decoder) {
+        Ok(value) => {
+            let text = compact(alloc, &value).ok();
+            drop(value);
+            text
+        }
+        Err(_) => None,
+    }
+}
+
+/// What became of offsets.
+#[derive(Drop)]
+struct Tally {
+    /// Of so many a text was laid out.
+    laid_out: usize,
+    /// So many were left to others.
+    left: usize,
+    /// So many came out wrong.
+    wrong: usize,
+}
+
+// Whether a text that was put behind others is the one that is wanted, and nothing stands behind it.
+fn is_behind(out: &Vec<u8>, before: usize, wanted: &Option<Vec<u8>>) -> bool {
+    match (out.get(before..), wanted) {
+        (Some(text), Some(wanted)) => text == wanted.as_slice(),
+        _ => false,
+    }
+}
+
+impl Tally {
+    // Lays out what stands at an offset, behind what stands in `out`.
+    fn add(
+        &mut self,
+        alloc: Global,
+        section: &[u8],
+        offset: usize,
+        texts: &mut RecordTexts<'_>,
+        out: &mut Vec<u8>,
+    ) {
+        let wanted = text_by_value(alloc, section, offset);
+        let before = out.len();
+        if texts.put(offset, out) {
+            self.laid_out = self.laid_out.saturating_add(1);
+            if !is_behind(out, before, &wanted) {
+                self.wrong = self.wrong.saturating_add(1);
+            }
+        } else {
+            self.left = self.left.saturating_add(1);
+            if out.len() != before {
+                self.wrong = self.wrong.saturating_add(1);
+            }
+        }
+        drop(wanted);
+        out.truncate(3);
+    }
+}
+
+// Lays out what stands at each offset of a section, twice over, with the same texts kept.
+fn tally_of(alloc: Global, section: &[u8]) -> Result<Tally, AllocError> {
+    let mut tally = Tally {
+        laid_out: 0,
+        left: 0,
+        wrong: 0,
+    };
+    let mut texts = RecordTexts::new(alloc, section)?;
+    let mut out = b"abc".to_vec(alloc)?;
+    for offset in 0..section.len().saturating_mul(2) {
+        let offset = offset % section.len().max(1);
+        tally.add(alloc, section, offset, &mut texts, &mut out);
+    }
+    Ok(tally)
+}
+
+/// Numbers that follow from a seed.
+#[derive(Clone, Copy)]
+struct Numbers {
+    state: u64,
+}
+
+impl Numbers {
+    fn below(&mut self, count: usize) -> usize {
+        self.state = self
+            .state
+            .wrapping_mul(0x5851_F42D_4C95_7F2D)
+            .wrapping_add(0x1405_7B7E_F767_814F);
+        (self.state >> 33) as usize % count.max(1)
+    }
+}
+
+/// Values and headers that a section is made of: texts (with escapes, of other alphabets, one that is not UTF-8), numbers,
+/// truth values, floats that are none, headers of maps and arrays, and pointers to offsets below 64.
+#[rattlefmt::skip]
+const PIECES: &[&[u8]] = &[
+    b"\x41a", b"\x42bc", b"\x40", b"\x43\"\\\n", b"\x43\xC3\xA9x", b"\x46\xE5\x8D\xA1\xE9\x87\x8C", b"\x44\xF0\x9F\x98\x80", b"\x41\xFF", b"\x41\x1F",
+    b"\xA0", b"\xA2\x12\x34", b"\xC1\x07", b"\xC4\xFF\xFF\xFF\xFF", b"\x04\x01\xFF\xFF\xFF\xFE", b"\x08\x02\xFF\xFF\xFF\xFF\xFF\xFF\xFF\xFF",
+    b"\x02\x03\x01\x00", b"\x01\x07", b"\x00\x07", b"\x68\x40\x45\x0F\xCD\x67\xFD\x3F\x5B", b"\x68\x7F\xF0\x00\x00\x00\x00\x00\x00",
+    b"\x04\x08\x3F\x8C\xCC\xCD", b"\x04\x08\x7F\xC0\x00\x01", b"\x83\x00\xFF\x10", b"\xE0", b"\xE1", b"\xE2", b"\xE3", b"\xE1\x41k", b"\xE2\x41k\xA0\x41k",
+    b"\x00\x04", b"\x01\x04", b"\x02\x04", b"\x03\x04", b"\x20\x00", b"\x20\x03", b"\x20\x07", b"\x20\x10", b"\x20\x21", b"\x20\x33", b"\x20\x3F",
+    b"\x5D\x00abcdefghijklmnopqrstuvwxyz012", b"\xE1\x20\x05", b"\xE2\x20\x09\x20\x11", b"\x07\x09", b"\x1F\x00", b"\x81",
+];
+
+// A section of some of the pieces, of about so many bytes.
+fn made_section(alloc: Global, seed: u64, len: usize) -> Result<Vec<u8>, AllocError> {
+    let mut numbers = Numbers { state: seed };
+    let mut section = Vec::new(alloc);
+    for _ in 0..len {
+        if section.len() >= len {
+            break;
+        }
+        if let Some(piece) = PIECES.get(numbers.below(PIECES.len())) {
+            section.extend_from_slice(piece)?;
+        }
+    }
+    Ok(section)
+}
+
+#[test]
+fn laid_out_as_values_are(rt: HostRuntime) {
+    let alloc = rt.alloc();
+    let (mut laid_out, mut left) = (0usize, 0usize);
+    for seed in 0..400u64 {
+        let section = made_section(alloc, seed, 80).expect(&rt, "a section");
+        let tally = tally_of(alloc, section.as_slice()).expect(&rt, "texts");
+        assert!(rt; tally.wrong == 0, "section {seed}");
+        laid_out = laid_out.saturating_add(tally.laid_out);
+        left = left.saturating_add(tally.left);
+    }
+    assert!(rt;
+        laid_out > 20_000 && left > 1000,
+        "{laid_out} laid out, {left} left"
+    );
+}
+
+// Asserts that what stands at an offset of a section has such a text, laid out or left to others, and the same once more.
+fn assert_put(rt: &impl Abort, alloc: Global, section: &[u8], offset: usize, is_laid_out: bool) {
+    let mut texts = RecordTexts::new(alloc, section).expect(rt, "texts");
+    let mut out = Vec::new(alloc);
+    let wanted = text_by_value(alloc, section, offset);
+    for turn in 0..2 {
+        out.clear();
+        let is_put = texts.put(offset, &mut out);
+        let len = section.len();
+        assert!(rt;
+            is_put == is_laid_out,
+            "turn {turn} at {offset} of {len}: {is_put}"
+        );
+        let is_right = if is_put {
+            is_behind(&out, 0, &wanted)
+        } else {
+            out.is_empty()
+        };
+        assert!(rt; is_right, "turn {turn} at {offset} of {len}");
+    }
+}
+
+#[test]
+fn worked_texts_are_laid_out(rt: HostRuntime) {
+    let alloc = rt.alloc();
+    for (data, wanted) in ROWS {
+        let mut texts = RecordTexts::new(alloc, data).expect(&rt, "texts");
+        let mut out = Vec::new(alloc);
+        assert!(rt; texts.put(0, &mut out), "{wanted}");
+        assert!(rt; out.as_slice() == wanted.as_bytes(), "{wanted}");
+    }
+}
+
+// A text of so many bytes, behind its header: of 29 to 65,820.
+fn text_of(alloc: Global, len: usize) -> Vec<u8> {
+    let size = (len.saturating_sub(285) as u64 & 0xffff) as u16;
+    let [high, low] = size.to_be_bytes();
+    section_of(alloc, &[(&[0x5E, high, low], 1), (b"x", len)])
+}
+
+#[test]
+fn long_texts_are_left(rt: HostRuntime) {
+    let alloc = rt.alloc();
+    // with its quotes the text has as many bytes as are laid out, or one more
+    for (len, is_laid_out) in [(MOST_BYTES - 2, true), (MOST_BYTES - 1, false)] {
+        let section = text_of(alloc, len);
+        assert_put(&rt, alloc, section.as_slice(), 0, is_laid_out);
+    }
+    // behind a pointer, with as many bytes as are kept, or one more; the pointer stands first
+    for len in [2046, 2047, 2048] {
+        let text = text_of(alloc, len);
+        let section = section_of(
+            alloc,
+            &[(b"\x02\x04\x20\x06\x20\x06", 1), (text.as_slice(), 1)],
+        );
+        assert_put(&rt, alloc, section.as_slice(), 0, true);
+    }
+    // an array of so many zeros, each with its comma
+    for (count, is_laid_out) in [(16_383usize, true), (16_384, false)] {
+        let size = (count.saturating_sub(285) as u64 & 0xffff) as u16;
+        let [high, low] = size.to_be_bytes();
+        let section = section_of(alloc, &[(&[0x1E, 4, high, low], 1), (b"\xA0", count)]);
+        assert_put(&rt, alloc, section.as_slice(), 0, is_laid_out);
+    }
+}
+
+// Arrays in one another, so many, around a number.
+fn deep(alloc: Global, count: usize) -> Vec<u8> {
+    section_of(alloc, &[(b"\x01\x04", count), (b"\xA0", 1)])
+}
+
+#[test]
+fn deep_values_are_left(rt: HostRuntime) {
+    let alloc = rt.alloc();
+    for (count, is_laid_out) in [(32, true), (33, false)] {
+        assert_put(&rt, alloc, deep(alloc, count).as_slice(), 0, is_laid_out);
+    }
+    // behind a pointer eight levels are left
+    for (count, is_laid_out) in [(8, true), (9, false)] {
+        let inner = deep(alloc, count);
+        let section = section_of(alloc, &[(b"\x20\x02", 1), (inner.as_slice(), 1)]);
+        assert_put(&rt, alloc, section.as_slice(), 0, is_laid_out);
+    }
+    // what was kept with few levels left is laid out again where it is met with fewer
+    let inner = deep(alloc, 6);
+    let section = section_of(
+        alloc,
+        &[
+            (b"\x02\x04\x20\x0A\x01\x04\x01\x04\x20\x0A", 1),
+            (inner.as_slice(), 1),
+        ],
+    );
+    assert_put(&rt, alloc, section.as_slice(), 0, true);
+    // a pointer to itself, and two to each other
+    assert_put(&rt, alloc, b"\x20\x00", 0, false);
+    assert_put(&rt, alloc, b"\x20\x02\x20\x00", 0, false);
+}
