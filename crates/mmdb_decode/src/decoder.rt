@@ -13,6 +13,7 @@ mod selecting;
 mod skipping;
 mod stepping;
 mod try_reads;
+mod try_steps;
 
 use crate::budget::{Charges, begun};
 use crate::failed::Step;

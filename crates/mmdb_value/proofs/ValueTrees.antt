@@ -1,9 +1,13 @@
--- The trees of containers.
+-- The trees of containers and of texts.
 use Rattle.std.proofs.Common.{◌≡◌, ℕ, List, [], ◌∷◌, map, refl, ap, ◌∙◌, rules, Vec, Global, Bor}
-use Rattle.mmdb_format.specs.Unfolding.{Tree}
+use Rattle.mmdb_format.specs.Unfolding.{Tree, scalar}
 use Rattle.mmdb_value.specs.AnyValue.{array_of, table_of}
 use Rattle.mmdb_value.specs.Values.{value_tree}
-use Rattle.mmdb_value.specs.declared.any_value.Value.{Value, Array, Map, the_lemmas}
+use Rattle.mmdb_format.specs.Contents.{text}
+use Rattle.mmdb_value.specs.declared.any_value.Value.{Value, String, Array, Map, the_lemmas}
+
+pub tree-String : (x : Bor (List ℕ)) → value_tree (String x) ≡ scalar (text x.now)
+tree-String x = search (rules, the_lemmas)
 
 pub tree-Array : (all : Vec Value Global) → value_tree (Array all) ≡ array_of (map value_tree all.items)
 tree-Array all = search (rules, the_lemmas)

@@ -3,17 +3,20 @@ ghost use Rattle.std.specs.Prelude.{◌≡◌, ◌<◌, ◌^◌, true, false, ma
 ghost use Rattle.std.specs.Result.{result_ok};
 ghost use Rattle.mmdb_format.specs.Unfolding.{Tree, scalar as scalar_tree};
 ghost use Rattle.mmdb_format.specs.Views.{content_view};
+ghost use Rattle.mmdb_decode.specs.State.{Within};
 ghost use Rattle.mmdb_decode.specs.Errors.{ReadsValue};
 ghost use Rattle.mmdb_value.specs.AnyValue.{value_at, key_at as spec_key_at, scalar_of, if_scalar_text, array_of, table_of};
 ghost use Rattle.mmdb_value.specs.Values.{value_tree};
 
+use crate::quick::value_here;
 use crate::shared::{self, Source};
 use mmdb_decode::decoder::Decoder;
 use mmdb_decode::direct::text_of;
+use mmdb_decode::failed::Failed;
 use mmdb_decode::steps::Steps;
 use mmdb_format::content::{Content, Double, Float};
 use mmdb_format::decode_error_kind::DecodeErrorKind;
-use mmdb_format::error::DecodeResult;
+use mmdb_format::error::{DecodeResult, MaxMindDbError};
 use mmdb_format::header::Header;
 use mmdb_record::decode::Decode;
 use std::alloc::Global;
@@ -41,7 +44,8 @@ pub enum Value<'de> {
 /// Texts are tested for UTF-8.
 pub(crate) struct Tested;
 
-fn of_content<'de>(content: Content<'de>) -> Result<Value<'de>, DecodeErrorKind>
+#[inline(always)]
+pub(crate) fn of_content<'de>(content: Content<'de>) -> Result<Value<'de>, DecodeErrorKind>
     ensures { option_map value_tree (result_ok result)
         ≡ option_map scalar_tree (if_scalar_text true (content_view content.entry)) }
 {
@@ -79,6 +83,22 @@ fn key_at<'de>(alloc: Global, d: &mut Decoder<'de>) -> DecodeResult<&'de str>
     match text_of(bytes) {
         Ok(text) => Ok(text),
         Err(fault) => Err(fault.to_error(alloc, d.offset())),
+    }
+}
+
+// Any value, by quick steps. Where they fail it is read again from where it began, to say why: twice the time, then.
+fn read_value<'de>(alloc: Global, d: &mut Decoder<'de>) -> DecodeResult<Value<'de>>
+    requires { Within d.old.budget }
+    ensures { ReadsValue value_tree false (value_at true) d.old d.new result }
+{
+    let mut here = d.again();
+    match value_here(alloc, &mut here) {
+        Ok(value) => {
+            d.go_to(&here);
+            Ok(value)
+        }
+        Err(Failed::OutOfMemory) => Err(MaxMindDbError::Memory),
+        Err(Failed::Unreadable) => shared::value_at::<Tested, Decoder<'de>>(alloc, d),
     }
 }
 
@@ -128,6 +148,6 @@ impl<'de> Decode<'de> for Value<'de> {
 
     fn decode(alloc: Global, d: &mut Decoder<'de>) -> DecodeResult<Value<'de>> {
         d.begin_budget();
-        shared::value_at::<Tested, Decoder<'de>>(alloc, d)
+        read_value(alloc, d)
     }
 }

@@ -7,6 +7,7 @@ pub mod any_value;
 /// Decoding from the beginning of a section, and the check of its first value.
 pub mod fuzzing;
 pub mod laws;
+mod quick;
 pub mod raw_value;
 pub mod shared;
 

@@ -15,7 +15,7 @@ use std::alloc::Global;
 
 /// A list or a map takes memory for so many parts at once, and for more of them as they are read: what a file says
 /// of its size is not believed before.
-const FEW: usize = 16;
+pub(crate) const FEW: usize = 16;
 
 /// A decoder that takes texts in the way that `K` names.
 pub trait Source<K>: Steps {

@@ -29,7 +29,7 @@ impl<'de> Decoder<'de> {
 
     // A key that is text.
     #[inline(always)]
-    fn take_text_key(&mut self) -> Result<&'de str, DecodeErrorKind>
+    pub(super) fn take_text_key(&mut self) -> Result<&'de str, DecodeErrorKind>
         ensures { TakesValue (λ x. x.now) key_at self.old self.new result }
     {
         let bytes = self.take_key(0)?;

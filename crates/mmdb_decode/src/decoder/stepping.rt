@@ -15,7 +15,8 @@ use std::alloc::Global;
 
 impl<'de> Decoder<'de> {
     // What stands behind the header at the offset.
-    fn take_content(&mut self, header: Header) -> Result<Content<'de>, DecodeErrorKind>
+    #[inline(always)]
+    pub(super) fn take_content(&mut self, header: Header) -> Result<Content<'de>, DecodeErrorKind>
         requires { header.size < 2 ^ 25 }
         ensures { TakesValue content_view (content_of header) self.old self.new result }
     {
@@ -38,7 +39,8 @@ impl<'de> Decoder<'de> {
     }
 
     // Goes to a pointer's target.
-    fn follow(&mut self, header: Header) -> Result<usize, DecodeErrorKind>
+    #[inline(always)]
+    pub(super) fn follow(&mut self, header: Header) -> Result<usize, DecodeErrorKind>
         requires { header.size < 32 }
         ensures { Takes (λ next. next) (entered_pointer self.old header) self.old self.new result }
     {
@@ -52,7 +54,8 @@ impl<'de> Decoder<'de> {
     }
 
     // Goes to a container's first part.
-    fn descend(&mut self, header: Header, count: usize) -> Result<(), DecodeErrorKind>
+    #[inline(always)]
+    pub(super) fn descend(&mut self, header: Header, count: usize) -> Result<(), DecodeErrorKind>
         requires { count < 2 ^ 26 }
         ensures ok { OnOk result (entered_parts self.old header count ≡ Some self.new) }
         ensures err { OnErr result (entered_parts self.old header count ≡ None) }
