@@ -1,12 +1,14 @@
 //! The contents of values that hold no others.
-ghost use Rattle.std.specs.Prelude.{◌≡◌, ℕ, ◌<◌, ◌≤◌, ◌^◌, ◌+◌, length, IfOk};
+ghost use Rattle.std.specs.Prelude.{◌≡◌, ℕ, ◌<◌, ◌≤◌, ◌^◌, ◌+◌, length, Some, IfOk, IfSome};
 ghost use Rattle.std.specs.Result.{result_ok};
 ghost use Rattle.mmdb_format.specs.Contents.{content_at as spec_content_at, variable_width_integer as spec_variable_width_integer, fixed_width_integer as spec_fixed_width_integer, content_end as spec_content_end, bytes_of_content, scalar_payload, key_bytes_at as spec_key_bytes_at, passed_end as spec_passed_end};
 ghost use Rattle.mmdb_format.specs.Kinds.{kind_of_number};
 ghost use Rattle.mmdb_format.specs.Views.{content_view, bytes_given, content_given, key_given};
 
 use crate::decode_error_kind::DecodeErrorKind;
-use crate::header::{Header, bytes_at, direct_at, pointer_at, wide_number_at};
+use crate::header::{
+    Header, bytes_at, direct_at, pointer_at, pointer_bits_at, short_text_at, wide_number_at,
+};
 use crate::kind::{BOOL, BYTES, DOUBLE, FLOAT, I32, Kind, POINTER, TEXT, U16, U32, U64, U128};
 
 /// The 64 bits of a number of double precision (IEEE 754 binary64).
@@ -158,6 +160,24 @@ impl Content<'_> {
     }
 }
 
+// The bytes of a key that is a short text behind a pointer, as nearly all keys are, and the offset after it. Nothing is
+// known of others.
+#[inline(always)]
+#[tactic(auto, unfolding(crate::specs::Contents::key_bytes_at, crate::specs::Pointer::direct_at, crate::specs::Pointer::behind))]
+fn short_key_at(section: &[u8], offset: usize) -> Option<(&[u8], usize)>
+    ensures value { IfSome result (λ x. spec_key_bytes_at section.now offset
+        ≡ Some (x.0.now, x.1)) }
+    ensures bound { IfSome result (λ x. length x.0.now < 2 ^ 25) }
+{
+    let low = pointer_bits_at(section, offset)?;
+    let Ok(pointer) = pointer_at(section, offset + 1, low) else {
+        return None;
+    };
+    let size = short_text_at(section, pointer.target)?;
+    let bytes = bytes_at(section, pointer.target + 1, size)?;
+    Some((bytes, pointer.next))
+}
+
 /// The bytes of a map's key and the offset after it: a text, directly or behind one pointer.
 #[inline(always)]
 #[tactic(auto, unfolding(crate::specs::Contents::key_bytes_at))]
@@ -165,6 +185,9 @@ pub fn key_bytes_at(section: &[u8], offset: usize) -> Result<(&[u8], usize), Dec
     ensures value { key_given result ≡ spec_key_bytes_at section.now offset }
     ensures bound { IfOk result (λ x. length x.0.now < 2 ^ 25) }
 {
+    if let Some(key) = short_key_at(section, offset) {
+        return Ok(key);
+    }
     let at = direct_at(section, offset, 0)?;
     if at.header.kind != TEXT {
         return Err(DecodeErrorKind::KeyOfType(at.header.kind));

@@ -167,6 +167,36 @@ fn sized_header(
     Ok(Header { kind, size, body })
 }
 
+/// The low five bits of the control byte at an offset, where it is that of a pointer.
+#[inline(always)]
+#[tactic(auto, unfolding(crate::specs::Header::header_at))]
+pub(crate) fn pointer_bits_at(section: &[u8], offset: usize) -> Option<u8>
+    ensures header { IfSome result (λ low. spec_header_at section.now offset
+        ≡ Some (record { kind = 1; size = low; body = offset + 1 })) }
+    ensures bits { IfSome result (λ low. (low < 32) × (offset < length section.now)) }
+{
+    let control = *section.get(offset)?;
+    if control / 32 != 1 {
+        return None;
+    }
+    Some(control % 32)
+}
+
+/// The size of the text at an offset, where its header is its control byte alone.
+#[inline(always)]
+#[tactic(auto, unfolding(crate::specs::Header::header_at, crate::specs::Header::sized_header, crate::specs::Header::size_at))]
+pub(crate) fn short_text_at(section: &[u8], offset: usize) -> Option<usize>
+    ensures header { IfSome result (λ size. spec_header_at section.now offset
+        ≡ Some (record { kind = 2; size = size; body = offset + 1 })) }
+    ensures inside { IfSome result (λ size. (size < 29) × (offset < length section.now)) }
+{
+    let control = *section.get(offset)?;
+    if control / 32 != 2 || control % 32 > 28 {
+        return None;
+    }
+    Some(usize::from(control % 32))
+}
+
 /// The header at an offset. One that is its control byte alone is recognised first, and nothing here that stays out of
 /// line has a large answer: its memory would be cleared for each header.
 #[inline(always)]
