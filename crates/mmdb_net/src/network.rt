@@ -22,7 +22,7 @@ pub struct Ipv4Network {
 }
 
 impl Ipv4Network {
-    ghost use Rattle.mmdb_net.specs.Network.{ipv4_ip_of, ipv4_prefix_of, ipv4_block_of, ipv4_full_text_of};
+    ghost use Rattle.mmdb_net.specs.Network.{ipv4_ip_of, ipv4_prefix_of, ipv4_block_of, ipv4_full_text_of, ipv4_short_text_of};
 
     /// The network of an address and a prefix of at most 32.
     pub fn new(addr: Ipv4Addr, prefix: u8) -> Result<Ipv4Network, IpNetworkError>
@@ -90,6 +90,14 @@ impl Ipv4Network {
         text::put_octets(mask::mask_ipv4(self.address, self.prefix).octets(), out)?;
         text::put_prefix(self.prefix, out)
     }
+
+    /// Appends the text that `Display` writes, in fewer steps than it takes. Fails only when out of memory.
+    pub fn push_text(&self, out: &mut Vec<u8>) -> Result<(), AllocError>
+        ensures { OnOk result (out.new.items ≡ out.old.items ++ ipv4_short_text_of self.now) }
+    {
+        text::put_octets(self.address.octets(), out)?;
+        text::put_prefix(self.prefix, out)
+    }
 }
 
 impl Display for Ipv4Network {
@@ -127,7 +135,7 @@ pub struct Ipv6Network {
 }
 
 impl Ipv6Network {
-    ghost use Rattle.mmdb_net.specs.Network.{ipv6_ip_of, ipv6_prefix_of, ipv6_block_of, ipv6_full_text_of};
+    ghost use Rattle.mmdb_net.specs.Network.{ipv6_ip_of, ipv6_prefix_of, ipv6_block_of, ipv6_full_text_of, ipv6_short_text_of};
 
     /// The network of an address and a prefix of at most 128.
     pub fn new(addr: Ipv6Addr, prefix: u8) -> Result<Ipv6Network, IpNetworkError>
@@ -206,6 +214,14 @@ impl Ipv6Network {
         text::put_segments(masked.segments(), out)?;
         text::put_prefix(self.prefix, out)
     }
+
+    /// Appends the text that `Display` writes, in fewer steps than it takes. Fails only when out of memory.
+    pub fn push_text(&self, out: &mut Vec<u8>) -> Result<(), AllocError>
+        ensures { OnOk result (out.new.items ≡ out.old.items ++ ipv6_short_text_of self.now) }
+    {
+        text::put_ipv6(self.address, out)?;
+        text::put_prefix(self.prefix, out)
+    }
 }
 
 impl Display for Ipv6Network {
@@ -248,7 +264,7 @@ pub enum IpNetwork {
 }
 
 impl IpNetwork {
-    ghost use Rattle.mmdb_net.specs.Network.{ip_of, prefix_of, block_of, full_text_of};
+    ghost use Rattle.mmdb_net.specs.Network.{ip_of, prefix_of, block_of, full_text_of, short_text_of};
 
     /// The network of an address and a prefix of at most the number of its bits, 32 or 128.
     pub fn new(addr: IpAddr, prefix: u8) -> Result<IpNetwork, IpNetworkError>
@@ -326,6 +342,16 @@ impl IpNetwork {
         match self {
             IpNetwork::V4(network) => network.push_full_text(out),
             IpNetwork::V6(network) => network.push_full_text(out),
+        }
+    }
+
+    /// Appends the text that `Display` writes, in fewer steps than it takes. Fails only when out of memory.
+    pub fn push_text(&self, out: &mut Vec<u8>) -> Result<(), AllocError>
+        ensures { OnOk result (out.new.items ≡ out.old.items ++ short_text_of self.now) }
+    {
+        match self {
+            IpNetwork::V4(network) => network.push_text(out),
+            IpNetwork::V6(network) => network.push_text(out),
         }
     }
 }

@@ -5,3 +5,5 @@
 mod blocks;
 #[cfg(test)]
 mod networks;
+#[cfg(test)]
+mod texts;

@@ -50,6 +50,14 @@ const IPV4: &[Row] = &[
         displayed: "1.2.3.4/0",
         full: "0.0.0.0/0",
     },
+    Row {
+        text: "255.99.9.100/31",
+        ip: "255.99.9.100",
+        prefix: 31,
+        first: "255.99.9.100",
+        displayed: "255.99.9.100/31",
+        full: "255.99.9.100/31",
+    },
 ];
 
 const IPV6: &[Row] = &[
@@ -77,6 +85,118 @@ const IPV6: &[Row] = &[
         displayed: "2001:db8::ab/33",
         full: "2001:0db8:0000:0000:0000:0000:0000:0000/33",
     },
+    Row {
+        text: "::/0",
+        ip: "::",
+        prefix: 0,
+        first: "::",
+        displayed: "::/0",
+        full: "0000:0000:0000:0000:0000:0000:0000:0000/0",
+    },
+    Row {
+        text: "::1:0:0:0:0/64",
+        ip: "0:0:0:1::",
+        prefix: 64,
+        first: "0:0:0:1::",
+        displayed: "0:0:0:1::/64",
+        full: "0000:0000:0000:0001:0000:0000:0000:0000/64",
+    },
+    Row {
+        text: "1:2:3:0:5:6:7:8/128",
+        ip: "1:2:3:0:5:6:7:8",
+        prefix: 128,
+        first: "1:2:3:0:5:6:7:8",
+        displayed: "1:2:3:0:5:6:7:8/128",
+        full: "0001:0002:0003:0000:0005:0006:0007:0008/128",
+    },
+    Row {
+        text: "1:0:0:4:5:0:0:8/127",
+        ip: "1::4:5:0:0:8",
+        prefix: 127,
+        first: "1::4:5:0:0:8",
+        displayed: "1::4:5:0:0:8/127",
+        full: "0001:0000:0000:0004:0005:0000:0000:0008/127",
+    },
+    Row {
+        text: "0:0:1:0:0:0:2:3/100",
+        ip: "0:0:1::2:3",
+        prefix: 100,
+        first: "0:0:1::",
+        displayed: "0:0:1::2:3/100",
+        full: "0000:0000:0001:0000:0000:0000:0000:0000/100",
+    },
+    Row {
+        text: "1:0:0:0:0:6:7:0/0",
+        ip: "1::6:7:0",
+        prefix: 0,
+        first: "::",
+        displayed: "1::6:7:0/0",
+        full: "0000:0000:0000:0000:0000:0000:0000:0000/0",
+    },
+    Row {
+        text: "0:1:0:1:0:1:0:1/16",
+        ip: "0:1:0:1:0:1:0:1",
+        prefix: 16,
+        first: "::",
+        displayed: "0:1:0:1:0:1:0:1/16",
+        full: "0000:0000:0000:0000:0000:0000:0000:0000/16",
+    },
+    Row {
+        text: "fedc:ba98:7654:3210:fed:cb:a:10/128",
+        ip: "fedc:ba98:7654:3210:fed:cb:a:10",
+        prefix: 128,
+        first: "fedc:ba98:7654:3210:fed:cb:a:10",
+        displayed: "fedc:ba98:7654:3210:fed:cb:a:10/128",
+        full: "fedc:ba98:7654:3210:0fed:00cb:000a:0010/128",
+    },
+    Row {
+        text: "::1.2.3.4/96",
+        ip: "::102:304",
+        prefix: 96,
+        first: "::",
+        displayed: "::102:304/96",
+        full: "0000:0000:0000:0000:0000:0000:0000:0000/96",
+    },
+    Row {
+        text: "0:0:0:0:1:ffff:102:304/90",
+        ip: "::1:ffff:102:304",
+        prefix: 90,
+        first: "::1:ffc0:0:0",
+        displayed: "::1:ffff:102:304/90",
+        full: "0000:0000:0000:0000:0001:ffc0:0000:0000/90",
+    },
+    Row {
+        text: "1:2:3:4:5:6:0:0/99",
+        ip: "1:2:3:4:5:6::",
+        prefix: 99,
+        first: "1:2:3:4:5:6::",
+        displayed: "1:2:3:4:5:6::/99",
+        full: "0001:0002:0003:0004:0005:0006:0000:0000/99",
+    },
+    Row {
+        text: "0:0:3:4:5:6:7:8/64",
+        ip: "::3:4:5:6:7:8",
+        prefix: 64,
+        first: "0:0:3:4::",
+        displayed: "::3:4:5:6:7:8/64",
+        full: "0000:0000:0003:0004:0000:0000:0000:0000/64",
+    },
+    Row {
+        text: "::ffff:192.0.2.128/120",
+        ip: "::ffff:192.0.2.128",
+        prefix: 120,
+        first: "::ffff:c000:200",
+        displayed: "::ffff:192.0.2.128/120",
+        full: "0000:0000:0000:0000:0000:ffff:c000:0200/120",
+    },
+    Row {
+        text: "::ffff:0:0/96",
+        ip: "::ffff:0.0.0.0",
+        prefix: 96,
+        first: "::ffff:0:0",
+        displayed: "::ffff:0.0.0.0/96",
+        full: "0000:0000:0000:0000:0000:ffff:0000:0000/96",
+    },
 ];
 
 /// What is reported of a network.
@@ -87,8 +207,10 @@ struct Told {
     first: IpAddr,
     displayed: Result<String, AllocError>,
     full: Result<String, AllocError>,
-    /// What is pushed, and whether the push is answered with `Ok`.
+    /// What `push_full_text` appends, and whether it is answered with `Ok`.
     pushed: (Vec<u8>, bool),
+    /// The same of `push_text`.
+    pushed_short: (Vec<u8>, bool),
     /// Whether the address and the prefix make the same network.
     is_made_again: bool,
 }
@@ -98,6 +220,8 @@ fn network_reported(alloc: Global, text: &str) -> Option<Told> {
     let network: IpNetwork = text.parse().ok()?;
     let mut pushed = Vec::new(alloc);
     let is_pushed = network.push_full_text(&mut pushed).is_ok();
+    let mut pushed_short = Vec::new(alloc);
+    let is_pushed_short = network.push_text(&mut pushed_short).is_ok();
     Some(Told {
         ip: network.ip(),
         prefix: network.prefix(),
@@ -105,6 +229,7 @@ fn network_reported(alloc: Global, text: &str) -> Option<Told> {
         displayed: format!(in alloc; "{network}"),
         full: network.full_text(alloc),
         pushed: (pushed, is_pushed),
+        pushed_short: (pushed_short, is_pushed_short),
         is_made_again: IpNetwork::new(network.ip(), network.prefix()) == Ok(network),
     })
 }
@@ -114,6 +239,8 @@ fn ipv4_reported(alloc: Global, text: &str) -> Option<Told> {
     let network: Ipv4Network = text.parse().ok()?;
     let mut pushed = Vec::new(alloc);
     let is_pushed = network.push_full_text(&mut pushed).is_ok();
+    let mut pushed_short = Vec::new(alloc);
+    let is_pushed_short = network.push_text(&mut pushed_short).is_ok();
     Some(Told {
         ip: IpAddr::V4(network.ip()),
         prefix: network.prefix(),
@@ -121,6 +248,7 @@ fn ipv4_reported(alloc: Global, text: &str) -> Option<Told> {
         displayed: format!(in alloc; "{network}"),
         full: network.full_text(alloc),
         pushed: (pushed, is_pushed),
+        pushed_short: (pushed_short, is_pushed_short),
         is_made_again: Ipv4Network::new(network.ip(), network.prefix()) == Ok(network),
     })
 }
@@ -130,6 +258,8 @@ fn ipv6_reported(alloc: Global, text: &str) -> Option<Told> {
     let network: Ipv6Network = text.parse().ok()?;
     let mut pushed = Vec::new(alloc);
     let is_pushed = network.push_full_text(&mut pushed).is_ok();
+    let mut pushed_short = Vec::new(alloc);
+    let is_pushed_short = network.push_text(&mut pushed_short).is_ok();
     Some(Told {
         ip: IpAddr::V6(network.ip()),
         prefix: network.prefix(),
@@ -137,6 +267,7 @@ fn ipv6_reported(alloc: Global, text: &str) -> Option<Told> {
         displayed: format!(in alloc; "{network}"),
         full: network.full_text(alloc),
         pushed: (pushed, is_pushed),
+        pushed_short: (pushed_short, is_pushed_short),
         is_made_again: Ipv6Network::new(network.ip(), network.prefix()) == Ok(network),
     })
 }
@@ -146,14 +277,18 @@ fn is_text_of(text: &str, address: IpAddr) -> bool {
     text.parse::<IpAddr>().ok() == Some(address)
 }
 
+// Whether a text was appended.
+fn is_appended(pushed: &(Vec<u8>, bool), text: &str) -> bool {
+    pushed.1 && pushed.0.as_slice() == text.as_bytes()
+}
+
 // Whether what is reported without a text is what a row wants.
 fn is_wanted(reported: &Told, row: &Row) -> bool {
-    let (pushed, is_pushed) = &reported.pushed;
     is_text_of(row.ip, reported.ip)
         && reported.prefix == row.prefix
         && is_text_of(row.first, reported.first)
-        && *is_pushed
-        && pushed.as_slice() == row.full.as_bytes()
+        && is_appended(&reported.pushed, row.full)
+        && is_appended(&reported.pushed_short, row.displayed)
         && reported.is_made_again
 }
 
