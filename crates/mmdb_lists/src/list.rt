@@ -52,11 +52,13 @@ pub struct List<'a> {
     kind: Option<Kind>,
     /// Whether a network of that kind was written.
     has_written: bool,
+    /// What a network's line is put together in. Its room is enough, so that no network takes memory.
+    line: Vec<u8>,
 }
 
-/// Writes a text.
-pub(crate) fn put<O: Write>(text: &str, out: &mut O) -> Result<(), ListError> {
-    match out.write_all(text.as_bytes()) {
+// Writes a text.
+fn put<O: Write>(text: &[u8], out: &mut O) -> Result<(), ListError> {
+    match out.write_all(text) {
         Ok(()) => Ok(()),
         Err(error) => Err(ListError::Write(error)),
     }
@@ -80,7 +82,7 @@ fn halves_of(block: Block) -> [Block; 2] {
 }
 
 impl<'a> List<'a> {
-    /// A list without networks. All memory but that of a line is taken here.
+    /// A list without networks. All memory but that of what stands before networks is taken here.
     pub fn new(alloc: Global, syntax: Syntax<'a>, kinds: Kinds) -> Result<List<'a>, AllocError> {
         Ok(List {
             alloc,
@@ -89,13 +91,14 @@ impl<'a> List<'a> {
             joiner: Joiner::new(alloc)?,
             kind: None,
             has_written: false,
+            line: Vec::with_capacity(alloc, syntax.most_bytes())?,
         })
     }
 
     /// Writes what stands before all networks.
     pub fn begin<O: Write>(&self, out: &mut O) -> Result<(), ListError> {
         let text = self.syntax.beginning(self.alloc, self.kinds)?;
-        put(text.as_str(), out)
+        put(text.as_bytes(), out)
     }
 
     // Writes what stands before the first network of a kind.
@@ -104,7 +107,7 @@ impl<'a> List<'a> {
             return Ok(());
         }
         let text = self.syntax.opening(self.alloc, kind)?;
-        put(text.as_str(), out)
+        put(text.as_bytes(), out)
     }
 
     // Writes a network.
@@ -115,10 +118,11 @@ impl<'a> List<'a> {
         out: &mut O,
     ) -> Result<(), ListError> {
         self.open(kind, out)?;
-        let text = network.to_string(self.alloc)?;
-        let is_first = !self.has_written;
+        self.line.clear();
+        self.syntax
+            .push_network(kind, !self.has_written, network, &mut self.line)?;
         self.has_written = true;
-        self.syntax.put_network(kind, is_first, text.as_str(), out)
+        put(self.line.as_slice(), out)
     }
 
     // Writes a block, or its halves where it has all addresses and those may not be written as one.
@@ -154,7 +158,7 @@ impl<'a> List<'a> {
         self.joiner.finish();
         self.put_settled(kind, out)?;
         if self.has_written {
-            put(self.syntax.closing(), out)?;
+            put(self.syntax.closing().as_bytes(), out)?;
         }
         self.has_written = false;
         Ok(())

@@ -1,11 +1,13 @@
 //! How a list of networks is written.
 use crate::kind::{Kind, Kinds};
-use crate::list::{ListError, put};
+use mmdb_net::IpNetwork;
 use std::alloc::{AllocError, Global};
-use std::io::Write;
 
 /// The most bytes of a set's name: ipset takes 31, and the kind's name stands behind it.
 const MOST_NAME: usize = 26;
+
+/// Above the bytes of a network's line without a set's name.
+const LINE_BYTES: usize = 64;
 
 /// How a list of networks is written.
 #[derive(Clone, Copy)]
@@ -39,10 +41,10 @@ fn suffix(kind: Kind) -> &'static str {
     }
 }
 
-// Writes texts one behind another.
-fn put_all<O: Write>(texts: &[&str], out: &mut O) -> Result<(), ListError> {
+// Adds texts one behind another.
+fn push_all(texts: &[&str], line: &mut Vec<u8>) -> Result<(), AllocError> {
     for text in texts {
-        put(text, out)?;
+        line.extend_from_slice(text.as_bytes())?;
     }
     Ok(())
 }
@@ -122,23 +124,38 @@ impl Syntax<'_> {
         }
     }
 
-    /// Writes a network of a kind, the first of its kind or another one.
-    pub(crate) fn put_network<O: Write>(
+    /// The most bytes that are added for a network.
+    pub(crate) fn most_bytes(&self) -> usize {
+        match self {
+            Syntax::Cidr | Syntax::Nft { .. } => LINE_BYTES,
+            Syntax::Ipset { name } => name.len().saturating_add(LINE_BYTES),
+        }
+    }
+
+    /// Adds a network of a kind, the first of its kind or another one.
+    pub(crate) fn push_network(
         &self,
         kind: Kind,
         is_first: bool,
-        network: &str,
-        out: &mut O,
-    ) -> Result<(), ListError> {
+        network: IpNetwork,
+        line: &mut Vec<u8>,
+    ) -> Result<(), AllocError> {
         match self {
-            Syntax::Cidr => put_all(&[network, "\n"], out),
-            Syntax::Nft { .. } if is_first => put(network, out),
-            Syntax::Nft { .. } => put_all(&[",\n", network], out),
+            Syntax::Cidr => {
+                network.push_text(line)?;
+                line.extend_from_slice(b"\n")
+            }
+            Syntax::Nft { .. } if is_first => network.push_text(line),
+            Syntax::Nft { .. } => {
+                line.extend_from_slice(b",\n")?;
+                network.push_text(line)
+            }
             Syntax::Ipset { name } => {
-                put("add ", out)?;
-                put(*name, out)?;
-                put_all(&["_", suffix(kind), " "], out)?;
-                put_all(&[network, "\n"], out)
+                line.extend_from_slice(b"add ")?;
+                line.extend_from_slice(name.as_bytes())?;
+                push_all(&["_", suffix(kind), " "], line)?;
+                network.push_text(line)?;
+                line.extend_from_slice(b"\n")
             }
         }
     }
