@@ -12,6 +12,13 @@ const PLACES: usize = 8192;
 /// The most bytes of a row that is kept among them.
 const MOST_BYTES: usize = 4096;
 
+/// The most bytes of a row that is put together with its network, since three puts of some bytes each take longer than
+/// their copy and one put. A longer row is put in three parts.
+const MOST_JOINED: usize = 1024;
+
+/// Above the bytes of a network's text.
+const NETWORK_BYTES: usize = 64;
+
 /// The row of a record, with an empty network.
 #[derive(Drop)]
 struct Row {
@@ -43,6 +50,8 @@ pub(crate) struct Rows<'a> {
     kept: Vec<Row>,
     /// The last one that was too long to be kept there.
     long: Row,
+    /// What a row is put together in. Its room is enough, so that no row takes memory.
+    line: Vec<u8>,
 }
 
 // As many empty rows as are kept.
@@ -54,30 +63,46 @@ fn empty_rows(alloc: Global) -> Result<Vec<Row>, AllocError> {
     Ok(kept)
 }
 
-// Writes a row with the text of its network.
-fn write_parts<O: Write>(
-    row: &[u8],
-    place: usize,
-    network: &[u8],
-    out: &mut O,
-) -> Result<(), ProgramError> {
-    let (before, after) = row.split_at(place.min(row.len()));
-    for part in [before, network, after] {
-        put(part, out)?;
+// The row of a record: the one that is kept at its place, or else the long one.
+#[inline(always)]
+fn row_of<'k>(kept: &'k [Row], long: &'k Row, place: usize, offset: Option<usize>) -> &'k [u8] {
+    match kept.get(place) {
+        Some(row) if row.is_of(offset) => row.text.as_slice(),
+        _ => long.text.as_slice(),
     }
-    Ok(())
+}
+
+// Puts a row together with its network.
+fn join_row(
+    before: &[u8],
+    network: IpNetwork,
+    after: &[u8],
+    line: &mut Vec<u8>,
+) -> Result<(), AllocError> {
+    line.extend_from_slice(before)?;
+    network.push_text(line)?;
+    line.extend_from_slice(after)
 }
 
 // Writes a row with its network.
 fn write_row<O: Write>(
-    alloc: Global,
     row: &[u8],
     place: usize,
     network: IpNetwork,
+    line: &mut Vec<u8>,
     out: &mut O,
 ) -> Result<(), ProgramError> {
-    let network = network.to_string(alloc)?;
-    write_parts(row, place, network.as_bytes(), out)
+    let (before, after) = row.split_at(place.min(row.len()));
+    line.clear();
+    if row.len() <= MOST_JOINED {
+        join_row(before, network, after, line)?;
+        return put(line.as_slice(), out);
+    }
+    network.push_text(line)?;
+    for part in [before, line.as_slice(), after] {
+        put(part, out)?;
+    }
+    Ok(())
 }
 
 // The text of the row of an answer.
@@ -101,6 +126,7 @@ impl<'a> Rows<'a> {
             layout,
             kept: empty_rows(alloc)?,
             long: Row::empty(alloc),
+            line: Vec::with_capacity(alloc, MOST_JOINED + NETWORK_BYTES)?,
         })
     }
 
@@ -132,23 +158,6 @@ impl<'a> Rows<'a> {
         Ok(())
     }
 
-    // The row of an answer.
-    fn row(
-        &mut self,
-        found: &Found<'_>,
-        texts: &mut Option<RecordTexts<'_>>,
-    ) -> Result<&[u8], MaxMindDbError> {
-        let offset = found.offset();
-        let place = offset.unwrap_or(0) % PLACES;
-        if !self.keeps(place, offset) && !self.long.is_of(offset) {
-            self.make(place, found, texts)?;
-        }
-        match self.kept.get(place) {
-            Some(row) if row.is_of(offset) => Ok(row.text.as_slice()),
-            _ => Ok(self.long.text.as_slice()),
-        }
-    }
-
     /// Writes the row of an answer, by the texts of the records of its database, if they are there.
     pub(crate) fn write<O: Write>(
         &mut self,
@@ -156,9 +165,14 @@ impl<'a> Rows<'a> {
         texts: &mut Option<RecordTexts<'_>>,
         out: &mut O,
     ) -> Result<(), ProgramError> {
-        let (alloc, place) = (self.alloc, self.layout.place_of_network());
         let network = found.network()?;
-        let row = self.row(found, texts)?;
-        write_row(alloc, row, place, network, out)
+        let offset = found.offset();
+        let place = offset.unwrap_or(0) % PLACES;
+        if !self.keeps(place, offset) && !self.long.is_of(offset) {
+            self.make(place, found, texts)?;
+        }
+        let at = self.layout.place_of_network();
+        let row = row_of(self.kept.as_slice(), &self.long, place, offset);
+        write_row(row, at, network, &mut self.line, out)
     }
 }
