@@ -1,4 +1,5 @@
 pub mod CellLaws
+pub mod CellRunLaws
 pub mod KeptLaws
 pub mod ColumnLaws
 pub mod AddedLaws

@@ -1,10 +1,12 @@
 //! The address in a row.
 ghost use Rattle.std.specs.Prelude.{◌≡◌, ◌≤◌, length, option_map};
 ghost use Rattle.mmdb_filter.specs.declared.rows.Position.TheVariants.{Cell};
+ghost use Rattle.mmdb_filter.specs.declared.rows.Rows.TheVariants.{Csv};
 ghost use Rattle.mmdb_enrich.specs.Columns.{delimiter_of as spec_delimiter_of, cell_length as spec_cell_length, column_of as spec_column_of, value_of as spec_value_of};
+ghost use Rattle.mmdb_enrich.specs.Runs.{position_behind};
 
 use memchr::memchr;
-use mmdb_filter::{Position, Rows};
+use mmdb_filter::{Position, Rows, either_from};
 
 /// What stands between cells: tabs between those of a line.
 #[inline(always)]
@@ -17,18 +19,38 @@ pub fn delimiter_of(rows: Rows) -> u8
     }
 }
 
-// How many bytes stand before the first delimiter that is not between quotes, or all.
-fn quoted_cell_length(rows: Rows, text: &[u8]) -> usize
-    ensures length { result ≡ spec_cell_length rows Cell text.now }
+// The position behind bytes of which none is a quote or the delimiter, for what ends the cell.
+#[inline(always)]
+fn behind_run(now: Position, from: usize, to: usize) -> Position
+    ensures { result ≡ position_behind now from to }
+{
+    if now == Position::Quoted || to <= from {
+        now
+    } else {
+        Position::Plain
+    }
+}
+
+// How many bytes stand before the first delimiter that is not between quotes, or all. It goes from one quote or
+// delimiter to the next, since the bytes between these are passed many at a time.
+fn quoted_cell_length(delimiter: u8, text: &[u8]) -> usize
+    ensures length { result ≡ spec_cell_length (Csv delimiter) Cell text.now }
     ensures within { result ≤ length text.now }
 {
-    let delimiter = delimiter_of(rows);
+    let rows = Rows::Csv { delimiter };
     let mut position = Position::Cell;
-    for at in 0..text.len() {
-        if text[at] == delimiter && position != Position::Quoted {
-            return at;
+    let mut at = 0;
+    while at < text.len() {
+        let stop = either_from(text, at, delimiter, b'"');
+        if stop >= text.len() {
+            return stop;
         }
-        position = position.after(rows, text[at]);
+        position = behind_run(position, at, stop);
+        if text[stop] == delimiter && position != Position::Quoted {
+            return stop;
+        }
+        position = position.after(rows, text[stop]);
+        at = stop + 1;
     }
     text.len()
 }
@@ -44,7 +66,7 @@ fn cell_length(rows: Rows, text: &[u8]) -> usize
             Some(at) => at,
             None => text.len(),
         },
-        Rows::Csv { .. } => quoted_cell_length(rows, text),
+        Rows::Csv { delimiter } => quoted_cell_length(delimiter, text),
     }
 }
 

@@ -4,5 +4,6 @@ pub mod Lines
 pub mod Rows
 pub mod Equality
 pub mod Cells
+pub mod Runs
 -- What only contracts of private functions and proofs name.
 pub mod Working

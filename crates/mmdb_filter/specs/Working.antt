@@ -1,12 +1,12 @@
 -- What contracts of private functions and proofs name.
-use Rattle.std.specs.Prelude.{ℕ, ◌+◌, ◌≡◌, ◌≢◌, ◌<◌, List, ◌++◌, length, Option, Some, None}
+use Rattle.std.specs.Prelude.{ℕ, ◌+◌, ◌-◌, ◌≡◌, ◌≢◌, ◌<◌, List, ◌++◌, length, get_or, Option, Some, None, ◌==◌, nat_le, if◌then◌else◌}
 use Rattle.mmdb_filter.specs.declared.counts.Counts.{Counts}
 use Rattle.std.specs.Io.KnownBytes.{Appends, IsAtEnd}
 use Rattle.mmdb_filter.specs.Rows.{row_from, rows_after}
 use Rattle.mmdb_filter.specs.Lines.{row_with, AppendsFront}
 use Rattle.mmdb_filter.specs.declared.rows.Rows.{Rows}
 use Rattle.mmdb_filter.specs.declared.rows.Position.{Position}
-use Rattle.mmdb_filter.specs.declared.rows.Position.TheVariants.{Ended}
+use Rattle.mmdb_filter.specs.declared.rows.Position.TheVariants.{Cell, Plain, Quoted, Closing, Ended}
 
 abbrev pub total : Counts → ℕ
 total c = c.found + (c.absent + (c.unreadable + (c.malformed + c.rejected)))
@@ -25,3 +25,13 @@ Passes rows position chunk extra behind (Some xs) next old new =
 abbrev pub PassesFront : Rows → Position → List ℕ → List ℕ → ℕ → Option (List ℕ) → Option (List ℕ) → Option (List ℕ) → Type 0
 PassesFront rows position chunk extra behind None old new = Unit {0}
 PassesFront rows position chunk extra behind (Some xs) old new = AppendsFront old new (row_with (chunk ++ row_from rows position xs) extra behind)
+
+-- the position behind a byte that is neither a quote nor a line feed
+abbrev pub position_past : ℕ → Position → ℕ → Position
+position_past delimiter Quoted x = Quoted
+position_past delimiter position x = if x == delimiter then Cell else Plain
+
+-- the position behind such bytes
+abbrev pub position_behind : ℕ → Position → List ℕ → ℕ → ℕ → Position
+position_behind delimiter position xs from to =
+    if nat_le to from then position else position_past delimiter position (get_or xs (to - 1) 0)

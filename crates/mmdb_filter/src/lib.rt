@@ -9,6 +9,7 @@ mod pass;
 mod put;
 mod quotes;
 mod rows;
+mod runs;
 mod text;
 
 pub use chunk::read_chunk;
@@ -16,4 +17,5 @@ pub use counts::{Counts, Outcome};
 pub use filter::{Added, Additions, Progress, filter_rows};
 pub use quotes::put_csv_cell;
 pub use rows::{Position, Rows, first_row};
+pub use runs::either_from;
 pub use text::MOST_SEEN;

@@ -2,8 +2,11 @@
 ghost use Rattle.std.specs.Prelude.{◌≡◌, ◌≢◌, ◌<◌, ◌≤◌, ◌++◌, [], ℕ, List, None, IfSome, length, take, drop};
 ghost use Rattle.mmdb_filter.specs.Lines.{text_of};
 ghost use Rattle.mmdb_filter.specs.Rows.{position_after, row_from, rows_after, Goes};
+ghost use Rattle.mmdb_filter.specs.Working.{position_behind};
 ghost use Rattle.mmdb_filter.specs.declared.rows.Position.TheVariants as spec_position;
+ghost use Rattle.mmdb_filter.specs.declared.rows.Rows.TheVariants.{Csv};
 
+use crate::runs::either_from;
 use crate::text::text_length;
 use memchr::memchr;
 
@@ -55,23 +58,47 @@ impl Position {
     }
 }
 
-// How many of the bytes belong to a row of CSV, and the position behind them.
-fn scan_quotes(rows: Rows, position: Position, bytes: &[u8]) -> (usize, Position)
+// The position behind bytes of which none is a quote or a line feed. Outside of quotes the last of them alone tells it.
+#[inline(always)]
+fn behind_run(delimiter: u8, now: Position, bytes: &[u8], from: usize, to: usize) -> Position
+    requires { to ≤ length bytes.now }
+    ensures { result ≡ position_behind delimiter now bytes.now from to }
+{
+    if now == Position::Quoted || to <= from {
+        now
+    } else if bytes[to - 1] == delimiter {
+        Position::Cell
+    } else {
+        Position::Plain
+    }
+}
+
+// How many of the bytes belong to a row of CSV, and the position behind them. It goes from one quote or line feed to the
+// next, since the bytes between these are passed many at a time.
+fn scan_quotes(delimiter: u8, position: Position, bytes: &[u8]) -> (usize, Position)
     requires { position ≢ spec_position.Ended }
     ensures within { result.0 ≤ length bytes.now }
-    ensures goes { (ys : List ℕ) → Goes rows position (bytes.now ++ ys)
+    ensures goes { (ys : List ℕ) → Goes (Csv delimiter) position (bytes.now ++ ys)
         (take result.0 bytes.now) result.1 (drop result.0 bytes.now ++ ys) }
     ensures some { 0 < length bytes.now → 0 < result.0 }
     ensures all { result.1 ≢ spec_position.Ended → result.0 ≡ length bytes.now }
 {
+    let rows = Rows::Csv { delimiter };
     let mut now = position;
-    for at in 0..bytes.len() {
+    let mut at = 0;
+    while at < bytes.len() {
         if now == Position::Ended {
             return (at, now);
         }
-        now = now.after(rows, bytes[at]);
+        let stop = either_from(bytes, at, b'"', b'\n');
+        now = behind_run(delimiter, now, bytes, at, stop);
+        if stop >= bytes.len() {
+            return (stop, now);
+        }
+        now = now.after(rows, bytes[stop]);
+        at = stop + 1;
     }
-    (bytes.len(), now)
+    (at, now)
 }
 
 /// How many of the bytes belong to the row, and the position behind them.
@@ -89,7 +116,7 @@ pub(crate) fn scan(rows: Rows, position: Position, bytes: &[u8]) -> (usize, Posi
             Some(at) => (at + 1, Position::Ended),
             None => (bytes.len(), position),
         },
-        Rows::Csv { .. } => scan_quotes(rows, position, bytes),
+        Rows::Csv { delimiter } => scan_quotes(delimiter, position, bytes),
     }
 }
 

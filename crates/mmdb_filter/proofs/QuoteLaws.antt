@@ -1,0 +1,107 @@
+-- Bytes of CSV that are neither quotes nor line feeds.
+use Rattle.std.proofs.Common.{◌≡◌, ℕ, zero, suc, ◌+◌, ◌-◌, ◌<◌, ◌≤◌, List, [], ◌∷◌, ◌++◌, length, take, drop, get_or, Bool, true, false, not, ◌||◌, ◌&&◌, ◌==◌, nat_le, if◌then◌else◌, refl, sym, ap, ◌∙◌, subst, arith, add-zero, sub-one}
+use Rattle.std.proofs.lemmas.Bool.Decides.{nat_tests}
+use Rattle.std.proofs.lemmas.List.Sums.{prefix_len_passes}
+use Rattle.std.proofs.lemmas.List.{get_or-drop}
+use Rattle.std.specs.List.{prefix_len}
+use Rattle.mmdb_filter.specs.Rows.{is_ended, position_after, Goes}
+use Rattle.mmdb_filter.specs.Runs.{is_neither}
+use Rattle.mmdb_filter.specs.Working.{position_past, position_behind}
+use Rattle.mmdb_filter.specs.declared.rows.Rows.TheVariants.{Csv}
+use Rattle.mmdb_filter.specs.declared.rows.Position.{Position}
+use Rattle.mmdb_filter.specs.declared.rows.Position.TheVariants.{Cell, Plain, Quoted, Closing, Ended}
+use Rattle.mmdb_filter.proofs.RowLaws.{goes_one}
+
+neither_one : (a b : Bool) → not (a || b) ≡ true → (a ≡ false) × (b ≡ false)
+neither_one true b e = absurd (cc)
+neither_one false true e = absurd (cc)
+neither_one false false e = (refl, refl)
+
+outside : (d x : ℕ) (opens : Bool) → (x == 34) ≡ false → (x == 10) ≡ false
+    → (if x == 10 then Ended else (if x == d then Cell else (if x == 34 && opens then Quoted else Plain))) ≡ (if x == d then Cell else Plain)
+outside d x opens quote feed =
+    ap (λ b. if b then Ended else (if x == d then Cell else (if x == 34 && opens then Quoted else Plain))) feed ∙ ap (λ b. if x == d then Cell else (if b && opens then Quoted else Plain)) quote
+
+past : (d : ℕ) (p : Position) (x : ℕ) → is_ended p ≡ false → is_neither 34 10 x ≡ true → position_after (Csv d) p x ≡ position_past d p x
+unfolding position_after
+past d Cell x e h = let (quote, feed) = neither_one (x == 34) (x == 10) h in outside d x true quote feed
+past d Plain x e h = let (quote, feed) = neither_one (x == 34) (x == 10) h in outside d x false quote feed
+past d Closing x e h = let (quote, feed) = neither_one (x == 34) (x == 10) h in outside d x true quote feed
+past d Quoted x e h = ap (λ b. if b then Closing else Quoted) (neither_one (x == 34) (x == 10) h).0
+past d Ended x e h = absurd (cc)
+
+told_by_last : (d : ℕ) (b : Bool) (y : ℕ) → position_past d (if b then Cell else Plain) y ≡ (if y == d then Cell else Plain)
+told_by_last d true y = refl
+told_by_last d false y = refl
+
+past_twice : (d : ℕ) (p : Position) (x y : ℕ) → position_past d (position_past d p x) y ≡ position_past d p y
+past_twice d Quoted x y = refl
+past_twice d Cell x y = told_by_last d (x == d) y
+past_twice d Plain x y = told_by_last d (x == d) y
+past_twice d Closing x y = told_by_last d (x == d) y
+past_twice d Ended x y = told_by_last d (x == d) y
+
+not_over : (b : Bool) → is_ended (if b then Cell else Plain) ≡ false
+not_over true = refl
+not_over false = refl
+
+going_past : (d : ℕ) (p : Position) (x : ℕ) → is_ended (position_past d p x) ≡ false
+going_past d Quoted x = refl
+going_past d Cell x = not_over (x == d)
+going_past d Plain x = not_over (x == d)
+going_past d Closing x = not_over (x == d)
+going_past d Ended x = not_over (x == d)
+
+-- the position behind so many bytes
+abbrev past_run : ℕ → Position → List ℕ → ℕ → ℕ → Position
+past_run d p bytes at zero = p
+past_run d p bytes at (suc n) = position_past d p (get_or bytes (at + n) 0)
+
+going_on : (d : ℕ) (p : Position) (bytes : List ℕ) (at n : ℕ) → is_ended p ≡ false → is_ended (past_run d p bytes at n) ≡ false
+going_on d p bytes at zero e = e
+going_on d p bytes at (suc n) e = going_past d p (get_or bytes (at + n) 0)
+
+one_more : (d : ℕ) (p : Position) (bytes : List ℕ) (at n x : ℕ) → position_past d (past_run d p bytes at n) x ≡ position_past d p x
+one_more d p bytes at zero x = refl
+one_more d p bytes at (suc n) x = past_twice d p (get_or bytes (at + n) 0) x
+
+goes_run : (d : ℕ) (first p : Position) (at n m : ℕ) (bytes ys xs : List ℕ) → m ≡ at + n → m ≤ length bytes → is_ended p ≡ false → ((k : ℕ) → k < n → is_neither 34 10 (get_or bytes (at + k) 0) ≡ true)
+    → Goes (Csv d) first xs (take at bytes) p (drop at bytes ++ ys) → Goes (Csv d) first xs (take m bytes) (past_run d p bytes at n) (drop m bytes ++ ys)
+goes_run d first p at zero m bytes ys xs is l e run g =
+    let same : at ≡ m = omega arith in
+    subst (λ n. Goes (Csv d) first xs (take n bytes) p (drop n bytes ++ ys)) same g
+goes_run d first p at (suc n) m bytes ys xs is l e run g =
+    let q = past_run d p bytes at n in
+    let x = get_or bytes (at + n) 0 in
+    let same : (at + n) + 1 ≡ m = omega arith in
+    let before = goes_run d first p at n (at + n) bytes ys xs refl (omega arith) e (λ k l. run k (omega arith)) g in
+    let one = goes_one (Csv d) first q (at + n) bytes ys xs (omega arith) (going_on d p bytes at n e) before in
+    let next : position_after (Csv d) q x ≡ position_past d p x = past d q x (going_on d p bytes at n e) (run n (omega arith)) ∙ one_more d p bytes at n x in
+    subst (λ n. Goes (Csv d) first xs (take n bytes) (position_past d p x) (drop n bytes ++ ys)) same
+    (subst (λ r. Goes (Csv d) first xs (take ((at + n) + 1) bytes) r (drop ((at + n) + 1) bytes ++ ys)) next one)
+
+behind_is : (d : ℕ) (p : Position) (bytes : List ℕ) (at n m : ℕ) → m ≡ at + n → past_run d p bytes at n ≡ position_behind d p bytes at m
+behind_is d p bytes at zero m is =
+    let none : nat_le m at ≡ true = grind (arith, nat_tests) in
+    sym (ap (λ b. if b then p else position_past d p (get_or bytes (m - 1) 0)) none)
+behind_is d p bytes at (suc n) m is =
+    let some : nat_le m at ≡ false = grind (arith, nat_tests) in
+    let last : at + n ≡ m - 1 = omega arith in
+    ap (λ k. position_past d p (get_or bytes k 0)) last ∙ sym (ap (λ b. if b then p else position_past d p (get_or bytes (m - 1) 0)) some)
+
+-- a run of such bytes
+pub goes_behind : (d : ℕ) (first p : Position) (at m : ℕ) (bytes ys xs : List ℕ) → at ≤ length bytes → m ≤ length bytes → m ≡ at + prefix_len (is_neither 34 10) (drop at bytes) → is_ended p ≡ false
+    → Goes (Csv d) first xs (take at bytes) p (drop at bytes ++ ys) → Goes (Csv d) first xs (take m bytes) (position_behind d p bytes at m) (drop m bytes ++ ys)
+goes_behind d first p at m bytes ys xs within l is e g =
+    let n = prefix_len (is_neither 34 10) (drop at bytes) in
+    let run : (k : ℕ) → k < n → is_neither 34 10 (get_or bytes (at + k) 0) ≡ true =
+    λ k below. ap (is_neither 34 10) (sym (get_or-drop at bytes k 0)) ∙ prefix_len_passes (is_neither 34 10) (drop at bytes) k 0 below in
+    subst (λ r. Goes (Csv d) first xs (take m bytes) r (drop m bytes ++ ys)) (behind_is d p bytes at n m is) (goes_run d first p at n m bytes ys xs is l e run g)
+
+going_behind : (d : ℕ) (p : Position) (bytes : List ℕ) (at m : ℕ) (b : Bool) → is_ended p ≡ false → is_ended (if b then p else position_past d p (get_or bytes (m - 1) 0)) ≡ false
+going_behind d p bytes at m true e = e
+going_behind d p bytes at m false e = going_past d p (get_or bytes (m - 1) 0)
+
+-- it does not end the row
+pub not_ended_behind : (d : ℕ) (p : Position) (bytes : List ℕ) (at m : ℕ) → is_ended p ≡ false → is_ended (position_behind d p bytes at m) ≡ false
+not_ended_behind d p bytes at m e = going_behind d p bytes at m (nat_le m at) e
