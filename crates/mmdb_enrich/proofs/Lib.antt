@@ -4,6 +4,7 @@ pub mod KeptLaws
 pub mod ColumnLaws
 pub mod AddedLaws
 pub mod AheadLaws
+pub mod OctetLaws
 pub mod MemberLaws
 pub mod ObjectLaws
 pub mod WordLaws

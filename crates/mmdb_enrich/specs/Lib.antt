@@ -17,3 +17,4 @@ pub mod Remembers
 pub mod Working
 pub mod Scanned
 pub mod Runs
+pub mod Octets

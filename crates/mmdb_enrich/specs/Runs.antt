@@ -1,7 +1,7 @@
 -- Bytes of a cell that are neither quotes nor the delimiter. Only contracts of private functions and proofs name them.
 use Rattle.std.specs.Prelude.{ℕ, nat_le, if◌then◌else◌}
 use Rattle.mmdb_filter.specs.declared.rows.Position.{Position}
-use Rattle.mmdb_filter.specs.declared.rows.Position.TheVariants.{Cell, Plain, Quoted, Closing, Ended}
+use Rattle.mmdb_filter.specs.declared.rows.Position.TheVariants.{Plain, Quoted}
 
 -- the position behind such a byte, or one that ends the cell where that one would
 abbrev pub position_past : Position → Position

@@ -6,6 +6,7 @@ ghost use Rattle.mmdb_enrich.specs.Ahead.{AreFound, AreSpelled, IsAhead};
 ghost use Rattle.mmdb_enrich.specs.Columns.{ReadsAddress};
 
 use crate::address_text::AddressText;
+use crate::addresses::read_address;
 use crate::columns::cell_of;
 use mmdb_filter::{Rows, first_row};
 use mmdb_reader::{FoundLeaf, Reader};
@@ -72,7 +73,7 @@ impl Ahead {
         let Some(copy) = AddressText::of(text) else {
             return count;
         };
-        let Ok(address) = IpAddr::parse_ascii(text) else {
+        let Ok(address) = read_address(text) else {
             return count;
         };
         self.texts[count] = copy;
@@ -171,7 +172,7 @@ impl Ahead {
         if let Some(asked) = self.next(text) {
             return Some(asked);
         }
-        match IpAddr::parse_ascii(text) {
+        match read_address(text) {
             Ok(address) => Some(Asked {
                 address,
                 leaf: None,

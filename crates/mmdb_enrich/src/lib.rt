@@ -2,6 +2,7 @@
 #![tactic(auto)]
 
 mod address_text;
+mod addresses;
 mod ahead;
 mod cache;
 mod cells;

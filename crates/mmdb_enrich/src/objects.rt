@@ -6,6 +6,7 @@ ghost use Rattle.mmdb_enrich.specs.Objects.{EndsWithBrace, step_in as spec_step_
 ghost use Rattle.mmdb_enrich.specs.Working.{ReadsLine, ReadsValue};
 ghost use Rattle.mmdb_enrich.specs.Columns.{ReadsAddress};
 
+use crate::addresses::read_address;
 use crate::lexemes::is_space;
 use crate::one_pass::text_in_object;
 use json::{Element, Error, Scratch, Tape};
@@ -80,7 +81,7 @@ fn address_along(value: &Element<'_, '_>, path: &[PathElement<'_>]) -> Option<Ip
         → ReadsAddress (spec_text_along path.now j) result }
 {
     match text_along(value, path) {
-        Some(text) => match IpAddr::parse_ascii(text.as_bytes()) {
+        Some(text) => match read_address(text.as_bytes()) {
             Ok(address) => Some(address),
             Err(_) => None,
         },
@@ -111,7 +112,7 @@ fn address_of(text: Option<&[u8]>) -> Option<IpAddr>
     ensures { ReadsAddress (option_map (λ s. s.now) text.entry) result }
 {
     match text {
-        Some(text) => match IpAddr::parse_ascii(text) {
+        Some(text) => match read_address(text) {
             Ok(address) => Some(address),
             Err(_) => None,
         },

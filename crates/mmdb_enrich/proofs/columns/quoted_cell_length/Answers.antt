@@ -1,5 +1,5 @@
-use Rattle.std.proofs.Common.{rules, ◌≡◌, ◌≢◌, ◌+◌, ◌<◌, ◌≤◌, length, drop, get_or, false, sym, ap, ◌∙◌, arith, ◌==◌, ◌&&◌, not, refl, ℕ}
-use Rattle.mmdb_filter.specs.declared.rows.Position.TheVariants.{Cell, Quoted}
+use Rattle.std.proofs.Common.{rules, ◌≡◌, ◌≢◌, ◌+◌, ◌<◌, ◌≤◌, length, drop, get_or, false, sym, ap, arith, ◌==◌, ◌&&◌, not, refl}
+use Rattle.mmdb_filter.specs.declared.rows.Position.TheVariants.{Quoted}
 use Rattle.mmdb_filter.specs.declared.rows.Rows.TheVariants.{Csv}
 use Rattle.mmdb_enrich.specs.Columns.{is_quoted, cell_length}
 use Rattle.mmdb_enrich.specs.Runs.{position_behind}
