@@ -46,7 +46,8 @@ fn read_some<R: BufRead>(
 }
 
 /// Appends bytes of a row from a position in it, up to its end or until there are 65,539, and says the position behind
-/// them.
+/// them. It is inlined: an `io::Result` is large, and dear to hand back for each row.
+#[inline(always)]
 pub fn read_chunk<R: BufRead>(
     input: &mut R,
     rows: Rows,

@@ -11,6 +11,7 @@ use crate::rows::{Position, Rows};
 use std::io::{self, BufRead, ErrorKind, Write};
 
 // Writes all of a chunk but the last two bytes, in which the row's end may begin, and keeps those.
+#[inline(never)]
 fn put_front<W: Write>(out: &mut W, chunk: &mut Vec<u8>) -> io::Result<()>
     requires { 2 ≤ length chunk.old.items }
     ensures whole { OnOk result (Appends (W.contents out.old) (W.contents out.new)
@@ -29,7 +30,9 @@ fn put_front<W: Write>(out: &mut W, chunk: &mut Vec<u8>) -> io::Result<()>
 }
 
 /// Writes a row, of which the first chunk was read, with what is added before its end and so many bytes of its
-/// text: none, where the row is longer. The rest of it passes in chunks.
+/// text: none, where the row is longer. The rest of it passes in chunks. It is inlined, as
+/// what reads and writes a row is, since an `io::Result` is dear to hand back.
+#[inline(always)]
 pub(crate) fn pass_on<R: BufRead, W: Write>(
     input: &mut R,
     rows: Rows,

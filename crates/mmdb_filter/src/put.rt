@@ -7,7 +7,9 @@ use crate::text::text_length;
 use std::alloc::AllocError;
 use std::io::{self, ErrorKind, Write};
 
-/// Writes all of the bytes. An interrupted write goes on.
+/// Writes all of the bytes. An interrupted write goes on. It is inlined: an `io::Result` is large, and dear to hand back
+/// for each row.
+#[inline(always)]
 pub(crate) fn put_all<W: Write>(out: &mut W, bytes: &[u8]) -> io::Result<()>
     ensures whole { OnOk result (Appends (W.contents out.old) (W.contents out.new) bytes.now) }
     ensures begun { OnErr result
