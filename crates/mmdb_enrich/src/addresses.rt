@@ -22,8 +22,8 @@ fn digit_at(text: &[u8], at: usize) -> u32
     ensures digit { result < 10 → get_or text.now at 0 ≡ 48 + result }
     ensures within { result < 10 → at < length text.now }
 {
-    if at < text.len() && text[at] >= b'0' {
-        u32::from(text[at] - b'0')
+    if at < text.len() {
+        u32::from(text[at].wrapping_sub(b'0'))
     } else {
         255
     }

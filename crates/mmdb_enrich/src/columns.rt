@@ -71,6 +71,7 @@ fn cell_length(rows: Rows, text: &[u8]) -> usize
 }
 
 // The cell behind so many delimiters. A cell that the text's end cuts off is none.
+#[inline(always)]
 fn column_of(rows: Rows, text: &[u8], goes_on: bool, column: usize) -> Option<&[u8]>
     ensures { option_map (λ s. s.now) result ≡ spec_column_of rows goes_on column text.now }
 {
@@ -90,6 +91,7 @@ fn column_of(rows: Rows, text: &[u8], goes_on: bool, column: usize) -> Option<&[
 }
 
 // What a cell holds: in CSV what stands between its quotes, where it has them.
+#[inline(always)]
 fn value_of(rows: Rows, cell: &[u8]) -> &[u8]
     ensures { result.now ≡ spec_value_of rows cell.now }
 {
@@ -101,7 +103,8 @@ fn value_of(rows: Rows, cell: &[u8]) -> &[u8]
     }
 }
 
-/// What the cell of a column holds.
+/// What the cell of a column holds. It is inlined, with what it calls, since it is asked of each row.
+#[inline(always)]
 pub(crate) fn cell_of(rows: Rows, text: &[u8], goes_on: bool, column: usize) -> Option<&[u8]>
     ensures { option_map (λ s. s.now) result
         ≡ option_map (spec_value_of rows) (spec_column_of rows goes_on column text.now) }
