@@ -1,16 +1,18 @@
 -- Bytes of a cell that are neither quotes nor the delimiter.
-use Rattle.std.proofs.Common.{◌≡◌, ℕ, zero, suc, ◌+◌, ◌<◌, ◌≤◌, List, [], ◌∷◌, length, drop, get_or, Bool, true, false, not, ◌||◌, ◌&&◌, ◌==◌, nat_le, if◌then◌else◌, refl, sym, ap, ◌∙◌, subst, arith}
+use Rattle.std.proofs.Common.{◌≡◌, ℕ, zero, suc, ◌+◌, ◌<◌, ◌≤◌, List, [], ◌∷◌, length, drop, get_or, Bool, true, false, not, ◌||◌, ◌&&◌, ◌==◌, nat_le, if◌then◌else◌, refl, sym, ap, ◌∙◌, subst, arith, ◌⊎◌, inl, inr}
 use Rattle.std.proofs.lemmas.Bool.Decides.{nat_tests}
-use Rattle.std.proofs.lemmas.List.Sums.{prefix_len_passes}
+use Rattle.std.proofs.lemmas.List.Sums.{prefix_len_passes, prefix_len_stops, prefix_len-le-length}
 use Rattle.std.proofs.lemmas.List.{get_or-drop, drop_more}
 use Rattle.std.specs.List.{prefix_len}
 use Rattle.mmdb_filter.specs.Rows.{position_after}
 use Rattle.mmdb_filter.specs.Runs.{is_neither}
-use Rattle.mmdb_filter.specs.declared.rows.Rows.TheVariants.{Csv}
+use Rattle.mmdb_filter.specs.declared.rows.Rows.TheVariants.{Lines, Csv}
 use Rattle.mmdb_filter.specs.declared.rows.Position.{Position}
 use Rattle.mmdb_filter.specs.declared.rows.Position.TheVariants.{Cell, Plain, Quoted, Closing, Ended}
+use Rattle.mmdb_filter.proofs.TextLaws.{or_less}
 use Rattle.mmdb_enrich.specs.Columns.{is_quoted, cell_length}
 use Rattle.mmdb_enrich.specs.Runs.{position_past, position_behind}
+use Rattle.mmdb_enrich.proofs.ColumnLaws.{tab_at, no_tab_in}
 
 neither_one : (a b : Bool) → not (a || b) ≡ true → (a ≡ false) × (b ≡ false)
 neither_one true b e = absurd (cc)
@@ -97,3 +99,26 @@ cell_runs d p at m text within l is =
     let on = run_on d p at n m text is l run in
     let last : cell_length (Csv d) (past_run p n) (drop m text) ≡ cell_length (Csv d) (position_behind p at m) (drop m text) = ap (λ q. cell_length (Csv d) q (drop m text)) (behind_is p at n m is) in
     omega (arith, is, on, last)
+
+-- of a line, which has no quotes
+no_tab : (b : Bool) → not (b || b) ≡ true → b ≡ true → ⊥
+no_tab true h e = cc
+no_tab false h e = cc
+
+a_tab : (b : Bool) → not (b || b) ≡ false → b ≡ true
+a_tab true h = refl
+a_tab false h = absurd (cc)
+
+pub tab_from : (text : List ℕ) (n : ℕ) → n ≡ prefix_len (is_neither 9 9) text → cell_length Lines Cell text ≡ n
+tab_from text n is = at (or_less n (length text))
+  where
+    bare : (k : ℕ) → k < n → (get_or text k 0 == 9) ≡ true → ⊥
+    bare k below = no_tab (get_or text k 0 == 9) (prefix_len_passes (is_neither 9 9) text k 0 (omega arith))
+
+    at : (n < length text) ⊎ (length text ≤ n) → cell_length Lines Cell text ≡ n
+    at (inl l) =
+        let here : is_neither 9 9 (get_or text n 0) ≡ false = subst (λ k. is_neither 9 9 (get_or text k 0) ≡ false) (sym is) (prefix_len_stops (is_neither 9 9) text 0 (omega arith)) in
+        tab_at Cell n text refl l bare (a_tab (get_or text n 0 == 9) here)
+    at (inr g) =
+        let all : length text ≡ n = omega (arith, prefix_len-le-length (is_neither 9 9) text) in
+        no_tab_in Cell text refl (λ k below. bare k (omega arith)) ∙ all

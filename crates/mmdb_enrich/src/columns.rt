@@ -5,7 +5,6 @@ ghost use Rattle.mmdb_filter.specs.declared.rows.Rows.TheVariants.{Csv};
 ghost use Rattle.mmdb_enrich.specs.Columns.{delimiter_of as spec_delimiter_of, cell_length as spec_cell_length, column_of as spec_column_of, value_of as spec_value_of};
 ghost use Rattle.mmdb_enrich.specs.Runs.{position_behind};
 
-use memchr::memchr;
 use mmdb_filter::{Position, Rows, either_from};
 
 /// What stands between cells: tabs between those of a line.
@@ -62,10 +61,7 @@ fn cell_length(rows: Rows, text: &[u8]) -> usize
     ensures within { result ≤ length text.now }
 {
     match rows {
-        Rows::Lines => match memchr(b'\t', text) {
-            Some(at) => at,
-            None => text.len(),
-        },
+        Rows::Lines => either_from(text, 0, b'\t', b'\t'),
         Rows::Csv { delimiter } => quoted_cell_length(delimiter, text),
     }
 }

@@ -1,16 +1,16 @@
 -- Runs of bytes that pass a test, seen a vector at a time through the mask of those that fail it.
-use Rattle.std.proofs.Common.{◌≡◌, ℕ, ◌+◌, ◌*◌, ◌%◌, ◌^◌, ◌<◌, ◌≤◌, Bool, true, false, not, ◌||◌, ◌==◌, cond, eqb, List, [], ◌∷◌, map, length, drop, refl, sym, ap, ap₂, ◌∙◌, arith}
+use Rattle.std.proofs.Common.{◌≡◌, ℕ, ◌+◌, ◌*◌, ◌%◌, ◌^◌, ◌<◌, ◌≤◌, Bool, true, false, not, ◌||◌, cond, eqb, List, [], ◌∷◌, map, length, drop, get_or, refl, sym, ap, ap₂, ◌∙◌, arith}
 use Rattle.std.proofs.lemmas.Simd.{chunk-drop, length-chunk, leading_from_mask_l, trailing_mask_l, mask_l-mod, zip2_splat, zip2_of_maps}
 use Rattle.std.proofs.lemmas.List.{length-drop, length-map}
 use Rattle.std.proofs.lemmas.List.Folds.{prefix_len-append}
-use Rattle.std.proofs.lemmas.List.Sums.{prefix_len-le-length}
+use Rattle.std.proofs.lemmas.List.Sums.{prefix_len-le-length, prefix_len_is}
 use Rattle.std.proofs.lemmas.Bool.{eq-eqb, ne_eqb}
 use Rattle.std.specs.List.{prefix_len}
 use lib.Bits.{bit_or}
 use lib.Count.{count_trailing_zeros}
 use lib.Lanes.{zip2, mask_l, top, chunk}
 use lib.ListN.{replicate}
-use Rattle.mmdb_filter.specs.Runs.{is_either}
+use Rattle.mmdb_filter.specs.Runs.{is_either, is_neither}
 
 -- ---- lanes
 
@@ -65,3 +65,17 @@ module _ (p q : ℕ → Bool) (opposite : (x : ℕ) → q x ≡ not (p x)) where
       let c = chunk i n d in
       split d i n ∙ ap (λ b. cond b (length c + prefix_len q (drop (i + n) d)) (prefix_len q c)) (ne_eqb _ _ (λ (e : prefix_len q c ≡ length c). omega (arith, all_pass c (sym (same_run c) ∙ e))))
       ∙ same_run c ∙ sym (trailing_mask_l p 64 c (omega (arith, length-chunk i n d room)) some)
+
+-- ---- a search that looks far
+
+stays : (b : Bool) → (b ≡ true → ⊥) → not b ≡ true
+stays true h = absurd (h refl)
+stays false h = refl
+
+pub far_found : (a b n : ℕ) (s d : List ℕ) → s ≡ d → n < length s → ((k : ℕ) → k < n → is_either a b (get_or s k 0) ≡ true → ⊥) → is_either a b (get_or s n 0) ≡ true → prefix_len (is_neither a b) d ≡ n
+far_found a b n s d e l before here =
+    ap (prefix_len (is_neither a b)) (sym e) ∙ prefix_len_is (is_neither a b) s n 0 (omega arith) (λ k below. stays (is_either a b (get_or s k 0)) (before k below)) (λ _. ap not here)
+
+pub far_missed : (a b : ℕ) (s d : List ℕ) → s ≡ d → ((k : ℕ) → k < length s → is_either a b (get_or s k 0) ≡ true → ⊥) → prefix_len (is_neither a b) d ≡ length d
+far_missed a b s d e before =
+    ap (prefix_len (is_neither a b)) (sym e) ∙ prefix_len_is (is_neither a b) s (length s) 0 (omega arith) (λ k below. stays (is_either a b (get_or s k 0)) (before k below)) (λ over. absurd (omega arith)) ∙ ap length e

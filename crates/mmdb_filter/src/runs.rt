@@ -4,7 +4,11 @@ ghost use Rattle.std.specs.List.{prefix_len};
 ghost use Rattle.std.specs.Simd.Lanes.{mask_l};
 ghost use Rattle.mmdb_filter.specs.Runs.{is_either, is_neither};
 
+use memchr::memchr2;
 use std::simd::prelude::*;
+
+/// How many bytes are near.
+const NEAR: usize = 64;
 
 // Which of these bytes are one of two.
 #[inline(always)]
@@ -27,8 +31,20 @@ fn short_either_from(bytes: &[u8], from: usize, first: u8, second: u8) -> usize
     at
 }
 
-/// Where the first of two bytes stands from an index on, or the end. It is made for bytes that stand near: a search
-/// that looks far has dearer first steps.
+// Where the first of two bytes stands from an index on, or the end, for one that may stand far.
+#[inline(never)]
+fn far_either_from(bytes: &[u8], from: usize, first: u8, second: u8) -> usize
+    requires { from ≤ length bytes.now }
+    ensures { result ≡ from + prefix_len (is_neither first second) (drop from bytes.now) }
+{
+    match memchr2(first, second, &bytes[from..]) {
+        Some(at) => from + at,
+        None => bytes.len(),
+    }
+}
+
+/// Where the first of two bytes stands from an index on, or the end. It mostly stands near, so the next bytes are looked
+/// at in place, before a search that is made to look far, whose first steps are dearer.
 #[inline(always)]
 pub fn either_from(bytes: &[u8], from: usize, first: u8, second: u8) -> usize
     requires { from ≤ length bytes.now }
@@ -42,6 +58,9 @@ pub fn either_from(bytes: &[u8], from: usize, first: u8, second: u8) -> usize
             return at + found.trailing_zeros() as usize;
         }
         at += 16;
+        if at - from >= NEAR {
+            return far_either_from(bytes, at, first, second);
+        }
     }
     short_either_from(bytes, at, first, second)
 }

@@ -1,8 +1,7 @@
-use Rattle.std.proofs.Common.{rules, ◌≡◌, ◌≢◌, ◌≤◌, ◌++◌, ℕ, List, length, take, drop, false, sym, subst, arith, ◌+◌}
-use Rattle.mmdb_filter.specs.Rows.{is_ended, position_after, Goes}
+use Rattle.std.proofs.Common.{rules, ◌≡◌, ◌≢◌, ◌++◌, take, drop, false, sym, subst, arith, ◌+◌}
+use Rattle.mmdb_filter.specs.Rows.{is_ended, Goes}
 use Rattle.mmdb_filter.specs.declared.rows.Position.TheVariants as spec_position
 use Rattle.mmdb_filter.specs.declared.rows.Rows.TheVariants.{Csv}
-use Rattle.mmdb_filter.specs.Working.{position_behind}
 use Rattle.mmdb_filter.proofs.RowLaws.{not_ended, goes_one}
 use Rattle.mmdb_filter.proofs.QuoteLaws.{goes_behind, not_ended_behind}
 use Rattle.mmdb_filter.proofs.rows.scan_quotes.Goals as goal
