@@ -1,6 +1,6 @@
 //! Networks with what their records have.
 use super::program::{Run, assert_of, run_of};
-use mmdb_vectors::builder::{Field, changed_file, nodes_24};
+use mmdb_vectors::builder::{BASE_NODE, Field, changed_file, nodes_24};
 use mmdb_vectors::section::section_of;
 use std::alloc::Global;
 use std::process::Abort;
@@ -150,4 +150,48 @@ fn rows_too_long_to_be_kept(rt: HostRuntime) {
     let run = run_of(rt.alloc(), bytes.as_slice(), &texts, "");
     let holds = run.status == 0 && are_long_and_short(run.out());
     assert_of(&rt, &texts, &run, holds);
+}
+
+// A text of so many bytes, behind its header: of 285 to 65,820.
+fn text_of(alloc: Global, len: usize) -> Vec<u8> {
+    let size = (len.saturating_sub(285) as u64 & 0xffff) as u16;
+    let [high, low] = size.to_be_bytes();
+    section_of(alloc, &[(&[0x5E, high, low], 1), (b"x", len)])
+}
+
+// Whether the one network of a file whose record is a text of so many bytes is written so.
+fn is_whole_row(rt: &impl Abort, alloc: Global, len: usize, words: &[&str], ends: &[&str]) -> bool {
+    let data = text_of(alloc, len);
+    let file = changed_file(alloc, BASE_NODE, data.as_slice(), &[]).expect(rt, "a file");
+    let run = run_of(alloc, file.as_slice(), words, "");
+    let [before, behind] = ends else {
+        return false;
+    };
+    let parts: &[(&[u8], usize)] = &[(before.as_bytes(), 1), (b"x", len), (behind.as_bytes(), 1)];
+    let wanted = section_of(alloc, parts);
+    let is_same = run.written.as_slice() == wanted.as_slice() && run.status == 0;
+    drop(run);
+    is_same
+}
+
+/// Words, and what stands before and behind the text of the record.
+#[rattlefmt::skip]
+const FORMS: &[(&[&str], &[&str])] = &[
+    (&["export", "here.mmdb"], &["{\"network\":\"128.0.0.0/1\",\"record\":\"", "\"}\n"]),
+    (&["export", "here.mmdb", "--field", ""], &["{\"network\":\"128.0.0.0/1\",\"\":\"", "\"}\n"]),
+    (&["export", "here.mmdb", "--field", "", "--format", "csv"], &["network,\n128.0.0.0/1,", "\n"]),
+];
+
+// Rows of 1,024 bytes and longer ones are put in other ways, as rows of 4,096 are kept in others, and texts of 32,768 bytes
+// laid out.
+#[test]
+fn rows_of_all_lengths(rt: HostRuntime) {
+    for (from, to) in [(980, 1030), (4060, 4100), (32_740, 32_770)] {
+        for len in from..to {
+            for (words, ends) in FORMS {
+                let is_whole = is_whole_row(&rt, rt.alloc(), len, words, ends);
+                assert!(rt; is_whole, "{len}: {words:?}");
+            }
+        }
+    }
 }
