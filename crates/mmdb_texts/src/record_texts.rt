@@ -14,8 +14,8 @@ use std::alloc::{AllocError, Global};
 use std::marker::Model;
 use std::mem;
 
-/// A record whose text is longer is left to others. So each of its values and each of their bytes, which have a byte of the
-/// text at least, is within the limits of what is read of a record.
+/// A record whose text is longer is left to others, and each value of a greater size, before its content is read. So each
+/// value and each of their bytes, which have a byte of the text at least, is within the limits of what is read of a record.
 const MOST_BYTES: usize = 32_768;
 
 /// No longer text is kept.
@@ -84,6 +84,9 @@ fn put_own_name(
         out.old.items out.new.items) }
 {
     if header.kind != TEXT {
+        return None;
+    }
+    if header.size > MOST_BYTES {
         return None;
     }
     let bytes = content_bytes(section, header).ok()?;
@@ -184,7 +187,7 @@ impl<'r> RecordTexts<'r> {
         }
     }
 
-    // Lays out the name at an offset that no pointer stands at, appends and keeps it. Whether there is one.
+    // Lays out the name that the text at an offset is, appends and keeps it. Whether a text stands there.
     #[inline(never)]
     fn make_name(&mut self, offset: usize, out: &mut Vec<u8>) -> bool
         ensures name { result ≡ true → (end : ℕ) × AppendsName self.old offset end
@@ -202,7 +205,7 @@ impl<'r> RecordTexts<'r> {
         true
     }
 
-    // Appends the name at an offset that no pointer stands at. Whether there is one.
+    // Appends the name that the text at an offset is. Whether a text stands there.
     #[inline(always)]
     fn put_name_at(&mut self, offset: usize, out: &mut Vec<u8>) -> bool
         ensures name { result ≡ true → (end : ℕ) × AppendsName self.old offset end
@@ -404,6 +407,9 @@ impl<'r> RecordTexts<'r> {
         ensures section { self.new ≡ self.old }
     {
         let header = header_at(self.section, offset).ok()?;
+        if header.size > MOST_BYTES {
+            return None;
+        }
         match header.kind {
             POINTER => self.put_target(offset, header, levels, out),
             MAP => self.put_table(offset, header, levels, out),
@@ -428,8 +434,9 @@ impl<'r> RecordTexts<'r> {
         out.extend_from_slice(text.as_slice()).is_ok()
     }
 
-    /// Appends the compact text of the record at an offset. False where it is left to others, as each record that can't
-    /// be read, and each whose text has more than 32,768 bytes: nothing is appended then.
+    /// Appends the compact text of the record at an offset. False where it is left to others: each record that can't be
+    /// read, whose text has more than 32,768 bytes, or in which more than 32 containers and pointers lie on the way to a
+    /// value (8 behind a pointer), and where memory is short. Nothing is appended then.
     pub fn put(&mut self, offset: usize, out: &mut Vec<u8>) -> bool
         ensures put { result ≡ true → AppendsRecord self.old offset out.old.items out.new.items }
         ensures left { result ≡ false → out.new.items ≡ out.old.items }

@@ -181,29 +181,49 @@ fn worked_texts_are_laid_out(rt: HostRuntime) {
     }
 }
 
-// A text of so many bytes, behind its header: of 29 to 65,820.
-fn text_of(alloc: Global, len: usize) -> Vec<u8> {
+// So many bytes behind the header of a text (0x5E) or byte string (0x9E): of 285 to 65,820.
+fn bytes_of(alloc: Global, control: u8, byte: &[u8], len: usize) -> Vec<u8> {
     let size = (len.saturating_sub(285) as u64 & 0xffff) as u16;
     let [high, low] = size.to_be_bytes();
-    section_of(alloc, &[(&[0x5E, high, low], 1), (b"x", len)])
+    section_of(alloc, &[(&[control, high, low], 1), (byte, len)])
 }
+
+/// What stands before it, control byte, byte, how many of it, and whether that has 32,768 bytes at the most as JSON.
+const LONG: &[(&[u8], u8, &[u8], usize, bool)] = &[
+    // with quotes
+    (b"", 0x5E, b"x", MOST_BYTES - 2, true),
+    (b"", 0x5E, b"x", MOST_BYTES - 1, false),
+    (b"", 0x5E, b"x", MOST_BYTES, false),
+    (b"", 0x5E, b"x", MOST_BYTES + 1, false),
+    // each with a backslash
+    (b"", 0x5E, b"\"", 16_383, true),
+    (b"", 0x5E, b"\"", 16_384, false),
+    // in base64
+    (b"", 0x9E, b"x", 24_573, true),
+    (b"", 0x9E, b"x", 24_574, false),
+    // as a member, with eight bytes of JSON
+    (b"\xE1\x41k", 0x5E, b"x", MOST_BYTES - 8, true),
+    (b"\xE1\x41k", 0x5E, b"x", MOST_BYTES - 7, false),
+];
 
 #[test]
 fn long_texts_are_left(rt: HostRuntime) {
     let alloc = rt.alloc();
-    // with its quotes the text has as many bytes as are laid out, or one more
-    for (len, is_laid_out) in [(MOST_BYTES - 2, true), (MOST_BYTES - 1, false)] {
-        let section = text_of(alloc, len);
-        assert_put(&rt, alloc, section.as_slice(), 0, is_laid_out);
+    for (before, control, byte, len, is_laid_out) in LONG {
+        let value = bytes_of(alloc, *control, byte, *len);
+        let section = section_of(alloc, &[(before, 1), (value.as_slice(), 1)]);
+        assert_put(&rt, alloc, section.as_slice(), 0, *is_laid_out);
     }
-    // behind a pointer, with as many bytes as are kept, or one more; the pointer stands first
-    for len in [2046, 2047, 2048] {
-        let text = text_of(alloc, len);
-        let section = section_of(
-            alloc,
-            &[(b"\x02\x04\x20\x06\x20\x06", 1), (text.as_slice(), 1)],
-        );
-        assert_put(&rt, alloc, section.as_slice(), 0, true);
+    // behind pointers, with as many bytes as are kept, or one more: a value, and a name, which has a colon too
+    for len in [2044, 2045, 2046, 2047] {
+        let text = bytes_of(alloc, 0x5E, b"x", len);
+        for before in [
+            b"\x02\x04\x20\x06\x20\x06".as_slice(),
+            b"\x02\x04\xE1\x20\x0A\xA0\xE1\x20\x0A\xA0".as_slice(),
+        ] {
+            let section = section_of(alloc, &[(before, 1), (text.as_slice(), 1)]);
+            assert_put(&rt, alloc, section.as_slice(), 0, true);
+        }
     }
     // an array of so many zeros, each with its comma
     for (count, is_laid_out) in [(16_383usize, true), (16_384, false)] {
@@ -231,17 +251,31 @@ fn deep_values_are_left(rt: HostRuntime) {
         let section = section_of(alloc, &[(b"\x20\x02", 1), (inner.as_slice(), 1)]);
         assert_put(&rt, alloc, section.as_slice(), 0, is_laid_out);
     }
-    // what was kept with few levels left is laid out again where it is met with fewer
-    let inner = deep(alloc, 6);
-    let section = section_of(
-        alloc,
-        &[
-            (b"\x02\x04\x20\x0A\x01\x04\x01\x04\x20\x0A", 1),
-            (inner.as_slice(), 1),
-        ],
-    );
-    assert_put(&rt, alloc, section.as_slice(), 0, true);
+    // an array of a pointer to such arrays, and one to an array of the same pointer: six levels are left there, though what
+    // they lead to was laid out when eight were
+    for (count, is_laid_out) in [(6, true), (7, false), (8, false)] {
+        let inner = deep(alloc, count);
+        let before = b"\x02\x04\x20\x0A\x20\x06\x01\x04\x20\x0A";
+        let section = section_of(alloc, &[(before, 1), (inner.as_slice(), 1)]);
+        assert_put(&rt, alloc, section.as_slice(), 0, is_laid_out);
+    }
     // a pointer to itself, and two to each other
     assert_put(&rt, alloc, b"\x20\x00", 0, false);
     assert_put(&rt, alloc, b"\x20\x02\x20\x00", 0, false);
+}
+
+#[test]
+fn offsets_of_one_place_differ(rt: HostRuntime) {
+    let alloc = rt.alloc();
+    // what stands at 16 and what stands at 7053 are kept in one place; each is met twice, as a value and as a name
+    for before in [
+        b"\x04\x04\x20\x10\x28\x13\x8D\x20\x10\x28\x13\x8D\0\0\0\0".as_slice(),
+        b"\x02\x04\xE1\x20\x10\xA0\xE1\x28\x13\x8D\xA0\0\0\0\0\0".as_slice(),
+    ] {
+        let section = section_of(
+            alloc,
+            &[(before, 1), (b"\x42ab", 1), (b"\0", 7034), (b"\x42cd", 1)],
+        );
+        assert_put(&rt, alloc, section.as_slice(), 0, true);
+    }
 }
