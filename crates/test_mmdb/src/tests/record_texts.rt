@@ -5,6 +5,7 @@ use mmdb_json::compact;
 use mmdb_record::decode::Decode;
 use mmdb_texts::RecordTexts;
 use mmdb_value::Value;
+use mmdb_vectors::hoard::Hoard;
 use mmdb_vectors::section::section_of;
 use std::alloc::{AllocError, Global};
 use std::process::Abort;
@@ -278,4 +279,53 @@ fn offsets_of_one_place_differ(rt: HostRuntime) {
         );
         assert_put(&rt, alloc, section.as_slice(), 0, true);
     }
+}
+
+/// A map of three texts of 1,200 bytes, each behind a pointer; they stand from 16 on.
+const LONG_MEMBERS: &[u8] = b"\xE3\x41a\x20\x10\x41b\x24\xC3\x41c\x28\x01\x76\0\0";
+
+/// How many bytes of memory there are more in each turn, and how many turns.
+const MEMORY_STEP: usize = 256;
+
+const MEMORY_STEPS: usize = 64;
+
+// Lays out a record with so much memory, and once more with all of it. Whether it was laid out in little memory.
+fn is_put_within(rt: &impl Abort, alloc: Global, section: &[u8], budget: usize) -> bool
+    requires { budget < 1000000 }
+{
+    let mut texts = RecordTexts::new(alloc, section).expect(rt, "texts");
+    let wanted = text_by_value(alloc, section, 0);
+    let mut out = b"abc".to_vec(alloc).expect(rt, "three bytes");
+    let large = Hoard::of_large_blocks(alloc);
+    let small = Hoard::of_all_but(alloc, budget);
+    let is_put = texts.put(0, &mut out);
+    drop(small);
+    drop(large);
+    let is_right = if is_put {
+        is_behind(&out, 3, &wanted)
+    } else {
+        out.as_slice() == b"abc".as_slice()
+    };
+    assert!(rt; is_right, "with {budget} bytes");
+    out.truncate(3);
+    assert!(rt; texts.put(0, &mut out), "with memory, after {budget} bytes");
+    assert!(rt;
+        is_behind(&out, 3, &wanted),
+        "with memory, after {budget} bytes"
+    );
+    is_put
+}
+
+#[test]
+fn records_without_memory_are_left(rt: HostRuntime) {
+    let alloc = rt.alloc();
+    let text = bytes_of(alloc, 0x5E, b"x", 1200);
+    let section = section_of(alloc, &[(LONG_MEMBERS, 1), (text.as_slice(), 3)]);
+    let mut left = 0usize;
+    for step in 0..MEMORY_STEPS {
+        if !is_put_within(&rt, alloc, section.as_slice(), step * MEMORY_STEP) {
+            left = left.saturating_add(1);
+        }
+    }
+    assert!(rt; left > 0 && left < MEMORY_STEPS, "{left} left");
 }
