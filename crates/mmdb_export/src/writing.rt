@@ -47,6 +47,20 @@ fn block_of(network: NumberedNetwork) -> Block {
     }
 }
 
+// What became of the network of an answer among rows that are gathered.
+#[inline(always)]
+fn gathered_in(rows: &mut Rows<'_>, found: &Found<'_>, kinds: Kinds) -> Taken {
+    let network = found.numbered_network();
+    if !kinds.has(kind_of(network)) || !rows.gather(found.offset(), network) {
+        return Taken::Not;
+    }
+    if rows.is_full() {
+        Taken::Settled
+    } else {
+        Taken::Whole
+    }
+}
+
 impl Writing<'_> {
     // Writes the network of an answer.
     #[inline(always)]
@@ -63,21 +77,33 @@ impl Writing<'_> {
         }
     }
 
-    // Takes a chosen network into a list, where nothing is to be written before it.
+    // Takes the chosen network of an answer into a list, where nothing is to be written before it, or gathers its row, where
+    // that is kept.
     #[inline(always)]
-    fn take(&mut self, network: NumberedNetwork) -> Taken {
+    fn take(&mut self, found: &Found<'_>, kinds: Kinds) -> Taken {
         match self {
-            Writing::Rows(_) => Taken::Not,
-            Writing::List(list) => list.take(kind_of(network), block_of(network)),
+            Writing::Rows(rows) => gathered_in(rows, found, kinds),
+            Writing::List(list) => {
+                let network = found.numbered_network();
+                list.take(kind_of(network), block_of(network))
+            }
         }
     }
 
-    // Writes what a list has for it.
+    // Writes what a list has for it, or the rows that were gathered.
     #[inline(never)]
     fn write_settled<O: Write>(&mut self, out: &mut O) -> Result<(), ProgramError> {
         match self {
-            Writing::Rows(_) => Ok(()),
+            Writing::Rows(rows) => rows.put_gathered(out),
             Writing::List(list) => of_list(list.write_settled(out)),
+        }
+    }
+
+    // Writes the rows that were gathered.
+    fn put_gathered<O: Write>(&mut self, out: &mut O) -> Result<(), ProgramError> {
+        match self {
+            Writing::Rows(rows) => rows.put_gathered(out),
+            Writing::List(_) => Ok(()),
         }
     }
 }
@@ -196,23 +222,24 @@ impl<'a, 'r> Export<'a, 'r> {
         all
     }
 
-    // Takes a network that waits into a list, where it is known to be chosen and nothing is to be written before it. Most
-    // chosen networks of a list go this way, which has no error to make.
+    // Takes a network that waits into a list, where it is known to be chosen and nothing is to be written before it, or
+    // gathers its row. Most chosen networks go this way, which has no error to make.
     #[inline(always)]
     fn take_chosen(&mut self, index: usize, kept: Option<bool>) -> Taken {
         match self.waiting.get(index) {
-            Some(found) if kept == Some(true) => self.writing.take(found.numbered_network()),
+            Some(found) if kept == Some(true) => self.writing.take(found, self.kinds),
             _ => Taken::Not,
         }
     }
 
-    // Writes a network that waits, if it is chosen, or reports why it can't be.
+    // Writes a network that waits behind the rows that were gathered, if it is chosen, or reports why it can't be.
     fn write_waiting_at<O: Write, E: Write>(
         &mut self,
         index: usize,
         kept: Option<bool>,
         console: &mut Console<'_, O, E>,
     ) -> Result<(), ProgramError> {
+        self.writing.put_gathered(console.out)?;
         match self.waiting.get(index).copied() {
             Some(found) => self.write_found(&found, kept, console),
             None => Ok(()),
@@ -235,6 +262,7 @@ impl<'a, 'r> Export<'a, 'r> {
                 Taken::Not => self.write_waiting_at(index, *kept, console)?,
             }
         }
+        self.writing.put_gathered(console.out)?;
         if let Some(found) = self.waiting.last() {
             self.last = Some(*found);
         }
