@@ -2,6 +2,7 @@
 mod diffs;
 mod exports;
 mod failures;
+mod gathered;
 mod helps;
 mod lists;
 mod memory;

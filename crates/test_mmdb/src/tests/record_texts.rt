@@ -91,12 +91,13 @@ fn tally_of(alloc: Global, section: &[u8]) -> Result<Tally, AllocError> {
 
 /// Numbers that follow from a seed.
 #[derive(Clone, Copy)]
-struct Numbers {
-    state: u64,
+pub(crate) struct Numbers {
+    pub(crate) state: u64,
 }
 
 impl Numbers {
-    fn below(&mut self, count: usize) -> usize {
+    /// The next one, below a count.
+    pub(crate) fn below(&mut self, count: usize) -> usize {
         self.state = self
             .state
             .wrapping_mul(0x5851_F42D_4C95_7F2D)

@@ -1,0 +1,261 @@
+//! Rows of an export that are put together, beside those of one network, each put alone.
+use super::program::{Narrow, Run, assert_of, file_of, run_of, terminals, words_with};
+use super::record_texts::Numbers;
+use mmdb_program::{Io, run};
+use mmdb_vectors::builder::{Field, changed_file, nodes_24};
+use std::alloc::{AllocError, Global};
+use std::io::ErrorKind;
+use std::process::Abort;
+
+/// The lengths of the texts that are records. With 27 bytes more, rows of whole records are put together up to 1,024 bytes, and
+/// kept up to 4,096.
+const LENGTHS: &[usize] = &[1, 40, 300, 996, 997, 998, 4069, 4070];
+
+/// How many networks there are: all of /7.
+const NETWORKS: u32 = 128;
+
+/// What a node is to lead to for no record, and for the first byte of the data.
+const NO_RECORD: u32 = 127;
+
+const FIRST: u32 = 143;
+
+// The header of a text of so many bytes.
+fn push_header(len: usize, data: &mut Vec<u8>) -> Result<(), AllocError> {
+    if len < 29 {
+        data.push(0x40 | (len & 31) as u8)?;
+        return Ok(());
+    }
+    if len < 285 {
+        return data.extend_from_slice(&[0x5D, (len.wrapping_sub(29) & 0xff) as u8]);
+    }
+    let [high, low] = ((len.wrapping_sub(285) & 0xffff) as u16).to_be_bytes();
+    data.extend_from_slice(&[0x5E, high, low])
+}
+
+// Texts of all lengths, and behind them one that is not UTF-8. What a node is to lead to for each of them, and for none.
+fn put_texts(alloc: Global, data: &mut Vec<u8>) -> Result<Vec<u32>, AllocError> {
+    let mut places = Vec::from_slice(alloc, &[NO_RECORD])?;
+    for len in LENGTHS {
+        places.push(FIRST.wrapping_add(data.len() as u32))?;
+        push_header(*len, data)?;
+        for _ in 0..*len {
+            data.push(b'x')?;
+        }
+    }
+    places.push(FIRST.wrapping_add(data.len() as u32))?;
+    data.extend_from_slice(b"\x41\xFF")?;
+    Ok(places)
+}
+
+// What the next leaf has: often the same as the one before it.
+fn next_leaf(numbers: &mut Numbers, places: &[u32], last: u32) -> u32 {
+    if numbers.below(3) == 0 {
+        return last;
+    }
+    let place = numbers.below(places.len());
+    places.get(place).copied().unwrap_or(NO_RECORD)
+}
+
+// The nodes of a tree whose leaves, all of /7, have any of the records.
+fn any_nodes(alloc: Global, seed: u64, places: &[u32]) -> Result<Vec<(u32, u32)>, AllocError> {
+    let mut numbers = Numbers { state: seed };
+    let mut nodes = Vec::new(alloc);
+    for node in 0..63u32 {
+        nodes.push((2 * node + 1, 2 * node + 2))?;
+    }
+    let mut last = NO_RECORD;
+    for _ in 0..NETWORKS / 2 {
+        let left = next_leaf(&mut numbers, places, last);
+        last = next_leaf(&mut numbers, places, left);
+        nodes.push((left, last))?;
+    }
+    Ok(nodes)
+}
+
+// A file of such a tree, of IPv4 or IPv6 by the encoded version.
+fn file_of_seed(rt: &impl Abort, alloc: Global, seed: u64, version: &[u8]) -> Vec<u8> {
+    let mut data = Vec::new(alloc);
+    let places = put_texts(alloc, &mut data).expect(rt, "texts");
+    let nodes = any_nodes(alloc, seed, places.as_slice()).expect(rt, "nodes");
+    let tree = nodes_24(alloc, nodes.as_slice()).expect(rt, "a tree");
+    let changes = [
+        (Field::NodeCount, b"\xC1\x7F".as_slice()),
+        (Field::IpVersion, version),
+    ];
+    changed_file(alloc, tree.as_slice(), data.as_slice(), &changes).expect(rt, "a file")
+}
+
+/// What is written and reported of each network, in turn.
+#[derive(Drop)]
+struct OneByOne {
+    written: Vec<u8>,
+    reported: Vec<u8>,
+}
+
+// Adds what a run wrote behind its first lines, and what it reported of networks.
+fn add_run(rt: &impl Abort, run: &Run, headers: usize, all: &mut OneByOne) {
+    for line in run.out().lines().skip(headers) {
+        all.written
+            .extend_from_slice(line.as_bytes())
+            .expect(rt, "room");
+        all.written.push(b'\n').expect(rt, "room");
+    }
+    add_faults(rt, run, &mut all.reported);
+}
+
+// Adds what a run reported of networks.
+fn add_faults(rt: &impl Abort, run: &Run, reported: &mut Vec<u8>) {
+    for line in run.err().lines() {
+        if !line.ends_with("could not be read") {
+            reported
+                .extend_from_slice(line.as_bytes())
+                .expect(rt, "room");
+            reported.push(b'\n').expect(rt, "room");
+        }
+    }
+}
+
+/// A form of rows, and how many lines stand before the first of them.
+type Form<'a> = (&'a [&'a str], usize);
+
+#[rattlefmt::skip]
+const FORMS: &[Form<'static>] = &[
+    (&["--format", "jsonl"], 0),
+    (&["--format", "csv", "--field", ""], 1),
+    (&["--field", "", "--where-not", "=x"], 0),
+    (&["--ipv4"], 0),
+    (&["--ipv6"], 0),
+];
+
+// The words of an export in a form, of a range if one is named.
+fn words_of<'a>(
+    alloc: Global,
+    range: &'a str,
+    form: &[&'a str],
+) -> Result<Vec<&'a str>, AllocError> {
+    let mut words = Vec::from_slice(alloc, &["export", "here.mmdb"])?;
+    if !range.is_empty() {
+        words.push(range)?;
+    }
+    words.extend_from_slice(form)?;
+    Ok(words)
+}
+
+// The export of a range in a form.
+fn export_of(rt: &impl Abort, alloc: Global, file: &[u8], range: &str, form: &[&str]) -> Run {
+    let words = words_of(alloc, range, form).expect(rt, "words");
+    run_of(alloc, file, words.as_slice(), "")
+}
+
+// The text of a network of /7.
+fn range_of(alloc: Global, network: u32, is_ipv4: bool) -> Result<String, AllocError> {
+    let first = 2 * network;
+    if is_ipv4 {
+        format!(in alloc; "{first}.0.0.0/7")
+    } else {
+        format!(in alloc; "{first:x}00::/7")
+    }
+}
+
+// What is exported of each network alone.
+fn one_by_one(
+    rt: &impl Abort,
+    alloc: Global,
+    file: &[u8],
+    form: Form<'_>,
+    is_ipv4: bool,
+) -> OneByOne {
+    let mut all = OneByOne {
+        written: Vec::new(alloc),
+        reported: Vec::new(alloc),
+    };
+    for network in 0..NETWORKS {
+        let range = range_of(alloc, network, is_ipv4).expect(rt, "a range");
+        let run = export_of(rt, alloc, file, range.as_str(), form.0);
+        add_run(rt, &run, form.1, &mut all);
+    }
+    all
+}
+
+// Asserts that all networks together are exported as one by one.
+fn assert_same(
+    rt: &impl Abort,
+    alloc: Global,
+    file: &[u8],
+    form: Form<'_>,
+    is_ipv4: bool,
+) -> usize {
+    let wanted = one_by_one(rt, alloc, file, form, is_ipv4);
+    let run = export_of(rt, alloc, file, "", form.0);
+    let mut all = OneByOne {
+        written: Vec::new(alloc),
+        reported: Vec::new(alloc),
+    };
+    add_run(rt, &run, form.1, &mut all);
+    let is_same = all.written == wanted.written && all.reported == wanted.reported;
+    assert_of(rt, form.0, &run, is_same);
+    assert!(rt;
+        (form.1 == 0 && all.written == run.written) || form.1 == 1,
+        "lines of {form:?}"
+    );
+    all.written.len()
+}
+
+#[test]
+fn rows_together_are_those_of_each_network(rt: HostRuntime) {
+    let alloc = rt.alloc();
+    let mut written = 0usize;
+    for seed in 0..2u64 {
+        for (version, is_ipv4) in [
+            (b"\xA1\x04".as_slice(), true),
+            (b"\xA1\x06".as_slice(), false),
+        ] {
+            let file = file_of_seed(&rt, alloc, seed, version);
+            for form in FORMS {
+                let len = assert_same(&rt, alloc, file.as_slice(), *form, is_ipv4);
+                written = written.saturating_add(len);
+            }
+        }
+    }
+    assert!(rt; written > 1_000_000, "{written} bytes");
+}
+
+// An export to a writer with so much room.
+fn with_room(alloc: Global, file: &[u8], room: usize) -> Run {
+    let words = words_with(alloc, &["export", "here.mmdb"]);
+    let mut input: &[u8] = b"";
+    let mut out = Narrow {
+        bytes: Vec::new(alloc),
+        room,
+        to_error: ErrorKind::StorageFull,
+    };
+    let mut reported: Vec<u8> = Vec::new(alloc);
+    let io = Io {
+        input: &mut input,
+        out: &mut out,
+        errors: &mut reported,
+        terminals: terminals(false),
+    };
+    let status = run(&file_of(file), alloc, words.as_slice(), io);
+    Run {
+        status,
+        written: out.bytes,
+        reported,
+    }
+}
+
+#[test]
+fn rows_together_are_cut_where_there_is_no_room(rt: HostRuntime) {
+    let alloc = rt.alloc();
+    let file = file_of_seed(&rt, alloc, 3, b"\xA1\x04");
+    let whole = run_of(alloc, file.as_slice(), &["export", "here.mmdb"], "");
+    let len = whole.written.len();
+    for step in 0..40usize {
+        let room = len / 40 * step;
+        let run = with_room(alloc, file.as_slice(), room);
+        let is_cut = run.status == 1
+            && run.written.as_slice() == &whole.written[..room.min(len)]
+            && run.err().contains("write error");
+        assert!(rt; is_cut, "room for {room} of {len}");
+    }
+}
