@@ -1,10 +1,12 @@
 -- The mask of the bytes that pass a test, computed lane by lane.
-use Rattle.std.proofs.Common.{◌≡◌, ℕ, zero, suc, ◌%◌, ◌^◌, ◌<◌, ◌≤◌, ltb, Bool, true, false, not, ◌&&◌, cond, eqb, T, List, [], ◌∷◌, map, length, ◌⊎◌, inl, inr, refl, sym, ap, ap₂, ◌∙◌, subst, arith, w8, Fits, not-suc-le-zero}
-use Rattle.std.proofs.lemmas.Simd.{mask_l-mod}
+use Rattle.std.proofs.Common.{◌≡◌, ℕ, zero, suc, ◌+◌, ◌*◌, ◌%◌, ◌^◌, ◌<◌, ◌≤◌, ltb, Bool, true, false, not, ◌&&◌, cond, eqb, T, List, [], ◌∷◌, map, length, ◌⊎◌, inl, inr, refl, sym, ap, ap₂, ◌∙◌, subst, arith, w8, Fits, not-suc-le-zero}
+use Rattle.std.proofs.lemmas.Simd.{mask_l-mod, length-chunk, trailing_mask_l}
 use Rattle.std.proofs.lemmas.List.{length-map}
 use Rattle.std.proofs.lemmas.Bool.{cases_order}
+use Rattle.std.specs.List.{prefix_len}
 use lib.Bits.{bit_or}
-use lib.Lanes.{zip2, mask_l, top, Each1}
+use lib.Count.{count_trailing_zeros}
+use lib.Lanes.{zip2, mask_l, top, chunk, Each1}
 
 -- ---- lanes
 
@@ -59,3 +61,23 @@ pub masked : (f : ℕ → ℕ) (p : ℕ → Bool) (v z : List ℕ) → length v 
     → mask_l (map (top 7) z) % 2 ^ 64 ≡ mask_l (map p v)
 masked f p v z short fits e all =
     ap (λ l. mask_l l % 2 ^ 64) (ap (map (top 7)) e ∙ each_byte f p all v fits) ∙ mask_l-mod (map p v) 64 (omega (arith, length-map v p))
+
+-- ---- the first lane that passes
+
+first_step : (b : Bool) (n l m : ℕ) → 0 < cond b 1 0 + 2 * m → (0 < m → n < l) → cond (not b) (1 + n) 0 < suc l
+first_step true n l m some ih = omega arith
+first_step false n l m some ih = let lower = ih (omega arith) in omega arith
+
+first_inside : (p : ℕ → Bool) (xs : List ℕ) → 0 < mask_l (map p xs) → prefix_len (λ x. not (p x)) xs < length xs
+first_inside p [] some = let never : ⊥ = omega arith in absurd never
+first_inside p (x ∷ xs) some = first_step (p x) _ (length xs) (mask_l (map p xs)) some (first_inside p xs)
+
+-- where a bit of the mask of a load is set, the lowest is of a byte of the text
+pub stop_within : (p : ℕ → Bool) (d : List ℕ) (i n : ℕ) → i + n ≤ length d → n ≤ 64 → 0 < mask_l (map p (chunk i n d)) → i + count_trailing_zeros 64 (mask_l (map p (chunk i n d))) < length d
+stop_within p d i n room short some =
+    let long = length-chunk i n d room in
+    omega (arith, long, trailing_mask_l p 64 (chunk i n d) (omega (arith, long)) some, first_inside p (chunk i n d) some)
+
+pub twice_not : (b : Bool) → b ≡ not (not b)
+twice_not true = refl
+twice_not false = refl
