@@ -1,7 +1,8 @@
 -- The mask of the bytes that pass a test, computed lane by lane.
-use Rattle.std.proofs.Common.{◌≡◌, ℕ, zero, suc, ◌+◌, ◌*◌, ◌%◌, ◌^◌, ◌<◌, ◌≤◌, ltb, Bool, true, false, not, ◌&&◌, cond, eqb, T, List, [], ◌∷◌, map, length, ◌⊎◌, inl, inr, refl, sym, ap, ap₂, ◌∙◌, subst, arith, w8, Fits, not-suc-le-zero}
+use Rattle.std.proofs.Common.{◌≡◌, ℕ, zero, suc, ◌+◌, ◌*◌, ◌%◌, ◌/◌, ◌^◌, ◌<◌, ◌≤◌, ltb, Bool, true, false, not, ◌&&◌, cond, eqb, T, List, [], ◌∷◌, map, length, take, drop, ◌⊎◌, inl, inr, refl, sym, ap, ap₂, ◌∙◌, subst, arith, w8, Fits, not-suc-le-zero}
 use Rattle.std.proofs.lemmas.Simd.{mask_l-mod, length-chunk, trailing_mask_l}
-use Rattle.std.proofs.lemmas.List.{length-map}
+use Rattle.std.proofs.lemmas.List.{length-map, drop-drop}
+use Rattle.std.proofs.Math.Nat.{pow-succ', div-div-eq-div-mul, div-one, zero-div}
 use Rattle.std.proofs.lemmas.Bool.{cases_order}
 use Rattle.std.specs.List.{prefix_len}
 use lib.Bits.{bit_or}
@@ -81,3 +82,36 @@ stop_within p d i n room short some =
 pub twice_not : (b : Bool) → b ≡ not (not b)
 twice_not true = refl
 twice_not false = refl
+
+-- ---- the lanes behind some
+
+halved : (b : Bool) (m : ℕ) → (cond b 1 0 + 2 * m) / 2 ≡ m
+halved true m = omega arith
+halved false m = omega arith
+
+one_less : (b : Bool) (m k : ℕ) → (cond b 1 0 + 2 * m) / 2 ^ suc k ≡ m / 2 ^ k
+one_less b m k =
+    ap (λ d. (cond b 1 0 + 2 * m) / d) (pow-succ' 2 k) ∙ sym (div-div-eq-div-mul (cond b 1 0 + 2 * m) 2 (2 ^ k)) ∙ ap (λ x. x / 2 ^ k) (halved b m)
+
+one_ahead : (k n : ℕ) → suc k + n ≡ suc (k + n)
+one_ahead k n = omega arith
+
+none_ahead : (n : ℕ) → 0 + n ≡ n
+none_ahead n = omega arith
+
+none_taken : (n : ℕ) → take {A = ℕ} n [] ≡ []
+none_taken zero = refl
+none_taken (suc n) = refl
+
+masked_behind : (p : ℕ → Bool) (xs : List ℕ) (k n : ℕ) → mask_l (map p (take (k + n) xs)) / 2 ^ k ≡ mask_l (map p (take n (drop k xs)))
+masked_behind p xs zero n = ap (λ m. mask_l (map p (take m xs)) / 1) (none_ahead n) ∙ div-one (mask_l (map p (take n xs)))
+masked_behind p [] (suc k) n =
+    ap (λ l. mask_l (map p l) / 2 ^ suc k) (none_taken (suc k + n)) ∙ zero-div (2 ^ suc k) ∙ sym (ap (λ l. mask_l (map p l)) (none_taken n))
+masked_behind p (x ∷ xs) (suc k) n =
+    ap (λ m. mask_l (map p (take m (x ∷ xs))) / 2 ^ suc k) (one_ahead k n) ∙ one_less (p x) (mask_l (map p (take (k + n) xs))) k ∙ masked_behind p xs k n
+
+-- a mask without its lowest bits is that of a load further on
+pub mask_behind : (p : ℕ → Bool) (d : List ℕ) (i k n from size : ℕ) → k + n ≡ size → i + k ≡ from → mask_l (map p (chunk i size d)) / 2 ^ k ≡ mask_l (map p (chunk from n d))
+mask_behind p d i k n from size whole there =
+    ap (λ s. mask_l (map p (take s (drop i d))) / 2 ^ k) (sym whole) ∙ masked_behind p (drop i d) k n
+    ∙ ap (λ l. mask_l (map p (take n l))) (drop-drop k i d ∙ ap (λ a. drop a d) there)

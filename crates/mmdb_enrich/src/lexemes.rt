@@ -101,6 +101,26 @@ fn short_plain_end(text: &[u8], from: usize) -> usize
     at
 }
 
+// Where the bytes that stand for themselves end, of less than 16. They are the last of the text's last
+// 16 bytes, of which those ahead of them are left out.
+#[inline(always)]
+fn last_plain_end(text: &[u8], from: usize) -> usize
+    requires within { from ≤ length text.now }
+    requires few { length text.now < from + 16 }
+    ensures value { result ≡ from + prefix_len spec_is_plain (drop from text.now) }
+    ensures bound { result ≤ length text.now }
+{
+    let len = text.len();
+    if len < 16 {
+        return short_plain_end(text, from);
+    }
+    let found = stops(u8x16::from_slice(&text[len - 16..])) >> (from + 16 - len);
+    if found == 0 {
+        return len;
+    }
+    from + found.trailing_zeros() as usize
+}
+
 // Where the bytes that stand for themselves end.
 #[inline(never)]
 fn plain_end(text: &[u8], from: usize) -> usize
@@ -116,7 +136,7 @@ fn plain_end(text: &[u8], from: usize) -> usize
         }
         at += 16;
     }
-    short_plain_end(text, at)
+    last_plain_end(text, at)
 }
 
 // What ends the bytes that stand for themselves. Most strings are short, so that their ends are seen

@@ -2,7 +2,7 @@ use Rattle.std.proofs.Common.{sym, ap, ◌∙◌, arith}
 use lib.Count.{count_trailing_zeros}
 use Rattle.std.specs.Char.{is_ascii_digit}
 use Rattle.mmdb_enrich.specs.Scanned.{is_other}
-use Rattle.mmdb_filter.proofs.RunLaws.{run_bound, run_through, run_stops}
+use Rattle.mmdb_filter.proofs.RunLaws.{run_through, run_stops}
 use Rattle.mmdb_enrich.proofs.VectorLaws.{stop_within, twice_not}
 use Rattle.mmdb_enrich.proofs.lexemes.digits_stop.Goals as goal
 

@@ -1,7 +1,7 @@
 use Rattle.std.proofs.Common.{refl, sym, ap, ◌∙◌, arith}
 use lib.Count.{count_trailing_zeros}
 use Rattle.mmdb_enrich.specs.Scanned.{is_stop, is_plain}
-use Rattle.mmdb_filter.proofs.RunLaws.{run_bound, run_through, run_stops}
+use Rattle.mmdb_filter.proofs.RunLaws.{run_through, run_stops}
 use Rattle.mmdb_enrich.proofs.VectorLaws.{stop_within}
 use Rattle.mmdb_enrich.proofs.lexemes.plain_stop.Goals as goal
 
