@@ -34,6 +34,10 @@ at_space text at below e =
     let spaced = each_space (λ x. lex between (x ∷ drop (at + 1) text) ≡ lex between (drop (at + 1) text)) refl refl refl refl (get_or text at 0) e in
     sym (ap (lex between) (drop_more text at 0 below) ∙ spaced)
 
+-- the same behind one space
+pub behind_space : (text : List ℕ) (at next : ℕ) → next ≡ at + 1 → at < length text → get_or text at 0 ≡ 32 → lexemes_at text next ≡ lexemes_at text at
+behind_space text at next same below e = ap (lexemes_at text) same ∙ at_space text at below (ap is_space e)
+
 pub at_comma : (text : List ℕ) (at : ℕ) → head (drop at text) ≡ 44 → lexemes_at text at ≡ comma ∷ lexemes_at text (at + 1)
 unfolding lex
 at_comma text at e = ap (lex between) (front_at 44 text at refl e)

@@ -45,9 +45,9 @@ pub(crate) fn stop_at(text: &[u8], at: usize) -> Stop
     }
 }
 
-// The byte at an index.
+/// The byte at an index.
 #[inline(always)]
-fn seen_at(text: &[u8], at: usize) -> Stop
+pub(crate) fn seen_at(text: &[u8], at: usize) -> Stop
     requires { at < length text.now }
     ensures at { result.at ≡ at }
     ensures byte { result.byte ≡ head (drop at text.now) }

@@ -11,8 +11,8 @@ ghost use Rattle.mmdb_enrich.specs.Scanned.{StandsBehind, HasKey, HasValue, HasI
 ghost use Rattle.mmdb_enrich.specs.Objects.{text_along};
 
 use crate::lexemes::{
-    Stop, byte_at, digits_word_end, is_integer_start, plain_string_end, space_end, stop_at,
-    string_end, word_end,
+    Stop, byte_at, digits_word_end, is_integer_start, plain_string_end, seen_at, space_end,
+    stop_at, string_end, word_end,
 };
 use json::MAX_DEPTH;
 use mmdb_reader::PathElement;
@@ -24,18 +24,21 @@ struct Key {
     value: Stop,
 }
 
-// What stands behind a key's colon, from the byte behind the key on. Mostly there is no white space.
+// What stands behind a key's colon, from the byte behind the key on. Mostly there is no white space,
+// or a space.
 #[inline(always)]
 fn behind_colon(text: &[u8], from: usize) -> Option<Stop>
     requires { from ≤ length text.now }
     ensures at { IfSome result (λ stop. StandsBehind text.now from 58 stop.at) }
     ensures byte { IfSome result (λ stop. stop.byte ≡ head (drop stop.at text.now)) }
 {
-    if from + 1 < text.len() && text[from] == b':' && text[from + 1] > b' ' {
-        return Some(Stop {
-            at: from + 1,
-            byte: text[from + 1],
-        });
+    if from + 2 < text.len() && text[from] == b':' {
+        if text[from + 1] > b' ' {
+            return Some(seen_at(text, from + 1));
+        }
+        if text[from + 1] == b' ' && text[from + 2] > b' ' {
+            return Some(seen_at(text, from + 2));
+        }
     }
     let colon = space_end(text, from);
     if byte_at(text, colon) != b':' {
@@ -64,7 +67,7 @@ struct Next {
     is_end: bool,
 }
 
-// What stands behind a member of an object. Mostly there is no white space.
+// What stands behind a member of an object. Mostly there is no white space, or a space.
 #[inline(always)]
 fn behind_member(text: &[u8], from: usize) -> Option<Next>
     requires { from ≤ length text.now }
@@ -73,11 +76,19 @@ fn behind_member(text: &[u8], from: usize) -> Option<Next>
     ensures key { IfSome result (λ next. next.is_end ≡ false
         → (next.at < length text.now) × (head (drop next.at text.now) ≡ 34)) }
 {
-    if from + 1 < text.len() && text[from] == b',' && text[from + 1] == b'"' {
-        return Some(Next {
-            at: from + 1,
-            is_end: false,
-        });
+    if from + 2 < text.len() && text[from] == b',' {
+        if text[from + 1] == b'"' {
+            return Some(Next {
+                at: from + 1,
+                is_end: false,
+            });
+        }
+        if text[from + 1] == b' ' && text[from + 2] == b'"' {
+            return Some(Next {
+                at: from + 2,
+                is_end: false,
+            });
+        }
     }
     let end = space_end(text, from);
     let byte = byte_at(text, end);
