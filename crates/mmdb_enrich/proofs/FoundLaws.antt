@@ -12,10 +12,10 @@ use Rattle.mmdb_reader.specs.declared.path.PathElement.{PathElement}
 use Rattle.mmdb_reader.specs.declared.path.PathElement.TheVariants.{Key}
 use Rattle.mmdb_enrich.specs.declared.one_pass.Followed.{Followed}
 use Rattle.mmdb_enrich.specs.Objects.{text_along}
-use Rattle.json.specs.Lex.{Lexeme, comma, between, in_string, lex, Place, fresh, after_value, after_comma, may_begin, begins_colon, punctuate}
+use Rattle.json.specs.Lex.{Lexeme, token, comma, between, in_string, lex, Place, fresh, after_value, after_comma, may_begin, begins_colon, punctuate}
 use Rattle.json.specs.Json.{Json, Items, no_items, item, Members, no_members, member, value, if_last, document}
 use Rattle.json.specs.Json as json
-use Rattle.mmdb_enrich.specs.Scanned.{lexemes_at, bytes_between, IsWordOf, HasWord, HasKey, BeginWithValue, BeginWithItems, BeginWithMembers, HasValue, HasItems, HasMembers}
+use Rattle.mmdb_enrich.specs.Scanned.{lexemes_at, bytes_between, IsWordOf, HasWord, HasKey, StandsBehind, BeginWithValue, BeginWithItems, BeginWithMembers, HasValue, HasItems, HasMembers}
 use Rattle.mmdb_enrich.proofs.ScanLaws.{at_string, at_comma, at_open_brace, at_close_brace, at_open_bracket, at_close_bracket}
 use Rattle.mmdb_enrich.proofs.GrammarLaws.{word_value, string_value, array_value, object_value, items_none, items_last, items_go_on, members_none, members_last, members_go_on}
 
@@ -91,21 +91,23 @@ pub no_member : (text : List ℕ) (from at depth : ℕ) → lexemes_at text at �
 no_member text from at depth same closes =
     subst (λ ls. BeginWithMembers depth fresh ls no_members (lexemes_at text (at + 1))) (sym (at_close_brace text at closes) ∙ same) (members_none depth (lexemes_at text (at + 1)))
 
-pub last_member : (text : List ℕ) (at quote start value end depth : ℕ) (j : Json) → HasKey text at quote start → HasValue text start value depth j → lexemes_at text end ≡ lexemes_at text value → head (drop end text) ≡ 125
-    → (p : Place) → may_begin p ≡ true → BeginWithMembers depth p (lexemes_at text at) (member (bytes_between text (at + 1) quote) j no_members) (lexemes_at text (end + 1))
-last_member text at quote start value end depth j key has same closes p may =
+pub last_member : (text : List ℕ) (at quote start value end depth : ℕ) (j : Json) → HasKey text at quote start → HasValue text start value depth j → StandsBehind text value 125 end
+    → (p : Place) → may_begin p ≡ true → BeginWithMembers depth p (lexemes_at text at) (member (bytes_between text (at + 1) quote) j no_members) (lexemes_at text end)
+last_member text at quote start value end depth j key has close p may =
     let k = bytes_between text (at + 1) quote in
-    subst (λ ls. BeginWithMembers depth p ls (member k j no_members) (lexemes_at text (end + 1))) (sym key.reads)
-    (members_last depth p k (lexemes_at text start) (lexemes_at text (end + 1)) j may (subst (BeginWithValue depth (lexemes_at text start) j) (sym same ∙ at_close_brace text end closes) has.begins))
+    let closes = sym close.before ∙ at_close_brace text close.place close.is ∙ ap (λ l. token Token.end_object ∷ l) (sym close.behind) in
+    subst (λ ls. BeginWithMembers depth p ls (member k j no_members) (lexemes_at text end)) (sym key.reads)
+    (members_last depth p k (lexemes_at text start) (lexemes_at text end) j may (subst (BeginWithValue depth (lexemes_at text start) j) closes has.begins))
 
-pub next_member : (text : List ℕ) (at quote start value end next depth : ℕ) (j : Json) (ms : Members) (rest : List Lexeme) → HasKey text at quote start → HasValue text start value depth j → lexemes_at text end ≡ lexemes_at text value
-    → head (drop end text) ≡ 44 → lexemes_at text next ≡ lexemes_at text (end + 1) → ((p : Place) → may_begin p ≡ true → BeginWithMembers depth p (lexemes_at text next) ms rest)
+pub next_member : (text : List ℕ) (at quote start value next depth : ℕ) (j : Json) (ms : Members) (rest : List Lexeme) → HasKey text at quote start → HasValue text start value depth j → StandsBehind text value 44 next
+    → ((p : Place) → may_begin p ≡ true → BeginWithMembers depth p (lexemes_at text next) ms rest)
     → (p : Place) → may_begin p ≡ true → BeginWithMembers depth p (lexemes_at text at) (member (bytes_between text (at + 1) quote) j ms) rest
-next_member text at quote start value end next depth j ms rest key has same mark behind others p may =
+next_member text at quote start value next depth j ms rest key has mark others p may =
     let k = bytes_between text (at + 1) quote in
+    let goes_on = sym mark.before ∙ at_comma text mark.place mark.is ∙ ap (λ l. comma ∷ l) (sym mark.behind) in
     subst (λ ls. BeginWithMembers depth p ls (member k j ms) rest) (sym key.reads)
     (members_go_on depth p k (lexemes_at text start) (lexemes_at text next) rest j ms may
-    (subst (BeginWithValue depth (lexemes_at text start) j) (sym same ∙ at_comma text end mark ∙ ap (λ l. comma ∷ l) (sym behind)) has.begins) (others after_comma refl))
+    (subst (BeginWithValue depth (lexemes_at text start) j) goes_on has.begins) (others after_comma refl))
 
 -- ---- where a pass begins and ends
 
@@ -199,3 +201,7 @@ whole_object text from end last ms before first inside behind past =
 pub whole_path : (path : List PathElement) (d : PathElement) (name : Bor (List ℕ)) (ms : Members) (found : Option (List ℕ)) → 0 < length path → get_or path 0 d ≡ Key name
     → found ≡ option_and_then (text_along (take (length path - 1) (drop 1 path))) (get_member name.now ms) → found ≡ text_along path (json.object ms)
 whole_path path d name ms found some is leads = leads ∙ ap (λ p. text_along p (json.object ms)) (sym (key_first path d name some is))
+
+-- a mark that closes, or one that does not
+pub mark_of : (text : List ℕ) (from at : ℕ) (b c : Bool) → b ≡ c → StandsBehind text from (cond b 125 44) at → StandsBehind text from (cond c 125 44) at
+mark_of text from at b c e stands = subst (λ x. StandsBehind text from (cond x 125 44) at) e stands

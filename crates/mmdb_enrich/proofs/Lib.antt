@@ -18,3 +18,4 @@ pub mod ScanLaws
 pub mod GrammarLaws
 pub mod FoundLaws
 pub mod VectorLaws
+pub mod RunEndLaws

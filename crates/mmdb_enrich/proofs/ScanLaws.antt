@@ -1,6 +1,6 @@
 -- The lexemes that stand at a byte of a text.
 use Rattle.std.proofs.Common.{◌≡◌, ℕ, ◌+◌, ◌-◌, ◌*◌, ◌<◌, ◌≤◌, suc, Bool, true, false, cond, ◌&&◌, ◌||◌, ◌==◌, nat_eq, List, [], ◌∷◌, ◌++◌, nat_le, nat_lt, length, take, drop, get_or, Option, Some, None, option_and_then, ⊎_elim, refl, sym, ap, ap₂, ◌∙◌, subst, arith}
-use Rattle.std.proofs.lemmas.Bool.{true≢false, false≢true, false_from_ne_true, leb-true, lt-ltb, eqb-true, eq-eqb, ne_eqb, or_parts, or_cases, and_parts, not-true}
+use Rattle.std.proofs.lemmas.Bool.{true≢false, false≢true, false_from_ne_true, leb-true, lt-ltb, le-leb, ltb-true, eqb-true, eq-eqb, ne_eqb, or_parts, or_cases, and_parts, not-true}
 use Rattle.std.proofs.lemmas.List.{drop_more, drop-drop, length-drop}
 use Rattle.std.specs.Option.{IfSome, is_some}
 use Rattle.std.specs.List.{prefix_len, starts_with}
@@ -11,7 +11,7 @@ use Rattle.json.specs.Word.{is_operator, is_space, head, ends_word, after_digits
 use Rattle.json.specs.Ascii.{true_text, false_text, null_text}
 use Rattle.json.specs.Lex.{Lexeme, token, comma, colon, quote, backslash, operator, space, other, class, Mode, between, in_word, in_string, in_escape, lex, lex_byte, string_token}
 use Rattle.json.specs.Json as json
-use Rattle.mmdb_enrich.specs.Scanned.{lexemes_at, bytes_between, is_plain, EndsAt, EndsPlain, EndsString, EndsEscape, IsCode, IsWordOf, HasWord, begins_number, HasName, HasKey}
+use Rattle.mmdb_enrich.specs.Scanned.{lexemes_at, bytes_between, is_plain, EndsAt, EndsPlain, EndsString, EndsEscape, IsCode, IsWordOf, HasWord, begins_number, begins_integer, HasName, HasKey}
 use Rattle.mmdb_enrich.proofs.WordLaws.{ends, each_space, each_operator, no_digit_ends, NoneEnds}
 use Rattle.mmdb_enrich.proofs.StringLaws.{lex_plain, lex_backslash, lex_escaped, lex_unit}
 
@@ -24,11 +24,19 @@ front c (x ∷ xs) apart e = ap (λ y. y ∷ xs) e
 pub front_at : (c : ℕ) (text : List ℕ) (at : ℕ) → (32 == c) ≡ false → head (drop at text) ≡ c → drop at text ≡ c ∷ drop (at + 1) text
 front_at c text at apart e = front c (drop at text) apart e ∙ ap (λ l. c ∷ l) (drop-drop 1 at text)
 
+-- the byte at an index is the first of the rest
+pub here_is : (text : List ℕ) (at x : ℕ) → at < length text → get_or text at 0 ≡ x → head (drop at text) ≡ x
+here_is text at x below e = ap head (drop_more text at 0 below) ∙ e
+
 pub at_space : (text : List ℕ) (at : ℕ) → at < length text → is_space (get_or text at 0) ≡ true → lexemes_at text (at + 1) ≡ lexemes_at text at
 unfolding lex
 at_space text at below e =
     let spaced = each_space (λ x. lex between (x ∷ drop (at + 1) text) ≡ lex between (drop (at + 1) text)) refl refl refl refl (get_or text at 0) e in
     sym (ap (lex between) (drop_more text at 0 below) ∙ spaced)
+
+-- the same behind one space
+pub behind_space : (text : List ℕ) (at next : ℕ) → next ≡ at + 1 → at < length text → get_or text at 0 ≡ 32 → lexemes_at text next ≡ lexemes_at text at
+behind_space text at next same below e = ap (lexemes_at text) same ∙ at_space text at below (ap is_space e)
 
 pub at_comma : (text : List ℕ) (at : ℕ) → head (drop at text) ≡ 44 → lexemes_at text at ≡ comma ∷ lexemes_at text (at + 1)
 unfolding lex
@@ -90,6 +98,10 @@ module _ (passes : ℕ → Bool) (all_plain : (x : ℕ) → passes x ≡ true �
 below : (c : ℕ) (xs : List ℕ) → (32 == c) ≡ false → head xs ≡ c → 0 < length xs
 below c [] apart e = absurd (true≢false (sym (eq-eqb 32 c e) ∙ apart))
 below c (x ∷ xs) apart e = omega arith
+
+-- a quote stands at a byte of the text
+pub inside : (text : List ℕ) (at : ℕ) → head (drop at text) ≡ 34 → at < length text
+inside text at e = omega (arith, below 34 (drop at text) refl e, length-drop at text)
 
 pub string_ends : (text : List ℕ) (from end : ℕ) → end ≡ from + prefix_len is_plain (drop from text) → head (drop end text) ≡ 34 → EndsPlain text from end
 string_ends text from end is e =
@@ -392,6 +404,50 @@ has_number text from end begins e ended =
       },
     )
 
+-- digits alone, the first of which is not 0
+integer_read : (t : List ℕ) (n : ℕ) → (head t == 45) ≡ false → (head t == 48) ≡ false → (n == 0) ≡ false → n ≡ prefix_len is_ascii_digit t → (head (drop n t) == 46) ≡ false
+    → ((head (drop n t) == 101) || (head (drop n t) == 69)) ≡ false → after_number t ≡ Some (drop n t)
+unfolding after_number
+integer_read t n minus first some is dot letter =
+    ap (λ u. option_and_then after_exponent (option_and_then after_fraction (after_whole u))) (ap (λ b. cond b (drop 1 t) t) minus)
+    ∙ ap (λ w. option_and_then after_exponent (option_and_then after_fraction w)) (ap (λ b. cond b (Some (drop 1 t)) (after_digits t)) first
+    ∙ ap (λ k. cond (k == 0) None (Some (drop k t))) (sym is) ∙ ap (λ b. cond b None (Some (drop n t))) some)
+    ∙ ap (λ f. option_and_then after_exponent f) (ap (λ b. cond b (after_digits (drop 1 (drop n t))) (Some (drop n t))) dot)
+    ∙ ap (λ b. cond b (after_digits (after_sign (drop 1 (drop n t)))) (Some (drop n t))) letter
+
+-- what ends a word is no part of a number
+no_part : (x c : ℕ) → ends c ≡ false → ends x ≡ true → (x == c) ≡ false
+no_part x c apart e = ne_eqb x c (λ same. true≢false (sym e ∙ ap ends same ∙ apart))
+
+integer_start : (x : ℕ) → begins_integer x ≡ true → (48 < x) × (x < 58)
+integer_start x e =
+    let parts = and_parts (nat_lt 48 x) (nat_lt x 58) e in
+    (ltb-true 48 x parts.0, ltb-true x 58 parts.1)
+
+some_digits : (t : List ℕ) → begins_integer (head t) ≡ true → 0 < prefix_len is_ascii_digit t
+some_digits [] e = absurd (false≢true e)
+some_digits (x ∷ xs) e =
+    let is = integer_start x e in
+    let digit : is_ascii_digit x ≡ true = ap₂ (λ a b. a && b) (le-leb 48 x (omega arith)) (le-leb x 57 (omega arith)) in
+    omega (arith, ap (λ b. cond b (1 + prefix_len is_ascii_digit xs) 0) digit)
+
+pub has_integer : (text : List ℕ) (from end : ℕ) → begins_integer (head (drop from text)) ≡ true → end ≡ from + prefix_len is_ascii_digit (drop from text) → ends_word (drop end text) ≡ true
+    → (j : json.Json) × HasWord text from end j
+has_integer text from end begins is ended =
+    let t = drop from text in
+    let n = prefix_len is_ascii_digit t in
+    let x = head t in
+    let there : drop n t ≡ drop end text = drop-drop n from text ∙ ap (λ k. drop k text) (sym is) in
+    let bounds = integer_start x begins in
+    let behind : ends (head (drop n t)) ≡ true = ap ends_word there ∙ ended in
+    let minus : (x == 45) ≡ false = ne_eqb x 45 (λ same. omega arith) in
+    let zeroth : (x == 48) ≡ false = ne_eqb x 48 (λ same. omega arith) in
+    let some : (n == 0) ≡ false = ne_eqb n 0 (λ same. omega (arith, some_digits t begins)) in
+    let letter = ap₂ (λ a b. a || b) (no_part (head (drop n t)) 101 refl behind) (no_part (head (drop n t)) 69 refl behind) in
+    let reads = integer_read t n minus zeroth some refl (no_part (head (drop n t)) 46 refl behind) letter in
+    let number : begins_number x ≡ true = ap₂ (λ a b. a || b) minus (ap₂ (λ a b. a && b) (le-leb 48 x (omega arith)) (le-leb x 57 (omega arith))) in
+    has_number text from end number (sym (reads ∙ ap Some there)) ended
+
 literal_is : (name t : List ℕ) (k : Token) → starts_with nat_eq t name ≡ true → ends_word (drop (length name) t) ≡ true → literal name k t ≡ k
 literal_is name t k e ended = ap₂ (λ a b. cond (a && b) k bad) e ended
 
@@ -475,3 +531,20 @@ key_at text from end mark value first closed low before is high within behind = 
 pub if_code : (text : List ℕ) (from : ℕ) (end : Option ℕ) → head (drop from text) ≡ 117 → IfSome end (IsCode text (from + 1)) → IfSome end (EndsEscape text from)
 if_code text from None first is = tt
 if_code text from (Some e) first is = code_ends text from e first is
+
+-- a string behind an escape
+pub string_goes_on : (text : List ℕ) (from stop at closing : ℕ) → stop ≡ from + prefix_len is_plain (drop from text) → head (drop stop text) ≡ 92 → EndsEscape text (stop + 1) at → EndsString text at closing → EndsString text from closing
+string_goes_on text from stop at closing is e escape closed =
+    let so_far = past_escape text from stop at is e escape in
+    let (s, bytes) = closed.bytes in
+    record {
+      low = omega (arith, escape.low, closed.low);
+      high = closed.high;
+      bytes = so_far.bytes s bytes;
+      passed = so_far.passed ∙ closed.passed;
+    }
+
+pub if_escaped : (text : List ℕ) (from stop : ℕ) (closing : Option ℕ) → stop ≡ from + prefix_len is_plain (drop from text) → head (drop stop text) ≡ 92
+    → IfSome closing (λ q. (at : ℕ) × EndsEscape text (stop + 1) at × EndsString text at q) → IfSome closing (EndsString text from)
+if_escaped text from stop None is e has = tt
+if_escaped text from stop (Some q) is e has = let (at, escape, closed) = has in string_goes_on text from stop at q is e escape closed

@@ -1,5 +1,5 @@
 -- What one pass over a text of JSON finds. Only contracts of private functions and proofs name it.
-use Rattle.std.specs.Prelude.{◌≡◌, ◌≢◌, ℕ, ◌+◌, ◌-◌, ◌<◌, ◌≤◌, List, ◌∷◌, length, take, drop, get_or, Bool, true, false, not, ◌||◌, ◌==◌, nat_lt, Option, Some, None, option_map, IfSome, nat_eq}
+use Rattle.std.specs.Prelude.{◌≡◌, ◌≢◌, ℕ, ◌+◌, ◌-◌, ◌<◌, ◌≤◌, List, ◌∷◌, length, take, drop, get_or, Bool, true, false, not, ◌||◌, ◌&&◌, ◌==◌, nat_lt, Option, Some, None, option_map, IfSome, nat_eq}
 use Rattle.std.specs.List.{starts_with}
 use Rattle.std.specs.Char.{is_ascii_digit, digit_value}
 use Rattle.json.specs.Word.{head, ends_word}
@@ -84,6 +84,14 @@ pub record HasWord (text : List ℕ) (from end : ℕ) (j : Json) : Type 0 where
 abbrev pub begins_number : ℕ → Bool
 begins_number x = (x == 45) || is_ascii_digit x
 
+-- the bytes that an integer begins with, other than 0
+abbrev pub begins_integer : ℕ → Bool
+begins_integer x = nat_lt 48 x && nat_lt x 58
+
+-- a byte that is no digit
+abbrev pub is_other : ℕ → Bool
+is_other x = not (is_ascii_digit x)
+
 -- From a byte on a literal of this name stands, which ends there.
 pub record HasName (text : List ℕ) (from end : ℕ) (name : List ℕ) : Type 0 where
   pub starts : starts_with nat_eq (drop from text) name ≡ true
@@ -112,6 +120,16 @@ pub record BeginWithItems (depth : ℕ) (p : Place) (ls : List Lexeme) (js : Ite
 pub record BeginWithMembers (depth : ℕ) (p : Place) (ls : List Lexeme) (ms : Members) (rest : List Lexeme) : Type 0 where
   pub reads : (n : ℕ) → length (punctuate p ls) ≤ n
       → members (value depth) n (punctuate p ls) ≡ Some (ms, punctuate after_value rest)
+
+-- From a byte on only white space stands before this mark, and behind it before this byte.
+pub record StandsBehind (text : List ℕ) (from mark at : ℕ) : Type 0 where
+  pub place : ℕ
+  pub low : from ≤ place
+  pub high : place < at
+  pub within : at ≤ length text
+  pub before : lexemes_at text place ≡ lexemes_at text from
+  pub is : head (drop place text) ≡ mark
+  pub behind : lexemes_at text at ≡ lexemes_at text (place + 1)
 
 -- From a byte on a value stands, which ends there.
 pub record HasValue (text : List ℕ) (from end depth : ℕ) (j : Json) : Type 0 where

@@ -1,12 +1,12 @@
 //! Strings and words of JSON: where they end.
-ghost use Rattle.std.specs.Prelude.{◌≡◌, ◌+◌, ◌<◌, ◌≤◌, IfSome, ◌||◌, length, drop, map, nat_eq, true, is_some};
+ghost use Rattle.std.specs.Prelude.{◌≡◌, ℕ, ◌+◌, ◌<◌, ◌≤◌, IfSome, ◌||◌, length, drop, map, nat_eq, true, is_some};
 ghost use Rattle.std.specs.List.{prefix_len, starts_with};
 ghost use Rattle.std.specs.Char.{is_ascii_digit};
 ghost use Rattle.std.specs.Simd.Lanes.{mask_l};
 ghost use Rattle.json.specs.Word.{is_operator, is_space as spec_is_space, head, ends_word, after_digits, after_minus, after_sign, after_whole, after_fraction, after_exponent, after_number};
 ghost use Rattle.json.specs.Json.{Json};
 ghost use Rattle.json.specs.Text.{short_escape};
-ghost use Rattle.mmdb_enrich.specs.Scanned.{is_plain as spec_is_plain, is_stop, lexemes_at, EndsAt, EndsPlain, EndsString, EndsEscape, IsCode, HasWord, HasName, begins_number};
+ghost use Rattle.mmdb_enrich.specs.Scanned.{is_plain as spec_is_plain, is_stop, lexemes_at, EndsAt, EndsPlain, EndsString, EndsEscape, IsCode, HasWord, HasName, begins_number, begins_integer, is_other};
 
 use std::simd::prelude::*;
 
@@ -26,6 +26,35 @@ pub(crate) fn byte_at(text: &[u8], at: usize) -> u8
     if at < text.len() { text[at] } else { b' ' }
 }
 
+/// A byte of a text, and where it stands.
+#[derive(Clone, Copy)]
+pub(crate) struct Stop {
+    pub(crate) at: usize,
+    pub(crate) byte: u8,
+}
+
+/// The byte at an index, or a space behind the end.
+#[inline(always)]
+pub(crate) fn stop_at(text: &[u8], at: usize) -> Stop
+    ensures at { result.at ≡ at }
+    ensures byte { result.byte ≡ head (drop at text.now) }
+{
+    Stop {
+        at,
+        byte: byte_at(text, at),
+    }
+}
+
+/// The byte at an index.
+#[inline(always)]
+pub(crate) fn seen_at(text: &[u8], at: usize) -> Stop
+    requires { at < length text.now }
+    ensures at { result.at ≡ at }
+    ensures byte { result.byte ≡ head (drop at text.now) }
+{
+    Stop { at, byte: text[at] }
+}
+
 /// Where the white space from a byte on ends.
 #[inline(always)]
 pub(crate) fn space_end(text: &[u8], from: usize) -> usize
@@ -41,14 +70,14 @@ pub(crate) fn space_end(text: &[u8], from: usize) -> usize
     at
 }
 
-// Which of these bytes do not stand for themselves in a string.
+// Which of these bytes do not stand for themselves in a string. A quote, with its second bit turned,
+// is the byte behind the control characters, which stay below it.
 #[inline(always)]
 fn stops(bytes: u8x16) -> u64
     ensures { result ≡ mask_l (map is_stop bytes) }
 {
-    (bytes.simd_eq(u8x16::splat(b'"'))
-        | bytes.simd_eq(u8x16::splat(b'\\'))
-        | bytes.simd_lt(u8x16::splat(0x20))).to_bitmask()
+    let turned = bytes ^ u8x16::splat(2);
+    (bytes.simd_eq(u8x16::splat(b'\\')) | turned.simd_lt(u8x16::splat(0x21))).to_bitmask()
 }
 
 // Whether a byte of a string stands for itself.
@@ -72,8 +101,28 @@ fn short_plain_end(text: &[u8], from: usize) -> usize
     at
 }
 
-// Where the bytes that stand for themselves end.
+// Where the bytes that stand for themselves end, of less than 16. They are the last of the text's last
+// 16 bytes, of which those ahead of them are left out.
 #[inline(always)]
+fn last_plain_end(text: &[u8], from: usize) -> usize
+    requires within { from ≤ length text.now }
+    requires few { length text.now < from + 16 }
+    ensures value { result ≡ from + prefix_len spec_is_plain (drop from text.now) }
+    ensures bound { result ≤ length text.now }
+{
+    let len = text.len();
+    if len < 16 {
+        return short_plain_end(text, from);
+    }
+    let found = stops(u8x16::from_slice(&text[len - 16..])) >> (from + 16 - len);
+    if found == 0 {
+        return len;
+    }
+    from + found.trailing_zeros() as usize
+}
+
+// Where the bytes that stand for themselves end.
+#[inline(never)]
 fn plain_end(text: &[u8], from: usize) -> usize
     requires { from ≤ length text.now }
     ensures value { result ≡ from + prefix_len spec_is_plain (drop from text.now) }
@@ -87,7 +136,26 @@ fn plain_end(text: &[u8], from: usize) -> usize
         }
         at += 16;
     }
-    short_plain_end(text, at)
+    last_plain_end(text, at)
+}
+
+// What ends the bytes that stand for themselves. Most strings are short, so that their ends are seen
+// in 16 bytes, without a call.
+#[inline(always)]
+fn plain_stop(text: &[u8], from: usize) -> Stop
+    requires { from ≤ length text.now }
+    ensures at { result.at ≡ from + prefix_len spec_is_plain (drop from text.now) }
+    ensures byte { result.byte ≡ head (drop result.at text.now) }
+    ensures bound { result.at ≤ length text.now }
+{
+    if from + 16 > text.len() {
+        return stop_at(text, plain_end(text, from));
+    }
+    let found = stops(u8x16::from_slice(&text[from..]));
+    if found == 0 {
+        return stop_at(text, plain_end(text, from + 16));
+    }
+    seen_at(text, from + found.trailing_zeros() as usize)
 }
 
 /// The quote that ends a string, from the byte behind its first quote on; none where a byte does
@@ -97,9 +165,9 @@ pub(crate) fn plain_string_end(text: &[u8], from: usize) -> Option<usize>
     requires { from ≤ length text.now }
     ensures { IfSome result (EndsPlain text.now from) }
 {
-    let quote = plain_end(text, from);
-    if byte_at(text, quote) == b'"' {
-        Some(quote)
+    let stop = plain_stop(text, from);
+    if stop.byte == b'"' {
+        Some(stop.at)
     } else {
         None
     }
@@ -154,6 +222,37 @@ fn escape_end(text: &[u8], from: usize) -> Option<usize>
     code_end(text, from + 1)
 }
 
+// The quote that ends a string, which has escapes, from a byte between two of them on; none where an
+// escape may be half of a pair.
+#[inline(never)]
+fn escaped_end(text: &[u8], from: usize) -> Option<usize>
+    requires { from ≤ length text.now }
+    ensures { IfSome result (EndsString text.now from) }
+{
+    let mut at = from;
+    loop {
+        let stop = plain_stop(text, at);
+        if stop.byte == b'"' {
+            return Some(stop.at);
+        }
+        if stop.byte != b'\\' {
+            return None;
+        }
+        at = escape_end(text, stop.at + 1)?;
+    }
+}
+
+// The same from behind a backslash on.
+#[inline(never)]
+fn behind_backslash(text: &[u8], from: usize) -> Option<usize>
+    requires { from ≤ length text.now }
+    ensures { IfSome result (λ quote. (at : ℕ) × EndsEscape text.now from at
+        × EndsString text.now at quote) }
+{
+    let at = escape_end(text, from)?;
+    escaped_end(text, at)
+}
+
 /// The quote that ends a string, from the byte behind its first quote on; none where an escape may
 /// be half of a pair.
 #[inline(always)]
@@ -161,21 +260,17 @@ pub(crate) fn string_end(text: &[u8], from: usize) -> Option<usize>
     requires { from ≤ length text.now }
     ensures { IfSome result (EndsString text.now from) }
 {
-    let mut at = from;
-    loop {
-        let stop = plain_end(text, at);
-        let byte = byte_at(text, stop);
-        if byte == b'"' {
-            return Some(stop);
-        }
-        if byte != b'\\' {
-            return None;
-        }
-        at = escape_end(text, stop + 1)?;
+    let stop = plain_stop(text, from);
+    if stop.byte == b'"' {
+        return Some(stop.at);
     }
+    if stop.byte != b'\\' {
+        return None;
+    }
+    behind_backslash(text, stop.at + 1)
 }
 
-#[inline(always)]
+#[inline(never)]
 fn digits_end(text: &[u8], from: usize) -> usize
     requires { from ≤ length text.now }
     ensures value { result ≡ from + prefix_len is_ascii_digit (drop from text.now) }
@@ -188,12 +283,38 @@ fn digits_end(text: &[u8], from: usize) -> usize
     at
 }
 
+// Which of these bytes are no digits.
+#[inline(always)]
+fn others(bytes: u8x16) -> u64
+    ensures { result ≡ mask_l (map is_other bytes) }
+{
+    (bytes.simd_lt(u8x16::splat(b'0')) | bytes.simd_gt(u8x16::splat(b'9'))).to_bitmask()
+}
+
+// What ends the digits from a byte on. Most numbers end in the first 16 bytes.
+#[inline(always)]
+fn digits_stop(text: &[u8], from: usize) -> Stop
+    requires { from ≤ length text.now }
+    ensures at { result.at ≡ from + prefix_len is_ascii_digit (drop from text.now) }
+    ensures byte { result.byte ≡ head (drop result.at text.now) }
+    ensures bound { result.at ≤ length text.now }
+{
+    if from + 16 > text.len() {
+        return stop_at(text, digits_end(text, from));
+    }
+    let found = others(u8x16::from_slice(&text[from..]));
+    if found == 0 {
+        return stop_at(text, digits_end(text, from + 16));
+    }
+    seen_at(text, from + found.trailing_zeros() as usize)
+}
+
 #[inline(always)]
 fn some_digits_end(text: &[u8], from: usize) -> Option<usize>
     requires { from ≤ length text.now }
     ensures { EndsAt text.now from result (after_digits (drop from text.now)) }
 {
-    let end = digits_end(text, from);
+    let end = digits_stop(text, from).at;
     if end == from { None } else { Some(end) }
 }
 
@@ -306,8 +427,16 @@ fn is_number_start(byte: u8) -> bool
     byte == b'-' || byte.is_ascii_digit()
 }
 
-// Where a number ends that begins with a minus or a digit.
+/// Whether an integer begins with a byte that is not 0.
 #[inline(always)]
+pub(crate) fn is_integer_start(byte: u8) -> bool
+    ensures { result ≡ begins_integer byte }
+{
+    byte >= b'1' && byte <= b'9'
+}
+
+// Where a number ends that begins with a minus or a digit.
+#[inline(never)]
 fn number_word_end(text: &[u8], from: usize) -> Option<usize>
     requires within { from ≤ length text.now }
     requires first { begins_number (head (drop from text.now)) ≡ true }
@@ -319,6 +448,22 @@ fn number_word_end(text: &[u8], from: usize) -> Option<usize>
         Some(end)
     } else {
         None
+    }
+}
+
+/// Where a number ends that begins with a digit other than 0. Most of these are integers.
+#[inline(always)]
+pub(crate) fn digits_word_end(text: &[u8], from: usize) -> Option<usize>
+    requires within { from ≤ length text.now }
+    requires first { begins_integer (head (drop from text.now)) ≡ true }
+    ensures bounds { IfSome result (λ end. (from ≤ end) × (end ≤ length text.now)) }
+    ensures word { IfSome result (λ end. (j : Json) × HasWord text.now from end j) }
+{
+    let stop = digits_stop(text, from);
+    if ends_before(stop.byte) {
+        Some(stop.at)
+    } else {
+        number_word_end(text, from)
     }
 }
 
@@ -337,7 +482,7 @@ fn literal_word_end(text: &[u8], from: usize, name: &[u8]) -> Option<usize>
 }
 
 /// Where a number or a literal ends.
-#[inline(always)]
+#[inline(never)]
 pub(crate) fn word_end(text: &[u8], from: usize) -> Option<usize>
     requires { from ≤ length text.now }
     ensures bounds { IfSome result (λ end. (from ≤ end) × (end ≤ length text.now)) }

@@ -20,6 +20,3 @@ pub loop-at-preserved : goal.loop-at-preserved
 loop-at-preserved c =
     let run = run_through is_stop is_plain (λ x. refl) c.args.text.now c.loop-at.at 16 (omega arith) (omega (arith, c.stops-found.ensures)) in
     (omega (arith, run, c.loop-at.invariant.0), omega arith)
-
-pub returns-clause-bound : goal.returns-clause-bound
-returns-clause-bound c = omega (arith, run_bound is_plain c.args.text.now c.loop-at.at c.loop-at.invariant.1)

@@ -1,6 +1,7 @@
-use Rattle.std.proofs.Common.{◌≡◌, ◌+◌, ◌-◌, ◌*◌, ◌≤◌, true, List, None, length, option_map}
+use Rattle.std.proofs.Common.{◌≡◌, ◌+◌, ◌-◌, ◌*◌, ◌<◌, ◌≤◌, true, List, None, length, drop, option_map}
 use Rattle.json.specs.Find.{get_member}
 use Rattle.json.specs.Json.{Members}
+use Rattle.json.specs.Word.{head}
 use Rattle.json.specs.Lex.{Lexeme, Place, fresh, may_begin}
 use Rattle.mmdb_enrich.specs.Scanned.{lexemes_at, BeginWithMembers}
 use Rattle.mmdb_enrich.proofs.FoundLaws.{text_or}
@@ -18,7 +19,8 @@ decreases-follow_members l = 3 * length l.path.now + 2
 abbrev pub invariant-follow_members-loop-key : goal.invariant-follow_members-loop-key
 invariant-follow_members-loop-key l = record {
   low : l.fn.from ≤ l.at;
-  high : l.at ≤ length l.text;
+  within : l.at < length l.text;
+  first : head (drop l.at l.text) ≡ 34;
   reads : (ms : Members) (rest : List Lexeme) → ((p : Place) → may_begin p ≡ true → BeginWithMembers l.depth p (lexemes_at l.text l.at) ms rest)
       → (all : Members) × BeginWithMembers l.depth fresh (lexemes_at l.text l.fn.from) all rest
       × (text_or l.path (get_member l.name all) None ≡ text_or l.path (get_member l.name ms) (option_map (λ s. s.now) l.found));

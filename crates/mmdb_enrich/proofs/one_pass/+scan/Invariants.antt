@@ -1,5 +1,6 @@
-use Rattle.std.proofs.Common.{◌≡◌, ◌+◌, ◌-◌, ◌*◌, ◌≤◌, true, List, length}
+use Rattle.std.proofs.Common.{◌≡◌, ◌+◌, ◌-◌, ◌*◌, ◌<◌, ◌≤◌, true, List, length, drop}
 use Rattle.json.specs.Json.{Items, Members}
+use Rattle.json.specs.Word.{head}
 use Rattle.json.specs.Lex.{Lexeme, Place, fresh, may_begin}
 use Rattle.mmdb_enrich.specs.Scanned.{lexemes_at, BeginWithItems, BeginWithMembers}
 use Rattle.mmdb_enrich.proofs.one_pass.+scan.Given as goal
@@ -27,7 +28,8 @@ decreases-items_end-loop-item l = length l.text - l.at
 abbrev pub invariant-members_end-loop-key : goal.invariant-members_end-loop-key
 invariant-members_end-loop-key l = record {
   low : l.fn.from ≤ l.at;
-  high : l.at ≤ length l.text;
+  within : l.at < length l.text;
+  first : head (drop l.at l.text) ≡ 34;
   reads : (ms : Members) (rest : List Lexeme) → ((p : Place) → may_begin p ≡ true → BeginWithMembers l.depth p (lexemes_at l.text l.at) ms rest)
       → (all : Members) × BeginWithMembers l.depth fresh (lexemes_at l.text l.fn.from) all rest;
 }

@@ -1,12 +1,9 @@
-use Rattle.std.proofs.Common.{rules, ◌≡◌, drop, arith}
-use Rattle.json.specs.Word.{head}
 use Rattle.mmdb_enrich.proofs.ScanLaws.{key_at}
+use Rattle.std.proofs.Common.{arith}
 use Rattle.mmdb_enrich.proofs.one_pass.read_key.Goals as goal
 
-pub returns : goal.returns
-returns c =
+pub returns-clause-key : goal.returns-clause-key
+returns-clause-key c =
     let text = c.args.text.now in
-    let first : head (drop c.args.from text) ≡ 34 = search rules in
-    let mark : head (drop c.space_end-colon.result text) ≡ 58 = search rules in
-    key_at text c.args.from c.in_ok-quote.quote c.space_end-colon.result c.space_end.result first c.in_ok-quote.ensures (omega arith) c.space_end-colon.ensures.same
-    mark (omega arith) (omega arith) c.space_end.ensures.same
+    let colon = c.in_ok-value.ensures.at in
+    key_at text c.args.from c.in_ok-quote.quote colon.place c.in_ok-value.value.at c.requires.first c.in_ok-quote.ensures colon.low colon.before colon.is (omega (arith, colon.high)) colon.within colon.behind
