@@ -268,8 +268,9 @@ fn take_unread<'r, O: Write, E: Write>(
     }
 }
 
-// Takes the next part of two databases, or reports why it can't be read behind those before it.
-#[inline(always)]
+// Takes the next part of two databases, or reports why it can't be read behind those before it. It stays out of the way of
+// the stretches that both have, which are most.
+#[inline(never)]
 fn take_part<'r, O: Write, E: Write>(
     task: &DiffTask<'_>,
     comparison: &mut Comparison<'r, Vec<u8>>,
@@ -292,6 +293,10 @@ fn compare_all<'r, O: Write, E: Write>(
     console: &mut Console<'_, O, E>,
 ) -> Result<(), ProgramError> {
     for _ in 0..u64::MAX {
+        if let Some(stretch) = comparison.next_shared() {
+            take_stretch(task, comparison, stretch, so_far, console)?;
+            continue;
+        }
         let Some(part) = comparison.next_part() else {
             break;
         };
