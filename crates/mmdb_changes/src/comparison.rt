@@ -75,7 +75,7 @@ impl Waiting {
 // The pairs that were compared, what waits to be, what differs, and how many networks could not be read.
 #[derive(Drop)]
 struct SoFar<'a, 'r> {
-    pairs: Pairs,
+    pairs: Pairs<'r>,
     waiting: Waiting,
     changes: Changes<'a, 'r>,
     faults: u64,
@@ -83,9 +83,13 @@ struct SoFar<'a, 'r> {
 
 impl<'a, 'r> SoFar<'a, 'r> {
     // Nothing was compared yet.
-    fn new(alloc: Global, layout: &'a Layout<'a>) -> Result<SoFar<'a, 'r>, AllocError> {
+    fn new(
+        alloc: Global,
+        layout: &'a Layout<'a>,
+        databases: &'r TwoDatabases,
+    ) -> Result<SoFar<'a, 'r>, AllocError> {
         Ok(SoFar {
-            pairs: Pairs::new(alloc)?,
+            pairs: Pairs::new(alloc, layout, databases.old(), databases.newer())?,
             waiting: Waiting::new(alloc)?,
             changes: Changes::new(alloc, layout)?,
             faults: 0,
@@ -169,7 +173,10 @@ fn compare_answers<'r, O: Write, E: Write>(
 ) -> Result<(), ProgramError> {
     match so_far.pairs.is_same(console.alloc, &task.layout, answers) {
         Ok(true) => Ok(()),
-        Ok(false) => so_far.changes.push(stretch, answers, console.out),
+        Ok(false) => {
+            let pairs = &mut so_far.pairs;
+            so_far.changes.push(stretch, answers, pairs, console.out)
+        }
         Err(unreadable) => {
             let reported = report_value(task, stretch, &unreadable, so_far, console);
             drop(unreadable);
@@ -356,10 +363,11 @@ fn compare_with<'r, O: Write, E: Write>(
 // Compares two databases side by side, and answers the status.
 fn compare<'a, 'r, O: Write, E: Write>(
     task: &'a DiffTask<'a>,
+    databases: &'r TwoDatabases,
     comparison: &mut Comparison<'r, Vec<u8>>,
     console: &mut Console<'_, O, E>,
 ) -> Result<u8, ProgramError> {
-    let mut so_far = SoFar::new(console.alloc, &task.layout)?;
+    let mut so_far = SoFar::new(console.alloc, &task.layout, databases)?;
     let done = compare_with(task, comparison, &mut so_far, console);
     drop(so_far);
     done
@@ -374,7 +382,7 @@ fn compare_range<'a, O: Write, E: Write>(
 ) -> Result<u8, ProgramError> {
     match Comparison::new(console.alloc, databases.old(), databases.newer(), range) {
         Ok(mut comparison) => {
-            let done = compare(task, &mut comparison, console);
+            let done = compare(task, databases, &mut comparison, console);
             drop(comparison);
             done
         }
