@@ -66,6 +66,12 @@ impl Waiting {
         Ok(self.offsets.len() >= MOST_WAITING)
     }
 
+    // A stretch, and where its records are.
+    #[inline(always)]
+    fn at(&self, index: usize) -> Option<(Stretch, Option<Offsets>)> {
+        Some((*self.stretches.get(index)?, *self.offsets.get(index)?))
+    }
+
     fn clear(&mut self) {
         self.stretches.clear();
         self.offsets.clear();
@@ -185,15 +191,25 @@ fn compare_answers<'r, O: Write, E: Write>(
     }
 }
 
-// Compares a stretch of which it was not kept that both databases have the same.
+// Compares a stretch of which it was not kept that both databases have the same. Most records have not changed, which is seen
+// of them where they are.
 #[inline(never)]
 fn compare_stretch<'r, O: Write, E: Write>(
     task: &DiffTask<'_>,
     comparison: &Comparison<'r, Vec<u8>>,
     stretch: Stretch,
+    offsets: Option<Offsets>,
     so_far: &mut SoFar<'_, 'r>,
     console: &mut Console<'_, O, E>,
 ) -> Result<(), ProgramError> {
+    if let Some(offsets) = offsets {
+        if so_far
+            .pairs
+            .is_seen_same(console.alloc, &task.layout, offsets)
+        {
+            return Ok(());
+        }
+    }
     let old = comparison.found_in_old(stretch);
     let new = comparison.found_in_new(stretch);
     let answers = Answers {
@@ -225,10 +241,10 @@ fn compare_waiting<'r, O: Write, E: Write>(
             so_far.keep_last(index);
             continue;
         }
-        let Some(stretch) = so_far.waiting.stretches.get(index).copied() else {
+        let Some((stretch, offsets)) = so_far.waiting.at(index) else {
             break;
         };
-        compare_stretch(task, comparison, stretch, so_far, console)?;
+        compare_stretch(task, comparison, stretch, offsets, so_far, console)?;
     }
     so_far.waiting.clear();
     Ok(())

@@ -1,5 +1,5 @@
 //! The values of networks in two databases, compared by how they are shown.
-use crate::record::are_seen_equal;
+use crate::record::Sections;
 use crate::texts::BothTexts;
 use json::{Token, Writer};
 use mmdb_console::{ProgramError, put};
@@ -19,6 +19,7 @@ pub(crate) struct Pairs<'r> {
     pub(crate) kept: KnownPairs,
     /// Maps that are equal in the two databases.
     maps: KnownMaps,
+    sections: Sections<'r>,
     /// What is shown of pairs that differ.
     shown: ShownPairs,
     /// The texts of whole records, where those are shown and there was memory.
@@ -240,6 +241,10 @@ impl<'r> Pairs<'r> {
         Ok(Pairs {
             kept: KnownPairs::new(alloc)?,
             maps: KnownMaps::new(alloc)?,
+            sections: Sections {
+                old: old.data_section(),
+                new: new.data_section(),
+            },
             shown: ShownPairs::new(alloc)?,
             texts: texts_of(alloc, layout, old, new),
         })
@@ -250,21 +255,6 @@ impl<'r> Pairs<'r> {
         match &mut self.texts {
             Some(texts) => texts.shown(alloc, offset_of(answers.old), offset_of(answers.new)),
             None => None,
-        }
-    }
-
-    // Whether what was found in both databases is seen to be equal, where whole records are shown.
-    fn are_equal_records(
-        &mut self,
-        alloc: Global,
-        layout: &Layout<'_>,
-        answers: Answers<'_, '_>,
-    ) -> bool {
-        match (layout, answers.old, answers.new) {
-            (Layout::Records, Some(old), Some(new)) => {
-                are_seen_equal(alloc, &mut self.maps, old, new)
-            }
-            _ => false,
         }
     }
 
@@ -287,9 +277,6 @@ impl<'r> Pairs<'r> {
         layout: &Layout<'_>,
         answers: Answers<'_, '_>,
     ) -> Result<bool, Unreadable> {
-        if self.are_equal_records(alloc, layout, answers) {
-            return Ok(true);
-        }
         match self.laid_out(alloc, answers) {
             Some(shown) => {
                 let is_same = self.is_shown_same(alloc, answers, &shown);
@@ -298,6 +285,27 @@ impl<'r> Pairs<'r> {
             }
             None => are_same(alloc, layout, answers),
         }
+    }
+
+    /// Whether the records at two offsets are seen to be shown the same, before they are looked up: they were compared, or
+    /// are equal whole records. Of others `is_same` says it.
+    pub(crate) fn is_seen_same(
+        &mut self,
+        alloc: Global,
+        layout: &Layout<'_>,
+        offsets: Offsets,
+    ) -> bool {
+        if let Some(is_same) = self.kept.kept(offsets) {
+            return is_same;
+        }
+        let (true, Some((old, new))) = (layout.has_records(), offsets.both()) else {
+            return false;
+        };
+        if !self.sections.have_equal(alloc, &mut self.maps, old, new) {
+            return false;
+        }
+        self.kept.keep(offsets, true);
+        true
     }
 
     /// Whether a network is shown the same in both databases.
