@@ -1,10 +1,10 @@
 //! What differs, written as the fewest networks: neighbours with the same two values are joined.
 use crate::counts::{ABSENT, Counts, Presence};
-use crate::differences::{Answers, put_difference, shown_by};
+use crate::differences::{Answers, Pairs, put_difference};
 use mmdb_blocks::{Block, Joiner};
 use mmdb_console::ProgramError;
 use mmdb_diff::Stretch;
-use mmdb_equality::{Shown, ShownPairs};
+use mmdb_equality::Shown;
 use mmdb_layout::{Found, Layout};
 use mmdb_lists::Kind;
 use mmdb_reader::IpNetwork;
@@ -47,11 +47,12 @@ pub(crate) struct Changes<'a, 'r> {
     alloc: Global,
     layout: &'a Layout<'a>,
     joiner: Joiner,
-    pairs: ShownPairs,
     run: Option<Run<'r>>,
     /// What the first address of each block that waits in the joiner has, by how many zero bits that address ends
     /// with. It is another number for each: they stand side by side, and each is smaller than the one before.
     presences: [Presence; ENDINGS],
+    /// What the beginning of a line is put together in.
+    line: Vec<u8>,
     /// What was written.
     pub(crate) counts: Counts,
 }
@@ -75,9 +76,9 @@ impl<'a, 'r> Changes<'a, 'r> {
             alloc,
             layout,
             joiner: Joiner::new(alloc)?,
-            pairs: ShownPairs::new(alloc)?,
             run: None,
             presences: [ABSENT; ENDINGS],
+            line: Vec::new(alloc),
             counts: Counts::new(),
         })
     }
@@ -108,7 +109,11 @@ impl<'a, 'r> Changes<'a, 'r> {
     }
 
     // Writes the line of a network of the run.
-    fn put_network<O: Write>(&self, network: IpNetwork, out: &mut O) -> Result<(), ProgramError> {
+    fn put_network<O: Write>(
+        &mut self,
+        network: IpNetwork,
+        out: &mut O,
+    ) -> Result<(), ProgramError> {
         match &self.run {
             Some(run) => put_difference(
                 self.alloc,
@@ -116,6 +121,7 @@ impl<'a, 'r> Changes<'a, 'r> {
                 network,
                 run.answers(),
                 &run.shown,
+                &mut self.line,
                 out,
             ),
             None => Ok(()),
@@ -173,9 +179,10 @@ impl<'a, 'r> Changes<'a, 'r> {
         &mut self,
         stretch: Stretch,
         answers: Answers<'_, 'r>,
+        pairs: &mut Pairs<'_>,
         out: &mut O,
     ) -> Result<(), ProgramError> {
-        let shown = shown_by(self.alloc, self.layout, &mut self.pairs, answers)?;
+        let shown = pairs.shown_by(self.alloc, self.layout, answers)?;
         if !self.has_same_values(stretch, &shown) {
             self.finish(out)?;
         }
@@ -209,10 +216,11 @@ impl<'a, 'r> Changes<'a, 'r> {
         &mut self,
         stretch: Stretch,
         answers: Answers<'_, 'r>,
+        pairs: &mut Pairs<'_>,
         out: &mut O,
     ) -> Result<(), ProgramError> {
         if !self.has_same_records(stretch, answers) {
-            self.change_to(stretch, answers, out)?;
+            self.change_to(stretch, answers, pairs, out)?;
         }
         self.add(stretch, out)
     }

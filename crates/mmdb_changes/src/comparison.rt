@@ -66,6 +66,12 @@ impl Waiting {
         Ok(self.offsets.len() >= MOST_WAITING)
     }
 
+    // A stretch, and where its records are.
+    #[inline(always)]
+    fn at(&self, index: usize) -> Option<(Stretch, Option<Offsets>)> {
+        Some((*self.stretches.get(index)?, *self.offsets.get(index)?))
+    }
+
     fn clear(&mut self) {
         self.stretches.clear();
         self.offsets.clear();
@@ -75,7 +81,7 @@ impl Waiting {
 // The pairs that were compared, what waits to be, what differs, and how many networks could not be read.
 #[derive(Drop)]
 struct SoFar<'a, 'r> {
-    pairs: Pairs,
+    pairs: Pairs<'r>,
     waiting: Waiting,
     changes: Changes<'a, 'r>,
     faults: u64,
@@ -83,9 +89,13 @@ struct SoFar<'a, 'r> {
 
 impl<'a, 'r> SoFar<'a, 'r> {
     // Nothing was compared yet.
-    fn new(alloc: Global, layout: &'a Layout<'a>) -> Result<SoFar<'a, 'r>, AllocError> {
+    fn new(
+        alloc: Global,
+        layout: &'a Layout<'a>,
+        databases: &'r TwoDatabases,
+    ) -> Result<SoFar<'a, 'r>, AllocError> {
         Ok(SoFar {
-            pairs: Pairs::new(alloc)?,
+            pairs: Pairs::new(alloc, layout, databases.old(), databases.newer())?,
             waiting: Waiting::new(alloc)?,
             changes: Changes::new(alloc, layout)?,
             faults: 0,
@@ -169,7 +179,10 @@ fn compare_answers<'r, O: Write, E: Write>(
 ) -> Result<(), ProgramError> {
     match so_far.pairs.is_same(console.alloc, &task.layout, answers) {
         Ok(true) => Ok(()),
-        Ok(false) => so_far.changes.push(stretch, answers, console.out),
+        Ok(false) => {
+            let pairs = &mut so_far.pairs;
+            so_far.changes.push(stretch, answers, pairs, console.out)
+        }
         Err(unreadable) => {
             let reported = report_value(task, stretch, &unreadable, so_far, console);
             drop(unreadable);
@@ -178,15 +191,25 @@ fn compare_answers<'r, O: Write, E: Write>(
     }
 }
 
-// Compares a stretch of which it was not kept that both databases have the same.
+// Compares a stretch of which it was not kept that both databases have the same. Most records have not changed, which is seen
+// of them where they are.
 #[inline(never)]
 fn compare_stretch<'r, O: Write, E: Write>(
     task: &DiffTask<'_>,
     comparison: &Comparison<'r, Vec<u8>>,
     stretch: Stretch,
+    offsets: Option<Offsets>,
     so_far: &mut SoFar<'_, 'r>,
     console: &mut Console<'_, O, E>,
 ) -> Result<(), ProgramError> {
+    if let Some(offsets) = offsets {
+        if so_far
+            .pairs
+            .is_seen_same(console.alloc, &task.layout, offsets)
+        {
+            return Ok(());
+        }
+    }
     let old = comparison.found_in_old(stretch);
     let new = comparison.found_in_new(stretch);
     let answers = Answers {
@@ -218,10 +241,10 @@ fn compare_waiting<'r, O: Write, E: Write>(
             so_far.keep_last(index);
             continue;
         }
-        let Some(stretch) = so_far.waiting.stretches.get(index).copied() else {
+        let Some((stretch, offsets)) = so_far.waiting.at(index) else {
             break;
         };
-        compare_stretch(task, comparison, stretch, so_far, console)?;
+        compare_stretch(task, comparison, stretch, offsets, so_far, console)?;
     }
     so_far.waiting.clear();
     Ok(())
@@ -268,8 +291,9 @@ fn take_unread<'r, O: Write, E: Write>(
     }
 }
 
-// Takes the next part of two databases, or reports why it can't be read behind those before it.
-#[inline(always)]
+// Takes the next part of two databases, or reports why it can't be read behind those before it. It stays out of the way of
+// the stretches that both have, which are most.
+#[inline(never)]
 fn take_part<'r, O: Write, E: Write>(
     task: &DiffTask<'_>,
     comparison: &mut Comparison<'r, Vec<u8>>,
@@ -292,6 +316,10 @@ fn compare_all<'r, O: Write, E: Write>(
     console: &mut Console<'_, O, E>,
 ) -> Result<(), ProgramError> {
     for _ in 0..u64::MAX {
+        if let Some(stretch) = comparison.next_shared() {
+            take_stretch(task, comparison, stretch, so_far, console)?;
+            continue;
+        }
         let Some(part) = comparison.next_part() else {
             break;
         };
@@ -351,10 +379,11 @@ fn compare_with<'r, O: Write, E: Write>(
 // Compares two databases side by side, and answers the status.
 fn compare<'a, 'r, O: Write, E: Write>(
     task: &'a DiffTask<'a>,
+    databases: &'r TwoDatabases,
     comparison: &mut Comparison<'r, Vec<u8>>,
     console: &mut Console<'_, O, E>,
 ) -> Result<u8, ProgramError> {
-    let mut so_far = SoFar::new(console.alloc, &task.layout)?;
+    let mut so_far = SoFar::new(console.alloc, &task.layout, databases)?;
     let done = compare_with(task, comparison, &mut so_far, console);
     drop(so_far);
     done
@@ -369,7 +398,7 @@ fn compare_range<'a, O: Write, E: Write>(
 ) -> Result<u8, ProgramError> {
     match Comparison::new(console.alloc, databases.old(), databases.newer(), range) {
         Ok(mut comparison) => {
-            let done = compare(task, &mut comparison, console);
+            let done = compare(task, databases, &mut comparison, console);
             drop(comparison);
             done
         }

@@ -1,23 +1,29 @@
 //! The values of networks in two databases, compared by how they are shown.
-use crate::record::are_seen_equal;
+use crate::record::Sections;
+use crate::texts::BothTexts;
 use json::{Token, Writer};
 use mmdb_console::{ProgramError, put};
 use mmdb_diff::Side;
 use mmdb_equality::{KnownMaps, KnownPairs, Offsets, Shown, ShownPairs};
 use mmdb_found::found_json;
 use mmdb_json::compact;
-use mmdb_layout::{Fields, Found, Layout, line_of_cells, line_of_names, write_values};
+use mmdb_layout::{Database, Fields, Found, Layout, line_of_cells, line_of_names, write_values};
 use mmdb_reader::{IpNetwork, MaxMindDbError};
 use mmdb_value::Value;
 use std::alloc::{AllocError, Global};
 use std::io::Write;
 
-/// The pairs of records that were compared last.
+/// The pairs of records that were compared last, and what is kept of their records.
 #[derive(Drop)]
-pub(crate) struct Pairs {
+pub(crate) struct Pairs<'r> {
     pub(crate) kept: KnownPairs,
     /// Maps that are equal in the two databases.
     maps: KnownMaps,
+    sections: Sections<'r>,
+    /// What is shown of pairs that differ.
+    shown: ShownPairs,
+    /// The texts of whole records, where those are shown and there was memory.
+    texts: Option<BothTexts<'r>>,
 }
 
 /// Why a value can't be shown: the database that it is of, and its error.
@@ -151,16 +157,12 @@ fn is_shown_as<'r>(
     is_same
 }
 
-// Whether two records are shown the same.
-fn are_same_records<'r>(
+// Whether two records are shown the same, of which each is read whole.
+fn are_same_values<'r>(
     alloc: Global,
-    known: &mut KnownMaps,
     old: &Found<'r>,
     new: &Found<'r>,
 ) -> Result<bool, Unreadable> {
-    if are_seen_equal(alloc, known, old, new) {
-        return Ok(true);
-    }
     let old = record_in(alloc, Side::Old, old)?;
     let is_same = is_shown_as(alloc, &old, new);
     drop(old);
@@ -172,18 +174,18 @@ fn are_same_records<'r>(
 fn are_same(
     alloc: Global,
     layout: &Layout<'_>,
-    known: &mut KnownMaps,
     answers: Answers<'_, '_>,
 ) -> Result<bool, Unreadable> {
     if let (Layout::Records, Some(old), Some(new)) = (layout, answers.old, answers.new) {
-        return are_same_records(alloc, known, old, new);
+        return are_same_values(alloc, old, new);
     }
     let old_text = text_in(alloc, layout, Side::Old, answers.old)?;
     let new_text = text_in(alloc, layout, Side::New, answers.new)?;
     Ok(old_text == new_text)
 }
 
-fn offset_of(found: Option<&Found<'_>>) -> Option<usize> {
+/// Where the record of what was found is, if there is one.
+pub(crate) fn offset_of(found: Option<&Found<'_>>) -> Option<usize> {
     match found {
         Some(found) => found.offset(),
         None => None,
@@ -202,8 +204,8 @@ impl Answers<'_, '_> {
     }
 }
 
-// What two databases have for a network as JSON.
-fn shown_of(
+// What two databases have for a network as JSON, of which each value is read.
+fn shown_by_values(
     alloc: Global,
     layout: &Layout<'_>,
     answers: Answers<'_, '_>,
@@ -214,42 +216,96 @@ fn shown_of(
     })
 }
 
-// What is shown of two answers, kept from now on by the offsets of their records.
-fn shown_anew(
+// The texts of the records of two databases, where whole ones are shown. Without memory for them records are shown without.
+fn texts_of<'r>(
     alloc: Global,
     layout: &Layout<'_>,
-    pairs: &mut ShownPairs,
-    offsets: Offsets,
-    answers: Answers<'_, '_>,
-) -> Result<Shown, MaxMindDbError> {
-    let shown = shown_of(alloc, layout, answers)?;
-    pairs.keep(alloc, offsets, &shown);
-    Ok(shown)
-}
-
-/// What is shown of two answers, which may be kept.
-pub(crate) fn shown_by(
-    alloc: Global,
-    layout: &Layout<'_>,
-    pairs: &mut ShownPairs,
-    answers: Answers<'_, '_>,
-) -> Result<Shown, MaxMindDbError> {
-    let Some(offsets) = answers.offsets() else {
-        return shown_of(alloc, layout, answers);
-    };
-    match pairs.kept(alloc, offsets)? {
-        Some(shown) => Ok(shown),
-        None => shown_anew(alloc, layout, pairs, offsets, answers),
+    old: &'r Database,
+    new: &'r Database,
+) -> Option<BothTexts<'r>> {
+    if layout.has_records() {
+        BothTexts::new(alloc, old.data_section(), new.data_section()).ok()
+    } else {
+        None
     }
 }
 
-impl Pairs {
+impl<'r> Pairs<'r> {
     /// No pairs yet.
-    pub(crate) fn new(alloc: Global) -> Result<Pairs, AllocError> {
+    pub(crate) fn new(
+        alloc: Global,
+        layout: &Layout<'_>,
+        old: &'r Database,
+        new: &'r Database,
+    ) -> Result<Pairs<'r>, AllocError> {
         Ok(Pairs {
             kept: KnownPairs::new(alloc)?,
             maps: KnownMaps::new(alloc)?,
+            sections: Sections {
+                old: old.data_section(),
+                new: new.data_section(),
+            },
+            shown: ShownPairs::new(alloc)?,
+            texts: texts_of(alloc, layout, old, new),
         })
+    }
+
+    // What two databases have for a network, where whole records are shown and both can be laid out without a tree.
+    fn laid_out(&mut self, alloc: Global, answers: Answers<'_, '_>) -> Option<Shown> {
+        match &mut self.texts {
+            Some(texts) => texts.shown(alloc, offset_of(answers.old), offset_of(answers.new)),
+            None => None,
+        }
+    }
+
+    // Whether the same is shown. What differs is kept, since it is written next.
+    fn is_shown_same(&mut self, alloc: Global, answers: Answers<'_, '_>, shown: &Shown) -> bool {
+        if shown.old == shown.new {
+            return true;
+        }
+        if let Some(offsets) = answers.offsets() {
+            self.shown.keep(alloc, offsets, shown);
+        }
+        false
+    }
+
+    // Compares what was found for a network in both databases.
+    #[inline(never)]
+    fn compare(
+        &mut self,
+        alloc: Global,
+        layout: &Layout<'_>,
+        answers: Answers<'_, '_>,
+    ) -> Result<bool, Unreadable> {
+        match self.laid_out(alloc, answers) {
+            Some(shown) => {
+                let is_same = self.is_shown_same(alloc, answers, &shown);
+                drop(shown);
+                Ok(is_same)
+            }
+            None => are_same(alloc, layout, answers),
+        }
+    }
+
+    /// Whether the records at two offsets are seen to be shown the same, before they are looked up: they were compared, or
+    /// are equal whole records. Of others `is_same` says it.
+    pub(crate) fn is_seen_same(
+        &mut self,
+        alloc: Global,
+        layout: &Layout<'_>,
+        offsets: Offsets,
+    ) -> bool {
+        if let Some(is_same) = self.kept.kept(offsets) {
+            return is_same;
+        }
+        let (true, Some((old, new))) = (layout.has_records(), offsets.both()) else {
+            return false;
+        };
+        if !self.sections.have_equal(alloc, &mut self.maps, old, new) {
+            return false;
+        }
+        self.kept.keep(offsets, true);
+        true
     }
 
     /// Whether a network is shown the same in both databases.
@@ -260,34 +316,77 @@ impl Pairs {
         answers: Answers<'_, '_>,
     ) -> Result<bool, Unreadable> {
         let Some(offsets) = answers.offsets() else {
-            return are_same(alloc, layout, &mut self.maps, answers);
+            return self.compare(alloc, layout, answers);
         };
         if let Some(is_same) = self.kept.kept(offsets) {
             return Ok(is_same);
         }
-        let is_same = are_same(alloc, layout, &mut self.maps, answers)?;
+        let is_same = self.compare(alloc, layout, answers)?;
         self.kept.keep(offsets, is_same);
         Ok(is_same)
     }
+
+    // What two databases have for a network as JSON.
+    fn shown_of(
+        &mut self,
+        alloc: Global,
+        layout: &Layout<'_>,
+        answers: Answers<'_, '_>,
+    ) -> Result<Shown, MaxMindDbError> {
+        match self.laid_out(alloc, answers) {
+            Some(shown) => Ok(shown),
+            None => shown_by_values(alloc, layout, answers),
+        }
+    }
+
+    // What is shown of two answers, kept from now on by the offsets of their records.
+    fn shown_anew(
+        &mut self,
+        alloc: Global,
+        layout: &Layout<'_>,
+        offsets: Offsets,
+        answers: Answers<'_, '_>,
+    ) -> Result<Shown, MaxMindDbError> {
+        let shown = self.shown_of(alloc, layout, answers)?;
+        self.shown.keep(alloc, offsets, &shown);
+        Ok(shown)
+    }
+
+    /// What is shown of two answers, which may be kept.
+    pub(crate) fn shown_by(
+        &mut self,
+        alloc: Global,
+        layout: &Layout<'_>,
+        answers: Answers<'_, '_>,
+    ) -> Result<Shown, MaxMindDbError> {
+        let Some(offsets) = answers.offsets() else {
+            return self.shown_of(alloc, layout, answers);
+        };
+        match self.shown.kept(alloc, offsets)? {
+            Some(shown) => Ok(shown),
+            None => self.shown_anew(alloc, layout, offsets, answers),
+        }
+    }
+}
+
+// Puts the beginning of a line of JSON together, up to the value of the old database.
+fn begin_line(network: IpNetwork, line: &mut Vec<u8>) -> Result<(), AllocError> {
+    line.clear();
+    line.extend_from_slice(b"{\"network\":\"")?;
+    network.push_text(line)?;
+    line.extend_from_slice(b"\",\"old\":")
 }
 
 // Writes a line of JSON.
 fn put_object<O: Write>(
-    network: &str,
-    old: &[u8],
-    new: &[u8],
+    network: IpNetwork,
+    shown: &Shown,
+    line: &mut Vec<u8>,
     out: &mut O,
 ) -> Result<(), ProgramError> {
-    let parts: [&[u8]; 7] = [
-        b"{\"network\":\"",
-        network.as_bytes(),
-        b"\",\"old\":",
-        old,
-        b",\"new\":",
-        new,
-        b"}\n",
-    ];
-    for part in parts {
+    begin_line(network, line)?;
+    let (old, new) = (shown.old.as_slice(), shown.new.as_slice());
+    for part in [line.as_slice(), old, b",\"new\":", new, b"}\n"] {
         put(part, out)?;
     }
     Ok(())
@@ -296,32 +395,29 @@ fn put_object<O: Write>(
 fn put_cells<O: Write>(
     alloc: Global,
     fields: &Fields<'_>,
-    network: &str,
+    network: IpNetwork,
     answers: Answers<'_, '_>,
     out: &mut O,
 ) -> Result<(), ProgramError> {
-    let line = line_of_cells(alloc, fields, network, &[answers.old, answers.new])?;
+    let text = network.to_string(alloc)?;
+    let line = line_of_cells(alloc, fields, text.as_str(), &[answers.old, answers.new])?;
     put(line.as_slice(), out)
 }
 
-/// Writes the line of a network with its values in both databases.
+/// Writes the line of a network with its values in both databases. Of a line of JSON the beginning is put together in
+/// `line`.
 pub(crate) fn put_difference<O: Write>(
     alloc: Global,
     layout: &Layout<'_>,
     network: IpNetwork,
     answers: Answers<'_, '_>,
     shown: &Shown,
+    line: &mut Vec<u8>,
     out: &mut O,
 ) -> Result<(), ProgramError> {
-    let text = network.to_string(alloc)?;
     match layout {
-        Layout::Cells(fields) => put_cells(alloc, fields, text.as_str(), answers, out),
-        _ => put_object(
-            text.as_str(),
-            shown.old.as_slice(),
-            shown.new.as_slice(),
-            out,
-        ),
+        Layout::Cells(fields) => put_cells(alloc, fields, network, answers, out),
+        _ => put_object(network, shown, line, out),
     }
 }
 

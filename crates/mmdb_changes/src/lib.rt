@@ -7,6 +7,7 @@ mod counts;
 mod differences;
 mod record;
 mod same;
+mod texts;
 mod two_databases;
 
 pub use comparison::{DiffTask, diff, diff_task};

@@ -45,6 +45,10 @@ pub struct Comparison<'a, S: AsSlice<u8> + Drop> {
     is_ipv4: bool,
     /// The address up to which all is compared, if there is one left.
     at: Option<u128>,
+    /// Whether both stand at one network, of which nothing is left.
+    are_even: bool,
+    /// The side whose next leaf can't be read, where `next_shared` met it.
+    unread: Option<Side>,
 }
 
 impl<'a, S: AsSlice<u8> + Drop> Model for Comparison<'a, S> {
@@ -91,6 +95,8 @@ impl<'a, S: AsSlice<u8> + Drop> Comparison<'a, S> {
                 new,
                 is_ipv4: matches!(range, IpNetwork::V4(_)),
                 at: Some(0),
+                are_even: false,
+                unread: None,
             }),
             Err(error) => Err((Side::New, error)),
         }
@@ -156,6 +162,7 @@ impl<'a, S: AsSlice<u8> + Drop> Comparison<'a, S> {
             (λ part. IsNextPart self.entry.now self.exit.now part) }
     {
         if let Some(block) = self.shared_block(at) {
+            self.are_even = true;
             return Some(Part::Stretch(self.stretch_of(block, true, true)));
         }
         let (old, new) = (self.old.at(at), self.new.at(at));
@@ -169,11 +176,72 @@ impl<'a, S: AsSlice<u8> + Drop> Comparison<'a, S> {
         Some(Part::Stretch(stretch))
     }
 
+    // The block of the networks that both stand at, where that is one network, at an address or behind it.
+    #[inline(always)]
+    fn block_behind(&self, at: u128) -> Option<Block>
+        ensures block { MatchOption result Unit (λ block. IsBlock block) }
+        ensures behind { MatchOption result Unit (λ block. at ≤ block.first) }
+    {
+        if !self.old.is_at_network() || !self.new.is_at_network() {
+            return None;
+        }
+        let block = Block {
+            first: self.old.first(),
+            prefix: self.old.prefix(),
+        };
+        if self.old.has_same_addresses(&self.new) && at <= block.first && block.is_block() {
+            Some(block)
+        } else {
+            None
+        }
+    }
+
+    // Goes on from one network that both stand at to the next of each. Whether both can be read.
+    #[inline(always)]
+    fn go_on(&mut self) -> bool
+        ensures { self.exit.now ≡ self.entry.now }
+    {
+        if !self.old.go_on() {
+            self.unread = Some(Side::Old);
+            return false;
+        }
+        if !self.new.go_on() {
+            self.unread = Some(Side::New);
+            return false;
+        }
+        true
+    }
+
+    /// The next stretch, where both databases had the same network before it and have the same next one. Most stretches of
+    /// two days come this way, in fewer steps than by `next_part`, which gives what comes where this gives none.
+    #[inline(always)]
+    pub fn next_shared(&mut self) -> Option<Stretch>
+        ensures none { MatchOption result (self.exit.now ≡ self.entry.now) (λ _. Unit) }
+        ensures some { MatchOption result Unit
+            (λ stretch. IsNextPart self.entry.now self.exit.now (Part.Stretch stretch)) }
+    {
+        if !self.are_even {
+            return None;
+        }
+        self.are_even = false;
+        let at = self.at?;
+        if !self.go_on() {
+            return None;
+        }
+        let block = self.block_behind(at)?;
+        self.are_even = true;
+        Some(self.stretch_of(block, true, true))
+    }
+
     /// The next part. A stretch begins where the one before ends, or later. None where all is compared.
     pub fn next_part(&mut self) -> Option<Part>
         ensures { MatchOption result Unit
             (λ part. IsNextPart self.entry.now self.exit.now part) }
     {
+        self.are_even = false;
+        if let Some(side) = self.unread.take() {
+            return Some(Part::Unread(side));
+        }
         for _ in 0..u64::MAX {
             let at = self.at?;
             if let Some(side) = self.go_to(at) {

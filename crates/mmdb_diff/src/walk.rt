@@ -32,9 +32,8 @@ pub(crate) struct Walk<'a, S: AsSlice<u8> + Drop> {
     range_first: u128,
     range_prefix: u8,
     stand: Stand,
-    /// Of the network that it stands at, as much as lies in the range: the first and the last address, and the prefix.
+    /// Of the network that it stands at, as much as lies in the range: the first address, and the prefix.
     first: u128,
-    last: u128,
     prefix: u8,
     is_ipv4: bool,
     /// Where its record is, if it has one.
@@ -80,7 +79,6 @@ impl<'a, S: AsSlice<u8> + Drop> Walk<'a, S> {
             range_prefix: block.prefix,
             stand: Stand::Nowhere,
             first: 0,
-            last: 0,
             prefix: 0,
             is_ipv4: false,
             offset: None,
@@ -101,7 +99,6 @@ impl<'a, S: AsSlice<u8> + Drop> Walk<'a, S> {
             self.first = first;
             self.prefix = prefix;
         }
-        self.last = last_of(self.first, self.prefix);
         self.is_ipv4 = is_ipv4;
         self.stand = Stand::AtNetwork;
     }
@@ -147,15 +144,20 @@ impl<'a, S: AsSlice<u8> + Drop> Walk<'a, S> {
     // Takes the next network, or keeps the next leaf, if it can't be read. Whether it can.
     #[inline(always)]
     fn advance(&mut self) -> bool {
-        let item = self.networks.next();
-        if let Some(Ok(found)) = &item {
-            self.take(found);
-            return true;
-        }
-        match item {
+        match self.networks.next() {
+            Some(Ok(found)) => {
+                self.take(&found);
+                true
+            }
             Some(Err(error)) => self.stop(Some(error)),
-            _ => self.stop(None),
+            None => self.stop(None),
         }
+    }
+
+    // The last address of the network that it stands at.
+    #[inline(always)]
+    fn last(&self) -> u128 {
+        last_of(self.first, self.prefix)
     }
 
     // Whether the network that it stands at ends before an address, or there is none yet.
@@ -163,7 +165,7 @@ impl<'a, S: AsSlice<u8> + Drop> Walk<'a, S> {
     fn is_behind(&self, at: u128) -> bool {
         match self.stand {
             Stand::Nowhere => true,
-            Stand::AtNetwork => self.last < at,
+            Stand::AtNetwork => self.last() < at,
             Stand::AtEnd => false,
         }
     }
@@ -186,10 +188,18 @@ impl<'a, S: AsSlice<u8> + Drop> Walk<'a, S> {
         true
     }
 
+    /// Goes on from the network that it stands at, of which nothing is left. Says whether the next leaf can be read;
+    /// `take_unread` has it, if not.
+    #[inline(always)]
+    pub(crate) fn go_on(&mut self) -> bool {
+        self.is_unknown = false;
+        self.advance()
+    }
+
     /// What the database has at an address.
     pub(crate) fn at(&self, at: u128) -> Here {
         let until = match self.stand {
-            Stand::AtNetwork if self.first <= at => return Here::Record(self.last),
+            Stand::AtNetwork if self.first <= at => return Here::Record(self.last()),
             Stand::AtNetwork => self.first.saturating_sub(1),
             Stand::Nowhere | Stand::AtEnd => u128::MAX,
         };
@@ -209,7 +219,19 @@ impl<'a, S: AsSlice<u8> + Drop> Walk<'a, S> {
     /// Whether the network that it stands at has the addresses of another walk's.
     #[inline(always)]
     pub(crate) fn has_same_addresses(&self, other: &Walk<'_, S>) -> bool {
-        self.first == other.first && self.last == other.last
+        self.first == other.first && self.prefix == other.prefix
+    }
+
+    /// Whether it stands at a network.
+    #[inline(always)]
+    pub(crate) fn is_at_network(&self) -> bool {
+        self.stand == Stand::AtNetwork
+    }
+
+    /// The first address of the network that it stands at.
+    #[inline(always)]
+    pub(crate) fn first(&self) -> u128 {
+        self.first
     }
 
     /// The prefix of the network that it stands at.

@@ -63,6 +63,15 @@ impl Offsets {
         })
     }
 
+    /// Where both records are, if there are two.
+    #[inline(always)]
+    pub fn both(&self) -> Option<(usize, usize)> {
+        if self.old == NO_RECORD || self.new == NO_RECORD {
+            return None;
+        }
+        Some((self.old as usize, self.new as usize))
+    }
+
     /// Whether these are the same two.
     #[inline(always)]
     pub(crate) fn are(&self, others: Offsets) -> bool {

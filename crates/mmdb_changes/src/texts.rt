@@ -1,0 +1,65 @@
+//! The records of two databases as JSON, laid out without trees of them.
+ghost use Rattle.std.specs.Prelude.{◌≡◌, [], IfSome};
+ghost use Rattle.mmdb_texts.specs.RecordText.{AppendsRecord};
+
+use mmdb_equality::Shown;
+use mmdb_texts::RecordTexts;
+use std::alloc::{AllocError, Global};
+
+/// What is shown where there is no record.
+const NO_RECORD: &[u8] = b"null";
+
+/// The texts of the records of two databases.
+#[derive(Drop)]
+pub(crate) struct BothTexts<'r> {
+    old: RecordTexts<'r>,
+    new: RecordTexts<'r>,
+}
+
+// The text of the record at an offset, where it can be laid out so.
+fn record_text(alloc: Global, offset: usize, texts: &mut RecordTexts<'_>) -> Option<Vec<u8>>
+    ensures record { IfSome result (λ text. AppendsRecord texts.old offset [] text.items) }
+    ensures section { texts.new ≡ texts.old }
+{
+    let mut text = Vec::new(alloc);
+    if texts.put(offset, &mut text) {
+        return Some(text);
+    }
+    None
+}
+
+// The text of the record at an offset, if there is one and it can be laid out so, or that of no record.
+fn text_of(alloc: Global, offset: Option<usize>, texts: &mut RecordTexts<'_>) -> Option<Vec<u8>> {
+    match offset {
+        Some(offset) => record_text(alloc, offset, texts),
+        None => NO_RECORD.to_vec(alloc).ok(),
+    }
+}
+
+impl<'r> BothTexts<'r> {
+    /// Of the records of two data sections, of which none was met yet.
+    pub(crate) fn new(
+        alloc: Global,
+        old: &'r [u8],
+        new: &'r [u8],
+    ) -> Result<BothTexts<'r>, AllocError> {
+        Ok(BothTexts {
+            old: RecordTexts::new(alloc, old)?,
+            new: RecordTexts::new(alloc, new)?,
+        })
+    }
+
+    /// What is shown of the records at these offsets, or of no record. None where one can't be laid out so, or there is no
+    /// memory: others read it then, and say why not.
+    pub(crate) fn shown(
+        &mut self,
+        alloc: Global,
+        old: Option<usize>,
+        new: Option<usize>,
+    ) -> Option<Shown> {
+        Some(Shown {
+            old: text_of(alloc, old, &mut self.old)?,
+            new: text_of(alloc, new, &mut self.new)?,
+        })
+    }
+}
