@@ -270,7 +270,7 @@ pub(crate) fn string_end(text: &[u8], from: usize) -> Option<usize>
     behind_backslash(text, stop.at + 1)
 }
 
-#[inline(never)]
+#[inline(always)]
 fn digits_end(text: &[u8], from: usize) -> usize
     requires { from ≤ length text.now }
     ensures value { result ≡ from + prefix_len is_ascii_digit (drop from text.now) }
@@ -314,7 +314,7 @@ fn some_digits_end(text: &[u8], from: usize) -> Option<usize>
     requires { from ≤ length text.now }
     ensures { EndsAt text.now from result (after_digits (drop from text.now)) }
 {
-    let end = digits_stop(text, from).at;
+    let end = digits_end(text, from);
     if end == from { None } else { Some(end) }
 }
 
