@@ -270,7 +270,7 @@ pub(crate) fn string_end(text: &[u8], from: usize) -> Option<usize>
     behind_backslash(text, stop.at + 1)
 }
 
-#[inline(never)]
+#[inline(always)]
 fn digits_end(text: &[u8], from: usize) -> usize
     requires { from ≤ length text.now }
     ensures value { result ≡ from + prefix_len is_ascii_digit (drop from text.now) }
@@ -281,6 +281,16 @@ fn digits_end(text: &[u8], from: usize) -> usize
         at += 1;
     }
     at
+}
+
+// The same by a call, for digits that are not seen in 16 bytes.
+#[inline(never)]
+fn far_digits_end(text: &[u8], from: usize) -> usize
+    requires { from ≤ length text.now }
+    ensures value { result ≡ from + prefix_len is_ascii_digit (drop from text.now) }
+    ensures bound { result ≤ length text.now }
+{
+    digits_end(text, from)
 }
 
 // Which of these bytes are no digits.
@@ -300,11 +310,11 @@ fn digits_stop(text: &[u8], from: usize) -> Stop
     ensures bound { result.at ≤ length text.now }
 {
     if from + 16 > text.len() {
-        return stop_at(text, digits_end(text, from));
+        return stop_at(text, far_digits_end(text, from));
     }
     let found = others(u8x16::from_slice(&text[from..]));
     if found == 0 {
-        return stop_at(text, digits_end(text, from + 16));
+        return stop_at(text, far_digits_end(text, from + 16));
     }
     seen_at(text, from + found.trailing_zeros() as usize)
 }
@@ -314,7 +324,7 @@ fn some_digits_end(text: &[u8], from: usize) -> Option<usize>
     requires { from ≤ length text.now }
     ensures { EndsAt text.now from result (after_digits (drop from text.now)) }
 {
-    let end = digits_stop(text, from).at;
+    let end = digits_end(text, from);
     if end == from { None } else { Some(end) }
 }
 

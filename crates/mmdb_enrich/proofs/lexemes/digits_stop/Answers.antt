@@ -9,7 +9,7 @@ use Rattle.mmdb_enrich.proofs.lexemes.digits_stop.Goals as goal
 pub returns-then-found-eq0-clause-at : goal.returns-then-found-eq0-clause-at
 returns-then-found-eq0-clause-at c =
     let run = run_through is_other is_ascii_digit (λ x. twice_not (is_ascii_digit x)) c.args.text.now c.args.from 16 (omega arith) (omega (arith, c.others-found.ensures)) in
-    omega (arith, run, c.digits_end-then-found-eq0.ensures, c.stop_at-then-found-eq0.ensures)
+    omega (arith, run, c.far_digits_end-then-found-eq0.ensures, c.stop_at-then-found-eq0.ensures)
 
 pub returns-clause-at : goal.returns-clause-at
 returns-clause-at c =
