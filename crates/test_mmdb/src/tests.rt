@@ -1,4 +1,5 @@
 //! What no clause says of the program `mmdb`: worked texts, words, statuses and errors.
+mod changes;
 mod diffs;
 mod exports;
 mod failures;
@@ -10,4 +11,5 @@ mod program;
 mod record_texts;
 mod rows;
 mod runs;
+mod shared;
 mod texts;

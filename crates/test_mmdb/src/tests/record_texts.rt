@@ -13,8 +13,8 @@ use std::process::Abort;
 /// The longest text that is laid out.
 const MOST_BYTES: usize = 32_768;
 
-// The text of what stands at an offset, as a value is read whole and then laid out. None where it can't be read.
-fn text_by_value(alloc: Global, section: &[u8], offset: usize) -> Option<Vec<u8>> {
+/// The text of what stands at an offset, as a value is read whole and then laid out. None where it can't be read.
+pub(crate) fn text_by_value(alloc: Global, section: &[u8], offset: usize) -> Option<Vec<u8>> {
     let mut decoder = Decoder::new(section, offset);
     match Value::decode(alloc, &mut decoder) {
         Ok(value) => {
@@ -118,8 +118,8 @@ const PIECES: &[&[u8]] = &[
     b"\x5D\x00abcdefghijklmnopqrstuvwxyz012", b"\xE1\x20\x05", b"\xE2\x20\x09\x20\x11", b"\x07\x09", b"\x1F\x00", b"\x81",
 ];
 
-// A section of some of the pieces, of about so many bytes.
-fn made_section(alloc: Global, seed: u64, len: usize) -> Result<Vec<u8>, AllocError> {
+/// A section of some of the pieces, of about so many bytes.
+pub(crate) fn made_section(alloc: Global, seed: u64, len: usize) -> Result<Vec<u8>, AllocError> {
     let mut numbers = Numbers { state: seed };
     let mut section = Vec::new(alloc);
     for _ in 0..len {
@@ -183,8 +183,8 @@ fn worked_texts_are_laid_out(rt: HostRuntime) {
     }
 }
 
-// So many bytes behind the header of a text (0x5E) or byte string (0x9E): of 285 to 65,820.
-fn bytes_of(alloc: Global, control: u8, byte: &[u8], len: usize) -> Vec<u8> {
+/// So many bytes behind the header of a text (0x5E) or byte string (0x9E): of 285 to 65,820.
+pub(crate) fn bytes_of(alloc: Global, control: u8, byte: &[u8], len: usize) -> Vec<u8> {
     let size = (len.saturating_sub(285) as u64 & 0xffff) as u16;
     let [high, low] = size.to_be_bytes();
     section_of(alloc, &[(&[control, high, low], 1), (byte, len)])
@@ -236,8 +236,8 @@ fn long_texts_are_left(rt: HostRuntime) {
     }
 }
 
-// Arrays in one another, so many, around a number.
-fn deep(alloc: Global, count: usize) -> Vec<u8> {
+/// Arrays in one another, so many, around a number.
+pub(crate) fn deep(alloc: Global, count: usize) -> Vec<u8> {
     section_of(alloc, &[(b"\x01\x04", count), (b"\xA0", 1)])
 }
 

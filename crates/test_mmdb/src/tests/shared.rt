@@ -1,0 +1,306 @@
+//! Two databases side by side, over trees that are made: networks that both have, taken in fewer steps, beside all taken one by
+//! one.
+use super::record_texts::Numbers;
+use mmdb_diff::{Comparison, Part, Side, Stretch};
+use mmdb_reader::{IpNetwork, Reader};
+use mmdb_vectors::builder::{Field, changed_file, nodes_24};
+use std::alloc::{AllocError, Global};
+use std::net::{IpAddr, Ipv4Addr, Ipv6Addr};
+use std::process::Abort;
+
+/// So many zeros stand behind one another in a data section.
+const ZEROS: &[u8] = &[0xA0; 16];
+
+/// What a record leads to that leads to no node is this and a number: 0 to nothing, 1 to 16 to a zero, others nowhere.
+const LEAF: u32 = 1 << 20;
+
+/// A node's two records.
+type Node = (u32, u32);
+
+// What a leaf has: mostly a zero.
+fn leaf_of(numbers: &mut Numbers, faults_of_1000: usize) -> u32 {
+    if numbers.below(1000) < faults_of_1000 {
+        return LEAF + 100;
+    }
+    match numbers.below(20) {
+        0 | 1 | 2 => LEAF,
+        other => LEAF + (other & 15) as u32 + 1,
+    }
+}
+
+// Puts a node in the place of a leaf, if one is there.
+fn split(nodes: &mut Vec<Node>, place: usize, right: bool, halves: Node) -> Result<(), AllocError> {
+    let number = (nodes.len() & 0xff) as u32;
+    let Some(node) = nodes.get_mut(place) else {
+        return Ok(());
+    };
+    let record = if right { &mut node.1 } else { &mut node.0 };
+    if *record >= LEAF {
+        *record = number;
+        nodes.push(halves)?;
+    }
+    Ok(())
+}
+
+// A tree of so many nodes at the most, with 96 zeros before IPv4 in one of IPv6.
+fn tree_of(
+    alloc: Global,
+    numbers: &mut Numbers,
+    is_ipv6: bool,
+    faults_of_1000: usize,
+) -> Result<Vec<Node>, AllocError> {
+    let mut nodes = Vec::new(alloc);
+    nodes.push((leaf_of(numbers, 0), leaf_of(numbers, 0)))?;
+    if is_ipv6 {
+        for place in 0..96 {
+            split(&mut nodes, place, false, (leaf_of(numbers, 0), LEAF))?;
+        }
+    }
+    let first = nodes.len() - 1;
+    for _ in 0..100 {
+        let place = if numbers.below(4) == 0 {
+            numbers.below(nodes.len())
+        } else {
+            first.saturating_add(numbers.below(nodes.len().saturating_sub(first)))
+        };
+        let halves = (
+            leaf_of(numbers, faults_of_1000),
+            leaf_of(numbers, faults_of_1000),
+        );
+        split(&mut nodes, place, numbers.below(2) == 1, halves)?;
+    }
+    if is_ipv6 && numbers.below(2) == 1 {
+        // an alias of IPv4
+        if let Some(node) = nodes.get_mut(40) {
+            node.1 = 96;
+        }
+    }
+    Ok(nodes)
+}
+
+// Changes some leaves of a tree, and splits or cuts some.
+fn change(
+    nodes: &mut Vec<Node>,
+    numbers: &mut Numbers,
+    faults_of_1000: usize,
+) -> Result<(), AllocError> {
+    for place in 0..nodes.len() {
+        let halves = (leaf_of(numbers, faults_of_1000), leaf_of(numbers, 0));
+        match numbers.below(24) {
+            0 => split(nodes, place, numbers.below(2) == 1, halves)?,
+            1 => {
+                if let Some(node) = nodes.get_mut(place) {
+                    if node.1 >= LEAF {
+                        node.1 = halves.0;
+                    }
+                }
+            }
+            2 => {
+                if let Some(node) = nodes.get_mut(place) {
+                    if node.1 >= LEAF || place > 96 {
+                        node.1 = halves.1;
+                    }
+                }
+            }
+            _ => {}
+        }
+    }
+    Ok(())
+}
+
+// The number in a file of so many nodes.
+fn number_of(record: u32, count: u32) -> u32 {
+    match record.checked_sub(LEAF) {
+        Some(0) => count,
+        Some(leaf) => count.saturating_add(15).saturating_add(leaf),
+        None => record,
+    }
+}
+
+fn file_of(alloc: Global, nodes: &[Node], is_ipv6: bool) -> Result<Vec<u8>, AllocError> {
+    let count = (nodes.len() & 0xff) as u32;
+    let mut numbered = Vec::new(alloc);
+    for (left, right) in nodes {
+        numbered.push((number_of(*left, count), number_of(*right, count)))?;
+    }
+    let tree = nodes_24(alloc, numbered.as_slice())?;
+    let version: &[u8] = if is_ipv6 { b"\xA1\x06" } else { b"\xA1\x04" };
+    let changes = [
+        (Field::NodeCount, &[0xC1, count.min(255) as u8] as &[u8]),
+        (Field::IpVersion, version),
+    ];
+    changed_file(alloc, tree.as_slice(), ZEROS, &changes)
+}
+
+/// A database whose bytes are in memory.
+type Database = Reader<Vec<u8>>;
+
+// A stretch as a line.
+fn stretch_line(
+    alloc: Global,
+    comparison: &Comparison<'_, Vec<u8>>,
+    stretch: Stretch,
+) -> Result<String, AllocError> {
+    let old = comparison.offset_in_old(stretch);
+    let new = comparison.offset_in_new(stretch);
+    let Stretch {
+        block,
+        is_ipv4,
+        has_old,
+        has_new,
+    } = stretch;
+    format!(in alloc; "{block:?} {is_ipv4} {has_old} {has_new} {old:?} {new:?}\n")
+}
+
+// A leaf that can't be read as a line.
+fn unread_line(
+    alloc: Global,
+    comparison: &mut Comparison<'_, Vec<u8>>,
+    side: Side,
+) -> Result<String, AllocError> {
+    let name = match side {
+        Side::Old => "old",
+        Side::New => "new",
+    };
+    match comparison.take_unread(side) {
+        Some(leaf) => {
+            let line = match leaf.behind {
+                Some(network) => format!(in alloc; "{name} {network} {}\n", leaf.error),
+                None => format!(in alloc; "{name} first {}\n", leaf.error),
+            };
+            drop(leaf);
+            line
+        }
+        None => format!(in alloc; "{name}\n"),
+    }
+}
+
+/// What a comparison gives, a line for each part, and how many came as shared networks.
+#[derive(Drop)]
+struct Lines {
+    text: String,
+    shared: usize,
+}
+
+fn lines_of(
+    alloc: Global,
+    comparison: &mut Comparison<'_, Vec<u8>>,
+    takes_shared: bool,
+) -> Result<Lines, AllocError> {
+    let mut lines = Lines {
+        text: String::new(alloc),
+        shared: 0,
+    };
+    for _ in 0..2000 {
+        if takes_shared {
+            if let Some(stretch) = comparison.next_shared() {
+                let line = stretch_line(alloc, comparison, stretch)?;
+                lines.text.push_str(line.as_str())?;
+                lines.shared = lines.shared.saturating_add(1);
+                continue;
+            }
+        }
+        let line = match comparison.next_part() {
+            Some(Part::Stretch(stretch)) => stretch_line(alloc, comparison, stretch)?,
+            Some(Part::Unread(side)) => unread_line(alloc, comparison, side)?,
+            None => break,
+        };
+        lines.text.push_str(line.as_str())?;
+    }
+    lines.text.push_str("end\n")?;
+    Ok(lines)
+}
+
+// What a comparison of a range gives.
+fn lines_in(
+    rt: &impl Abort,
+    alloc: Global,
+    databases: (&Database, &Database),
+    range: IpNetwork,
+    takes_shared: bool,
+) -> Lines {
+    match Comparison::new(alloc, databases.0, databases.1, range) {
+        Ok(mut comparison) => {
+            let lines = lines_of(alloc, &mut comparison, takes_shared).expect(rt, "lines");
+            drop(comparison);
+            lines
+        }
+        Err((_, error)) => {
+            let text = format!(in alloc; "{error}").expect(rt, "a text");
+            drop(error);
+            Lines { text, shared: 0 }
+        }
+    }
+}
+
+// Asserts that a comparison gives the same, however it is taken; how many shared networks came, and how many lines.
+fn assert_same(
+    rt: &impl Abort,
+    alloc: Global,
+    databases: (&Database, &Database),
+    range: IpNetwork,
+    seed: u64,
+) -> (usize, usize) {
+    let wanted = lines_in(rt, alloc, databases, range, false);
+    let lines = lines_in(rt, alloc, databases, range, true);
+    assert!(rt;
+        lines.text.as_str() == wanted.text.as_str(),
+        "{seed} {range}: {} but {}",
+        lines.text.as_str(),
+        wanted.text.as_str()
+    );
+    let count = wanted.text.as_str().split('\n').count();
+    (lines.shared, count)
+}
+
+// A range of some bits of an address.
+fn range_of(rt: &impl Abort, numbers: &mut Numbers, is_ipv6: bool) -> IpNetwork {
+    let prefix = (numbers.below(12) & 15) as u8;
+    let bits = (numbers.below(1 << 20) as u64 & 0xf_ffff) << 12;
+    let address = if is_ipv6 {
+        IpAddr::V6(Ipv6Addr::from_bits(u128::from(bits) << 96))
+    } else {
+        IpAddr::V4(Ipv4Addr::from_bits((bits & 0xffff_ffff) as u32))
+    };
+    IpNetwork::new(address, prefix).expect(rt, "a network")
+}
+
+// Asserts of two made trees, of all their addresses and of some ranges.
+fn assert_made(rt: &impl Abort, alloc: Global, seed: u64, faults_of_1000: usize) -> (usize, usize) {
+    let mut numbers = Numbers { state: seed };
+    let is_ipv6 = seed % 2 == 1;
+    let mut nodes = tree_of(alloc, &mut numbers, is_ipv6, faults_of_1000).expect(rt, "a tree");
+    let old = file_of(alloc, nodes.as_slice(), is_ipv6).expect(rt, "a file");
+    change(&mut nodes, &mut numbers, faults_of_1000).expect(rt, "a tree");
+    let new = file_of(alloc, nodes.as_slice(), is_ipv6).expect(rt, "a file");
+    let old = Reader::from_source(alloc, old).expect(rt, "a database");
+    let new = Reader::from_source(alloc, new).expect(rt, "a database");
+    let (mut shared, mut count) = (0usize, 0usize);
+    for turn in 0..6 {
+        let of_ipv6 = is_ipv6 && turn < 3;
+        let mut range = range_of(rt, &mut numbers, of_ipv6);
+        if turn % 3 == 0 {
+            range = IpNetwork::new(range.ip(), 0).expect(rt, "a network");
+        }
+        let (some, lines) = assert_same(rt, alloc, (&old, &new), range, seed);
+        shared = shared.saturating_add(some);
+        count = count.saturating_add(lines);
+    }
+    (shared, count)
+}
+
+#[test]
+fn shared_networks_as_one_by_one(rt: HostRuntime) {
+    for faults_of_1000 in [0, 5, 100] {
+        let (mut shared, mut count) = (0usize, 0usize);
+        for seed in 0..40u64 {
+            let (some, lines) = assert_made(&rt, rt.alloc(), seed, faults_of_1000);
+            shared = shared.saturating_add(some);
+            count = count.saturating_add(lines);
+        }
+        assert!(rt;
+            shared > 500 && shared < count,
+            "{faults_of_1000}: {shared} of {count}"
+        );
+    }
+}
