@@ -191,8 +191,8 @@ fn compare_answers<'r, O: Write, E: Write>(
     }
 }
 
-// Compares a stretch of which it was not kept that both databases have the same. Most records have not changed, which is seen
-// of them where they are.
+// Compares a stretch of which it was not kept that both databases have the same. Most records have not changed, which is
+// seen of them where they are.
 #[inline(never)]
 fn compare_stretch<'r, O: Write, E: Write>(
     task: &DiffTask<'_>,

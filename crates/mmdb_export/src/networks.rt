@@ -2,13 +2,13 @@
 use crate::rows::Rows;
 use crate::task::{ExportTask, Shape};
 use crate::writing::{Export, Writing, networks_in, of_list};
-use mmdb_choice::Choice;
+use mmdb_choice::{Choice, Condition};
 use mmdb_console::{Console, DONE, FAILED, ProgramError, put};
 use mmdb_layout::{Database, Layout, Networks};
 use mmdb_lists::{Kinds, List, Syntax};
 use mmdb_reader::MaxMindDbError;
 use mmdb_texts::RecordTexts;
-use std::alloc::Global;
+use std::alloc::{AllocError, Global};
 use std::io::Write;
 
 // Writes the header, where the layout has one.
@@ -110,6 +110,17 @@ fn texts_of<'r>(
     }
 }
 
+// The choice by these conditions. None where there are none, and all networks are chosen.
+fn choice_of<'a>(
+    alloc: Global,
+    conditions: &'a [Condition<'a>],
+) -> Result<Option<Choice<'a>>, AllocError> {
+    if conditions.is_empty() {
+        return Ok(None);
+    }
+    Ok(Some(Choice::new(alloc, conditions)?))
+}
+
 // Begins an export of the records of a data section.
 fn begin<'a, 'r, O: Write>(
     alloc: Global,
@@ -117,7 +128,7 @@ fn begin<'a, 'r, O: Write>(
     section: &'r [u8],
     out: &mut O,
 ) -> Result<Export<'a, 'r>, ProgramError> {
-    let choice = Choice::new(alloc, task.conditions.as_slice())?;
+    let choice = choice_of(alloc, task.conditions.as_slice())?;
     match begin_writing(alloc, task, out) {
         Ok(writing) => {
             let texts = texts_of(alloc, task, section);

@@ -189,8 +189,8 @@ impl<'a> Rows<'a> {
         Ok(())
     }
 
-    /// Gathers the row of an answer with its network, where it is kept, short, and there is memory for it. Whether it was. Most
-    /// rows go this way, which has no error to make.
+    /// Gathers the row of an answer with its network, where it is kept, short, and there is memory for it. Whether it
+    /// was. Most rows go this way, which has no error to make.
     #[inline(always)]
     pub(crate) fn gather(&mut self, offset: Option<usize>, network: NumberedNetwork) -> bool {
         let Some(row) = self.kept.get(offset.unwrap_or(0) % PLACES) else {

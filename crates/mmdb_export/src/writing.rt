@@ -111,7 +111,8 @@ impl Writing<'_> {
 /// An export of the chosen networks.
 #[derive(Drop)]
 pub(crate) struct Export<'a, 'r> {
-    choice: Choice<'a>,
+    /// Which networks are chosen. None: all.
+    choice: Option<Choice<'a>>,
     kinds: Kinds,
     writing: Writing<'a>,
     /// The texts of whole records, where rows have them and there was memory.
@@ -129,7 +130,7 @@ impl<'a, 'r> Export<'a, 'r> {
     /// Of no network yet.
     pub(crate) fn new(
         alloc: Global,
-        choice: Choice<'a>,
+        choice: Option<Choice<'a>>,
         kinds: Kinds,
         writing: Writing<'a>,
         texts: Option<RecordTexts<'r>>,
@@ -164,6 +165,14 @@ impl<'a, 'r> Export<'a, 'r> {
         console.report_behind(place.name(console.alloc), error)
     }
 
+    // Whether the network of an answer is chosen.
+    fn chooses(&mut self, found: &Found<'_>) -> Result<bool, MaxMindDbError> {
+        match &mut self.choice {
+            Some(choice) => choice.chooses(found),
+            None => Ok(true),
+        }
+    }
+
     // Writes the network of an answer, if it is chosen, which is known of some.
     #[inline(always)]
     fn write_chosen<O: Write>(
@@ -176,7 +185,7 @@ impl<'a, 'r> Export<'a, 'r> {
         if !self.kinds.has(kind_of(network)) {
             return Ok(());
         }
-        if kept != Some(true) && !self.choice.chooses(found)? {
+        if kept != Some(true) && !self.chooses(found)? {
             return Ok(());
         }
         self.writing.write(found, network, &mut self.texts, out)
@@ -212,12 +221,15 @@ impl<'a, 'r> Export<'a, 'r> {
         }
     }
 
-    // What is kept of the networks that wait: whether each is chosen.
+    // What is known of the networks that wait: whether each is chosen.
     #[inline(never)]
     fn kept_of_waiting(&self) -> [Option<bool>; MOST_WAITING] {
+        let Some(choice) = &self.choice else {
+            return [Some(true); MOST_WAITING];
+        };
         let mut all = [None; MOST_WAITING];
         for (kept, found) in all.iter_mut().zip(&self.waiting) {
-            *kept = self.choice.kept(found);
+            *kept = choice.kept(found);
         }
         all
     }

@@ -4,11 +4,11 @@ use super::record_texts::Numbers;
 use mmdb_program::{Io, run};
 use mmdb_vectors::builder::{Field, changed_file, nodes_24};
 use std::alloc::{AllocError, Global};
-use std::io::ErrorKind;
+use std::io::{self, ErrorKind, Write};
 use std::process::Abort;
 
-/// The lengths of the texts that are records. With 27 bytes more, rows of whole records are put together up to 1,024 bytes, and
-/// kept up to 4,096.
+/// The lengths of the texts that are records. With 27 bytes more, rows of whole records are put together up to 1,024 bytes,
+/// and kept up to 4,096.
 const LENGTHS: &[usize] = &[1, 40, 300, 996, 997, 998, 4069, 4070];
 
 /// How many networks there are: all of /7.
@@ -63,7 +63,7 @@ fn any_nodes(alloc: Global, seed: u64, places: &[u32]) -> Result<Vec<(u32, u32)>
     for node in 0..63u32 {
         nodes.push((2 * node + 1, 2 * node + 2))?;
     }
-    let mut last = NO_RECORD;
+    let mut last = places.first().copied().unwrap_or(NO_RECORD);
     for _ in 0..NETWORKS / 2 {
         let left = next_leaf(&mut numbers, places, last);
         last = next_leaf(&mut numbers, places, left);
@@ -227,14 +227,35 @@ fn rows_of_ipv6_together_are_those_of_each_network(rt: HostRuntime) {
     assert!(rt; written > 50_000, "{written} bytes");
 }
 
-// An export to a writer with so much room.
-fn with_room(alloc: Global, file: &[u8], room: usize) -> Run {
+/// A writer with room for so many bytes, which counts its writes.
+#[derive(Drop)]
+struct Counted {
+    narrow: Narrow,
+    writes: usize,
+}
+
+impl Write for Counted {
+    fn write(&mut self, bytes: &[u8]) -> io::Result<usize> {
+        self.writes = self.writes.saturating_add(1);
+        self.narrow.write(bytes)
+    }
+
+    fn flush(&mut self) -> io::Result<()> {
+        self.narrow.flush()
+    }
+}
+
+// An export to a writer with so much room, and how many writes it took.
+fn with_room(alloc: Global, file: &[u8], room: usize) -> (Run, usize) {
     let words = words_with(alloc, &["export", "here.mmdb"]);
     let mut input: &[u8] = b"";
-    let mut out = Narrow {
-        bytes: Vec::new(alloc),
-        room,
-        to_error: ErrorKind::StorageFull,
+    let mut out = Counted {
+        narrow: Narrow {
+            bytes: Vec::new(alloc),
+            room,
+            to_error: ErrorKind::StorageFull,
+        },
+        writes: 0,
     };
     let mut reported: Vec<u8> = Vec::new(alloc);
     let io = Io {
@@ -244,10 +265,25 @@ fn with_room(alloc: Global, file: &[u8], room: usize) -> Run {
         terminals: terminals(false),
     };
     let status = run(&file_of(file), alloc, words.as_slice(), io);
-    Run {
+    let Counted { narrow, writes } = out;
+    let run = Run {
         status,
-        written: out.bytes,
+        written: narrow.bytes,
         reported,
+    };
+    (run, writes)
+}
+
+// Asserts that an export is cut where there is no more room.
+fn assert_cuts(rt: &impl Abort, alloc: Global, file: &[u8], whole: &[u8]) {
+    let len = whole.len();
+    for step in 0..40usize {
+        let room = len / 40 * step;
+        let (run, _) = with_room(alloc, file, room);
+        let is_cut = run.status == 1
+            && run.written.as_slice() == &whole[..room.min(len)]
+            && run.err().contains("write error");
+        assert!(rt; is_cut, "room for {room} of {len}");
     }
 }
 
@@ -256,13 +292,54 @@ fn rows_together_are_cut_where_there_is_no_room(rt: HostRuntime) {
     let alloc = rt.alloc();
     let file = file_of_seed(&rt, alloc, 3, b"\xA1\x04");
     let whole = run_of(alloc, file.as_slice(), &["export", "here.mmdb"], "");
-    let len = whole.written.len();
-    for step in 0..40usize {
-        let room = len / 40 * step;
-        let run = with_room(alloc, file.as_slice(), room);
-        let is_cut = run.status == 1
-            && run.written.as_slice() == &whole.written[..room.min(len)]
-            && run.err().contains("write error");
-        assert!(rt; is_cut, "room for {room} of {len}");
+    assert_cuts(&rt, alloc, file.as_slice(), whole.written.as_slice());
+}
+
+// A file whose networks all have one record, a text of so many bytes.
+fn file_of_one(rt: &impl Abort, alloc: Global, len: usize) -> Vec<u8> {
+    let mut data = Vec::new(alloc);
+    push_header(len, &mut data).expect(rt, "a header");
+    for _ in 0..len {
+        data.push(b'x').expect(rt, "a text");
+    }
+    let nodes = any_nodes(alloc, 1, &[FIRST]).expect(rt, "nodes");
+    let tree = nodes_24(alloc, nodes.as_slice()).expect(rt, "a tree");
+    let changes = [(Field::NodeCount, b"\xC1\x7F".as_slice())];
+    changed_file(alloc, tree.as_slice(), data.as_slice(), &changes).expect(rt, "a file")
+}
+
+// The rows of a file whose networks all have a text of so many bytes.
+fn rows_of_one(rt: &impl Abort, alloc: Global, len: usize) -> Vec<u8> {
+    let mut rows = Vec::new(alloc);
+    for network in 0..NETWORKS {
+        let first = 2 * network;
+        let row: String = format!(in alloc;
+            "{{\"network\":\"{first}.0.0.0/7\",\"record\":\""
+        ).expect(rt, "a row");
+        rows.extend_from_slice(row.as_bytes()).expect(rt, "a row");
+        for _ in 0..len {
+            rows.push(b'x').expect(rt, "a text");
+        }
+        rows.extend_from_slice(b"\"}\n").expect(rt, "a row");
+    }
+    rows
+}
+
+// Rows are put once 8,192 bytes of them were gathered: with texts of 90 or 91 bytes those of 64 networks are as many.
+#[test]
+fn short_rows_take_few_writes(rt: HostRuntime) {
+    let alloc = rt.alloc();
+    for len in [1, 40, 88, 89, 90, 91, 92, 93, 94, 128, 200, 996, 997, 998] {
+        let file = file_of_one(&rt, alloc, len);
+        let wanted = rows_of_one(&rt, alloc, len);
+        let (run, writes) = with_room(alloc, file.as_slice(), 1 << 20);
+        let is_wanted = run.status == 0 && run.written == wanted;
+        assert!(rt; is_wanted, "texts of {len} bytes");
+        let most = wanted.len() / 8192 + 8;
+        let is_few = writes <= most || len == 998;
+        assert!(rt; is_few, "{writes} writes of texts of {len} bytes");
+        if len == 90 || len == 200 {
+            assert_cuts(&rt, alloc, file.as_slice(), wanted.as_slice());
+        }
     }
 }

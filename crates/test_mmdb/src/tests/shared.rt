@@ -1,5 +1,5 @@
-//! Two databases side by side, over trees that are made: networks that both have, taken in fewer steps, beside all taken one by
-//! one.
+//! Two databases side by side, over trees that are made: networks that both have, taken in fewer steps, beside all taken
+//! one by one.
 use super::record_texts::Numbers;
 use mmdb_diff::{Comparison, Part, Side, Stretch};
 use mmdb_reader::{IpNetwork, Reader};
