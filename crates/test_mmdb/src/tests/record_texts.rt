@@ -1,4 +1,6 @@
 //! The texts of records, beside those of values that are read whole, over sections that are made.
+ghost use Rattle.std.specs.Prelude.{◌<◌};
+
 use super::texts::ROWS;
 use mmdb_decode::decoder::Decoder;
 use mmdb_json::compact;
