@@ -4,7 +4,7 @@ use mmdb_layout::{Found, Layout};
 use mmdb_reader::{IpNetwork, MaxMindDbError, NumberedNetwork};
 use mmdb_texts::RecordTexts;
 use std::alloc::{AllocError, Global};
-use std::io::Write;
+use std::io::{self, Write};
 use std::net::{IpAddr, Ipv4Addr, Ipv6Addr};
 
 /// How many rows are kept.
@@ -19,9 +19,6 @@ const MOST_JOINED: usize = 1024;
 
 /// Above the bytes of a network's text.
 const NETWORK_BYTES: usize = 64;
-
-/// So many bytes of rows are gathered before they are put: few enough to stay near, and enough that a put costs little.
-const MOST_GATHERED: usize = 8192;
 
 /// The row of a record, with an empty network.
 #[derive(Drop)]
@@ -56,8 +53,6 @@ pub(crate) struct Rows<'a> {
     long: Row,
     /// What a row is put together in. Its room is enough, so that no row takes memory.
     line: Vec<u8>,
-    /// Rows that were put together and wait for each other.
-    gathered: Vec<u8>,
 }
 
 // As many empty rows as are kept.
@@ -100,18 +95,6 @@ fn network_of(network: NumberedNetwork) -> Option<IpNetwork> {
         IpAddr::V6(Ipv6Addr::from_bits(network.first))
     };
     IpNetwork::new(first, network.prefix.min(255) as u8).ok()
-}
-
-// Gathers a row with its network. Without memory for it nothing is gathered.
-#[inline(always)]
-fn gather_row(row: &[u8], place: usize, network: IpNetwork, gathered: &mut Vec<u8>) -> bool {
-    let (before, after) = row.split_at(place.min(row.len()));
-    let len = gathered.len();
-    if join_row(before, network, after, gathered).is_ok() {
-        return true;
-    }
-    gathered.truncate(len);
-    false
 }
 
 // Writes a row with its network.
@@ -157,7 +140,6 @@ impl<'a> Rows<'a> {
             kept: empty_rows(alloc)?,
             long: Row::empty(alloc),
             line: Vec::with_capacity(alloc, MOST_JOINED + NETWORK_BYTES)?,
-            gathered: Vec::new(alloc),
         })
     }
 
@@ -189,37 +171,32 @@ impl<'a> Rows<'a> {
         Ok(())
     }
 
-    /// Gathers the row of an answer with its network, where it is kept, short, and there is memory for it. Whether it
-    /// was. Most rows go this way, which has no error to make.
+    /// Puts the row of an answer with its network, where it is kept, short, and there is memory for it. Whether it was. Most
+    /// rows go this way, which has no error to make but that of the writer.
     #[inline(always)]
-    pub(crate) fn gather(&mut self, offset: Option<usize>, network: NumberedNetwork) -> bool {
+    pub(crate) fn put_kept<O: Write>(
+        &mut self,
+        offset: Option<usize>,
+        network: NumberedNetwork,
+        out: &mut O,
+    ) -> io::Result<bool> {
         let Some(row) = self.kept.get(offset.unwrap_or(0) % PLACES) else {
-            return false;
+            return Ok(false);
         };
         if !row.is_of(offset) || row.text.len() > MOST_JOINED {
-            return false;
+            return Ok(false);
         }
         let Some(network) = network_of(network) else {
-            return false;
+            return Ok(false);
         };
-        let at = self.layout.place_of_network();
-        gather_row(row.text.as_slice(), at, network, &mut self.gathered)
-    }
-
-    /// Whether so many rows were gathered that they are to be put.
-    #[inline(always)]
-    pub(crate) fn is_full(&self) -> bool {
-        self.gathered.len() >= MOST_GATHERED
-    }
-
-    /// Writes the rows that were gathered.
-    pub(crate) fn put_gathered<O: Write>(&mut self, out: &mut O) -> Result<(), ProgramError> {
-        if self.gathered.is_empty() {
-            return Ok(());
+        let text = row.text.as_slice();
+        let (before, after) = text.split_at(self.layout.place_of_network().min(text.len()));
+        self.line.clear();
+        if join_row(before, network, after, &mut self.line).is_err() {
+            return Ok(false);
         }
-        let done = put(self.gathered.as_slice(), out);
-        self.gathered.clear();
-        done
+        out.write_all(self.line.as_slice())?;
+        Ok(true)
     }
 
     /// Writes the row of an answer, by the texts of the records of its database, if they are there.

@@ -8,7 +8,7 @@ use mmdb_lists::{Kind, Kinds, List, ListError, Taken};
 use mmdb_reader::{IpNetwork, MaxMindDbError, NumberedNetwork, WithinOptions};
 use mmdb_texts::RecordTexts;
 use std::alloc::{AllocError, Global};
-use std::io::Write;
+use std::io::{self, Write};
 
 /// How many networks are looked at together.
 const MOST_WAITING: usize = 64;
@@ -31,6 +31,15 @@ pub(crate) fn of_list(done: Result<(), ListError>) -> Result<(), ProgramError> {
     }
 }
 
+// What a writer answered, as the program reports it.
+#[inline(always)]
+fn of_write(done: io::Result<bool>) -> Result<bool, ProgramError> {
+    match done {
+        Ok(is_put) => Ok(is_put),
+        Err(error) => Err(ProgramError::Write(error)),
+    }
+}
+
 // The kind of a network.
 #[inline(always)]
 fn kind_of(network: NumberedNetwork) -> Kind {
@@ -44,20 +53,6 @@ fn block_of(network: NumberedNetwork) -> Block {
     Block {
         first: network.first,
         prefix: 128usize.saturating_sub(behind) as u8,
-    }
-}
-
-// What became of the network of an answer among rows that are gathered.
-#[inline(always)]
-fn gathered_in(rows: &mut Rows<'_>, found: &Found<'_>, kinds: Kinds) -> Taken {
-    let network = found.numbered_network();
-    if !kinds.has(kind_of(network)) || !rows.gather(found.offset(), network) {
-        return Taken::Not;
-    }
-    if rows.is_full() {
-        Taken::Settled
-    } else {
-        Taken::Whole
     }
 }
 
@@ -77,33 +72,38 @@ impl Writing<'_> {
         }
     }
 
-    // Takes the chosen network of an answer into a list, where nothing is to be written before it, or gathers its row, where
-    // that is kept.
+    // Takes a chosen network into a list, where nothing is to be written before it.
     #[inline(always)]
-    fn take(&mut self, found: &Found<'_>, kinds: Kinds) -> Taken {
+    fn take(&mut self, network: NumberedNetwork) -> Taken {
         match self {
-            Writing::Rows(rows) => gathered_in(rows, found, kinds),
-            Writing::List(list) => {
-                let network = found.numbered_network();
-                list.take(kind_of(network), block_of(network))
-            }
+            Writing::Rows(_) => Taken::Not,
+            Writing::List(list) => list.take(kind_of(network), block_of(network)),
         }
     }
 
-    // Writes what a list has for it, or the rows that were gathered.
+    // Puts the row of a chosen network, where it is kept and short. Whether it was.
+    #[inline(always)]
+    fn put_kept<O: Write>(
+        &mut self,
+        found: &Found<'_>,
+        kinds: Kinds,
+        out: &mut O,
+    ) -> io::Result<bool> {
+        let network = found.numbered_network();
+        match self {
+            Writing::Rows(rows) if kinds.has(kind_of(network)) => {
+                rows.put_kept(found.offset(), network, out)
+            }
+            _ => Ok(false),
+        }
+    }
+
+    // Writes what a list has for it.
     #[inline(never)]
     fn write_settled<O: Write>(&mut self, out: &mut O) -> Result<(), ProgramError> {
         match self {
-            Writing::Rows(rows) => rows.put_gathered(out),
+            Writing::Rows(_) => Ok(()),
             Writing::List(list) => of_list(list.write_settled(out)),
-        }
-    }
-
-    // Writes the rows that were gathered.
-    fn put_gathered<O: Write>(&mut self, out: &mut O) -> Result<(), ProgramError> {
-        match self {
-            Writing::Rows(rows) => rows.put_gathered(out),
-            Writing::List(_) => Ok(()),
         }
     }
 }
@@ -234,24 +234,38 @@ impl<'a, 'r> Export<'a, 'r> {
         all
     }
 
-    // Takes a network that waits into a list, where it is known to be chosen and nothing is to be written before it, or
-    // gathers its row. Most chosen networks go this way, which has no error to make.
+    // Takes a network that waits into a list, where it is known to be chosen and nothing is to be written before it. Most
+    // chosen networks of a list go this way, which has no error to make.
     #[inline(always)]
     fn take_chosen(&mut self, index: usize, kept: Option<bool>) -> Taken {
         match self.waiting.get(index) {
-            Some(found) if kept == Some(true) => self.writing.take(found, self.kinds),
+            Some(found) if kept == Some(true) => self.writing.take(found.numbered_network()),
             _ => Taken::Not,
         }
     }
 
-    // Writes a network that waits behind the rows that were gathered, if it is chosen, or reports why it can't be.
+    // Puts the row of a network that waits, where the network is known to be chosen and the row is kept. Whether it was.
+    // Most rows go this way, which has no large error to hand on.
+    #[inline(always)]
+    fn put_kept<O: Write>(
+        &mut self,
+        index: usize,
+        kept: Option<bool>,
+        out: &mut O,
+    ) -> io::Result<bool> {
+        match self.waiting.get(index) {
+            Some(found) if kept == Some(true) => self.writing.put_kept(found, self.kinds, out),
+            _ => Ok(false),
+        }
+    }
+
+    // Writes a network that waits, if it is chosen, or reports why it can't be.
     fn write_waiting_at<O: Write, E: Write>(
         &mut self,
         index: usize,
         kept: Option<bool>,
         console: &mut Console<'_, O, E>,
     ) -> Result<(), ProgramError> {
-        self.writing.put_gathered(console.out)?;
         match self.waiting.get(index).copied() {
             Some(found) => self.write_found(&found, kept, console),
             None => Ok(()),
@@ -268,13 +282,15 @@ impl<'a, 'r> Export<'a, 'r> {
             if *kept == Some(false) {
                 continue;
             }
+            if of_write(self.put_kept(index, *kept, console.out))? {
+                continue;
+            }
             match self.take_chosen(index, *kept) {
                 Taken::Whole => {}
                 Taken::Settled => self.writing.write_settled(console.out)?,
                 Taken::Not => self.write_waiting_at(index, *kept, console)?,
             }
         }
-        self.writing.put_gathered(console.out)?;
         if let Some(found) = self.waiting.last() {
             self.last = Some(*found);
         }

@@ -1,14 +1,14 @@
-//! Rows of an export that are put together, beside those of one network, each put alone.
+//! Rows of an export that are kept for further networks, beside those of each network alone, which are made.
 use super::program::{Narrow, Run, assert_of, file_of, run_of, terminals, words_with};
 use super::record_texts::Numbers;
 use mmdb_program::{Io, run};
 use mmdb_vectors::builder::{Field, changed_file, nodes_24};
 use std::alloc::{AllocError, Global};
-use std::io::{self, ErrorKind, Write};
+use std::io::ErrorKind;
 use std::process::Abort;
 
-/// The lengths of the texts that are records. With 27 bytes more, rows of whole records are put together up to 1,024 bytes,
-/// and kept up to 4,096.
+/// The lengths of the texts that are records. With 27 bytes more, rows of whole records are put in quick steps up to 1,024
+/// bytes, and kept up to 4,096.
 const LENGTHS: &[usize] = &[1, 40, 300, 996, 997, 998, 4069, 4070];
 
 /// How many networks there are: all of /7.
@@ -133,11 +133,15 @@ fn words_of<'a>(
     range: &'a str,
     form: &[&'a str],
 ) -> Result<Vec<&'a str>, AllocError> {
-    let mut words = Vec::from_slice(alloc, &["export", "here.mmdb"])?;
+    let mut words = Vec::new(alloc);
+    words.push("export")?;
+    words.push("here.mmdb")?;
     if !range.is_empty() {
         words.push(range)?;
     }
-    words.extend_from_slice(form)?;
+    for word in form {
+        words.push(*word)?;
+    }
     Ok(words)
 }
 
@@ -202,7 +206,7 @@ fn assert_same(
 }
 
 #[test]
-fn rows_together_are_those_of_each_network(rt: HostRuntime) {
+fn rows_are_those_of_each_network(rt: HostRuntime) {
     let alloc = rt.alloc();
     let file = file_of_seed(&rt, alloc, 7, b"\xA1\x04");
     let mut written = 0usize;
@@ -214,7 +218,7 @@ fn rows_together_are_those_of_each_network(rt: HostRuntime) {
 }
 
 #[test]
-fn rows_of_ipv6_together_are_those_of_each_network(rt: HostRuntime) {
+fn rows_of_ipv6_are_those_of_each_network(rt: HostRuntime) {
     let alloc = rt.alloc();
     let file = file_of_seed(&rt, alloc, 8, b"\xA1\x06");
     let written = assert_same(
@@ -227,35 +231,14 @@ fn rows_of_ipv6_together_are_those_of_each_network(rt: HostRuntime) {
     assert!(rt; written > 50_000, "{written} bytes");
 }
 
-/// A writer with room for so many bytes, which counts its writes.
-#[derive(Drop)]
-struct Counted {
-    narrow: Narrow,
-    writes: usize,
-}
-
-impl Write for Counted {
-    fn write(&mut self, bytes: &[u8]) -> io::Result<usize> {
-        self.writes = self.writes.saturating_add(1);
-        self.narrow.write(bytes)
-    }
-
-    fn flush(&mut self) -> io::Result<()> {
-        self.narrow.flush()
-    }
-}
-
-// An export to a writer with so much room, and how many writes it took.
-fn with_room(alloc: Global, file: &[u8], room: usize) -> (Run, usize) {
+// An export to a writer with so much room.
+fn with_room(alloc: Global, file: &[u8], room: usize) -> Run {
     let words = words_with(alloc, &["export", "here.mmdb"]);
     let mut input: &[u8] = b"";
-    let mut out = Counted {
-        narrow: Narrow {
-            bytes: Vec::new(alloc),
-            room,
-            to_error: ErrorKind::StorageFull,
-        },
-        writes: 0,
+    let mut out = Narrow {
+        bytes: Vec::new(alloc),
+        room,
+        to_error: ErrorKind::StorageFull,
     };
     let mut reported: Vec<u8> = Vec::new(alloc);
     let io = Io {
@@ -265,13 +248,11 @@ fn with_room(alloc: Global, file: &[u8], room: usize) -> (Run, usize) {
         terminals: terminals(false),
     };
     let status = run(&file_of(file), alloc, words.as_slice(), io);
-    let Counted { narrow, writes } = out;
-    let run = Run {
+    Run {
         status,
-        written: narrow.bytes,
+        written: out.bytes,
         reported,
-    };
-    (run, writes)
+    }
 }
 
 // Asserts that an export is cut where there is no more room.
@@ -279,7 +260,7 @@ fn assert_cuts(rt: &impl Abort, alloc: Global, file: &[u8], whole: &[u8]) {
     let len = whole.len();
     for step in 0..40usize {
         let room = len / 40 * step;
-        let (run, _) = with_room(alloc, file, room);
+        let run = with_room(alloc, file, room);
         let is_cut = run.status == 1
             && run.written.as_slice() == &whole[..room.min(len)]
             && run.err().contains("write error");
@@ -288,7 +269,7 @@ fn assert_cuts(rt: &impl Abort, alloc: Global, file: &[u8], whole: &[u8]) {
 }
 
 #[test]
-fn rows_together_are_cut_where_there_is_no_room(rt: HostRuntime) {
+fn rows_are_cut_where_there_is_no_room(rt: HostRuntime) {
     let alloc = rt.alloc();
     let file = file_of_seed(&rt, alloc, 3, b"\xA1\x04");
     let whole = run_of(alloc, file.as_slice(), &["export", "here.mmdb"], "");
@@ -325,20 +306,16 @@ fn rows_of_one(rt: &impl Abort, alloc: Global, len: usize) -> Vec<u8> {
     rows
 }
 
-// Rows are put once 8,192 bytes of them were gathered: with texts of 90 or 91 bytes those of 64 networks are as many.
 #[test]
-fn short_rows_take_few_writes(rt: HostRuntime) {
+fn rows_of_one_record(rt: HostRuntime) {
     let alloc = rt.alloc();
-    for len in [1, 40, 88, 89, 90, 91, 92, 93, 94, 128, 200, 996, 997, 998] {
+    for len in [1, 40, 128, 300, 996, 997, 998, 4069, 4070] {
         let file = file_of_one(&rt, alloc, len);
         let wanted = rows_of_one(&rt, alloc, len);
-        let (run, writes) = with_room(alloc, file.as_slice(), 1 << 20);
+        let run = with_room(alloc, file.as_slice(), 1 << 20);
         let is_wanted = run.status == 0 && run.written == wanted;
         assert!(rt; is_wanted, "texts of {len} bytes");
-        let most = wanted.len() / 8192 + 8;
-        let is_few = writes <= most || len == 998;
-        assert!(rt; is_few, "{writes} writes of texts of {len} bytes");
-        if len == 90 || len == 200 {
+        if len == 128 || len == 997 {
             assert_cuts(&rt, alloc, file.as_slice(), wanted.as_slice());
         }
     }
