@@ -36,13 +36,13 @@ fn push_header(len: usize, data: &mut Vec<u8>) -> Result<(), AllocError> {
 fn put_texts(alloc: Global, data: &mut Vec<u8>) -> Result<Vec<u32>, AllocError> {
     let mut places = Vec::from_slice(alloc, &[NO_RECORD])?;
     for len in LENGTHS {
-        places.push(FIRST.wrapping_add(data.len() as u32))?;
+        places.push(FIRST.wrapping_add((data.len() & 0xff_ffff) as u32))?;
         push_header(*len, data)?;
         for _ in 0..*len {
             data.push(b'x')?;
         }
     }
-    places.push(FIRST.wrapping_add(data.len() as u32))?;
+    places.push(FIRST.wrapping_add((data.len() & 0xff_ffff) as u32))?;
     data.extend_from_slice(b"\x41\xFF")?;
     Ok(places)
 }
@@ -153,7 +153,7 @@ fn export_of(rt: &impl Abort, alloc: Global, file: &[u8], range: &str, form: &[&
 
 // The text of a network of /7.
 fn range_of(alloc: Global, network: u32, is_ipv4: bool) -> Result<String, AllocError> {
-    let first = 2 * network;
+    let first = network.wrapping_mul(2);
     if is_ipv4 {
         format!(in alloc; "{first}.0.0.0/7")
     } else {
