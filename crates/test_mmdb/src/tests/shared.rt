@@ -56,7 +56,7 @@ fn tree_of(
             split(&mut nodes, place, false, (leaf_of(numbers, 0), LEAF))?;
         }
     }
-    let first = nodes.len() - 1;
+    let first = nodes.len().saturating_sub(1);
     for _ in 0..100 {
         let place = if numbers.below(4) == 0 {
             numbers.below(nodes.len())
