@@ -1,5 +1,5 @@
 //! The values of networks in two databases, compared by how they are shown.
-use crate::record::Sections;
+use crate::record::{Sections, are_seen_equal};
 use crate::texts::BothTexts;
 use json::{Token, Writer};
 use mmdb_console::{ProgramError, put};
@@ -287,6 +287,36 @@ impl<'r> Pairs<'r> {
         }
     }
 
+    // Whether whole records are shown and both are seen to be equal.
+    fn are_equal_records(
+        &mut self,
+        alloc: Global,
+        layout: &Layout<'_>,
+        answers: Answers<'_, '_>,
+    ) -> bool {
+        match (layout, answers.old, answers.new) {
+            (Layout::Records, Some(old), Some(new)) => {
+                are_seen_equal(alloc, &mut self.maps, old, new)
+            }
+            _ => false,
+        }
+    }
+
+    // Compares what was found at offsets that are too large to be kept, so that `is_seen_same` didn't see it.
+    #[cold]
+    #[inline(never)]
+    fn compare_far(
+        &mut self,
+        alloc: Global,
+        layout: &Layout<'_>,
+        answers: Answers<'_, '_>,
+    ) -> Result<bool, Unreadable> {
+        if self.are_equal_records(alloc, layout, answers) {
+            return Ok(true);
+        }
+        self.compare(alloc, layout, answers)
+    }
+
     /// Whether the records at two offsets are seen to be shown the same, before they are looked up: they were compared, or
     /// are equal whole records. Of others `is_same` says it.
     pub(crate) fn is_seen_same(
@@ -316,7 +346,7 @@ impl<'r> Pairs<'r> {
         answers: Answers<'_, '_>,
     ) -> Result<bool, Unreadable> {
         let Some(offsets) = answers.offsets() else {
-            return self.compare(alloc, layout, answers);
+            return self.compare_far(alloc, layout, answers);
         };
         if let Some(is_same) = self.kept.kept(offsets) {
             return Ok(is_same);
