@@ -169,6 +169,19 @@ const ROWS: &[Row<'static>] = &[
         ],
         1,
     ),
+    (
+        SHORT,
+        UNCLEAN,
+        &[],
+        "{\"network\":\"0.0.0.0/3\",\"old\":{\"c\":{\"i\":\"DE\"},\"n\":7},\"new\":{\"c\":{\"i\":\"AT\"},\"n\":true}}
+{\"network\":\"64.0.0.0/2\",\"old\":{\"c\":{\"i\":\"DE\"},\"n\":7},\"new\":{\"c\":{\"i\":\"AT\"},\"n\":true}}
+",
+        &[
+            "mmdb: new.mmdb: 32.0.0.0/3: ",
+            "0 (0) added, 0 (0) removed, 2 (1610612736) changed",
+        ],
+        1,
+    ),
     // without a record and without a field the same is shown, and the first address is counted
     (
         SECOND_LACKS,

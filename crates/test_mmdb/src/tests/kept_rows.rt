@@ -3,8 +3,10 @@ use super::program::{Narrow, Run, assert_of, file_of, run_of, terminals, words_w
 use super::record_texts::Numbers;
 use mmdb_program::{Io, run};
 use mmdb_vectors::builder::{Field, changed_file, nodes_24};
+use mmdb_vectors::section::section_of;
 use std::alloc::{AllocError, Global};
 use std::io::ErrorKind;
+use std::net::{Ipv4Addr, Ipv6Addr};
 use std::process::Abort;
 
 /// The lengths of the texts that are records. With 27 bytes more, rows of whole records are put in quick steps up to 1,024
@@ -289,19 +291,23 @@ fn file_of_one(rt: &impl Abort, alloc: Global, len: usize) -> Vec<u8> {
     changed_file(alloc, tree.as_slice(), data.as_slice(), &changes).expect(rt, "a file")
 }
 
+// Adds the row of a network whose record is a text, one letter so often.
+fn push_row(network: &str, letter: u8, len: usize, rows: &mut Vec<u8>) -> Result<(), AllocError> {
+    rows.extend_from_slice(b"{\"network\":\"")?;
+    rows.extend_from_slice(network.as_bytes())?;
+    rows.extend_from_slice(b"\",\"record\":\"")?;
+    for _ in 0..len {
+        rows.push(letter)?;
+    }
+    rows.extend_from_slice(b"\"}\n")
+}
+
 // The rows of a file whose networks all have a text of so many bytes.
 fn rows_of_one(rt: &impl Abort, alloc: Global, len: usize) -> Vec<u8> {
     let mut rows = Vec::new(alloc);
     for network in 0..NETWORKS {
-        let first = 2 * network;
-        let row: String = format!(in alloc;
-            "{{\"network\":\"{first}.0.0.0/7\",\"record\":\""
-        ).expect(rt, "a row");
-        rows.extend_from_slice(row.as_bytes()).expect(rt, "a row");
-        for _ in 0..len {
-            rows.push(b'x').expect(rt, "a text");
-        }
-        rows.extend_from_slice(b"\"}\n").expect(rt, "a row");
+        let text = range_of(alloc, network, true).expect(rt, "a network");
+        push_row(text.as_str(), b'x', len, &mut rows).expect(rt, "a row");
     }
     rows
 }
@@ -317,6 +323,123 @@ fn rows_of_one_record(rt: HostRuntime) {
         assert!(rt; is_wanted, "texts of {len} bytes");
         if len == 128 || len == 997 {
             assert_cuts(&rt, alloc, file.as_slice(), wanted.as_slice());
+        }
+    }
+}
+
+/// Two records whose rows have one place, as their offsets differ by 8,192.
+const AT_ONE_PLACE: &[u32] = &[FIRST, FIRST + 8192];
+
+// The rows of leaves that have the one or the other record.
+fn rows_of_two(rt: &impl Abort, alloc: Global, nodes: &[(u32, u32)]) -> Vec<u8> {
+    let mut rows = Vec::new(alloc);
+    for network in 0..NETWORKS {
+        let node = nodes.get(63usize.saturating_add(network as usize / 2));
+        let (left, right) = node.copied().unwrap_or((0, 0));
+        let leaf = if network % 2 == 0 { left } else { right };
+        let letter = if leaf == FIRST { b'x' } else { b'y' };
+        let text = range_of(alloc, network, true).expect(rt, "a network");
+        push_row(text.as_str(), letter, 1, &mut rows).expect(rt, "a row");
+    }
+    rows
+}
+
+#[test]
+fn rows_at_one_place(rt: HostRuntime) {
+    let alloc = rt.alloc();
+    let data = section_of(alloc, &[(b"\x41x", 1), (b"\xA0", 8190), (b"\x41y", 1)]);
+    let nodes = any_nodes(alloc, 5, AT_ONE_PLACE).expect(&rt, "nodes");
+    let tree = nodes_24(alloc, nodes.as_slice()).expect(&rt, "a tree");
+    let changes = [(Field::NodeCount, b"\xC1\x7F".as_slice())];
+    let file = changed_file(alloc, tree.as_slice(), data.as_slice(), &changes).expect(
+        &rt, "a file",
+    );
+    let wanted = rows_of_two(&rt, alloc, nodes.as_slice());
+    let run = run_of(alloc, file.as_slice(), &["export", "here.mmdb"], "");
+    assert_of(&rt, &["two records"], &run, run.written == wanted);
+}
+
+// The nodes of a tree of IPv6: so many zeros one below the other, and 128 ones. All leaves have one record.
+fn nodes_of_both_kinds(alloc: Global, zeros: u32) -> Result<Vec<(u32, u32)>, AllocError> {
+    let count = zeros.saturating_add(127);
+    let leaf = count.saturating_add(16);
+    let mut nodes = Vec::new(alloc);
+    nodes.push((1, zeros))?;
+    for node in 2..zeros {
+        nodes.push((node, leaf))?;
+    }
+    nodes.push((leaf, leaf))?;
+    for node in zeros + 1..count {
+        nodes.push((leaf, node))?;
+    }
+    nodes.push((leaf, leaf))?;
+    Ok(nodes)
+}
+
+// Adds the row of a network of IPv6, or of IPv4 where it is one, if that kind is asked for.
+fn push_row_of(
+    rt: &impl Abort,
+    alloc: Global,
+    first: u128,
+    prefix: u32,
+    kind: &str,
+    rows: &mut Vec<u8>,
+) {
+    let is_ipv4 = prefix > 96 && first >> 32 == 0;
+    let text: String = if is_ipv4 {
+        let address = Ipv4Addr::from_bits((first & 0xffff_ffff) as u32);
+        let prefix = prefix.saturating_sub(96);
+        format!(in alloc; "{address}/{prefix}")
+    } else {
+        let address = Ipv6Addr::from_bits(first);
+        format!(in alloc; "{address}/{prefix}")
+    }
+    .expect(rt, "a text");
+    let is_wanted = kind.is_empty() || (kind == "--ipv4") == is_ipv4;
+    if is_wanted {
+        push_row(text.as_str(), b'x', 1, rows).expect(rt, "a row");
+    }
+}
+
+// The rows of such a tree, of the networks of a kind if one is named.
+fn rows_of_both_kinds(rt: &impl Abort, alloc: Global, zeros: u32, kind: &str) -> Vec<u8> {
+    let mut rows = Vec::new(alloc);
+    push_row_of(rt, alloc, 0, zeros, kind, &mut rows);
+    for level in 0..zeros.saturating_sub(1) {
+        let prefix = zeros.saturating_sub(level);
+        let first = 1u128
+            .checked_shl(128u32.saturating_sub(prefix))
+            .unwrap_or(0);
+        push_row_of(rt, alloc, first, prefix, kind, &mut rows);
+    }
+    for prefix in 2..129u32 {
+        let first = u128::MAX
+            .checked_shl(129u32.saturating_sub(prefix))
+            .unwrap_or(0);
+        push_row_of(rt, alloc, first, prefix, kind, &mut rows);
+    }
+    push_row_of(rt, alloc, u128::MAX, 128, kind, &mut rows);
+    rows
+}
+
+#[test]
+fn rows_of_one_record_in_both_kinds(rt: HostRuntime) {
+    let alloc = rt.alloc();
+    for zeros in [64, 95, 96, 97, 127, 128] {
+        let nodes = nodes_of_both_kinds(alloc, zeros).expect(&rt, "nodes");
+        let tree = nodes_24(alloc, nodes.as_slice()).expect(&rt, "a tree");
+        let count = [0xC1, (nodes.len() & 0xff) as u8];
+        let changes = [
+            (Field::NodeCount, count.as_slice()),
+            (Field::IpVersion, b"\xA1\x06"),
+        ];
+        let file = changed_file(alloc, tree.as_slice(), b"\x41x", &changes).expect(&rt, "a file");
+        for kind in ["", "--ipv4", "--ipv6"] {
+            let wanted = rows_of_both_kinds(&rt, alloc, zeros, kind);
+            let words = ["export", "here.mmdb", "--format", "jsonl", kind];
+            let len = words.len().saturating_sub(usize::from(kind.is_empty()));
+            let run = run_of(alloc, file.as_slice(), words.get(..len).unwrap_or(&[]), "");
+            assert_of(&rt, &words, &run, run.written == wanted);
         }
     }
 }
