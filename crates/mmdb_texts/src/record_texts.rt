@@ -14,9 +14,12 @@ use std::alloc::{AllocError, Global};
 use std::marker::Model;
 use std::mem;
 
-/// A record whose text is longer is left to others, and each value of a greater size, before its content is read. So each
-/// value and each of their bytes, which have a byte of the text at least, is within the limits of what is read of a record.
+/// A record whose text is longer is left to others, and each value of a greater size, before its content is read. So what is
+/// read of a record is within its limits: each value, and each byte of a text or a byte string, has a byte here at least.
 const MOST_BYTES: usize = 32_768;
+
+/// At least so many bytes has each part of a map or an array, with what stands between it and another.
+const LEAST_OF_PART: usize = 2;
 
 /// No longer text is kept.
 const MOST_KEPT: usize = 2048;
@@ -37,6 +40,9 @@ pub struct RecordTexts<'r> {
     names: Vec<Kept>,
     /// Where a text is laid out.
     scratch: Vec<u8>,
+    /// So many bytes at least are still to come of the containers on the way down. With it a record of too many parts is
+    /// left at the header that says so, before they are read.
+    owed: usize,
 }
 
 impl<'r> Model for RecordTexts<'r> {
@@ -112,7 +118,35 @@ impl<'r> RecordTexts<'r> {
             values: no_texts(alloc)?,
             names: no_texts(alloc)?,
             scratch: Vec::new(alloc),
+            owed: 0,
         })
+    }
+
+    // Whether a text that is laid out so far, with what is still to come, may be short.
+    #[inline(always)]
+    fn may_be_short(&self, out: &Vec<u8>) -> bool {
+        out.len().saturating_add(self.owed) <= MOST_BYTES
+    }
+
+    // Begins a container of so many parts. Whether the text may be short.
+    #[inline(always)]
+    fn begin_parts(&mut self, count: usize, out: &Vec<u8>) -> bool
+        ensures { self.new ≡ self.old }
+    {
+        self.owed = self
+            .owed
+            .saturating_add(count.saturating_mul(LEAST_OF_PART));
+        self.may_be_short(out)
+    }
+
+    // Begins a part of a container. Whether the text may be short.
+    #[inline(always)]
+    fn begin_part(&mut self, out: &Vec<u8>) -> bool
+        ensures { self.new ≡ self.old }
+    {
+        let may_be_short = self.may_be_short(out);
+        self.owed = self.owed.saturating_sub(LEAST_OF_PART);
+        may_be_short
     }
 
     // Appends the text that is kept for an offset. Whether there is one.
@@ -307,7 +341,7 @@ impl<'r> RecordTexts<'r> {
             out.old.items out.new.items) }
         ensures section { self.new ≡ self.old }
     {
-        if out.len() > MOST_BYTES {
+        if !self.begin_part(out) {
             return None;
         }
         if after_value {
@@ -331,7 +365,7 @@ impl<'r> RecordTexts<'r> {
             out.old.items out.new.items) }
         ensures section { self.new ≡ self.old }
     {
-        if out.len() > MOST_BYTES {
+        if !self.begin_part(out) {
             return None;
         }
         if after_value {
@@ -355,7 +389,7 @@ impl<'r> RecordTexts<'r> {
             out.old.items out.new.items) }
         ensures section { self.new ≡ self.old }
     {
-        if levels == 0 {
+        if levels == 0 || !self.begin_parts(header.size, out) {
             return None;
         }
         out.push(b'{').ok()?;
@@ -385,7 +419,7 @@ impl<'r> RecordTexts<'r> {
             out.old.items out.new.items) }
         ensures section { self.new ≡ self.old }
     {
-        if levels == 0 {
+        if levels == 0 || !self.begin_parts(header.size, out) {
             return None;
         }
         out.push(b'[').ok()?;
@@ -442,6 +476,7 @@ impl<'r> RecordTexts<'r> {
         ensures left { result ≡ false → out.new.items ≡ out.old.items }
         ensures section { self.new ≡ self.old }
     {
+        self.owed = 0;
         let mut text = mem::replace(&mut self.scratch, Vec::new(self.alloc));
         let is_put = self.put_by(offset, &mut text, out);
         self.scratch = text;

@@ -369,7 +369,7 @@ fn nodes_of_both_kinds(alloc: Global, zeros: u32) -> Result<Vec<(u32, u32)>, All
         nodes.push((node, leaf))?;
     }
     nodes.push((leaf, leaf))?;
-    for node in zeros + 1..count {
+    for node in zeros.saturating_add(1)..count {
         nodes.push((leaf, node))?;
     }
     nodes.push((leaf, leaf))?;

@@ -229,13 +229,62 @@ fn long_texts_are_left(rt: HostRuntime) {
             assert_put(&rt, alloc, section.as_slice(), 0, true);
         }
     }
-    // an array of so many zeros, each with its comma
-    for (count, is_laid_out) in [(16_383usize, true), (16_384, false)] {
-        let size = (count.saturating_sub(285) as u64 & 0xffff) as u16;
-        let [high, low] = size.to_be_bytes();
-        let section = section_of(alloc, &[(&[0x1E, 4, high, low], 1), (b"\xA0", count)]);
-        assert_put(&rt, alloc, section.as_slice(), 0, is_laid_out);
+}
+
+// The header of an array of so many items: of 285 to 65,820.
+fn array_of(count: usize) -> [u8; 4] {
+    let size = (count.saturating_sub(285) as u64 & 0xffff) as u16;
+    let [high, low] = size.to_be_bytes();
+    [0x1E, 4, high, low]
+}
+
+/// What stands before an array, how many zeros it has, what stands behind it, and whether all that has 32,768 bytes at the
+/// most as JSON.
+const MANY: &[(&[u8], usize, &[u8], bool)] = &[
+    // each zero with its comma
+    (b"", 16_383, b"", true),
+    (b"", 16_384, b"", false),
+    // the first and the last of three items
+    (b"\x03\x04", 16_380, b"\xA0\xA0", true),
+    (b"\x03\x04", 16_381, b"\xA0\xA0", false),
+    (b"\x03\x04\xA0\xA0", 16_380, b"", true),
+    (b"\x03\x04\xA0\xA0", 16_381, b"", false),
+    // the first and the last of two members
+    (b"\xE2\x41k", 16_377, b"\x41m\xA0", true),
+    (b"\xE2\x41k", 16_378, b"\x41m\xA0", false),
+    (b"\xE2\x41k\xA0\x41m", 16_377, b"", true),
+    (b"\xE2\x41k\xA0\x41m", 16_378, b"", false),
+    // behind a pointer, as the first item
+    (b"\x02\x04\x20\x05\xA0", 16_381, b"", true),
+    (b"\x02\x04\x20\x05\xA0", 16_382, b"", false),
+];
+
+#[test]
+fn records_of_many_parts_are_left(rt: HostRuntime) {
+    let alloc = rt.alloc();
+    for (before, count, behind, is_laid_out) in MANY {
+        let header = array_of(*count);
+        let section = section_of(
+            alloc,
+            &[(before, 1), (&header, 1), (b"\xA0", *count), (behind, 1)],
+        );
+        assert_put(&rt, alloc, section.as_slice(), 0, *is_laid_out);
     }
+}
+
+#[test]
+fn records_of_too_many_parts_are_left_at_once(rt: HostRuntime) {
+    let alloc = rt.alloc();
+    // arrays of 9,000 items, each the first item of the one before it, and zeros: the second one's header says too much. To
+    // lay the zeros out each time would take minutes
+    let header = array_of(9000);
+    let section = section_of(alloc, &[(&header, 2), (b"\xA0", 9000)]);
+    let mut texts = RecordTexts::new(alloc, section.as_slice()).expect(&rt, "texts");
+    let mut out = Vec::new(alloc);
+    for turn in 0..1_000_000u32 {
+        assert!(rt; !texts.put(0, &mut out), "turn {turn}");
+    }
+    assert!(rt; out.is_empty());
 }
 
 /// Arrays in one another, so many, around a number.

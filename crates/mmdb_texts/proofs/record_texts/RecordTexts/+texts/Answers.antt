@@ -7,7 +7,7 @@ use Rattle.mmdb_texts.proofs.record_texts.RecordTexts.+texts.Goals as goal
 
 pub put_table-loop-i-init : goal.put_table-loop-i-init
 put_table-loop-i-init t c = record {
-  section = refl;
+  section = c.begin_parts.ensures;
   within = omega arith;
   on = table_begins c.args.self.now c.args.offset c.args.header (c.args.header.size - 0) c.args.out.now.items c.push.new.self.items c.requires.header c.requires.kind (omega arith) (search rules);
 }
@@ -29,7 +29,7 @@ put_table-returns-clause-value t c =
 
 pub put_array-loop-i-init : goal.put_array-loop-i-init
 put_array-loop-i-init t c = record {
-  section = refl;
+  section = c.begin_parts.ensures;
   within = omega arith;
   on = array_begins c.args.self.now c.args.offset c.args.header (c.args.header.size - 0) c.args.out.now.items c.push.new.self.items c.requires.header c.requires.kind (omega arith) (search rules);
 }
