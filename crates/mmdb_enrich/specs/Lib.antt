@@ -16,5 +16,4 @@ pub mod Remembers
 -- What only contracts of private functions and proofs name.
 pub mod Working
 pub mod Scanned
-pub mod Runs
 pub mod Octets

@@ -1,6 +1,5 @@
 -- What contracts of private functions and proofs name.
 use Rattle.std.specs.Prelude.{◌≡◌, ℕ, List, ◌∷◌, ◌++◌, Option, Some, option_map, Bool, false, is_some, Result, Ok, Err, ◌≢◌}
-use Rattle.mmdb_format.specs.Contents.{text}
 use Rattle.mmdb_format.specs.Unfolding.{Tree}
 use Rattle.mmdb_format.specs.declared.error.MaxMindDbError.{MaxMindDbError}
 use Rattle.mmdb_decode.specs.Errors.{Fails}
@@ -20,7 +19,7 @@ use Rattle.mmdb_reader.specs.File.{Database}
 use Rattle.mmdb_enrich.specs.declared.members.Field.{Field}
 use Rattle.mmdb_enrich.specs.Fields.{AreFields, member_tokens}
 use Rattle.mmdb_filter.specs.declared.counts.Outcome.{Outcome}
-use Rattle.mmdb_enrich.specs.Wanted.{MemberAt, cells}
+use Rattle.mmdb_enrich.specs.Wanted.{MemberAt}
 use Rattle.mmdb_enrich.specs.declared.objects.Line.{Line}
 use Rattle.mmdb_filter.specs.declared.filter.Added.{Added}
 use Rattle.mmdb_enrich.specs.Members.{AddsMemberFor, PutsMember}

@@ -3,9 +3,8 @@ ghost use Rattle.std.specs.Prelude.{◌≡◌, ◌≤◌, length, option_map};
 ghost use Rattle.mmdb_filter.specs.declared.rows.Position.TheVariants.{Cell};
 ghost use Rattle.mmdb_filter.specs.declared.rows.Rows.TheVariants.{Csv};
 ghost use Rattle.mmdb_enrich.specs.Columns.{delimiter_of as spec_delimiter_of, cell_length as spec_cell_length, column_of as spec_column_of, value_of as spec_value_of};
-ghost use Rattle.mmdb_enrich.specs.Runs.{position_behind};
 
-use mmdb_filter::{Position, Rows, either_from};
+use mmdb_filter::{Rows, either_from};
 
 /// What stands between cells: tabs between those of a line.
 #[inline(always)]
@@ -18,40 +17,21 @@ pub fn delimiter_of(rows: Rows) -> u8
     }
 }
 
-// The position behind bytes of which none is a quote or the delimiter, for what ends the cell.
-#[inline(always)]
-fn behind_run(now: Position, from: usize, to: usize) -> Position
-    ensures { result ≡ position_behind now from to }
-{
-    if now == Position::Quoted || to <= from {
-        now
-    } else {
-        Position::Plain
-    }
-}
-
-// How many bytes stand before the first delimiter that is not between quotes, or all. It goes from one quote or
-// delimiter to the next, since the bytes between these are passed many at a time.
+// How many bytes stand before the first delimiter that is not between quotes, or all. It goes to the quote that closes, and
+// on where another one stands behind it, since the bytes before these are passed many at a time.
 fn quoted_cell_length(delimiter: u8, text: &[u8]) -> usize
     ensures length { result ≡ spec_cell_length (Csv delimiter) Cell text.now }
     ensures within { result ≤ length text.now }
 {
-    let rows = Rows::Csv { delimiter };
-    let mut position = Position::Cell;
     let mut at = 0;
-    while at < text.len() {
-        let stop = either_from(text, at, delimiter, b'"');
-        if stop >= text.len() {
-            return stop;
+    while at < text.len() && text[at] == b'"' && delimiter != b'"' {
+        let quote = either_from(text, at + 1, b'"', b'"');
+        if quote >= text.len() {
+            return quote;
         }
-        position = behind_run(position, at, stop);
-        if text[stop] == delimiter && position != Position::Quoted {
-            return stop;
-        }
-        position = position.after(rows, text[stop]);
-        at = stop + 1;
+        at = quote + 1;
     }
-    text.len()
+    either_from(text, at, delimiter, delimiter)
 }
 
 // How many bytes stand before the first delimiter of a cell, or all.

@@ -105,3 +105,30 @@ going_behind d p bytes at m false e = going_past d p (get_or bytes (m - 1) 0)
 -- it does not end the row
 pub not_ended_behind : (d : ℕ) (p : Position) (bytes : List ℕ) (at m : ℕ) → is_ended p ≡ false → is_ended (position_behind d p bytes at m) ≡ false
 not_ended_behind d p bytes at m e = going_behind d p bytes at m (nat_le m at) e
+
+-- between quotes all but a quote is passed
+quoted_on : (d x : ℕ) → is_neither 34 34 x ≡ true → position_after (Csv d) Quoted x ≡ Quoted
+unfolding position_after
+quoted_on d x h = ap (λ b. if b then Closing else Quoted) (neither_one (x == 34) (x == 34) h).0
+
+goes_quoted_run : (d : ℕ) (first : Position) (at n m : ℕ) (bytes ys xs : List ℕ) → m ≡ at + n → m ≤ length bytes → ((k : ℕ) → k < n → is_neither 34 34 (get_or bytes (at + k) 0) ≡ true)
+    → Goes (Csv d) first xs (take at bytes) Quoted (drop at bytes ++ ys) → Goes (Csv d) first xs (take m bytes) Quoted (drop m bytes ++ ys)
+goes_quoted_run d first at zero m bytes ys xs is l run g =
+    let same : at ≡ m = omega arith in
+    subst (λ n. Goes (Csv d) first xs (take n bytes) Quoted (drop n bytes ++ ys)) same g
+goes_quoted_run d first at (suc n) m bytes ys xs is l run g =
+    let x = get_or bytes (at + n) 0 in
+    let same : (at + n) + 1 ≡ m = omega arith in
+    let before = goes_quoted_run d first at n (at + n) bytes ys xs refl (omega arith) (λ k l. run k (omega arith)) g in
+    let one = goes_one (Csv d) first Quoted (at + n) bytes ys xs (omega arith) refl before in
+    subst (λ n. Goes (Csv d) first xs (take n bytes) Quoted (drop n bytes ++ ys)) same
+    (subst (λ r. Goes (Csv d) first xs (take ((at + n) + 1) bytes) r (drop ((at + n) + 1) bytes ++ ys)) (quoted_on d x (run n (omega arith))) one)
+
+pub goes_quoted : (d : ℕ) (first p : Position) (at m : ℕ) (bytes ys xs : List ℕ) → p ≡ Quoted → m ≤ length bytes → m ≡ at + prefix_len (is_neither 34 34) (drop at bytes)
+    → Goes (Csv d) first xs (take at bytes) p (drop at bytes ++ ys) → Goes (Csv d) first xs (take m bytes) p (drop m bytes ++ ys)
+goes_quoted d first p at m bytes ys xs between l is g =
+    let n = prefix_len (is_neither 34 34) (drop at bytes) in
+    let run : (k : ℕ) → k < n → is_neither 34 34 (get_or bytes (at + k) 0) ≡ true =
+    λ k below. ap (is_neither 34 34) (sym (get_or-drop at bytes k 0)) ∙ prefix_len_passes (is_neither 34 34) (drop at bytes) k 0 below in
+    let here = subst (λ q. Goes (Csv d) first xs (take at bytes) q (drop at bytes ++ ys)) between g in
+    subst (λ q. Goes (Csv d) first xs (take m bytes) q (drop m bytes ++ ys)) (sym between) (goes_quoted_run d first at n m bytes ys xs is l run here)

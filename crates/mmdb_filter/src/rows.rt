@@ -73,8 +73,9 @@ fn behind_run(delimiter: u8, now: Position, bytes: &[u8], from: usize, to: usize
     }
 }
 
-// How many of the bytes belong to a row of CSV, and the position behind them. It goes from one quote or line feed to the
-// next, since the bytes between these are passed many at a time.
+// How many of the bytes belong to a row of CSV, and the position behind them. Between quotes it goes to the next quote, else
+// to the next one or a line feed, since the bytes before these are passed many at a time. What stands behind a quote is
+// mostly a quote or a delimiter, and is looked at alone.
 fn scan_quotes(delimiter: u8, position: Position, bytes: &[u8]) -> (usize, Position)
     requires { position ≢ spec_position.Ended }
     ensures within { result.0 ≤ length bytes.now }
@@ -89,6 +90,20 @@ fn scan_quotes(delimiter: u8, position: Position, bytes: &[u8]) -> (usize, Posit
     while at < bytes.len() {
         if now == Position::Ended {
             return (at, now);
+        }
+        if now == Position::Quoted {
+            let quote = either_from(bytes, at, b'"', b'"');
+            if quote >= bytes.len() {
+                return (quote, now);
+            }
+            now = now.after(rows, bytes[quote]);
+            at = quote + 1;
+            continue;
+        }
+        if now == Position::Closing || bytes[at] == b'"' {
+            now = now.after(rows, bytes[at]);
+            at += 1;
+            continue;
         }
         let stop = either_from(bytes, at, b'"', b'\n');
         now = behind_run(delimiter, now, bytes, at, stop);

@@ -1,60 +1,46 @@
-use Rattle.std.proofs.Common.{rules, ◌≡◌, ◌≢◌, ◌+◌, ◌<◌, ◌≤◌, length, drop, get_or, false, sym, ap, arith, ◌==◌, ◌&&◌, not, refl}
+use Rattle.std.proofs.Common.{◌≡◌, ◌+◌, drop, get_or, false, sym, ap, ◌∙◌, subst, arith, ◌==◌, ne_eqb}
+use Rattle.std.proofs.lemmas.List.{get_or-drop, drop_all}
 use Rattle.mmdb_filter.specs.declared.rows.Position.TheVariants.{Quoted}
 use Rattle.mmdb_filter.specs.declared.rows.Rows.TheVariants.{Csv}
-use Rattle.mmdb_enrich.specs.Columns.{is_quoted, cell_length}
-use Rattle.mmdb_enrich.specs.Runs.{position_behind}
-use Rattle.mmdb_enrich.proofs.CellRunLaws.{cell_runs}
-use Rattle.mmdb_enrich.proofs.ColumnLaws.{cell_stops, cell_goes_on, cell_ends, not_quoted, is_delimiter, no_delimiter, quoted_delimiter}
-use Rattle.mmdb_enrich.proofs.columns.quoted_cell_length.Goals.{else-text-stop-via-then-text-stop+else-ne, else-text-stop-via-else-text-stop}
+use Rattle.mmdb_enrich.proofs.CellRunLaws.{opened, closed, bare_length}
+use Rattle.mmdb_enrich.proofs.ColumnLaws.{cell_ends}
+use Rattle.mmdb_enrich.proofs.columns.quoted_cell_length.Goals.{then-loop-at-test+then-text-at-eq34+else-delimiter-ne34, then-loop-at-test+else-text-at-eq34, else-loop-at-test}
 use Rattle.mmdb_enrich.proofs.columns.quoted_cell_length.Goals as goal
 
-pub returns-then-stop-text-clause-length : goal.returns-then-stop-text-clause-length
-returns-then-stop-text-clause-length c =
+pub returns-then-quote-text-clause-length : goal.returns-then-quote-text-clause-length
+returns-then-quote-text-clause-length c =
     let d = c.args.delimiter in
     let text = c.args.text.now in
-    let at = c.loop-at.at in
-    let stop = c.either_from-stop.result in
-    let runs = cell_runs d c.loop-at.position at stop text c.loop-at.invariant.within c.either_from-stop.ensures.bound c.either_from-stop.ensures.value in
-    let over = cell_ends (Csv d) (position_behind c.loop-at.position at stop) text stop (omega arith) in
-    omega (arith, c.loop-at.invariant.rest, runs, over)
+    let quote = c.either_from-quote.result in
+    let other : (34 == d) ≡ false = ne_eqb 34 d (λ e. c.if-delimiter-ne34.true (sym e)) in
+    let inside = opened d c.loop-at.at quote text c.loop-at-test.true c.if-text-at-eq34.true other c.either_from-quote.ensures.bound c.either_from-quote.ensures.value in
+    omega (arith, c.loop-at.invariant.rest, inside, cell_ends (Csv d) Quoted text quote c.if-quote-text.true)
 
 pub loop-at-preserved : goal.loop-at-preserved
 loop-at-preserved c =
     let d = c.args.delimiter in
     let text = c.args.text.now in
-    let at = c.loop-at.at in
-    let stop = c.either_from-stop.result in
-    let position = c.behind_run-position.result in
-    let below : stop < length text = omega arith in
-    let no : (get_or text stop 0 == d && not (is_quoted position)) ≡ false =
-    elim c.else-text-stop.branch [
-      | else-text-stop-via-then-text-stop+else-ne w ↦ quoted_delimiter (Csv d) (get_or text stop 0) position (search rules)
-      | else-text-stop-via-else-text-stop w ↦ no_delimiter (Csv d) (get_or text stop 0) d position refl w.if-text-stop.false
-    ] in
-    let runs = cell_runs d c.loop-at.position at stop text c.loop-at.invariant.within c.either_from-stop.ensures.bound c.either_from-stop.ensures.value in
-    let here : cell_length (Csv d) (position_behind c.loop-at.position at stop) (drop stop text) ≡ cell_length (Csv d) position (drop stop text) = ap (λ p. cell_length (Csv d) p (drop stop text)) (sym c.behind_run-position.ensures) in
-    let further = cell_goes_on (Csv d) position text stop below no in
-    let next : cell_length (Csv d) c.after-position.result (drop (stop + 1) text) ≡ _ = ap (λ p. cell_length (Csv d) p (drop (stop + 1) text)) c.after-position.ensures in
+    let quote = c.either_from-quote.result in
+    let other : (34 == d) ≡ false = ne_eqb 34 d (λ e. c.if-delimiter-ne34.true (sym e)) in
+    let inside = opened d c.loop-at.at quote text c.loop-at-test.true c.if-text-at-eq34.true other c.either_from-quote.ensures.bound c.either_from-quote.ensures.value in
+    let behind = closed d (c.loop-at.at + 1) quote text (omega arith) c.either_from-quote.ensures.value in
     record {
-      rest = omega (arith, c.loop-at.invariant.rest, runs, here, further, next);
+      rest = omega (arith, c.loop-at.invariant.rest, inside, behind);
       within = omega arith;
     }
 
-pub returns-then-ne-clause-length : goal.returns-then-ne-clause-length
-returns-then-ne-clause-length c =
+pub returns-clause-length : goal.returns-clause-length
+returns-clause-length c =
     let d = c.args.delimiter in
     let text = c.args.text.now in
     let at = c.loop-at.at in
-    let stop = c.either_from-stop.result in
-    let position = c.behind_run-position.result in
-    let below : stop < length text = omega arith in
-    let bare : position ≢ Quoted = search rules in
-    let yes = is_delimiter (Csv d) (get_or text stop 0) d position refl c.if-text-stop.true (not_quoted position bare) in
-    let runs = cell_runs d c.loop-at.position at stop text c.loop-at.invariant.within c.either_from-stop.ensures.bound c.either_from-stop.ensures.value in
-    let here : cell_length (Csv d) (position_behind c.loop-at.position at stop) (drop stop text) ≡ cell_length (Csv d) position (drop stop text) = ap (λ p. cell_length (Csv d) p (drop stop text)) (sym c.behind_run-position.ensures) in
-    omega (arith, c.loop-at.invariant.rest, runs, here, cell_stops (Csv d) position text stop below yes)
-
-pub returns-clause-length : goal.returns-clause-length
-returns-clause-length c =
-    let over : length c.args.text.now ≤ c.loop-at.at = omega arith in
-    omega (arith, c.loop-at.invariant.rest, cell_ends (Csv c.args.delimiter) c.loop-at.position c.args.text.now c.loop-at.at over)
+    let x = get_or (drop at text) 0 0 in
+    let here : at + 0 ≡ at = omega arith in
+    let same : x ≡ get_or text at 0 = get_or-drop at text 0 0 ∙ ap (λ k. get_or text k 0) here in
+    let bare : (x == d) ≡ false → (x == 34) ≡ false =
+    elim c.loop-at-test.branch [
+      | then-loop-at-test+then-text-at-eq34+else-delimiter-ne34 w ↦ λ e. subst (λ k. (x == k) ≡ false) w.if-delimiter-ne34.false e
+      | then-loop-at-test+else-text-at-eq34 w ↦ λ e. ne_eqb x 34 (λ is. w.if-text-at-eq34.false (sym same ∙ is))
+      | else-loop-at-test w ↦ λ e. ap (λ xs. get_or xs 0 0 == 34) (drop_all at text w.loop-at-test.false)
+    ] in
+    omega (arith, c.loop-at.invariant.rest, c.either_from.ensures.value, bare_length d (drop at text) bare)
