@@ -7,7 +7,7 @@ ghost use Rattle.mmdb_format.specs.Views.{content_view, bytes_given, content_giv
 
 use crate::decode_error_kind::DecodeErrorKind;
 use crate::header::{
-    Header, bytes_at, direct_at, pointer_at, pointer_bits_at, short_text_at, wide_number_at,
+    Header, bytes_at, direct_at, pointer_at, pointer_bits_at, text_size_at, wide_number_at,
 };
 use crate::kind::{BOOL, BYTES, DOUBLE, FLOAT, I32, Kind, POINTER, TEXT, U16, U32, U64, U128};
 
@@ -160,11 +160,11 @@ impl Content<'_> {
     }
 }
 
-// The bytes of a key that is a short text behind a pointer, as nearly all keys are, and the offset after it. Nothing is
-// known of others.
+// The bytes of a key that is a text behind a pointer, as nearly all keys are, and the offset after it. Nothing is known
+// of others.
 #[inline(always)]
 #[tactic(auto, unfolding(crate::specs::Contents::key_bytes_at, crate::specs::Pointer::direct_at, crate::specs::Pointer::behind))]
-fn short_key_at(section: &[u8], offset: usize) -> Option<(&[u8], usize)>
+fn shared_key_at(section: &[u8], offset: usize) -> Option<(&[u8], usize)>
     ensures value { IfSome result (λ x. spec_key_bytes_at section.now offset
         ≡ Some (x.0.now, x.1)) }
     ensures bound { IfSome result (λ x. length x.0.now < 2 ^ 25) }
@@ -173,8 +173,8 @@ fn short_key_at(section: &[u8], offset: usize) -> Option<(&[u8], usize)>
     let Ok(pointer) = pointer_at(section, offset + 1, low) else {
         return None;
     };
-    let size = short_text_at(section, pointer.target)?;
-    let bytes = bytes_at(section, pointer.target + 1, size)?;
+    let (size, body) = text_size_at(section, pointer.target)?;
+    let bytes = bytes_at(section, body, size)?;
     Some((bytes, pointer.next))
 }
 
@@ -185,7 +185,7 @@ pub fn key_bytes_at(section: &[u8], offset: usize) -> Result<(&[u8], usize), Dec
     ensures value { key_given result ≡ spec_key_bytes_at section.now offset }
     ensures bound { IfOk result (λ x. length x.0.now < 2 ^ 25) }
 {
-    if let Some(key) = short_key_at(section, offset) {
+    if let Some(key) = shared_key_at(section, offset) {
         return Ok(key);
     }
     let at = direct_at(section, offset, 0)?;

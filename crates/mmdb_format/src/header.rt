@@ -182,19 +182,19 @@ pub(crate) fn pointer_bits_at(section: &[u8], offset: usize) -> Option<u8>
     Some(control % 32)
 }
 
-/// The size of the text at an offset, where its header is its control byte alone.
+/// The size of the text at an offset, and where its bytes begin.
 #[inline(always)]
-#[tactic(auto, unfolding(crate::specs::Header::header_at, crate::specs::Header::sized_header, crate::specs::Header::size_at))]
-pub(crate) fn short_text_at(section: &[u8], offset: usize) -> Option<usize>
-    ensures header { IfSome result (λ size. spec_header_at section.now offset
-        ≡ Some (record { kind = 2; size = size; body = offset + 1 })) }
-    ensures inside { IfSome result (λ size. (size < 29) × (offset < length section.now)) }
+#[tactic(auto, unfolding(crate::specs::Header::header_at, crate::specs::Header::sized_header))]
+pub(crate) fn text_size_at(section: &[u8], offset: usize) -> Option<(usize, usize)>
+    ensures header { IfSome result (λ x. spec_header_at section.now offset
+        ≡ Some (record { kind = 2; size = x.0; body = x.1 })) }
+    ensures bound { IfSome result (λ x. x.0 < 2 ^ 25) }
 {
     let control = *section.get(offset)?;
-    if control / 32 != 2 || control % 32 > 28 {
+    if control / 32 != 2 {
         return None;
     }
-    Some(usize::from(control % 32))
+    size_at(section, offset + 1, control % 32).ok()
 }
 
 /// The header at an offset. One that is its control byte alone is recognised first, and nothing here that stays out of
