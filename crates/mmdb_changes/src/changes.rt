@@ -108,8 +108,8 @@ impl<'a, 'r> Changes<'a, 'r> {
         }
     }
 
-    // Writes the line of a network of the run.
-    fn put_network<O: Write>(
+    // Writes the line of a network of the run, as far as there is memory.
+    fn try_network<O: Write>(
         &mut self,
         network: IpNetwork,
         out: &mut O,
@@ -128,32 +128,64 @@ impl<'a, 'r> Changes<'a, 'r> {
         }
     }
 
+    // Writes the line of a network of the run. Where there is no memory, all that is kept as text is let go, and it is tried
+    // once more: a line that has no memory has written nothing.
+    #[inline(always)]
+    fn put_network<O: Write>(
+        &mut self,
+        network: IpNetwork,
+        pairs: &mut Pairs<'_>,
+        out: &mut O,
+    ) -> Result<(), ProgramError> {
+        match self.try_network(network, out) {
+            Err(error) if error.is_memory() => {
+                drop(error);
+                pairs.let_go();
+                self.try_network(network, out)
+            }
+            done => done,
+        }
+    }
+
     // Writes and counts a block of the run.
-    fn put_block<O: Write>(&mut self, block: Block, out: &mut O) -> Result<(), ProgramError> {
+    fn put_block<O: Write>(
+        &mut self,
+        block: Block,
+        pairs: &mut Pairs<'_>,
+        out: &mut O,
+    ) -> Result<(), ProgramError> {
         let network = self.network_of(block)?;
         let presence = self.presence_at(block.first);
         self.counts.count(network, presence);
-        self.put_network(network, out)
+        self.put_network(network, pairs, out)
     }
 
     // Writes the blocks that nothing can join any more.
-    fn put_settled<O: Write>(&mut self, out: &mut O) -> Result<(), ProgramError> {
+    fn put_settled<O: Write>(
+        &mut self,
+        pairs: &mut Pairs<'_>,
+        out: &mut O,
+    ) -> Result<(), ProgramError> {
         for index in 0..self.joiner.settled().len() {
             if let Some(block) = self.joiner.settled().get(index) {
                 let block = *block;
-                self.put_block(block, out)?;
+                self.put_block(block, pairs, out)?;
             }
         }
         Ok(())
     }
 
     /// Writes what waits.
-    pub(crate) fn finish<O: Write>(&mut self, out: &mut O) -> Result<(), ProgramError> {
+    pub(crate) fn finish<O: Write>(
+        &mut self,
+        pairs: &mut Pairs<'_>,
+        out: &mut O,
+    ) -> Result<(), ProgramError> {
         if self.run.is_none() {
             return Ok(());
         }
         self.joiner.finish();
-        let written = self.put_settled(out);
+        let written = self.put_settled(pairs, out);
         self.run = None;
         written
     }
@@ -184,7 +216,7 @@ impl<'a, 'r> Changes<'a, 'r> {
     ) -> Result<(), ProgramError> {
         let shown = pairs.shown_by(self.alloc, self.layout, answers)?;
         if !self.has_same_values(stretch, &shown) {
-            self.finish(out)?;
+            self.finish(pairs, out)?;
         }
         self.run = Some(Run {
             old: answers.old.copied(),
@@ -197,12 +229,17 @@ impl<'a, 'r> Changes<'a, 'r> {
     }
 
     // Adds the block of a stretch to the run.
-    fn add<O: Write>(&mut self, stretch: Stretch, out: &mut O) -> Result<(), ProgramError> {
+    fn add<O: Write>(
+        &mut self,
+        stretch: Stretch,
+        pairs: &mut Pairs<'_>,
+        out: &mut O,
+    ) -> Result<(), ProgramError> {
         let block = stretch.block;
         if !block.is_block() || self.joiner.push(block).is_err() {
             return Err(ProgramError::OutOfOrder);
         }
-        self.put_settled(out)?;
+        self.put_settled(pairs, out)?;
         self.keep_presence(stretch);
         if let Some(run) = &mut self.run {
             run.last = block.last();
@@ -222,6 +259,6 @@ impl<'a, 'r> Changes<'a, 'r> {
         if !self.has_same_records(stretch, answers) {
             self.change_to(stretch, answers, pairs, out)?;
         }
-        self.add(stretch, out)
+        self.add(stretch, pairs, out)
     }
 }

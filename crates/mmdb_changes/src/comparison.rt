@@ -112,7 +112,7 @@ impl<'a, 'r> SoFar<'a, 'r> {
     // Counts what can't be read, before which what waits is written.
     fn begin_fault<O: Write>(&mut self, out: &mut O) -> Result<(), ProgramError> {
         self.faults = self.faults.saturating_add(1);
-        self.changes.finish(out)
+        self.changes.finish(&mut self.pairs, out)
     }
 }
 
@@ -326,7 +326,8 @@ fn compare_all<'r, O: Write, E: Write>(
         take_part(task, comparison, part, so_far, console)?;
     }
     compare_waiting(task, comparison, so_far, console)?;
-    so_far.changes.finish(console.out)
+    let pairs = &mut so_far.pairs;
+    so_far.changes.finish(pairs, console.out)
 }
 
 // Reports what was counted behind what was written, and answers the status.

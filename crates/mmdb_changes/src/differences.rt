@@ -9,9 +9,14 @@ use mmdb_found::found_json;
 use mmdb_json::compact;
 use mmdb_layout::{Database, Fields, Found, Layout, line_of_cells, line_of_names, write_values};
 use mmdb_reader::{IpNetwork, MaxMindDbError};
-use mmdb_value::Value;
+use mmdb_value::Explained;
 use std::alloc::{AllocError, Global};
 use std::io::Write;
+
+/// How many bytes are kept of what is shown of pairs, and of the texts of the records of each database: 8 MiB together.
+const MOST_OF_SHOWN: usize = 2 << 20;
+
+const MOST_OF_TEXTS: usize = 3 << 20;
 
 /// The pairs of records that were compared last, and what is kept of their records.
 #[derive(Drop)]
@@ -22,7 +27,7 @@ pub(crate) struct Pairs<'r> {
     sections: Sections<'r>,
     /// What is shown of pairs that differ.
     shown: ShownPairs,
-    /// The texts of whole records, where those are shown and there was memory.
+    /// The texts of whole records, where those are shown.
     texts: Option<BothTexts<'r>>,
 }
 
@@ -31,6 +36,13 @@ pub(crate) struct Pairs<'r> {
 pub(crate) struct Unreadable {
     pub(crate) side: Side,
     pub(crate) error: MaxMindDbError,
+}
+
+impl Unreadable {
+    // Whether memory was out.
+    fn is_memory(&self) -> bool {
+        matches!(self.error, MaxMindDbError::Memory)
+    }
 }
 
 /// What two databases have for a network.
@@ -98,12 +110,12 @@ fn text_in(
     }
 }
 
-// The whole record of a network in one of the databases.
+// The whole record of a network in one of the databases, read step by step: most that are read so can't be read.
 fn record_in<'r>(
     alloc: Global,
     side: Side,
     found: &Found<'r>,
-) -> Result<Option<Value<'r>>, Unreadable> {
+) -> Result<Option<Explained<'r>>, Unreadable> {
     match found.decode_path(alloc, &[]) {
         Ok(record) => Ok(record),
         Err(error) => Err(Unreadable { side, error }),
@@ -114,12 +126,12 @@ fn record_in<'r>(
 fn text_of(
     alloc: Global,
     side: Side,
-    record: &Option<Value<'_>>,
+    record: &Option<Explained<'_>>,
 ) -> Result<Option<Vec<u8>>, Unreadable> {
     let Some(record) = record else {
         return Ok(None);
     };
-    match compact(alloc, record) {
+    match compact(alloc, &record.value) {
         Ok(text) => Ok(Some(text)),
         Err(_) => Err(Unreadable {
             side,
@@ -133,8 +145,8 @@ fn text_of(
 #[inline(never)]
 fn have_same_text(
     alloc: Global,
-    old: &Option<Value<'_>>,
-    new: &Option<Value<'_>>,
+    old: &Option<Explained<'_>>,
+    new: &Option<Explained<'_>>,
 ) -> Result<bool, Unreadable> {
     let old_text = text_of(alloc, Side::Old, old)?;
     let new_text = text_of(alloc, Side::New, new)?;
@@ -144,7 +156,7 @@ fn have_same_text(
 // Whether a record of the old database is shown as what was found in the new one.
 fn is_shown_as<'r>(
     alloc: Global,
-    old: &Option<Value<'r>>,
+    old: &Option<Explained<'r>>,
     new: &Found<'r>,
 ) -> Result<bool, Unreadable> {
     let new = record_in(alloc, Side::New, new)?;
@@ -216,7 +228,7 @@ fn shown_by_values(
     })
 }
 
-// The texts of the records of two databases, where whole ones are shown. Without memory for them records are shown without.
+// The texts of the records of two databases, where whole ones are shown.
 fn texts_of<'r>(
     alloc: Global,
     layout: &Layout<'_>,
@@ -224,7 +236,7 @@ fn texts_of<'r>(
     new: &'r Database,
 ) -> Option<BothTexts<'r>> {
     if layout.has_records() {
-        BothTexts::new(alloc, old.data_section(), new.data_section()).ok()
+        Some(BothTexts::new(alloc, old.data_section(), new.data_section(), MOST_OF_TEXTS))
     } else {
         None
     }
@@ -245,9 +257,19 @@ impl<'r> Pairs<'r> {
                 old: old.data_section(),
                 new: new.data_section(),
             },
-            shown: ShownPairs::new(alloc)?,
+            shown: ShownPairs::new(alloc, MOST_OF_SHOWN),
             texts: texts_of(alloc, layout, old, new),
         })
+    }
+
+    /// Lets go of all that is kept as text.
+    #[cold]
+    #[inline(never)]
+    pub(crate) fn let_go(&mut self) {
+        self.shown.clear();
+        if let Some(texts) = &mut self.texts {
+            texts.clear();
+        }
     }
 
     // What two databases have for a network, where whole records are shown and both can be laid out without a tree.
@@ -283,7 +305,28 @@ impl<'r> Pairs<'r> {
                 drop(shown);
                 Ok(is_same)
             }
-            None => are_same(alloc, layout, answers),
+            None => {
+                let is_same = are_same(alloc, layout, answers);
+                if let Err(unreadable) = &is_same {
+                    self.note(unreadable, answers);
+                }
+                is_same
+            }
+        }
+    }
+
+    // Notes which record can't be read, so that it is not laid out again.
+    fn note(&mut self, unreadable: &Unreadable, answers: Answers<'_, '_>) {
+        let found = match unreadable.side {
+            Side::Old => answers.old,
+            Side::New => answers.new,
+        };
+        if let (false, Some(texts), Some(offset)) = (
+            unreadable.is_memory(),
+            &mut self.texts,
+            offset_of(found),
+        ) {
+            texts.note_unreadable(unreadable.side, offset);
         }
     }
 
@@ -338,8 +381,9 @@ impl<'r> Pairs<'r> {
         true
     }
 
-    /// Whether a network is shown the same in both databases.
-    pub(crate) fn is_same(
+    // Whether a network is shown the same in both databases, as far as there is memory.
+    #[inline(always)]
+    fn try_same(
         &mut self,
         alloc: Global,
         layout: &Layout<'_>,
@@ -354,6 +398,24 @@ impl<'r> Pairs<'r> {
         let is_same = self.compare(alloc, layout, answers)?;
         self.kept.keep(offsets, is_same);
         Ok(is_same)
+    }
+
+    /// Whether a network is shown the same in both databases. Where there is no memory, all that is kept as text is let go,
+    /// and it is tried once more.
+    pub(crate) fn is_same(
+        &mut self,
+        alloc: Global,
+        layout: &Layout<'_>,
+        answers: Answers<'_, '_>,
+    ) -> Result<bool, Unreadable> {
+        match self.try_same(alloc, layout, answers) {
+            Err(unreadable) if unreadable.is_memory() => {
+                drop(unreadable);
+                self.let_go();
+                self.try_same(alloc, layout, answers)
+            }
+            done => done,
+        }
     }
 
     // What two databases have for a network as JSON.
@@ -382,8 +444,9 @@ impl<'r> Pairs<'r> {
         Ok(shown)
     }
 
-    /// What is shown of two answers, which may be kept.
-    pub(crate) fn shown_by(
+    // What is shown of two answers, which may be kept, as far as there is memory.
+    #[inline(always)]
+    fn try_shown(
         &mut self,
         alloc: Global,
         layout: &Layout<'_>,
@@ -395,6 +458,23 @@ impl<'r> Pairs<'r> {
         match self.shown.kept(alloc, offsets)? {
             Some(shown) => Ok(shown),
             None => self.shown_anew(alloc, layout, offsets, answers),
+        }
+    }
+
+    /// What is shown of two answers, which may be kept. Where there is no memory, all that is kept as text is let go, and it
+    /// is tried once more.
+    pub(crate) fn shown_by(
+        &mut self,
+        alloc: Global,
+        layout: &Layout<'_>,
+        answers: Answers<'_, '_>,
+    ) -> Result<Shown, MaxMindDbError> {
+        match self.try_shown(alloc, layout, answers) {
+            Err(MaxMindDbError::Memory) => {
+                self.let_go();
+                self.try_shown(alloc, layout, answers)
+            }
+            done => done,
         }
     }
 }

@@ -2,9 +2,10 @@
 ghost use Rattle.std.specs.Prelude.{◌≡◌, [], IfSome};
 ghost use Rattle.mmdb_texts.specs.RecordText.{AppendsRecord};
 
+use mmdb_diff::Side;
 use mmdb_equality::Shown;
 use mmdb_texts::RecordTexts;
-use std::alloc::{AllocError, Global};
+use std::alloc::Global;
 
 /// What is shown where there is no record.
 const NO_RECORD: &[u8] = b"null";
@@ -37,16 +38,26 @@ fn text_of(alloc: Global, offset: Option<usize>, texts: &mut RecordTexts<'_>) ->
 }
 
 impl<'r> BothTexts<'r> {
-    /// Of the records of two data sections, of which none was met yet.
-    pub(crate) fn new(
-        alloc: Global,
-        old: &'r [u8],
-        new: &'r [u8],
-    ) -> Result<BothTexts<'r>, AllocError> {
-        Ok(BothTexts {
-            old: RecordTexts::new(alloc, old)?,
-            new: RecordTexts::new(alloc, new)?,
-        })
+    /// Of the records of two data sections, of which none was met yet. At most so many bytes are kept of each.
+    pub(crate) fn new(alloc: Global, old: &'r [u8], new: &'r [u8], most: usize) -> BothTexts<'r> {
+        BothTexts {
+            old: RecordTexts::new(alloc, old, most),
+            new: RecordTexts::new(alloc, new, most),
+        }
+    }
+
+    /// Lets go of all that is kept.
+    pub(crate) fn clear(&mut self) {
+        self.old.clear();
+        self.new.clear();
+    }
+
+    /// Notes that the record at an offset of a side can't be read.
+    pub(crate) fn note_unreadable(&mut self, side: Side, offset: usize) {
+        match side {
+            Side::Old => self.old.note_unreadable(offset),
+            Side::New => self.new.note_unreadable(offset),
+        }
     }
 
     /// What is shown of the records at these offsets, or of no record. None where one can't be laid out so, or there is no

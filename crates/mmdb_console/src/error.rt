@@ -22,6 +22,16 @@ pub enum ProgramError {
     Memory,
 }
 
+impl ProgramError {
+    /// Whether memory was out.
+    pub fn is_memory(&self) -> bool {
+        matches!(
+            self,
+            ProgramError::Memory | ProgramError::Database(MaxMindDbError::Memory)
+        )
+    }
+}
+
 impl fmt::Display for ProgramError {
     fn fmt<W: fmt::Write>(&self, f: &mut fmt::Formatter<W>) -> fmt::Result {
         match self {

@@ -72,6 +72,12 @@ impl Offsets {
         Some((self.old as usize, self.new as usize))
     }
 
+    /// The pair as one number, which is another one for each.
+    #[inline(always)]
+    pub(crate) fn key(&self) -> usize {
+        (u64::from(self.old) ^ u64::from(self.new).rotate_left(32)) as usize
+    }
+
     /// Whether these are the same two.
     #[inline(always)]
     pub(crate) fn are(&self, others: Offsets) -> bool {
@@ -79,11 +85,10 @@ impl Offsets {
     }
 }
 
-/// The place of a pair's set among so many: it depends on all bits of both offsets.
+// The place of a pair's set among so many: it depends on all bits of both offsets.
 #[inline(always)]
-pub(crate) fn place_among(sets: usize, offsets: Offsets) -> usize {
-    let both = u64::from(offsets.old) ^ u64::from(offsets.new).rotate_left(32);
-    let mixed = both.wrapping_mul(0x9E37_79B9_7F4A_7C15) >> 32;
+fn place_among(sets: usize, offsets: Offsets) -> usize {
+    let mixed = (offsets.key() as u64).wrapping_mul(0x9E37_79B9_7F4A_7C15) >> 32;
     (mixed as usize).checked_rem(sets).unwrap_or(0)
 }
 

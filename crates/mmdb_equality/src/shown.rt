@@ -1,11 +1,9 @@
 //! What is shown of pairs of records.
-use crate::pairs::{Offsets, place_among};
+use crate::pairs::Offsets;
+use mmdb_cache::Cache;
 use std::alloc::{AllocError, Global};
 
-/// How many pairs are kept with what is shown of them.
-const SHOWN_PLACES: usize = 1 << 11;
-
-/// The most bytes of what is shown of a pair that is kept.
+/// The most bytes of what is shown of a record of a pair that is kept.
 const MOST_SHOWN: usize = 4096;
 
 /// The values of a network in two databases as JSON.
@@ -22,10 +20,10 @@ struct ShownPair {
     shown: Shown,
 }
 
-/// What is shown of the pairs that were shown last, each at the place that its offsets give.
+/// What is shown of the pairs that were shown last, by their offsets.
 #[derive(Drop)]
 pub struct ShownPairs {
-    kept: Vec<Option<ShownPair>>,
+    kept: Cache<ShownPair>,
 }
 
 impl Shown {
@@ -40,22 +38,30 @@ impl Shown {
     fn is_short(&self) -> bool {
         self.old.len() <= MOST_SHOWN && self.new.len() <= MOST_SHOWN
     }
+
+    // How many bytes are shown.
+    fn bytes(&self) -> usize {
+        self.old.len().saturating_add(self.new.len())
+    }
 }
 
 impl ShownPairs {
-    /// None yet. An `Err` is of memory.
-    pub fn new(alloc: Global) -> Result<ShownPairs, AllocError> {
-        let mut kept = Vec::with_capacity(alloc, SHOWN_PLACES)?;
-        for _ in 0..SHOWN_PLACES {
-            kept.push(None)?;
+    /// None yet. At most so many bytes are kept.
+    pub fn new(alloc: Global, most: usize) -> ShownPairs {
+        ShownPairs {
+            kept: Cache::new(alloc, most),
         }
-        Ok(ShownPairs { kept })
+    }
+
+    /// Lets go of all that is kept.
+    pub fn clear(&mut self) {
+        self.kept.clear();
     }
 
     // What is shown of a pair, if that is kept.
     fn shown_at(&self, offsets: Offsets) -> Option<&Shown> {
-        match self.kept.get(place_among(SHOWN_PLACES, offsets)) {
-            Some(Some(pair)) if pair.offsets.are(offsets) => Some(&pair.shown),
+        match self.kept.get(offsets.key()) {
+            Some(pair) if pair.offsets.are(offsets) => Some(&pair.shown),
             _ => None,
         }
     }
@@ -73,11 +79,13 @@ impl ShownPairs {
         if !shown.is_short() {
             return;
         }
-        if let Some(kept) = self.kept.get_mut(place_among(SHOWN_PLACES, offsets)) {
-            *kept = match shown.copy(alloc) {
-                Ok(shown) => Some(ShownPair { offsets, shown }),
-                Err(_) => None,
+        if let Ok(copy) = shown.copy(alloc) {
+            let bytes = shown.bytes();
+            let pair = ShownPair {
+                offsets,
+                shown: copy,
             };
+            self.kept.put(offsets.key(), pair, bytes);
         }
     }
 }

@@ -1,5 +1,5 @@
 //! The chosen networks of a range, written out.
-use crate::rows::Rows;
+use crate::rows::{MOST_OF_TEXTS, Rows};
 use crate::task::{ExportTask, Shape};
 use crate::writing::{Export, Writing, networks_in, of_list};
 use mmdb_choice::{Choice, Condition};
@@ -98,14 +98,16 @@ fn begin_writing<'a, O: Write>(
     }
 }
 
-// The texts of the records of a data section, where rows have whole ones. Without memory for them rows are made without.
+// The texts of the records of a data section, where rows have whole ones.
 fn texts_of<'r>(
     alloc: Global,
     task: &ExportTask<'_>,
     section: &'r [u8],
 ) -> Option<RecordTexts<'r>> {
     match &task.shape {
-        Shape::Rows(layout) if layout.has_records() => RecordTexts::new(alloc, section).ok(),
+        Shape::Rows(layout) if layout.has_records() => {
+            Some(RecordTexts::new(alloc, section, MOST_OF_TEXTS))
+        }
         _ => None,
     }
 }

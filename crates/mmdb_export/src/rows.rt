@@ -1,4 +1,5 @@
 //! The rows of an export.
+use mmdb_cache::Cache;
 use mmdb_console::{ProgramError, put};
 use mmdb_layout::{Found, Layout};
 use mmdb_reader::{IpNetwork, MaxMindDbError, NumberedNetwork};
@@ -7,11 +8,13 @@ use std::alloc::{AllocError, Global};
 use std::io::{self, Write};
 use std::net::{IpAddr, Ipv4Addr, Ipv6Addr};
 
-/// How many rows are kept.
-const PLACES: usize = 8192;
-
-/// The most bytes of a row that is kept among them.
+/// The most bytes of a row that is kept.
 const MOST_BYTES: usize = 4096;
+
+/// The most bytes of all that an export keeps, and of the texts of records among them.
+const MOST_KEPT: usize = 8 << 20;
+
+pub(crate) const MOST_OF_TEXTS: usize = 4 << 20;
 
 /// The most bytes of a row that is put together with its network, since three puts of some bytes each take longer than
 /// their copy and one put. A longer row is put in three parts.
@@ -20,57 +23,18 @@ const MOST_JOINED: usize = 1024;
 /// Above the bytes of a network's text.
 const NETWORK_BYTES: usize = 64;
 
-/// The row of a record, with an empty network.
-#[derive(Drop)]
-struct Row {
-    /// Where the record stands, if the row is of one.
-    offset: Option<usize>,
-    text: Vec<u8>,
-}
-
-impl Row {
-    fn empty(alloc: Global) -> Row {
-        Row {
-            offset: None,
-            text: Vec::new(alloc),
-        }
-    }
-
-    // Whether the row is of the record at an offset.
-    fn is_of(&self, offset: Option<usize>) -> bool {
-        offset.is_some() && self.offset == offset
-    }
-}
-
 /// The rows of an export. Many networks share a record, so the last rows are kept.
 #[derive(Drop)]
 pub(crate) struct Rows<'a> {
     alloc: Global,
     layout: &'a Layout<'a>,
-    /// Each at the place that its record's offset gives.
-    kept: Vec<Row>,
-    /// The last one that was too long to be kept there.
-    long: Row,
+    /// Rows with an empty network, by the offsets of their records.
+    kept: Cache<Vec<u8>>,
+    /// The last row that was made, with an empty network, and where its record stands, if it is of one.
+    last: Vec<u8>,
+    last_offset: Option<usize>,
     /// What a row is put together in. Its room is enough, so that no row takes memory.
     line: Vec<u8>,
-}
-
-// As many empty rows as are kept.
-fn empty_rows(alloc: Global) -> Result<Vec<Row>, AllocError> {
-    let mut kept = Vec::with_capacity(alloc, PLACES)?;
-    for _ in 0..PLACES {
-        kept.push(Row::empty(alloc))?;
-    }
-    Ok(kept)
-}
-
-// The row of a record: the one that is kept at its place, or else the long one.
-#[inline(always)]
-fn row_of<'k>(kept: &'k [Row], long: &'k Row, place: usize, offset: Option<usize>) -> &'k [u8] {
-    match kept.get(place) {
-        Some(row) if row.is_of(offset) => row.text.as_slice(),
-        _ => long.text.as_slice(),
-    }
 }
 
 // Puts a row together with its network.
@@ -118,36 +82,59 @@ fn write_row<O: Write>(
     Ok(())
 }
 
-// The text of the row of an answer.
-fn text_of(
-    alloc: Global,
-    layout: &Layout<'_>,
-    found: &Found<'_>,
-    texts: &mut Option<RecordTexts<'_>>,
-) -> Result<Vec<u8>, MaxMindDbError> {
-    match texts {
-        Some(texts) => layout.row_by(alloc, found, texts),
-        None => layout.row(alloc, found),
-    }
-}
-
 impl<'a> Rows<'a> {
-    /// Of no record yet.
+    /// Of no record yet. Rows are kept in what is left of the bytes that an export keeps by the texts of records.
     pub(crate) fn new(alloc: Global, layout: &'a Layout<'a>) -> Result<Rows<'a>, AllocError> {
+        let most = if layout.has_records() {
+            MOST_KEPT - MOST_OF_TEXTS
+        } else {
+            MOST_KEPT
+        };
         Ok(Rows {
             alloc,
             layout,
-            kept: empty_rows(alloc)?,
-            long: Row::empty(alloc),
+            kept: Cache::new(alloc, most),
+            last: Vec::new(alloc),
+            last_offset: None,
             line: Vec::with_capacity(alloc, MOST_JOINED + NETWORK_BYTES)?,
         })
     }
 
-    // Whether the row of a record is kept at a place.
-    fn keeps(&self, place: usize, offset: Option<usize>) -> bool {
-        match self.kept.get(place) {
-            Some(row) => row.is_of(offset),
-            None => false,
+    /// Lets go of all rows that are kept.
+    pub(crate) fn clear(&mut self) {
+        self.kept.clear();
+        self.last = Vec::new(self.alloc);
+        self.last_offset = None;
+    }
+
+    // Makes the last row anew, that of an answer.
+    fn make_last(
+        &mut self,
+        found: &Found<'_>,
+        texts: &mut Option<RecordTexts<'_>>,
+    ) -> Result<(), MaxMindDbError> {
+        self.last_offset = None;
+        match texts {
+            Some(texts) => self
+                .layout
+                .put_row(self.alloc, found, texts, &mut self.last)?,
+            None => self.last = self.layout.row(self.alloc, found)?,
+        }
+        self.last_offset = found.offset();
+        Ok(())
+    }
+
+    // Keeps a copy of the last row, where it is of a record and short, and there is memory.
+    fn keep_last(&mut self) {
+        let Some(offset) = self.last_offset else {
+            return;
+        };
+        if self.last.len() > MOST_BYTES {
+            return;
+        }
+        if let Ok(row) = Vec::from_slice(self.alloc, self.last.as_slice()) {
+            let bytes = row.len();
+            self.kept.put(offset, row, bytes);
         }
     }
 
@@ -155,19 +142,11 @@ impl<'a> Rows<'a> {
     #[inline(never)]
     fn make(
         &mut self,
-        place: usize,
         found: &Found<'_>,
         texts: &mut Option<RecordTexts<'_>>,
     ) -> Result<(), MaxMindDbError> {
-        let row = Row {
-            offset: found.offset(),
-            text: text_of(self.alloc, self.layout, found, texts)?,
-        };
-        let is_short = row.offset.is_some() && row.text.len() <= MOST_BYTES;
-        match self.kept.get_mut(place) {
-            Some(kept) if is_short => *kept = row,
-            _ => self.long = row,
-        }
+        self.make_last(found, texts)?;
+        self.keep_last();
         Ok(())
     }
 
@@ -180,16 +159,19 @@ impl<'a> Rows<'a> {
         network: NumberedNetwork,
         out: &mut O,
     ) -> io::Result<bool> {
-        let Some(row) = self.kept.get(offset.unwrap_or(0) % PLACES) else {
+        let Some(offset) = offset else {
             return Ok(false);
         };
-        if !row.is_of(offset) || row.text.len() > MOST_JOINED {
+        let Some(row) = self.kept.get(offset) else {
+            return Ok(false);
+        };
+        let text = row.as_slice();
+        if text.len() > MOST_JOINED {
             return Ok(false);
         }
         let Some(network) = network_of(network) else {
             return Ok(false);
         };
-        let text = row.text.as_slice();
         let (before, after) = text.split_at(self.layout.place_of_network().min(text.len()));
         self.line.clear();
         if join_row(before, network, after, &mut self.line).is_err() {
@@ -199,7 +181,18 @@ impl<'a> Rows<'a> {
         Ok(true)
     }
 
-    /// Writes the row of an answer, by the texts of the records of its database, if they are there.
+    // Writes the last row, with a network.
+    fn write_last<O: Write>(
+        &mut self,
+        network: IpNetwork,
+        out: &mut O,
+    ) -> Result<(), ProgramError> {
+        let at = self.layout.place_of_network();
+        write_row(self.last.as_slice(), at, network, &mut self.line, out)
+    }
+
+    /// Writes the row of an answer, by the texts of the records of its database, if they are there. An `Err` of memory
+    /// comes before anything is written.
     pub(crate) fn write<O: Write>(
         &mut self,
         found: &Found<'_>,
@@ -208,12 +201,15 @@ impl<'a> Rows<'a> {
     ) -> Result<(), ProgramError> {
         let network = found.network()?;
         let offset = found.offset();
-        let place = offset.unwrap_or(0) % PLACES;
-        if !self.keeps(place, offset) && !self.long.is_of(offset) {
-            self.make(place, found, texts)?;
+        if let Some(offset) = offset {
+            if let Some(row) = self.kept.get(offset) {
+                let at = self.layout.place_of_network();
+                return write_row(row.as_slice(), at, network, &mut self.line, out);
+            }
         }
-        let at = self.layout.place_of_network();
-        let row = row_of(self.kept.as_slice(), &self.long, place, offset);
-        write_row(row, at, network, &mut self.line, out)
+        if offset.is_none() || self.last_offset != offset {
+            self.make(found, texts)?;
+        }
+        self.write_last(network, out)
     }
 }

@@ -98,6 +98,20 @@ impl Writing<'_> {
         }
     }
 
+    // Lets go of all that is kept of rows. Whether something is.
+    #[cold]
+    #[inline(never)]
+    fn let_go(&mut self, texts: &mut Option<RecordTexts<'_>>) -> bool {
+        let Writing::Rows(rows) = self else {
+            return false;
+        };
+        rows.clear();
+        if let Some(texts) = texts {
+            texts.clear();
+        }
+        true
+    }
+
     // Writes what a list has for it.
     #[inline(never)]
     fn write_settled<O: Write>(&mut self, out: &mut O) -> Result<(), ProgramError> {
@@ -200,6 +214,24 @@ impl<'a, 'r> Export<'a, 'r> {
         self.report(self.next()?, error, console)
     }
 
+    // Writes the network of an answer, if it is chosen, which is known of some. Where there is no memory, all that is kept is
+    // let go, and it is tried once more: a row that has no memory has written nothing.
+    #[inline(always)]
+    fn try_chosen<O: Write>(
+        &mut self,
+        found: &Found<'_>,
+        kept: Option<bool>,
+        out: &mut O,
+    ) -> Result<(), ProgramError> {
+        match self.write_chosen(found, kept, out) {
+            Err(error) if error.is_memory() && self.writing.let_go(&mut self.texts) => {
+                drop(error);
+                self.write_chosen(found, kept, out)
+            }
+            done => done,
+        }
+    }
+
     // Writes the network of an answer, if it is chosen, or reports why it can't be.
     #[inline(never)]
     fn write_found<O: Write, E: Write>(
@@ -208,7 +240,7 @@ impl<'a, 'r> Export<'a, 'r> {
         kept: Option<bool>,
         console: &mut Console<'_, O, E>,
     ) -> Result<(), ProgramError> {
-        match self.write_chosen(found, kept, console.out) {
+        match self.try_chosen(found, kept, console.out) {
             Err(ProgramError::Database(MaxMindDbError::Memory)) => Err(ProgramError::Memory),
             Err(ProgramError::Database(error)) => {
                 let place = Where::At(found.network().unwrap());

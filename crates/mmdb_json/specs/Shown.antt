@@ -1,7 +1,7 @@
 -- Which JSON shows a tree of a file ("Data Field Format" of the MaxMind DB File Format Specification 2.0): a text is
 -- a string, bytes are a string of base64, a number is a number, and a map is an object, with its keys in the
--- file's order, repeated ones too. The digits of a double or a float read back as it; one that is no number,
--- or infinite, is null. A pointer shows what stands behind it.
+-- file's order, repeated ones too. The digits of a double or a float read back as it, and no 0 that could be left
+-- out ends them; one that is no number, or infinite, is null. A pointer shows what stands behind it.
 use Rattle.mmdb_format.specs.Contents as contents
 use Rattle.mmdb_format.specs.Unfolding as unfolding_words
 use Rattle.std.specs.Prelude.{◌≡◌, ℕ, List, [], ◌++◌, Some, decimal, from_bits}
@@ -9,6 +9,7 @@ use Rattle.std.specs.Bool.{MatchBool}
 use Rattle.std.specs.Float.{Format, binary32, binary64, float_is_finite}
 use Rattle.std.specs.Fmt.{signed_decimal}
 use Rattle.fast_float.specs.Parse.{parse_float}
+use Rattle.ryu.specs.Plain.{IsLaidOutNumber}
 use Rattle.base64.specs.GeneralPurpose.{encode_of}
 use Rattle.base64.specs.Engines.{standard}
 use Rattle.json.specs.Token.{Token}
@@ -17,11 +18,12 @@ use Rattle.json.specs.Tree.{json_tokens}
 use Rattle.mmdb_format.specs.Contents.{Scalar, text, bytes, signed32, number16, number32, number64, number128, double_bits, float_bits}
 use Rattle.mmdb_format.specs.Unfolding.{Tree, scalar, table, pointer, Trees, no_trees, tree, Pairs, no_pairs, pair}
 
--- digits that read back as the number
-abbrev pub ShowsFloat : Format → ℕ → Json → Type 0
-ShowsFloat f bits j =
+-- digits that read back as the number; an exponent stands only where more than so many digits would stand before the
+-- point, or more than so many zeros behind it
+abbrev pub ShowsFloat : Format → ℕ → ℕ → ℕ → Json → Type 0
+ShowsFloat f whole_digits leading_zeros bits j =
     MatchBool (float_is_finite (from_bits f bits))
-    ((digits : List ℕ) × (j ≡ number digits) × (parse_float f digits ≡ Some (from_bits f bits)))
+    ((digits : List ℕ) × (j ≡ number digits) × (parse_float f digits ≡ Some (from_bits f bits)) × IsLaidOutNumber whole_digits leading_zeros digits)
     (j ≡ null)
 
 abbrev pub ShowsScalar : Scalar → Json → Type 0
@@ -33,8 +35,8 @@ ShowsScalar (number16 n) j = j ≡ number (decimal n)
 ShowsScalar (number32 n) j = j ≡ number (decimal n)
 ShowsScalar (number64 n) j = j ≡ number (decimal n)
 ShowsScalar (number128 n) j = j ≡ number (decimal n)
-ShowsScalar (double_bits n) j = ShowsFloat binary64 n j
-ShowsScalar (float_bits n) j = ShowsFloat binary32 n j
+ShowsScalar (double_bits n) j = ShowsFloat binary64 16 4 n j
+ShowsScalar (float_bits n) j = ShowsFloat binary32 13 5 n j
 
 -- the bytes of a key, directly or behind pointers
 abbrev pub key_bytes : Tree → List ℕ

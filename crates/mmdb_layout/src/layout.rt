@@ -5,10 +5,10 @@ use json::{Token, Writer};
 use mmdb_arguments::NoRequest;
 use mmdb_filter::put_csv_cell;
 use mmdb_found::write_found;
-use mmdb_json::compact;
+use mmdb_json::{compact, write_value as write_json};
 use mmdb_reader::{MaxMindDbError, PathElement};
 use mmdb_texts::RecordTexts;
-use mmdb_value::Value;
+use mmdb_value::{Explained, Value};
 use std::alloc::{AllocError, Global};
 
 /// The name of a row's network.
@@ -193,12 +193,14 @@ fn begin_object(out: &mut Writer) -> Result<(), AllocError> {
     out.token(Token::String(""))
 }
 
-// Adds the row of the record at an offset as a line with an object, with an empty network. Whether it was laid out so.
+// Puts the row of the record at an offset as a line with an object, with an empty network, in place of another row. Whether
+// it could be laid out so.
 fn put_record_row(
     offset: usize,
     texts: &mut RecordTexts<'_>,
     row: &mut Vec<u8>,
 ) -> Result<bool, AllocError> {
+    row.clear();
     row.extend_from_slice(b"{\"network\":\"\",\"record\":")?;
     if !texts.put(offset, row) {
         return Ok(false);
@@ -207,13 +209,31 @@ fn put_record_row(
     Ok(true)
 }
 
-// The row of the record at an offset as a line with an object, with an empty network, where it can be laid out so.
-fn record_row(alloc: Global, offset: usize, texts: &mut RecordTexts<'_>) -> Option<Vec<u8>> {
-    let mut row = Vec::new(alloc);
-    match put_record_row(offset, texts, &mut row) {
-        Ok(true) => Some(row),
-        _ => None,
-    }
+// Adds a record that is read step by step, so that what can't be read is said at once.
+fn write_explained(
+    alloc: Global,
+    found: &Found<'_>,
+    out: &mut Writer,
+) -> Result<(), MaxMindDbError> {
+    let record: Option<Explained<'_>> = found.decode_path(alloc, &[])?;
+    let written = match &record {
+        Some(record) => write_json(alloc, &record.value, out),
+        None => out.token(Token::Null),
+    };
+    drop(record);
+    Ok(written?)
+}
+
+// The row of a record as a line with an object, with an empty network; the record is read step by step.
+fn explained_row(alloc: Global, found: &Found<'_>) -> Result<Vec<u8>, MaxMindDbError> {
+    let mut out = Writer::new(Vec::new(alloc));
+    begin_object(&mut out)?;
+    out.token(Token::Key("record"))?;
+    write_explained(alloc, found, &mut out)?;
+    out.token(Token::EndObject)?;
+    let mut row = out.into_inner();
+    row.push(b'\n')?;
+    Ok(row)
 }
 
 impl Layout<'_> {
@@ -261,25 +281,38 @@ impl Layout<'_> {
         }
     }
 
-    /// Whether a row has a whole record, so that `row_by` may make it of the texts of records.
+    /// Whether a row has a whole record, so that `put_row` may make it of the texts of records.
     pub fn has_records(&self) -> bool {
         matches!(self, Layout::Records)
     }
 
-    /// The same row, of whole records by the texts of the records of the same database. Those copy what pointers lead to,
-    /// where `row` reads and lays out each value again. What they leave to others is made by `row`.
-    pub fn row_by(
+    /// Puts that row in place of another one; of whole records by the texts of the records of the same database. Those
+    /// copy what pointers lead to, where `row` reads and lays out each value again. What they leave is read step by step.
+    pub fn put_row(
         &self,
         alloc: Global,
         found: &Found<'_>,
         texts: &mut RecordTexts<'_>,
-    ) -> Result<Vec<u8>, MaxMindDbError> {
-        if let (Layout::Records, Some(offset)) = (self, found.offset()) {
-            if let Some(row) = record_row(alloc, offset, texts) {
-                return Ok(row);
+        row: &mut Vec<u8>,
+    ) -> Result<(), MaxMindDbError> {
+        let (Layout::Records, Some(offset)) = (self, found.offset()) else {
+            *row = self.row(alloc, found)?;
+            return Ok(());
+        };
+        if put_record_row(offset, texts, row)? {
+            return Ok(());
+        }
+        match explained_row(alloc, found) {
+            Ok(explained) => {
+                *row = explained;
+                Ok(())
+            }
+            Err(MaxMindDbError::Memory) => Err(MaxMindDbError::Memory),
+            Err(error) => {
+                texts.note_unreadable(offset);
+                Err(error)
             }
         }
-        self.row(alloc, found)
     }
 
     /// Where the network stands in a row.

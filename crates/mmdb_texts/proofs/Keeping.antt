@@ -1,68 +1,157 @@
 -- What is kept stays right.
-use Rattle.std.proofs.Common.{◌≡◌, ◌<◌, ◌++◌, ℕ, Bool, true, false, cond, List, drop, Some, None, Result, Ok, Err, is_ok, get_or, length, sym, ap, ◌∙◌, subst}
-use Rattle.std.proofs.lemmas.List.Elements.{All-get_or, All-set}
-use Rattle.std.proofs.Math.ListN.{set}
-use Rattle.std.proofs.Math.Seq.{drop-append_seam}
-use Rattle.std.specs.List.{All}
+use Rattle.std.proofs.Common.{◌≡◌, ◌≤◌, ◌<◌, ◌+◌, ◌-◌, ◌⊎◌, inl, inr, ℕ, suc, List, [], drop, Option, Some, None, length, refl, sym, ap, ◌∙◌, subst, arith}
+use Rattle.std.specs.Prelude.{IfSome}
+use Rattle.std.specs.List.{Contains}
+use Rattle.std.proofs.lemmas.List.Elements.{All-contains}
+use Rattle.mmdb_cache.specs.declared.cache.Entry.{Entry}
+use Rattle.mmdb_cache.specs.Cache.{IsOfBeforeOr, AreOfBeforeOr}
+use Rattle.mmdb_format.specs.Unfolding.{Tree, scalar, array, table, pointer, value_count}
+use Rattle.mmdb_texts.specs.declared.budget.Budget.{Budget}
 use Rattle.mmdb_texts.specs.declared.kept.Kept.{Kept}
-use Rattle.mmdb_texts.specs.Kept.{IsOfNone, IsKeptText, IsKeptName, AreRight}
-use Rattle.mmdb_texts.specs.Working.{IsTextAt, IsNameAt, AppendsText, AppendsName}
+use Rattle.mmdb_texts.specs.Drafts.{Drafted, Grows}
+use Rattle.mmdb_texts.specs.Kept.{IsKeptText, IsKeptName, AreRight}
+use Rattle.mmdb_texts.specs.Working.{IsTextAt, IsOwnNameAt, ChargesBytes, Costs, AppendsText, AppendsOwnName}
+use Rattle.mmdb_texts.proofs.Drafting.{end_of_text}
 
-none_is_some : {A : Type 0} {x : A} → None ≡ Some x → ⊥
-none_is_some e = cc
-
-some_same : (a b : ℕ) → Some a ≡ Some b → a ≡ b
-some_same a b e = cc
+in_nothing : {A : Type 0} (x : A) → Contains [] x → ⊥
+in_nothing x (k, within, is) = absurd (omega (arith, within))
 
 -- where nothing is kept all of it is right
-pub nothing_right : (s : List ℕ) (values names : List Kept) → All IsOfNone values → All IsOfNone names → AreRight s values names
-nothing_right s values names h i = record {
-  values_are = λ k d within offset e. absurd (none_is_some (sym (h k d within) ∙ e));
-  names_are = λ k d within offset e. absurd (none_is_some (sym (i k d within) ∙ e));
+pub nothing_right : (s : List ℕ) (values names : List (Option (Entry Kept))) → values ≡ [] → names ≡ [] → AreRight s values names
+nothing_right s values names e f = record {
+  values_are = λ entry there. absurd (in_nothing (Some entry) (subst (λ l. Contains l (Some entry)) e there));
+  names_are = λ entry there. absurd (in_nothing (Some entry) (subst (λ l. Contains l (Some entry)) f there));
 }
 
+old_or_put : (put entry : Entry Kept) (before after : List (Option (Entry Kept))) → AreOfBeforeOr put before after → Contains after (Some entry) → Contains before (Some entry) ⊎ (entry ≡ put)
+old_or_put put entry before after all there = All-contains (IsOfBeforeOr put before) after (Some entry) all there
+
+text_of_either : (s : List ℕ) (before : List (Option (Entry Kept))) (put entry : Entry Kept) → ((e : Entry Kept) → Contains before (Some e) → IsKeptText s e.key e.value) → IsKeptText s put.key put.value → Contains before (Some entry) ⊎ (entry ≡ put) → IsKeptText s entry.key entry.value
+text_of_either s before put entry right one (inl there) = right entry there
+text_of_either s before put entry right one (inr is) = subst (λ (e : Entry Kept). IsKeptText s e.key e.value) (sym is) one
+
+name_of_either : (s : List ℕ) (before : List (Option (Entry Kept))) (put entry : Entry Kept) → ((e : Entry Kept) → Contains before (Some e) → IsKeptName s e.key e.value) → IsKeptName s put.key put.value → Contains before (Some entry) ⊎ (entry ≡ put) → IsKeptName s entry.key entry.value
+name_of_either s before put entry right one (inl there) = right entry there
+name_of_either s before put entry right one (inr is) = subst (λ (e : Entry Kept). IsKeptName s e.key e.value) (sym is) one
+
 -- one more text, or name
-text_kept : (s : List ℕ) (kept : Kept) (offset : ℕ) (bytes : List ℕ) → kept.offset ≡ Some offset → kept.text.items ≡ bytes → ((end : ℕ) × IsTextAt s offset end bytes) → IsKeptText s kept
-text_kept s kept offset bytes is same (end, at) = λ o e. (end, subst (λ n. IsTextAt s n end kept.text.items) (some_same offset o (sym is ∙ e)) (subst (λ l. IsTextAt s offset end l) (sym same) at))
-
-name_kept : (s : List ℕ) (kept : Kept) (offset : ℕ) (bytes : List ℕ) → kept.offset ≡ Some offset → kept.text.items ≡ bytes → ((end : ℕ) × IsNameAt s offset end bytes) → IsKeptName s kept
-name_kept s kept offset bytes is same (end, at) = λ o e. (end, subst (λ n. IsNameAt s n end kept.text.items) (some_same offset o (sym is ∙ e)) (subst (λ l. IsNameAt s offset end l) (sym same) at))
-
-pub keeps_text : (s : List ℕ) (values names : List Kept) (i : ℕ) (kept : Kept) (offset : ℕ) (bytes : List ℕ) → AreRight s values names → kept.offset ≡ Some offset → kept.text.items ≡ bytes → ((end : ℕ) × IsTextAt s offset end bytes) → AreRight s (set values i kept) names
-keeps_text s values names i kept offset bytes right is same at = record {
-  values_are = All-set (IsKeptText s) values i kept (text_kept s kept offset bytes is same at) right.values_are;
+pub keeps_text : (s : List ℕ) (values names after : List (Option (Entry Kept))) (put : Entry Kept) → AreRight s values names → AreOfBeforeOr put values after → IsKeptText s put.key put.value → AreRight s after names
+keeps_text s values names after put right all one = record {
+  values_are = λ entry there. text_of_either s values put entry right.values_are one (old_or_put put entry values after all there);
   names_are = right.names_are;
 }
 
-pub keeps_name : (s : List ℕ) (values names : List Kept) (i : ℕ) (kept : Kept) (offset : ℕ) (bytes : List ℕ) → AreRight s values names → kept.offset ≡ Some offset → kept.text.items ≡ bytes → ((end : ℕ) × IsNameAt s offset end bytes) → AreRight s values (set names i kept)
-keeps_name s values names i kept offset bytes right is same at = record {
+pub keeps_name : (s : List ℕ) (values names after : List (Option (Entry Kept))) (put : Entry Kept) → AreRight s values names → AreOfBeforeOr put names after → IsKeptName s put.key put.value → AreRight s values after
+keeps_name s values names after put right all one = record {
   values_are = right.values_are;
-  names_are = All-set (IsKeptName s) names i kept (name_kept s kept offset bytes is same at) right.names_are;
+  names_are = λ entry there. name_of_either s names put entry right.names_are one (old_or_put put entry names after all there);
 }
 
--- bytes that an extension appended
-pub extended : {T E : Type 0} (r : Result T E) (b : Bool) (old new bytes text : List ℕ) → new ≡ cond (is_ok r) (old ++ bytes) old → b ≡ is_ok r → b ≡ true → bytes ≡ text → new ≡ old ++ text
-extended (Ok x) b old new bytes text e same done is = e ∙ ap (λ l. old ++ l) is
-extended (Err x) b old new bytes text e same done is = let no : false ≡ true = sym same ∙ done in absurd (cc)
-
 -- what is kept is appended
-pub puts_text : {T E : Type 0} (s : List ℕ) (kept : List Kept) (i : ℕ) (d : Kept) (offset : ℕ) (r : Result T E) (b : Bool) (old new bytes : List ℕ)
-    → All (IsKeptText s) kept → i < length kept → d ≡ get_or kept i d → d.offset ≡ Some offset
-    → new ≡ cond (is_ok r) (old ++ bytes) old → b ≡ is_ok r → b ≡ true → bytes ≡ d.text.items → (end : ℕ) × AppendsText s offset end old new
-puts_text s kept i d offset r b old new bytes right within is of e same done text =
-    let (end, at) = subst (IsKeptText s) (sym is) (All-get_or (IsKeptText s) kept i d within right) offset of in
-    (end, record { bytes = d.text.items; at = at; grown = extended r b old new bytes d.text.items e same done text })
+pub kept_appended : (s : List ℕ) (offset levels : ℕ) (kept : Kept) (before after : Budget) (old new : Drafted) → IsKeptText s offset kept
+    → kept.levels + after.levels ≤ levels → after.levels ≤ before.levels → after.values + kept.values ≡ before.values → after.bytes + kept.bytes ≡ before.bytes
+    → Grows old new kept.text.items → (end : ℕ) × AppendsText s offset end levels before after old new
+kept_appended s offset levels kept before after old new k deep fewer values bytes grown =
+    let kl = k.levels in
+    let kv = k.values in
+    let kb = k.bytes in (
+      k.end,
+      record {
+        bytes = kept.text.items;
+        at = k.at;
+        costs = record {
+          values = omega (arith, kv, values);
+          bytes = omega (arith, kb, bytes);
+          deep = omega (arith, kl, deep);
+          fewer = fewer;
+        };
+        grown = grown;
+      },
+    )
 
-pub puts_name : {T E : Type 0} (s : List ℕ) (kept : List Kept) (i : ℕ) (d : Kept) (offset : ℕ) (r : Result T E) (b : Bool) (old new bytes : List ℕ)
-    → All (IsKeptName s) kept → i < length kept → d ≡ get_or kept i d → d.offset ≡ Some offset
-    → new ≡ cond (is_ok r) (old ++ bytes) old → b ≡ is_ok r → b ≡ true → bytes ≡ d.text.items → (end : ℕ) × AppendsName s offset end old new
-puts_name s kept i d offset r b old new bytes right within is of e same done text =
-    let (end, at) = subst (IsKeptName s) (sym is) (All-get_or (IsKeptName s) kept i d within right) offset of in
-    (end, record { bytes = d.text.items; at = at; grown = extended r b old new bytes d.text.items e same done text })
+pub kept_name_appended : (s : List ℕ) (offset : ℕ) (kept : Kept) (before after : Budget) (old new : Drafted) → IsKeptName s offset kept
+    → after.bytes + kept.bytes ≡ before.bytes → after.values ≡ before.values → after.levels ≡ before.levels
+    → Grows old new kept.text.items → (end : ℕ) × AppendsOwnName s offset end before after old new
+kept_name_appended s offset kept before after old new k bytes values levels grown =
+    let kb = k.bytes in (
+      k.end,
+      record {
+        bytes = kept.text.items;
+        at = k.at;
+        charges = record { bytes_left = omega (arith, kb, bytes); values_left = values; levels_left = levels };
+        grown = grown;
+      },
+    )
 
--- what was laid out behind other bytes
-pub text_behind : (s : List ℕ) (offset end : ℕ) (old new back : List ℕ) → AppendsText s offset end old new → back ≡ drop (length old) new → IsTextAt s offset end back
-text_behind s offset end old new back a is = subst (λ l. IsTextAt s offset end l) (sym (is ∙ ap (drop (length old)) a.grown ∙ drop-append_seam old a.bytes)) a.at
+-- a tree is a value at least
+one_value : (t : Tree) → 1 ≤ value_count t
+one_value (scalar c) = omega arith
+one_value (array ts) = omega arith
+one_value (table ps) = omega arith
+one_value (pointer a t) = one_value t
 
-pub name_behind : (s : List ℕ) (offset end : ℕ) (old new back : List ℕ) → AppendsName s offset end old new → back ≡ drop (length old) new → IsNameAt s offset end back
-name_behind s offset end old new back a is = subst (λ l. IsNameAt s offset end l) (sym (is ∙ ap (drop (length old)) a.grown ∙ drop-append_seam old a.bytes)) a.at
+-- what was laid out behind other bytes can be kept
+pub text_to_keep : (s : List ℕ) (offset end levels : ℕ) (before after : Budget) (old new : Drafted) (kept : Kept) → AppendsText s offset end levels before after old new
+    → kept.text.items ≡ drop (length old.text) new.text → length new.holes ≡ length old.holes → kept.levels ≡ levels - after.levels → kept.values ≡ before.values - after.values → kept.bytes ≡ before.bytes - after.bytes
+    → IsKeptText s offset kept
+text_to_keep s offset end levels before after old new kept a is same kl kv kb =
+    let text : kept.text.items ≡ a.bytes = end_of_text old new a.bytes kept.text.items a.grown same is in
+    let cv = a.costs.values in
+    let cb = a.costs.bytes in
+    let cd = a.costs.deep in
+    let some = one_value a.at.tree in
+    let at : IsTextAt s offset end kept.text.items = record {
+      tree = a.at.tree;
+      json = a.at.json;
+      unfolds = a.at.unfolds;
+      keyed = a.at.keyed;
+      texts = a.at.texts;
+      shows = a.at.shows;
+      text = record { is = text ∙ a.at.text.is; numbers = a.at.text.numbers; utf8 = subst Rattle.std.specs.Str.IsUtf8 (sym text) a.at.text.utf8 };
+    } in
+    record {
+      end = end;
+      at = at;
+      levels = omega (arith, cd, kl);
+      values = omega (arith, cv, kv, some);
+      bytes = omega (arith, cb, kb);
+    }
+
+pub name_to_keep : (s : List ℕ) (offset end : ℕ) (before after : Budget) (old new : Drafted) (kept : Kept) → AppendsOwnName s offset end before after old new
+    → kept.text.items ≡ drop (length old.text) new.text → length new.holes ≡ length old.holes → kept.levels ≡ 0 → kept.values ≡ 0 → kept.bytes ≡ before.bytes - after.bytes
+    → IsKeptName s offset kept
+name_to_keep s offset end before after old new kept a is same kl kv kb =
+    let text : kept.text.items ≡ a.bytes = end_of_text old new a.bytes kept.text.items a.grown same is in
+    let cb = a.charges.bytes_left in
+    record {
+      end = end;
+      at = record { key = a.at.key; unfolds = a.at.unfolds; utf8 = a.at.utf8; is = text ∙ a.at.is };
+      levels = kl;
+      values = kv;
+      bytes = omega (arith, cb, kb);
+    }
+
+-- the fewest levels of what was before are noted, too
+pub noted : (s : List ℕ) (offset end levels : ℕ) (before inner after final : Budget) (old new : Drafted) → AppendsText s offset end levels inner after old new
+    → inner.values ≡ before.values → inner.bytes ≡ before.bytes → final.values ≡ after.values → final.bytes ≡ after.bytes → final.levels ≤ before.levels → final.levels ≤ after.levels
+    → AppendsText s offset end levels before final old new
+noted s offset end levels before inner after final old new a iv ib fv fb fewer few =
+    let cv = a.costs.values in
+    let cb = a.costs.bytes in
+    let cd = a.costs.deep in
+    record {
+      bytes = a.bytes;
+      at = a.at;
+      costs = record {
+        values = omega (arith, cv, iv, fv);
+        bytes = omega (arith, cb, ib, fb);
+        deep = omega (arith, cd, few);
+        fewer = fewer;
+      };
+      grown = a.grown;
+    }
+
+-- of what may be there
+pub some_goes : (r : Option ℕ) {P Q : ℕ → Type 0} → ((x : ℕ) → P x → Q x) → IfSome r P → IfSome r Q
+some_goes None f h = tt
+some_goes (Some x) f h = f x h

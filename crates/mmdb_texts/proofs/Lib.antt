@@ -1,4 +1,6 @@
+pub mod Drafting
 pub mod Printing
+pub mod Measuring
 pub mod Containers
 pub mod ScalarTexts
 pub mod Keeping

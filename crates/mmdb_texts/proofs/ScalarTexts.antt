@@ -1,15 +1,22 @@
 -- The texts of scalars.
 use Rattle.std.proofs.Common.{◌≡◌, ◌≤◌, ◌<◌, ℕ, zero, suc, arith, length, Bool, true, false, cond, List, [], ◌∷◌, ◌++◌, Result, Ok, Err, OnOk, Some, None, is_ok, refl, sym, ap, ◌∙◌, subst}
 use Rattle.std.specs.Str.{IsUtf8, is_utf8}
-use Rattle.std.proofs.lemmas.Str.{IsUtf8-from_is_utf8}
+use Rattle.std.proofs.lemmas.Str.{is_utf8-from_IsUtf8, IsUtf8-from_ascii}
+use Rattle.std.specs.Borrow.{Bor}
+use Rattle.std.specs.Prelude.{Option, IfSome, MatchResult}
+use Rattle.std.specs.Result.{result_ok}
+use Rattle.base64.specs.GeneralPurpose.{encode_of}
+use Rattle.base64.specs.Engines.{standard}
+use Rattle.base64.proofs.EngineFacts.{IsAscii-encode_of}
 use Rattle.mmdb_decode.specs.Scalars.{if_text}
 use Rattle.std.specs.List.{All}
 use Rattle.json.specs.Json.{Json, null, boolean, number, string}
 use Rattle.json.specs.Print.{quoted, escape, IsNumber}
 use Rattle.json.proofs.Printed.Strings.{escape_byte_plain}
 use Rattle.json.proofs.Printed.Utf8.{IsUtf8-are_ascii, IsUtf8-quoted}
-use Rattle.mmdb_format.specs.Contents.{Scalar}
+use Rattle.mmdb_format.specs.Contents.{Scalar, scalar_is_text}
 use Rattle.mmdb_json.specs.Shown.{ShowsScalar}
+use Rattle.mmdb_texts.specs.Drafts.{Drafted, Grows}
 use Rattle.mmdb_texts.specs.Working.{IsTextOf, WritesScalar, IsPlain}
 use Rattle.mmdb_texts.proofs.Printing.{string_text, number_text, boolean_text, null_text}
 
@@ -28,10 +35,10 @@ true_written = record { is = sym (boolean_text true); numbers = tt; utf8 = IsUtf
 pub false_written : IsTextOf (boolean false) (102 ∷ 97 ∷ 108 ∷ 115 ∷ 101 ∷ [])
 false_written = record { is = sym (boolean_text false); numbers = tt; utf8 = IsUtf8-are_ascii _ refl }
 
--- bytes that an extension appended are such a text
-pub grows : {T E : Type 0} (r : Result T E) (c : Scalar) (j : Json) (old new bytes : List ℕ) → new ≡ cond (is_ok r) (old ++ bytes) old → ShowsScalar c j → IsTextOf j bytes → OnOk r (WritesScalar c old new)
-grows (Ok x) c j old new bytes e s t = record { json = j; bytes = bytes; shows = s; text = t; grown = e }
-grows (Err x) c j old new bytes e s t = tt
+-- a draft that grew by such a text
+pub grows : {T E : Type 0} (r : Result T E) (c : Scalar) (j : Json) (old new : Drafted) (bytes : List ℕ) → OnOk r (Grows old new bytes) → ShowsScalar c j → IsTextOf j bytes → scalar_is_text c ≡ true → OnOk r (WritesScalar c old new)
+grows (Ok x) c j old new bytes e s t is = record { json = j; bytes = bytes; shows = s; text = t; is_text = is; grown = e }
+grows (Err x) c j old new bytes e s t is = tt
 
 -- plain bytes stand as they are
 pub escape_plain : (d : List ℕ) → All IsPlain d → escape d ≡ d
@@ -42,9 +49,16 @@ escape_plain (x ∷ xs) h =
     λ i. escape_byte_plain x quote slash high i ++ rest i
 
 -- what was tested is UTF-8
-tested : (b : Bool) (x y : List ℕ) → Some y ≡ cond b (Some x) None → (b ≡ true) × (y ≡ x)
-tested true x y h = (refl, cc)
+pub tested : (b : Bool) (x y : List ℕ) → Some y ≡ cond b (Some x) None → b ≡ true
+tested true x y h = refl
 tested false x y h = absurd (cc)
 
-pub text_utf8 : (x y : List ℕ) → Some y ≡ if_text x → IsUtf8 y
-text_utf8 x y h = let (is, same) = tested (is_utf8 x) x y h in subst IsUtf8 (sym same) (IsUtf8-from_is_utf8 x is)
+pub utf8_tested : (x y : List ℕ) → Some y ≡ if_text x → is_utf8 x ≡ true
+utf8_tested x y h = tested (is_utf8 x) x y h
+
+pub base64_utf8 : (m : List ℕ) → IsUtf8 (encode_of standard m)
+base64_utf8 m = IsUtf8-from_ascii (encode_of standard m) (IsAscii-encode_of standard m)
+
+pub utf8_result : {E : Type 0} (r : Result (Bor (List ℕ)) E) (x : List ℕ) (o : Option (Bor (List ℕ))) (P Q : E → Type 0) → MatchResult r (λ s. (s.now ≡ x) × IsUtf8 x) (λ e. P e × Q e) → o ≡ result_ok r → IfSome o (λ _. is_utf8 x ≡ true)
+utf8_result (Ok s) x o P Q h e = subst (λ p. IfSome p (λ _. is_utf8 x ≡ true)) (sym e) (is_utf8-from_IsUtf8 x h.1)
+utf8_result (Err y) x o P Q h e = subst (λ p. IfSome p (λ _. is_utf8 x ≡ true)) (sym e) tt

@@ -1,21 +1,27 @@
 -- What is kept of a data section.
-use Rattle.std.specs.Prelude.{◌≡◌, ℕ, List, Some, None}
-use Rattle.std.specs.List.{All}
+use Rattle.std.specs.Prelude.{◌≡◌, ◌≤◌, ℕ, ◌+◌, List, length, Option, Some, None}
+use Rattle.std.specs.List.{Contains}
+use Rattle.mmdb_cache.specs.declared.cache.Entry.{Entry}
+use Rattle.mmdb_format.specs.Unfolding.{value_count, payload, levels_without_key_pointers}
 use Rattle.mmdb_texts.specs.declared.kept.Kept.{Kept}
-use Rattle.mmdb_texts.specs.Working.{IsTextAt, IsNameAt}
+use Rattle.mmdb_texts.specs.Working.{IsTextAt, IsOwnNameAt}
 
--- nothing is kept
-abbrev pub IsOfNone : Kept → Type 0
-IsOfNone kept = kept.offset ≡ None
-
--- what is kept for an offset is the text of what unfolds there
-abbrev pub IsKeptText : List ℕ → Kept → Type 0
-IsKeptText s kept = (offset : ℕ) → kept.offset ≡ Some offset → (end : ℕ) × IsTextAt s offset end kept.text.items
+-- it is the text of what unfolds at an offset, with what that costs
+pub record IsKeptText (s : List ℕ) (offset : ℕ) (kept : Kept) : Type 0 where
+  pub end : ℕ
+  pub at : IsTextAt s offset end kept.text.items
+  pub levels : levels_without_key_pointers at.tree ≤ kept.levels
+  pub values : value_count at.tree ≡ kept.values + 1
+  pub bytes : payload at.tree ≡ kept.bytes
 
 -- or the name of the text that stands there
-abbrev pub IsKeptName : List ℕ → Kept → Type 0
-IsKeptName s kept = (offset : ℕ) → kept.offset ≡ Some offset → (end : ℕ) × IsNameAt s offset end kept.text.items
+pub record IsKeptName (s : List ℕ) (offset : ℕ) (kept : Kept) : Type 0 where
+  pub end : ℕ
+  pub at : IsOwnNameAt s offset end kept.text.items
+  pub levels : kept.levels ≡ 0
+  pub values : kept.values ≡ 0
+  pub bytes : length at.key ≡ kept.bytes
 
-pub record AreRight (s : List ℕ) (values names : List Kept) : Type 0 where
-  pub values_are : All (IsKeptText s) values
-  pub names_are : All (IsKeptName s) names
+pub record AreRight (s : List ℕ) (values names : List (Option (Entry Kept))) : Type 0 where
+  pub values_are : (entry : Entry Kept) → Contains values (Some entry) → IsKeptText s entry.key entry.value
+  pub names_are : (entry : Entry Kept) → Contains names (Some entry) → IsKeptName s entry.key entry.value

@@ -1,48 +1,42 @@
 //! The texts of records.
-ghost use Rattle.std.specs.Prelude.{◌≡◌, ◌<◌, ◌^◌, ◌++◌, ℕ, Some, IfOk, IfSome, true, false};
+ghost use Rattle.std.specs.Prelude.{◌≡◌, ◌<◌, ◌≤◌, ◌^◌, ℕ, Some, IfSome, [], length, drop, true, false};
 ghost use Rattle.mmdb_format.specs.Header.{header_at as spec_header_at};
-ghost use Rattle.mmdb_texts.specs.Working.{AppendsText, AppendsName};
+ghost use Rattle.mmdb_texts.specs.Working.{AppendsText, AppendsOwnName, ChargesKept, ChargesBytes};
+ghost use Rattle.mmdb_texts.specs.Drafts.{Drafted, Grows, shown};
 
-use crate::kept::{Kept, no_texts, place_of};
-use crate::scalars::put_content;
-use crate::strings::put_string;
-use mmdb_decode::direct::text_of;
+use crate::budget::Budget;
+use crate::draft::{Draft, Reached};
+use crate::kept::Kept;
+use crate::scalars::{put_content, utf8_of};
+use mmdb_cache::Cache;
+use mmdb_decode::budget::{MAX_BYTES, MAX_VALUES};
 use mmdb_format::content::{content_at, content_bytes, content_end};
-use mmdb_format::header::{Header, header_at, pointer_at};
+use mmdb_format::header::{Header, MAX_LEVELS, header_at, pointer_at};
 use mmdb_format::kind::{ARRAY, MAP, POINTER, TEXT};
-use std::alloc::{AllocError, Global};
+use std::alloc::Global;
 use std::marker::Model;
 use std::mem;
-
-/// A record whose text is longer is left to others, and each value of a greater size, before its content is read. So what is
-/// read of a record is within its limits: each value, and each byte of a text or a byte string, has a byte here at least.
-const MOST_BYTES: usize = 32_768;
-
-/// At least so many bytes has each part of a map or an array, with what stands between it and another.
-const LEAST_OF_PART: usize = 2;
 
 /// No longer text is kept.
 const MOST_KEPT: usize = 2048;
 
-/// At most so many containers and pointers are on the way down in a record.
-const MOST_LEVELS: usize = 32;
+/// What is kept of the names of members takes this part of all that is kept: one of so many.
+const PART_OF_NAMES: usize = 8;
 
-/// At most so many are on the way down in what a pointer leads to, so that what is kept serves wherever it is met.
-const MOST_BELOW: usize = 8;
+/// The bytes that are counted for an offset whose record can't be read.
+const BYTES_OF_UNREADABLE: usize = 64;
 
-/// The texts of the records of a data section as JSON. What pointers lead to is laid out once, and kept by its offset:
-/// at most 8,192 texts of at most 2,048 bytes, and as many names.
+/// The texts of the records of a data section as JSON. What pointers lead to is laid out once, and kept by its offset.
 #[derive(Drop)]
 pub struct RecordTexts<'r> {
     alloc: Global,
     section: &'r [u8],
-    values: Vec<Kept>,
-    names: Vec<Kept>,
+    values: Cache<Kept>,
+    names: Cache<Kept>,
+    /// The offsets of records of which it is noted that they can't be read.
+    unreadable: Cache<bool>,
     /// Where a text is laid out.
-    scratch: Vec<u8>,
-    /// So many bytes at least are still to come of the containers on the way down. With it a record of too many parts is
-    /// left at the header that says so, before they are read.
-    owed: usize,
+    room: Vec<u8>,
 }
 
 impl<'r> Model for RecordTexts<'r> {
@@ -53,24 +47,26 @@ impl<'r> Model for RecordTexts<'r> {
 
     ghost view = { λ t. t.section.now };
 
-    ghost invariant = { λ t. AreRight t.section.now t.values.items t.names.items };
+    ghost invariant = { λ t. AreRight t.section.now t.values t.names };
 }
 
 // Appends the value behind a header, which holds no others; where it ends.
 #[inline(always)]
-fn put_scalar(
-    alloc: Global,
-    section: &[u8],
+fn put_scalar<'r>(
+    section: &'r [u8],
     offset: usize,
     header: Header,
-    out: &mut Vec<u8>,
+    levels: usize,
+    budget: &mut Budget,
+    out: &mut Draft<'r>,
 ) -> Option<usize>
-    requires { spec_header_at section.now offset ≡ Some header }
-    ensures { IfSome result (λ end. AppendsText section.now offset end
-        out.old.items out.new.items) }
+    requires header { spec_header_at section.now offset ≡ Some header }
+    requires levels { budget.old.levels ≤ levels }
+    ensures { IfSome result (λ end. AppendsText section.now offset end levels
+        budget.old budget.new out.old out.new) }
 {
     let content = content_at(section, header).ok()?;
-    if put_content(alloc, content, out) {
+    if put_content(content, budget, out) {
         Some(content_end(header))
     } else {
         None
@@ -78,193 +74,198 @@ fn put_scalar(
 }
 
 // Appends the name that is the text behind a header; where the text ends.
-fn put_own_name(
-    alloc: Global,
-    section: &[u8],
+fn put_own_name<'r>(
+    section: &'r [u8],
     offset: usize,
     header: Header,
-    out: &mut Vec<u8>,
+    budget: &mut Budget,
+    out: &mut Draft<'r>,
 ) -> Option<usize>
     requires header { spec_header_at section.now offset ≡ Some header }
-    ensures { IfSome result (λ end. AppendsName section.now offset end
-        out.old.items out.new.items) }
+    ensures { IfSome result (λ end. AppendsOwnName section.now offset end
+        budget.old budget.new out.old out.new) }
 {
     if header.kind != TEXT {
         return None;
     }
-    if header.size > MOST_BYTES {
+    let bytes = content_bytes(section, header).ok()?;
+    if !budget.charge_bytes(bytes.len()) {
         return None;
     }
-    let bytes = content_bytes(section, header).ok()?;
-    let Ok(text) = text_of(bytes) else {
-        return None;
-    };
-    put_string(alloc, text, out).ok()?;
+    let text = utf8_of(bytes)?;
+    out.put_string(text).ok()?;
     out.push(b':').ok()?;
     Some(header.body + header.size)
 }
 
+// Appends a text that is kept, with so many levels left. Whether it is within what is left, and there was memory.
+#[inline(always)]
+fn put_kept(kept: &Kept, levels: usize, budget: &mut Budget, out: &mut Draft<'_>) -> bool
+    ensures charged { result ≡ true → ChargesKept kept.now levels budget.old budget.new }
+    ensures put { result ≡ true → Grows out.old out.new kept.now.text.items }
+{
+    if !budget.charge_kept(kept, levels) {
+        return false;
+    }
+    out.put(kept.text.as_slice()).is_ok()
+}
+
+// Appends a name that is kept. Whether it is within what is left, and there was memory.
+#[inline(always)]
+fn put_kept_name(kept: &Kept, budget: &mut Budget, out: &mut Draft<'_>) -> bool
+    ensures charged { result ≡ true → ChargesBytes budget.old budget.new kept.now.bytes }
+    ensures put { result ≡ true → Grows out.old out.new kept.now.text.items }
+{
+    if !budget.charge_bytes(kept.bytes) {
+        return false;
+    }
+    out.put(kept.text.as_slice()).is_ok()
+}
+
 impl<'r> RecordTexts<'r> {
-    ghost use Rattle.mmdb_texts.specs.Working.{AppendsText, AppendsName, AppendsMember, AppendsItem, IsTextAt, IsNameAt};
+    ghost use Rattle.mmdb_texts.specs.Working.{AppendsText, AppendsName, AppendsOwnName, AppendsMember, AppendsItem};
+    ghost use Rattle.mmdb_texts.specs.Kept.{IsKeptText, IsKeptName};
     ghost use Rattle.mmdb_texts.specs.RecordText.{AppendsRecord};
 
-    /// Of the records of a data section, of which none was met yet.
-    pub fn new(alloc: Global, section: &'r [u8]) -> Result<RecordTexts<'r>, AllocError>
-        ensures { IfOk result (λ t. t ≡ section.now) }
+    /// Of the records of a data section, of which none was met yet. At most so many bytes are kept of them together.
+    pub fn new(alloc: Global, section: &'r [u8], most: usize) -> RecordTexts<'r>
+        ensures { result ≡ section.now }
     {
-        Ok(RecordTexts {
+        let most_of_names = most / PART_OF_NAMES;
+        RecordTexts {
             alloc,
             section,
-            values: no_texts(alloc)?,
-            names: no_texts(alloc)?,
-            scratch: Vec::new(alloc),
-            owed: 0,
-        })
-    }
-
-    // Whether a text that is laid out so far, with what is still to come, may be short.
-    #[inline(always)]
-    fn may_be_short(&self, out: &Vec<u8>) -> bool {
-        out.len().saturating_add(self.owed) <= MOST_BYTES
-    }
-
-    // Begins a container of so many parts. Whether the text may be short.
-    #[inline(always)]
-    fn begin_parts(&mut self, count: usize, out: &Vec<u8>) -> bool
-        ensures { self.new ≡ self.old }
-    {
-        self.owed = self
-            .owed
-            .saturating_add(count.saturating_mul(LEAST_OF_PART));
-        self.may_be_short(out)
-    }
-
-    // Begins a part of a container. Whether the text may be short.
-    #[inline(always)]
-    fn begin_part(&mut self, out: &Vec<u8>) -> bool
-        ensures { self.new ≡ self.old }
-    {
-        let may_be_short = self.may_be_short(out);
-        self.owed = self.owed.saturating_sub(LEAST_OF_PART);
-        may_be_short
-    }
-
-    // Appends the text that is kept for an offset. Whether there is one.
-    #[inline(always)]
-    fn put_kept_value(&self, place: usize, offset: usize, levels: usize, out: &mut Vec<u8>) -> bool
-        ensures put { result ≡ true → (end : ℕ) × AppendsText self.now offset end
-            out.old.items out.new.items }
-        ensures left { result ≡ false → out.new.items ≡ out.old.items }
-    {
-        match self.values.get(place) {
-            Some(kept) if kept.is_of(offset, levels) => {
-                out.extend_from_slice(kept.text.as_slice()).is_ok()
-            }
-            _ => false,
+            values: Cache::new(alloc, most.saturating_sub(2 * most_of_names)),
+            names: Cache::new(alloc, most_of_names),
+            unreadable: Cache::new(alloc, most_of_names),
+            room: Vec::new(alloc),
         }
     }
 
-    // Appends the name that is kept for an offset. Whether there is one.
-    #[inline(always)]
-    fn put_kept_name(&self, place: usize, offset: usize, out: &mut Vec<u8>) -> bool
-        ensures put { result ≡ true → (end : ℕ) × AppendsName self.now offset end
-            out.old.items out.new.items }
-        ensures left { result ≡ false → out.new.items ≡ out.old.items }
-    {
-        match self.names.get(place) {
-            Some(kept) if kept.is_of(offset, 0) => {
-                out.extend_from_slice(kept.text.as_slice()).is_ok()
-            }
-            _ => false,
-        }
-    }
-
-    // Keeps a text for an offset, if it is short and there is memory.
-    #[inline(never)]
-    fn keep_value(&mut self, offset: usize, levels: usize, text: &[u8])
-        requires { (end : ℕ) × IsTextAt self.old offset end text.now }
+    /// Lets go of all that is kept.
+    pub fn clear(&mut self)
         ensures { self.new ≡ self.old }
     {
+        self.values.clear();
+        self.names.clear();
+        self.unreadable.clear();
+        self.room = Vec::new(self.alloc);
+    }
+
+    // A copy of what was appended since then, where it is short, nothing of it is put in last, and there is memory.
+    fn copy_since(&self, before: Reached, out: &Draft<'r>) -> Option<Vec<u8>>
+        ensures { IfSome result (λ text. (text.items ≡ drop before.bytes out.now.text)
+            × (length out.now.holes ≡ before.holes)) }
+    {
+        let text = out.since(before)?;
         if text.len() > MOST_KEPT {
-            return;
+            return None;
         }
-        let Ok(text) = Vec::from_slice(self.alloc, text) else {
+        Vec::from_slice(self.alloc, text).ok()
+    }
+
+    // Keeps what was appended since then, the text of the value at an offset.
+    #[inline(never)]
+    fn keep_value(
+        &mut self,
+        offset: usize,
+        levels: usize,
+        before: Budget,
+        budget: &Budget,
+        reached: Reached,
+        out: &Draft<'r>,
+    )
+        requires { (old : Drafted) × (end : ℕ) × (reached.bytes ≡ length old.text)
+            × (reached.holes ≡ length old.holes)
+            × AppendsText self.old offset end levels before budget.now old out.now }
+        ensures { self.new ≡ self.old }
+    {
+        let Some(text) = self.copy_since(reached, out) else {
             return;
         };
-        if let Some(kept) = self.values.get_mut(place_of(offset)) {
-            *kept = Kept {
-                offset: Some(offset),
-                levels,
-                text,
-            };
-        }
+        let bytes = text.len();
+        let kept = Kept {
+            text,
+            levels: levels.saturating_sub(budget.levels),
+            values: before.values.saturating_sub(budget.values),
+            bytes: before.bytes.saturating_sub(budget.bytes),
+        };
+        self.values.put(offset, kept, bytes);
     }
 
-    // Keeps a name for an offset, if it is short and there is memory.
+    // Keeps what was appended since then, the name that the text at an offset is.
     #[inline(never)]
-    fn keep_name(&mut self, offset: usize, text: &[u8])
-        requires { (end : ℕ) × IsNameAt self.old offset end text.now }
+    fn keep_name(
+        &mut self,
+        offset: usize,
+        before: Budget,
+        budget: &Budget,
+        reached: Reached,
+        out: &Draft<'r>,
+    )
+        requires { (old : Drafted) × (end : ℕ) × (reached.bytes ≡ length old.text)
+            × (reached.holes ≡ length old.holes)
+            × AppendsOwnName self.old offset end before budget.now old out.now }
         ensures { self.new ≡ self.old }
     {
-        if text.len() > MOST_KEPT {
-            return;
-        }
-        let Ok(text) = Vec::from_slice(self.alloc, text) else {
+        let Some(text) = self.copy_since(reached, out) else {
             return;
         };
-        if let Some(kept) = self.names.get_mut(place_of(offset)) {
-            *kept = Kept {
-                offset: Some(offset),
-                levels: 0,
-                text,
-            };
-        }
+        let bytes = text.len();
+        let kept = Kept {
+            text,
+            levels: 0,
+            values: 0,
+            bytes: before.bytes.saturating_sub(budget.bytes),
+        };
+        self.names.put(offset, kept, bytes);
     }
 
     // Lays out the name that the text at an offset is, appends and keeps it. Whether a text stands there.
     #[inline(never)]
-    fn make_name(&mut self, offset: usize, out: &mut Vec<u8>) -> bool
-        ensures name { result ≡ true → (end : ℕ) × AppendsName self.old offset end
-            out.old.items out.new.items }
+    fn make_name(&mut self, offset: usize, budget: &mut Budget, out: &mut Draft<'r>) -> bool
+        ensures name { result ≡ true → (end : ℕ) × AppendsOwnName self.old offset end
+            budget.old budget.new out.old out.new }
         ensures section { self.new ≡ self.old }
     {
-        let start = out.len();
+        let reached = out.reached();
+        let before = *budget;
         let Ok(header) = header_at(self.section, offset) else {
             return false;
         };
-        if put_own_name(self.alloc, self.section, offset, header, out).is_none() {
+        let Some(_) = put_own_name(self.section, offset, header, budget, out) else {
             return false;
-        }
-        self.keep_name(offset, out.as_slice().split_at(start).1);
+        };
+        self.keep_name(offset, before, budget, reached, out);
         true
     }
 
     // Appends the name that the text at an offset is. Whether a text stands there.
     #[inline(always)]
-    fn put_name_at(&mut self, offset: usize, out: &mut Vec<u8>) -> bool
-        ensures name { result ≡ true → (end : ℕ) × AppendsName self.old offset end
-            out.old.items out.new.items }
+    fn put_name_at(&mut self, offset: usize, budget: &mut Budget, out: &mut Draft<'r>) -> bool
+        ensures name { result ≡ true → (end : ℕ) × AppendsOwnName self.old offset end
+            budget.old budget.new out.old out.new }
         ensures section { self.new ≡ self.old }
     {
-        if self.put_kept_name(place_of(offset), offset, out) {
-            return true;
+        match self.names.get(offset) {
+            Some(kept) => put_kept_name(kept, budget, out),
+            None => self.make_name(offset, budget, out),
         }
-        self.make_name(offset, out)
     }
 
     // Appends the name that a key at an offset gives; where the key ends.
     #[inline(always)]
-    fn put_name(&mut self, offset: usize, out: &mut Vec<u8>) -> Option<usize>
+    fn put_name(&mut self, offset: usize, budget: &mut Budget, out: &mut Draft<'r>) -> Option<usize>
         ensures name { IfSome result (λ end. AppendsName self.old offset end
-            out.old.items out.new.items) }
+            budget.old budget.new out.old out.new) }
         ensures section { self.new ≡ self.old }
     {
         let header = header_at(self.section, offset).ok()?;
         if header.kind != POINTER {
-            return put_own_name(self.alloc, self.section, offset, header, out);
+            return put_own_name(self.section, offset, header, budget, out);
         }
         let pointer = pointer_at(self.section, header.body, header.size as u8).ok()?;
-        if self.put_name_at(pointer.target, out) {
+        if self.put_name_at(pointer.target, budget, out) {
             return Some(pointer.next);
         }
         None
@@ -273,31 +274,47 @@ impl<'r> RecordTexts<'r> {
     // Lays out the value at an offset, appends and keeps it. Whether there is one.
     #[cycle(texts)]
     #[inline(never)]
-    fn make_value(&mut self, offset: usize, levels: usize, out: &mut Vec<u8>) -> bool
-        ensures value { result ≡ true → (end : ℕ) × AppendsText self.old offset end
-            out.old.items out.new.items }
+    fn make_value(
+        &mut self,
+        offset: usize,
+        levels: usize,
+        budget: &mut Budget,
+        out: &mut Draft<'r>,
+    ) -> bool
+        ensures value { result ≡ true → (end : ℕ) × AppendsText self.old offset end levels
+            budget.old budget.new out.old out.new }
         ensures section { self.new ≡ self.old }
     {
-        let start = out.len();
-        if self.put_value(offset, levels, out).is_none() {
+        let reached = out.reached();
+        let before = *budget;
+        budget.levels = levels;
+        let inner = *budget;
+        let Some(_) = self.put_value(offset, levels, budget, out) else {
             return false;
-        }
-        self.keep_value(offset, levels, out.as_slice().split_at(start).1);
+        };
+        self.keep_value(offset, levels, inner, budget, reached, out);
+        budget.note_levels(before.levels);
         true
     }
 
-    // Appends the value at an offset. Whether there is one.
+    // Appends the value at an offset, to which a pointer leads. Whether there is one.
     #[cycle(texts)]
     #[inline(always)]
-    fn put_value_at(&mut self, offset: usize, levels: usize, out: &mut Vec<u8>) -> bool
-        ensures value { result ≡ true → (end : ℕ) × AppendsText self.old offset end
-            out.old.items out.new.items }
+    fn put_value_at(
+        &mut self,
+        offset: usize,
+        levels: usize,
+        budget: &mut Budget,
+        out: &mut Draft<'r>,
+    ) -> bool
+        ensures value { result ≡ true → (end : ℕ) × AppendsText self.old offset end levels
+            budget.old budget.new out.old out.new }
         ensures section { self.new ≡ self.old }
     {
-        if self.put_kept_value(place_of(offset), offset, levels, out) {
-            return true;
+        match self.values.get(offset) {
+            Some(kept) => put_kept(kept, levels, budget, out),
+            None => self.make_value(offset, levels, budget, out),
         }
-        self.make_value(offset, levels, out)
     }
 
     // Appends what the pointer behind a header leads to; where the pointer ends.
@@ -308,20 +325,21 @@ impl<'r> RecordTexts<'r> {
         offset: usize,
         header: Header,
         levels: usize,
-        out: &mut Vec<u8>,
+        budget: &mut Budget,
+        out: &mut Draft<'r>,
     ) -> Option<usize>
         requires header { spec_header_at self.old offset ≡ Some header }
         requires kind { header.kind ≡ 1 }
         requires size { header.size < 32 }
-        ensures value { IfSome result (λ end. AppendsText self.old offset end
-            out.old.items out.new.items) }
+        ensures value { IfSome result (λ end. AppendsText self.old offset end levels
+            budget.old budget.new out.old out.new) }
         ensures section { self.new ≡ self.old }
     {
         if levels == 0 {
             return None;
         }
         let pointer = pointer_at(self.section, header.body, header.size as u8).ok()?;
-        if self.put_value_at(pointer.target, (levels - 1).min(MOST_BELOW), out) {
+        if self.put_value_at(pointer.target, levels - 1, budget, out) {
             return Some(pointer.next);
         }
         None
@@ -335,20 +353,17 @@ impl<'r> RecordTexts<'r> {
         offset: usize,
         after_value: bool,
         levels: usize,
-        out: &mut Vec<u8>,
+        budget: &mut Budget,
+        out: &mut Draft<'r>,
     ) -> Option<usize>
-        ensures member { IfSome result (λ end. AppendsMember self.old offset end after_value
-            out.old.items out.new.items) }
+        requires levels { budget.old.levels ≤ levels }
+        ensures member { IfSome result (λ end. AppendsMember self.old offset end levels after_value
+            budget.old budget.new out.old out.new) }
         ensures section { self.new ≡ self.old }
     {
-        if !self.begin_part(out) {
-            return None;
-        }
-        if after_value {
-            out.push(b',').ok()?;
-        }
-        let value = self.put_name(offset, out)?;
-        self.put_value(value, levels, out)
+        out.put_comma(after_value).ok()?;
+        let value = self.put_name(offset, budget, out)?;
+        self.put_value(value, levels, budget, out)
     }
 
     // Appends an item: the value at an offset; where that ends.
@@ -359,19 +374,16 @@ impl<'r> RecordTexts<'r> {
         offset: usize,
         after_value: bool,
         levels: usize,
-        out: &mut Vec<u8>,
+        budget: &mut Budget,
+        out: &mut Draft<'r>,
     ) -> Option<usize>
-        ensures item { IfSome result (λ end. AppendsItem self.old offset end after_value
-            out.old.items out.new.items) }
+        requires levels { budget.old.levels ≤ levels }
+        ensures item { IfSome result (λ end. AppendsItem self.old offset end levels after_value
+            budget.old budget.new out.old out.new) }
         ensures section { self.new ≡ self.old }
     {
-        if !self.begin_part(out) {
-            return None;
-        }
-        if after_value {
-            out.push(b',').ok()?;
-        }
-        self.put_value(offset, levels, out)
+        out.put_comma(after_value).ok()?;
+        self.put_value(offset, levels, budget, out)
     }
 
     // Appends the map behind a header; where it ends.
@@ -381,22 +393,25 @@ impl<'r> RecordTexts<'r> {
         offset: usize,
         header: Header,
         levels: usize,
-        out: &mut Vec<u8>,
+        budget: &mut Budget,
+        out: &mut Draft<'r>,
     ) -> Option<usize>
         requires header { spec_header_at self.old offset ≡ Some header }
         requires kind { header.kind ≡ 7 }
-        ensures value { IfSome result (λ end. AppendsText self.old offset end
-            out.old.items out.new.items) }
+        requires size { header.size < 2 ^ 25 }
+        ensures value { IfSome result (λ end. AppendsText self.old offset end levels
+            budget.old budget.new out.old out.new) }
         ensures section { self.new ≡ self.old }
     {
-        if levels == 0 || !self.begin_parts(header.size, out) {
+        if levels == 0 || !budget.charge_values(2 * header.size) {
             return None;
         }
+        budget.note_levels(levels - 1);
         out.push(b'{').ok()?;
         let mut at = header.body;
         let mut after_value = false;
         for _i in 0..header.size {
-            at = self.put_member(at, after_value, levels - 1, out)?;
+            at = self.put_member(at, after_value, levels - 1, budget, out)?;
             after_value = true;
         }
         out.push(b'}').ok()?;
@@ -411,22 +426,24 @@ impl<'r> RecordTexts<'r> {
         offset: usize,
         header: Header,
         levels: usize,
-        out: &mut Vec<u8>,
+        budget: &mut Budget,
+        out: &mut Draft<'r>,
     ) -> Option<usize>
         requires header { spec_header_at self.old offset ≡ Some header }
         requires kind { header.kind ≡ 11 }
-        ensures value { IfSome result (λ end. AppendsText self.old offset end
-            out.old.items out.new.items) }
+        ensures value { IfSome result (λ end. AppendsText self.old offset end levels
+            budget.old budget.new out.old out.new) }
         ensures section { self.new ≡ self.old }
     {
-        if levels == 0 || !self.begin_parts(header.size, out) {
+        if levels == 0 || !budget.charge_values(header.size) {
             return None;
         }
+        budget.note_levels(levels - 1);
         out.push(b'[').ok()?;
         let mut at = header.body;
         let mut after_value = false;
         for _i in 0..header.size {
-            at = self.put_item(at, after_value, levels - 1, out)?;
+            at = self.put_item(at, after_value, levels - 1, budget, out)?;
             after_value = true;
         }
         out.push(b']').ok()?;
@@ -435,51 +452,67 @@ impl<'r> RecordTexts<'r> {
 
     // Appends the value at an offset, of at most so many levels; where it ends.
     #[cycle(texts)]
-    fn put_value(&mut self, offset: usize, levels: usize, out: &mut Vec<u8>) -> Option<usize>
-        ensures value { IfSome result (λ end. AppendsText self.old offset end
-            out.old.items out.new.items) }
+    fn put_value(
+        &mut self,
+        offset: usize,
+        levels: usize,
+        budget: &mut Budget,
+        out: &mut Draft<'r>,
+    ) -> Option<usize>
+        requires levels { budget.old.levels ≤ levels }
+        ensures value { IfSome result (λ end. AppendsText self.old offset end levels
+            budget.old budget.new out.old out.new) }
         ensures section { self.new ≡ self.old }
     {
         let header = header_at(self.section, offset).ok()?;
-        if header.size > MOST_BYTES {
-            return None;
-        }
         match header.kind {
-            POINTER => self.put_target(offset, header, levels, out),
-            MAP => self.put_table(offset, header, levels, out),
-            ARRAY => self.put_array(offset, header, levels, out),
-            _ => put_scalar(self.alloc, self.section, offset, header, out),
+            POINTER => self.put_target(offset, header, levels, budget, out),
+            MAP => self.put_table(offset, header, levels, budget, out),
+            ARRAY => self.put_array(offset, header, levels, budget, out),
+            _ => put_scalar(self.section, offset, header, levels, budget, out),
         }
     }
 
-    // Lays out the record at an offset in place of a text, and appends it. Whether it was short, and there was memory.
-    fn put_by(&mut self, offset: usize, text: &mut Vec<u8>, out: &mut Vec<u8>) -> bool
+    // Lays out the record at an offset as a draft, and appends it. Whether it can be read, and there was memory.
+    fn put_by(&mut self, offset: usize, draft: &mut Draft<'r>, out: &mut Vec<u8>) -> bool
+        requires { shown draft.old ≡ [] }
         ensures put { result ≡ true → AppendsRecord self.old offset out.old.items out.new.items }
         ensures left { result ≡ false → out.new.items ≡ out.old.items }
         ensures section { self.new ≡ self.old }
     {
-        text.clear();
-        if self.put_value(offset, MOST_LEVELS, text).is_none() {
+        let most_levels = usize::from(MAX_LEVELS);
+        let mut budget = Budget {
+            values: MAX_VALUES - 1,
+            bytes: MAX_BYTES,
+            levels: most_levels,
+        };
+        let Some(_) = self.put_value(offset, most_levels, &mut budget, draft) else {
             return false;
-        }
-        if text.len() > MOST_BYTES {
-            return false;
-        }
-        out.extend_from_slice(text.as_slice()).is_ok()
+        };
+        draft.append_to(out)
     }
 
-    /// Appends the compact text of the record at an offset. False where it is left to others: each record that can't be
-    /// read, whose text has more than 32,768 bytes, or in which more than 32 containers and pointers lie on the way to a
-    /// value (8 behind a pointer), and where memory is short. Nothing is appended then.
+    /// Appends the compact text of the record at an offset. False where it is left: each record that can't be read as a
+    /// value within the limits, and where memory is short. Nothing is appended then.
     pub fn put(&mut self, offset: usize, out: &mut Vec<u8>) -> bool
         ensures put { result ≡ true → AppendsRecord self.old offset out.old.items out.new.items }
         ensures left { result ≡ false → out.new.items ≡ out.old.items }
         ensures section { self.new ≡ self.old }
     {
-        self.owed = 0;
-        let mut text = mem::replace(&mut self.scratch, Vec::new(self.alloc));
-        let is_put = self.put_by(offset, &mut text, out);
-        self.scratch = text;
+        if self.unreadable.get(offset).is_some() {
+            return false;
+        }
+        let room = mem::replace(&mut self.room, Vec::new(self.alloc));
+        let mut draft = Draft::new(self.alloc, room);
+        let is_put = self.put_by(offset, &mut draft, out);
+        self.room = draft.into_room();
         is_put
+    }
+
+    /// Notes that the record at an offset can't be read, so that it is left at once from now on.
+    pub fn note_unreadable(&mut self, offset: usize)
+        ensures { self.new ≡ self.old }
+    {
+        self.unreadable.put(offset, true, BYTES_OF_UNREADABLE);
     }
 }

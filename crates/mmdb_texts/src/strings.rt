@@ -1,28 +1,53 @@
 //! Strings of JSON.
-ghost use Rattle.std.specs.Prelude.{◌≡◌, ◌++◌, ◌∷◌, [], true, OnOk};
+ghost use Rattle.std.specs.Prelude.{◌≡◌, ◌++◌, true, OnOk};
 ghost use Rattle.json.specs.Print.{escape, quoted};
+ghost use Rattle.base64.specs.GeneralPurpose.{encode_of};
+ghost use Rattle.base64.specs.Engines.{standard};
+ghost use Rattle.mmdb_texts.specs.Drafts.{IsBehind};
+ghost use Rattle.mmdb_texts.specs.Working.{IsPlain};
 
+use base64::engine::general_purpose::STANDARD;
 use json::Writer;
 use std::alloc::{AllocError, Global};
 use std::mem;
 
-// Whether no byte of a text is escaped in a string.
+// Whether a byte is not escaped in a string.
 #[inline(always)]
-fn is_plain(text: &[u8]) -> bool
-    ensures { result ≡ true → escape text.now ≡ text.now }
+fn is_plain_byte(byte: u8) -> bool
+    ensures { result ≡ true → IsPlain byte }
 {
-    for byte in text {
-        if *byte < b' ' || *byte == b'"' || *byte == b'\\' {
-            return false;
-        }
-    }
-    true
+    (byte >= b' ') & (byte != b'"') & (byte != b'\\')
 }
 
-// Appends the string of a text in which bytes are escaped.
+/// Whether no byte of a text is escaped in a string. All bytes are looked at, which goes by vectors.
+#[inline(always)]
+pub(crate) fn is_plain(text: &[u8]) -> bool
+    ensures { result ≡ true → escape text.now ≡ text.now }
+{
+    let mut is_plain = true;
+    for byte in text {
+        is_plain &= is_plain_byte(*byte);
+    }
+    is_plain
+}
+
+/// Appends the string of a text in which no byte is escaped.
+#[inline(always)]
+pub(crate) fn put_plain(text: &[u8], out: &mut Vec<u8>) -> Result<(), AllocError>
+    requires { escape text.now ≡ text.now }
+    ensures put { OnOk result (out.new.items ≡ out.old.items ++ quoted text.now) }
+    ensures behind { IsBehind out.old.items out.new.items }
+{
+    out.push(b'"')?;
+    out.extend_from_slice(text)?;
+    Ok(out.push(b'"')?)
+}
+
+/// Appends the string of a text.
 #[inline(never)]
-fn put_escaped(alloc: Global, text: &str, out: &mut Vec<u8>) -> Result<(), AllocError>
-    ensures { OnOk result (out.new.items ≡ out.old.items ++ quoted text.now) }
+pub(crate) fn put_string(alloc: Global, text: &str, out: &mut Vec<u8>) -> Result<(), AllocError>
+    ensures put { OnOk result (out.new.items ≡ out.old.items ++ quoted text.now) }
+    ensures behind { IsBehind out.old.items out.new.items }
 {
     let mut writer = Writer::new(mem::replace(out, Vec::new(alloc)));
     let written = writer.string(text);
@@ -30,14 +55,16 @@ fn put_escaped(alloc: Global, text: &str, out: &mut Vec<u8>) -> Result<(), Alloc
     written
 }
 
-/// Appends the string of a text.
-pub(crate) fn put_string(alloc: Global, text: &str, out: &mut Vec<u8>) -> Result<(), AllocError>
-    ensures { OnOk result (out.new.items ≡ out.old.items ++ quoted text.now) }
+/// Appends the string of bytes, in base64.
+#[inline(never)]
+pub(crate) fn put_bytes(alloc: Global, bytes: &[u8], out: &mut Vec<u8>) -> Result<(), AllocError>
+    ensures put { OnOk result
+        (out.new.items ≡ out.old.items ++ quoted (encode_of standard bytes.now)) }
+    ensures behind { IsBehind out.old.items out.new.items }
 {
-    if !is_plain(text.as_bytes()) {
-        return put_escaped(alloc, text, out);
+    let text = STANDARD.encode(alloc, bytes)?;
+    if is_plain(text.as_bytes()) {
+        return put_plain(text.as_bytes(), out);
     }
-    out.push(b'"')?;
-    out.extend_from_slice(text.as_bytes())?;
-    Ok(out.push(b'"')?)
+    put_string(alloc, text.as_str(), out)
 }

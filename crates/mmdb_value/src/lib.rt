@@ -11,7 +11,7 @@ mod quick;
 pub mod raw_value;
 pub mod shared;
 
-pub use any_value::Value;
+pub use any_value::{Explained, Value};
 pub use mmdb_check::checked::{Checked, check_value};
 pub use mmdb_decode::decoder::Decoder;
 pub use mmdb_decode::items::{Entries, Items};

@@ -1,11 +1,13 @@
 //! Runs where memory runs out.
 ghost use Rattle.std.specs.Prelude.{◌<◌};
 
-use super::program::{Narrow, Run, assert_of, file_of, terminals, words_with};
+use super::program::{Narrow, Run, assert_of, file_of, run_over, terminals, two_files, words_with};
 use mmdb_program::{Io, run};
 use mmdb_vectors::base::BASE_FILE;
+use mmdb_vectors::builder::{Field, changed_file, nodes_24};
+use mmdb_vectors::file::TestFiles;
 use mmdb_vectors::hoard::Hoard;
-use std::alloc::Global;
+use std::alloc::{AllocError, Global};
 use std::io::ErrorKind;
 use std::process::Abort;
 
@@ -80,4 +82,147 @@ fn runs_without_memory(rt: HostRuntime) {
     for texts in COMMANDS {
         assert_budgets(&rt, rt.alloc(), texts);
     }
+}
+
+/// How many networks the large files have, each with a record of its own, and how many bytes the text of a record has.
+const NETWORKS: usize = 64;
+
+const TEXT_BYTES: usize = 1900;
+
+/// Where budgets of an export and of a `diff` begin, by how many bytes they differ, and how many there are. A `diff` has a
+/// table of its own from its beginning on.
+const EXPORTS: (usize, usize) = (4096, 8192);
+
+const DIFFS: (usize, usize) = (4_194_304, 24_576);
+
+const BUDGETS: usize = 200;
+
+// Adds a text of the letter, and an array of two pointers to it. Where the array stands.
+fn push_record(letter: u8, data: &mut Vec<u8>) -> Result<usize, AllocError> {
+    let text = data.len();
+    let [high, low] = ((TEXT_BYTES - 285) as u16).to_be_bytes();
+    data.extend_from_slice(&[0x5E, high, low])?;
+    for place in 0..TEXT_BYTES {
+        data.push(if place % 97 == 0 { b'-' } else { letter })?;
+    }
+    let record = data.len();
+    let [_, _, _, _, a, b, c, d] = (text as u64).to_be_bytes();
+    data.extend_from_slice(&[0x02, 0x04])?;
+    for _ in 0..2 {
+        data.extend_from_slice(&[0x38, a, b, c, d])?;
+    }
+    Ok(record)
+}
+
+// A file of a tree that is full, whose records are texts from a letter on.
+fn large_file(alloc: Global, first: u8) -> Result<Vec<u8>, AllocError> {
+    let mut data = Vec::new(alloc);
+    let mut nodes = Vec::new(alloc);
+    for node in 0..31u32 {
+        nodes.push((2 * node + 1, 2 * node + 2))?;
+    }
+    for network in 0..NETWORKS / 2 {
+        let letter = first + (network % 20) as u8;
+        let left = push_record(letter, &mut data)?;
+        let right = push_record(letter + 1, &mut data)?;
+        nodes.push((
+            (left & 0xff_ffff) as u32 + 63 + 16,
+            (right & 0xff_ffff) as u32 + 63 + 16,
+        ))?;
+    }
+    let tree = nodes_24(alloc, nodes.as_slice())?;
+    let changes = [
+        (Field::NodeCount, b"\xC1\x3F".as_slice()),
+        (Field::IpVersion, b"\xA1\x04"),
+    ];
+    changed_file(alloc, tree.as_slice(), data.as_slice(), &changes)
+}
+
+// A run over two files with so much memory. What it writes has memory of its own.
+fn large_run(
+    alloc: Global,
+    files: &TestFiles<'_>,
+    words: &[String],
+    budget: usize,
+    room: usize,
+) -> Run {
+    let mut out = narrow(alloc);
+    out.bytes = Vec::with_capacity(alloc, room).unwrap_or(Vec::new(alloc));
+    out.room = room;
+    let mut err = narrow(alloc);
+    let mut input: &[u8] = b"";
+    let hoard = Hoard::around(alloc, budget);
+    let io = Io {
+        input: &mut input,
+        out: &mut out,
+        errors: &mut err,
+        terminals: terminals(false),
+    };
+    let status = run(files, alloc, words, io);
+    drop(hoard);
+    Run {
+        status,
+        written: out.bytes,
+        reported: err.bytes,
+    }
+}
+
+// Asserts that with each budget all is written, or memory is out and a beginning of it is. Some have enough memory and some
+// have not.
+fn assert_large(
+    rt: &impl Abort,
+    alloc: Global,
+    files: &TestFiles<'_>,
+    texts: &[&str],
+    budgets: (usize, usize),
+) {
+    let words = words_with(alloc, texts);
+    let whole = run_over(alloc, files, texts, "", false);
+    assert_of(
+        rt,
+        texts,
+        &whole,
+        whole.status == 0 && whole.written.len() > 100_000,
+    );
+    let room = whole.written.len();
+    let (mut done, mut out_of_memory) = (0usize, 0usize);
+    for step in 0..BUDGETS {
+        let budget = budgets.0.saturating_add(budgets.1.saturating_mul(step));
+        let run = large_run(alloc, files, words.as_slice(), budget, room);
+        if run.status == 0 {
+            done = done.saturating_add(1);
+            assert!(rt; run.written == whole.written, "{texts:?}, budget {step}");
+        } else {
+            out_of_memory = out_of_memory.saturating_add(1);
+            assert!(rt;
+                run.status == 1 && whole.written.starts_with(run.written.as_slice()),
+                "{texts:?}, budget {step}"
+            );
+            assert!(rt;
+                run.reported.ends_with(b"out of memory\n"),
+                "{texts:?}, budget {step}: {}",
+                run.err()
+            );
+        }
+    }
+    assert!(rt;
+        done > 0 && out_of_memory > 0,
+        "{texts:?}: {done} done, {out_of_memory} out of memory"
+    );
+}
+
+#[test]
+fn whole_records_in_little_memory(rt: HostRuntime) {
+    let alloc = rt.alloc();
+    let old = large_file(alloc, b'A').expect(&rt, "a file");
+    let new = large_file(alloc, b'a').expect(&rt, "a file");
+    let files = two_files(old.as_slice(), new.as_slice());
+    assert_large(&rt, alloc, &files, &["export", "here.mmdb"], EXPORTS);
+    assert_large(
+        &rt,
+        alloc,
+        &files,
+        &["diff", "here.mmdb", "new.mmdb"],
+        DIFFS,
+    );
 }

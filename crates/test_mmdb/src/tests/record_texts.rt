@@ -12,8 +12,13 @@ use mmdb_vectors::section::section_of;
 use std::alloc::{AllocError, Global};
 use std::process::Abort;
 
-/// The longest text that is laid out.
-const MOST_BYTES: usize = 32_768;
+/// How many bytes are kept of the texts of a test.
+const MOST_KEPT: usize = 1 << 20;
+
+/// The most values of a record that is read, and the most bytes of its texts, keys and byte strings.
+const MOST_VALUES: usize = 65_536;
+
+const MOST_BYTES: usize = 2_097_152;
 
 /// The text of what stands at an offset, as a value is read whole and then laid out. None where it can't be read.
 pub(crate) fn text_by_value(alloc: Global, section: &[u8], offset: usize) -> Option<Vec<u8>> {
@@ -82,7 +87,7 @@ fn tally_of(alloc: Global, section: &[u8]) -> Result<Tally, AllocError> {
         left: 0,
         wrong: 0,
     };
-    let mut texts = RecordTexts::new(alloc, section)?;
+    let mut texts = RecordTexts::new(alloc, section, MOST_KEPT);
     let mut out = b"abc".to_vec(alloc)?;
     for offset in 0..section.len().saturating_mul(2) {
         let offset = offset % section.len().max(1);
@@ -154,7 +159,7 @@ fn laid_out_as_values_are(rt: HostRuntime) {
 
 // Asserts that what stands at an offset of a section has such a text, laid out or left to others, and the same once more.
 fn assert_put(rt: &impl Abort, alloc: Global, section: &[u8], offset: usize, is_laid_out: bool) {
-    let mut texts = RecordTexts::new(alloc, section).expect(rt, "texts");
+    let mut texts = RecordTexts::new(alloc, section, MOST_KEPT);
     let mut out = Vec::new(alloc);
     let wanted = text_by_value(alloc, section, offset);
     for turn in 0..2 {
@@ -178,7 +183,7 @@ fn assert_put(rt: &impl Abort, alloc: Global, section: &[u8], offset: usize, is_
 fn worked_texts_are_laid_out(rt: HostRuntime) {
     let alloc = rt.alloc();
     for (data, wanted) in ROWS {
-        let mut texts = RecordTexts::new(alloc, data).expect(&rt, "texts");
+        let mut texts = RecordTexts::new(alloc, data, MOST_KEPT);
         let mut out = Vec::new(alloc);
         assert!(rt; texts.put(0, &mut out), "{wanted}");
         assert!(rt; out.as_slice() == wanted.as_bytes(), "{wanted}");
@@ -192,42 +197,102 @@ pub(crate) fn bytes_of(alloc: Global, control: u8, byte: &[u8], len: usize) -> V
     section_of(alloc, &[(&[control, high, low], 1), (byte, len)])
 }
 
-/// What stands before it, control byte, byte, how many of it, and whether that has 32,768 bytes at the most as JSON.
-const LONG: &[(&[u8], u8, &[u8], usize, bool)] = &[
-    // with quotes
-    (b"", 0x5E, b"x", MOST_BYTES - 2, true),
-    (b"", 0x5E, b"x", MOST_BYTES - 1, false),
-    (b"", 0x5E, b"x", MOST_BYTES, false),
-    (b"", 0x5E, b"x", MOST_BYTES + 1, false),
-    // each with a backslash
-    (b"", 0x5E, b"\"", 16_383, true),
-    (b"", 0x5E, b"\"", 16_384, false),
-    // in base64
-    (b"", 0x9E, b"x", 24_573, true),
-    (b"", 0x9E, b"x", 24_574, false),
-    // as a member, with eight bytes of JSON
-    (b"\xE1\x41k", 0x5E, b"x", MOST_BYTES - 8, true),
-    (b"\xE1\x41k", 0x5E, b"x", MOST_BYTES - 7, false),
+/// Control bytes and bytes of texts and byte strings: plain, with escapes at their ends, of other alphabets.
+const STRINGS: &[(u8, &[u8])] = &[
+    (0x5E, b"x"),
+    (0x5E, b"\""),
+    (0x5E, b"\x01"),
+    (0x5E, b"a\\b"),
+    (0x5E, b"\xD0\x9D"),
+    (0x5E, b"\xE6\xBC\xA2"),
+    (0x5E, b"\xF0\x9F\x98\x80"),
+    (0x9E, b"x"),
 ];
 
+/// Lengths of strings on both sides of those by which they are laid out otherwise: 64 bytes are laid out at once, and 64 or
+/// more are tested for UTF-8 together; 2,048 are kept.
+const LENGTHS: &[usize] = &[
+    1, 15, 16, 17, 31, 32, 33, 62, 63, 64, 65, 66, 127, 128, 129, 1000, 2044, 2045, 2046, 2047,
+    2048,
+];
+
+// A text (2) or byte string (4) of about so many bytes, with its header.
+fn string_of(alloc: Global, control: u8, unit: &[u8], len: usize) -> Vec<u8> {
+    let count = len / unit.len().max(1);
+    let len = count.saturating_mul(unit.len());
+    let kind = control & 0xE0;
+    let header: [u8; 3] = if len < 29 {
+        [kind | len as u8, 0, 0]
+    } else if len < 285 {
+        [kind | 29, (len - 29) as u8, 0]
+    } else {
+        let [high, low] = ((len - 285) as u16).to_be_bytes();
+        [kind | 30, high, low]
+    };
+    let used = if len < 29 {
+        1
+    } else if len < 285 {
+        2
+    } else {
+        3
+    };
+    section_of(alloc, &[(&header[..used], 1), (unit, count)])
+}
+
 #[test]
-fn long_texts_are_left(rt: HostRuntime) {
+fn strings_of_all_lengths(rt: HostRuntime) {
     let alloc = rt.alloc();
-    for (before, control, byte, len, is_laid_out) in LONG {
-        let value = bytes_of(alloc, *control, byte, *len);
-        let section = section_of(alloc, &[(before, 1), (value.as_slice(), 1)]);
-        assert_put(&rt, alloc, section.as_slice(), 0, *is_laid_out);
-    }
-    // behind pointers, with as many bytes as are kept, or one more: a value, and a name, which has a colon too
-    for len in [2044, 2045, 2046, 2047] {
-        let text = bytes_of(alloc, 0x5E, b"x", len);
-        for before in [
-            b"\x02\x04\x20\x06\x20\x06".as_slice(),
-            b"\x02\x04\xE1\x20\x0A\xA0\xE1\x20\x0A\xA0".as_slice(),
-        ] {
-            let section = section_of(alloc, &[(before, 1), (text.as_slice(), 1)]);
-            assert_put(&rt, alloc, section.as_slice(), 0, true);
+    for (control, unit) in STRINGS {
+        for len in LENGTHS {
+            let value = string_of(alloc, *control, unit, *len);
+            // alone; twice in an array; behind two pointers; as a key behind two pointers; with a number behind it
+            assert_put(&rt, alloc, value.as_slice(), 0, true);
+            let twice = section_of(alloc, &[(b"\x02\x04", 1), (value.as_slice(), 2)]);
+            assert_put(&rt, alloc, twice.as_slice(), 0, true);
+            let shared = section_of(
+                alloc,
+                &[(b"\x02\x04\x20\x06\x20\x06", 1), (value.as_slice(), 1)],
+            );
+            assert_put(&rt, alloc, shared.as_slice(), 0, true);
+            let keys = section_of(
+                alloc,
+                &[
+                    (b"\x02\x04\xE1\x20\x0A\xA0\xE1\x20\x0A\xA0", 1),
+                    (value.as_slice(), 1),
+                ],
+            );
+            assert_put(&rt, alloc, keys.as_slice(), 0, *control == 0x5E);
+            // and what can't be read behind it
+            let faulty = section_of(
+                alloc,
+                &[(b"\x02\x04", 1), (value.as_slice(), 1), (b"\x41\xFF", 1)],
+            );
+            assert_put(&rt, alloc, faulty.as_slice(), 0, false);
         }
+    }
+}
+
+#[test]
+fn long_texts(rt: HostRuntime) {
+    let alloc = rt.alloc();
+    for len in [4000, 32_766, 32_767, 32_768, 65_535] {
+        for (control, unit) in [(0x5Eu8, b"x"), (0x5E, b"\""), (0x9E, b"x")] {
+            let value = bytes_of(alloc, control, unit, len);
+            assert_put(&rt, alloc, value.as_slice(), 0, true);
+        }
+    }
+    // 32 pointers to a text: as many bytes as a record may have, and one more for each
+    for (len, is_laid_out) in [(MOST_BYTES / 32, true), (MOST_BYTES / 32 + 1, false)] {
+        let text = bytes_of(alloc, 0x5E, b"x", len);
+        let section = section_of(
+            alloc,
+            &[
+                (b"\x1D\x04\x03", 1),
+                (b"\x20\x43", 32),
+                (text.as_slice(), 1),
+            ],
+        );
+        assert_put(&rt, alloc, section.as_slice(), 0, is_laid_out);
     }
 }
 
@@ -238,29 +303,28 @@ fn array_of(count: usize) -> [u8; 4] {
     [0x1E, 4, high, low]
 }
 
-/// What stands before an array, how many zeros it has, what stands behind it, and whether all that has 32,768 bytes at the
-/// most as JSON.
+/// What stands before an array, how many zeros it has, what stands behind it, and whether all that is as many values as are
+/// read.
 const MANY: &[(&[u8], usize, &[u8], bool)] = &[
-    // each zero with its comma
-    (b"", 16_383, b"", true),
-    (b"", 16_384, b"", false),
+    (b"", MOST_VALUES - 1, b"", true),
+    (b"", MOST_VALUES, b"", false),
     // the first and the last of three items
-    (b"\x03\x04", 16_380, b"\xA0\xA0", true),
-    (b"\x03\x04", 16_381, b"\xA0\xA0", false),
-    (b"\x03\x04\xA0\xA0", 16_380, b"", true),
-    (b"\x03\x04\xA0\xA0", 16_381, b"", false),
+    (b"\x03\x04", MOST_VALUES - 4, b"\xA0\xA0", true),
+    (b"\x03\x04", MOST_VALUES - 3, b"\xA0\xA0", false),
+    (b"\x03\x04\xA0\xA0", MOST_VALUES - 4, b"", true),
+    (b"\x03\x04\xA0\xA0", MOST_VALUES - 3, b"", false),
     // the first and the last of two members
-    (b"\xE2\x41k", 16_377, b"\x41m\xA0", true),
-    (b"\xE2\x41k", 16_378, b"\x41m\xA0", false),
-    (b"\xE2\x41k\xA0\x41m", 16_377, b"", true),
-    (b"\xE2\x41k\xA0\x41m", 16_378, b"", false),
+    (b"\xE2\x41k", MOST_VALUES - 5, b"\x41m\xA0", true),
+    (b"\xE2\x41k", MOST_VALUES - 4, b"\x41m\xA0", false),
+    (b"\xE2\x41k\xA0\x41m", MOST_VALUES - 5, b"", true),
+    (b"\xE2\x41k\xA0\x41m", MOST_VALUES - 4, b"", false),
     // behind a pointer, as the first item
-    (b"\x02\x04\x20\x05\xA0", 16_381, b"", true),
-    (b"\x02\x04\x20\x05\xA0", 16_382, b"", false),
+    (b"\x02\x04\x20\x05\xA0", MOST_VALUES - 3, b"", true),
+    (b"\x02\x04\x20\x05\xA0", MOST_VALUES - 2, b"", false),
 ];
 
 #[test]
-fn records_of_many_parts_are_left(rt: HostRuntime) {
+fn records_of_many_parts(rt: HostRuntime) {
     let alloc = rt.alloc();
     for (before, count, behind, is_laid_out) in MANY {
         let header = array_of(*count);
@@ -270,21 +334,39 @@ fn records_of_many_parts_are_left(rt: HostRuntime) {
         );
         assert_put(&rt, alloc, section.as_slice(), 0, *is_laid_out);
     }
+    // an array of 700 zeros that is kept, behind 93 and 94 pointers
+    for (count, is_laid_out) in [(93, true), (94, false)] {
+        let header = array_of(700);
+        let before = [0x1D, 4, count as u8 - 29];
+        let target = (3 + 2 * count) as u8;
+        let section = section_of(
+            alloc,
+            &[
+                (&before, 1),
+                (&[0x20, target], count),
+                (&header, 1),
+                (b"\xA0", 700),
+            ],
+        );
+        assert_put(&rt, alloc, section.as_slice(), 0, is_laid_out);
+    }
 }
 
 #[test]
-fn records_of_too_many_parts_are_left_at_once(rt: HostRuntime) {
+fn unreadable_records_are_left_at_once(rt: HostRuntime) {
     let alloc = rt.alloc();
-    // arrays of 9,000 items, each the first item of the one before it, and zeros: the second one's header says too much. To
-    // lay the zeros out each time would take minutes
+    // an array of 9,000 items in another one, which ends too early: to lay the zeros out each time would take minutes
     let header = array_of(9000);
     let section = section_of(alloc, &[(&header, 2), (b"\xA0", 9000)]);
-    let mut texts = RecordTexts::new(alloc, section.as_slice()).expect(&rt, "texts");
+    let mut texts = RecordTexts::new(alloc, section.as_slice(), MOST_KEPT);
     let mut out = Vec::new(alloc);
+    assert!(rt; !texts.put(0, &mut out), "the first time");
+    texts.note_unreadable(0);
     for turn in 0..1_000_000u32 {
         assert!(rt; !texts.put(0, &mut out), "turn {turn}");
     }
     assert!(rt; out.is_empty());
+    assert!(rt; texts.put(8, &mut out), "another record");
 }
 
 /// Arrays in one another, so many, around a number.
@@ -293,20 +375,26 @@ pub(crate) fn deep(alloc: Global, count: usize) -> Vec<u8> {
 }
 
 #[test]
-fn deep_values_are_left(rt: HostRuntime) {
+fn deep_values(rt: HostRuntime) {
     let alloc = rt.alloc();
-    for (count, is_laid_out) in [(32, true), (33, false)] {
+    for (count, is_laid_out) in [(32, true), (33, true), (512, true), (513, false)] {
         assert_put(&rt, alloc, deep(alloc, count).as_slice(), 0, is_laid_out);
     }
-    // behind a pointer eight levels are left
-    for (count, is_laid_out) in [(8, true), (9, false)] {
+    // behind a pointer one level less is left
+    for (count, is_laid_out) in [(8, true), (9, true), (511, true), (512, false)] {
         let inner = deep(alloc, count);
         let section = section_of(alloc, &[(b"\x20\x02", 1), (inner.as_slice(), 1)]);
         assert_put(&rt, alloc, section.as_slice(), 0, is_laid_out);
     }
-    // an array of a pointer to such arrays, and one to an array of the same pointer: six levels are left there, though what
-    // they lead to was laid out when eight were
-    for (count, is_laid_out) in [(6, true), (7, false), (8, false)] {
+    // an array of a pointer to such arrays, and one to an array of the same pointer: two levels less are left there, though
+    // what they lead to was laid out and kept before
+    for (count, is_laid_out) in [
+        (6, true),
+        (20, true),
+        (508, true),
+        (509, false),
+        (510, false),
+    ] {
         let inner = deep(alloc, count);
         let before = b"\x02\x04\x20\x0A\x20\x06\x01\x04\x20\x0A";
         let section = section_of(alloc, &[(before, 1), (inner.as_slice(), 1)]);
@@ -345,7 +433,7 @@ const MEMORY_STEPS: usize = 64;
 fn is_put_within(rt: &impl Abort, alloc: Global, section: &[u8], budget: usize) -> bool
     requires { budget < 1000000 }
 {
-    let mut texts = RecordTexts::new(alloc, section).expect(rt, "texts");
+    let mut texts = RecordTexts::new(alloc, section, MOST_KEPT);
     let wanted = text_by_value(alloc, section, 0);
     let mut out = b"abc".to_vec(alloc).expect(rt, "three bytes");
     let large = Hoard::of_large_blocks(alloc);

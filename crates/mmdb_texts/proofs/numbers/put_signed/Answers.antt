@@ -1,4 +1,4 @@
-use Rattle.std.proofs.Common.{rules, ◌≡◌, sym, ap, ◌∙◌, subst}
+use Rattle.std.proofs.Common.{rules, ◌≡◌, refl, sym, ap, ◌∙◌, subst}
 use Rattle.json.specs.Json.{number}
 use Rattle.json.specs.Print.{IsNumber}
 use Rattle.json.proofs.Printed.Decimals.{IsNumber-signed_decimal}
@@ -10,4 +10,4 @@ pub returns : goal.returns
 returns c =
     let text = c.as_bytes.ensures.value ∙ c.format.ensures.text in
     let digits = c.as_bytes.result.now in
-    grows c.extend_from_slice.result (signed32 c.args.n) (number digits) c.args.out.now.items c.extend_from_slice.new.self.items digits c.extend_from_slice.ensures.items (search rules) (number_written digits (subst IsNumber (sym text) (search (rules, IsNumber-signed_decimal))) c.as_bytes.ensures.utf8)
+    grows c.put.result (signed32 c.args.n) (number digits) c.args.out.now c.put.new.self digits c.put.ensures (search rules) (number_written digits (subst IsNumber (sym text) (search (rules, IsNumber-signed_decimal))) c.as_bytes.ensures.utf8) refl

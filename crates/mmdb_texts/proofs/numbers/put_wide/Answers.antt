@@ -1,4 +1,4 @@
-use Rattle.std.proofs.Common.{rules, ◌≡◌, sym, ap, ◌∙◌, subst}
+use Rattle.std.proofs.Common.{rules, ◌≡◌, refl, sym, ap, ◌∙◌, subst}
 use Rattle.json.specs.Json.{number}
 use Rattle.json.specs.Print.{IsNumber}
 use Rattle.mmdb_json.proofs.WideDecimals.{IsNumber-decimal_wide}
@@ -10,4 +10,4 @@ pub returns : goal.returns
 returns c =
     let text = c.as_bytes.ensures.value ∙ c.format.ensures.text in
     let digits = c.as_bytes.result.now in
-    grows c.extend_from_slice.result (number128 c.args.n) (number digits) c.args.out.now.items c.extend_from_slice.new.self.items digits c.extend_from_slice.ensures.items (ap number text) (number_written digits (subst IsNumber (sym text) (IsNumber-decimal_wide c.args.n (search rules))) c.as_bytes.ensures.utf8)
+    grows c.put.result (number128 c.args.n) (number digits) c.args.out.now c.put.new.self digits c.put.ensures (ap number text) (number_written digits (subst IsNumber (sym text) (IsNumber-decimal_wide c.args.n (search rules))) c.as_bytes.ensures.utf8) refl
