@@ -1,0 +1,2 @@
+-- What has to be believed: what contracts of public items name.
+pub mod Cache
