@@ -51,6 +51,9 @@ pub fn either_from(bytes: &[u8], from: usize, first: u8, second: u8) -> usize
     ensures value { result ≡ from + prefix_len (is_neither first second) (drop from bytes.now) }
     ensures bound { result ≤ length bytes.now }
 {
+    if from < bytes.len() && (bytes[from] == first || bytes[from] == second) {
+        return from;
+    }
     let mut at = from;
     while bytes.len() - at >= 16 {
         let found = marks(u8x16::from_slice(&bytes[at..]), first, second);
