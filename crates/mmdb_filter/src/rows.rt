@@ -6,7 +6,7 @@ ghost use Rattle.mmdb_filter.specs.Working.{position_behind};
 ghost use Rattle.mmdb_filter.specs.declared.rows.Position.TheVariants as spec_position;
 ghost use Rattle.mmdb_filter.specs.declared.rows.Rows.TheVariants.{Csv};
 
-use crate::runs::either_from;
+use crate::runs::{either_from, here_or_from};
 use crate::text::text_length;
 use memchr::memchr;
 
@@ -107,7 +107,7 @@ fn scan_quotes(delimiter: u8, position: Position, bytes: &[u8]) -> (usize, Posit
     let mut at = 0;
     while at < bytes.len() {
         if now == Position::Quoted {
-            let quote = either_from(bytes, at, b'"', b'"');
+            let quote = here_or_from(bytes, at, b'"', b'"');
             if quote >= bytes.len() {
                 return (quote, now);
             }

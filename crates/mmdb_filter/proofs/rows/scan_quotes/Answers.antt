@@ -11,13 +11,13 @@ pub returns-then-quote-bytes-clause-goes : goal.returns-then-quote-bytes-clause-
 returns-then-quote-bytes-clause-goes c =
     let bytes = c.args.bytes.now in
     let between : c.loop-at.now ≡ spec_position.Quoted = search rules in
-    λ ys. goes_quoted c.args.delimiter c.args.position c.loop-at.now c.loop-at.at c.either_from-quote.result bytes ys (bytes ++ ys) between c.either_from-quote.ensures.bound c.either_from-quote.ensures.value (c.loop-at.invariant.goes ys)
+    λ ys. goes_quoted c.args.delimiter c.args.position c.loop-at.now c.loop-at.at c.here_or_from-quote.result bytes ys (bytes ++ ys) between c.here_or_from-quote.ensures.bound c.here_or_from-quote.ensures.value (c.loop-at.invariant.goes ys)
 
 pub loop-at-preserved-then-next_is_quoted : goal.loop-at-preserved-then-next_is_quoted
 loop-at-preserved-then-next_is_quoted c =
     let d = c.args.delimiter in
     let bytes = c.args.bytes.now in
-    let quote = c.either_from-quote.result in
+    let quote = c.here_or_from-quote.result in
     let between : c.loop-at.now ≡ spec_position.Quoted = search rules in
     let within = c.next_is_quoted.ensures.within c.if-next_is_quoted.true in
     let second : (quote + 1) + 1 ≡ quote + 2 = omega arith in
@@ -27,7 +27,7 @@ loop-at-preserved-then-next_is_quoted c =
       goes = λ ys. subst (λ p. Goes (Csv d) c.args.position (bytes ++ ys) (take (quote + 3) bytes) p (drop (quote + 3) bytes ++ ys)) (sym between)
           (goes_to d c.args.position spec_position.Cell spec_position.Quoted (quote + 2) (quote + 3) bytes ys (bytes ++ ys) (omega arith) (omega (arith, within)) refl opens
           (goes_to d c.args.position spec_position.Closing spec_position.Cell (quote + 1) (quote + 2) bytes ys (bytes ++ ys) (omega arith) (omega (arith, within)) refl (c.next_is_quoted.ensures.cell c.if-next_is_quoted.true)
-          (goes_closed d c.args.position c.loop-at.now c.loop-at.at quote bytes ys (bytes ++ ys) between (omega arith) c.either_from-quote.ensures.value (c.loop-at.invariant.goes ys))));
+          (goes_closed d c.args.position c.loop-at.now c.loop-at.at quote bytes ys (bytes ++ ys) between (omega arith) c.here_or_from-quote.ensures.value (c.loop-at.invariant.goes ys))));
       within = omega (arith, within);
       first = λ zero. absurd (omega arith);
       going = c.loop-at.invariant.going;
@@ -38,7 +38,7 @@ loop-at-preserved-else-next_is_quoted c =
     let bytes = c.args.bytes.now in
     let between : c.loop-at.now ≡ spec_position.Quoted = search rules in
     record {
-      goes = λ ys. goes_closed c.args.delimiter c.args.position c.loop-at.now c.loop-at.at c.either_from-quote.result bytes ys (bytes ++ ys) between (omega arith) c.either_from-quote.ensures.value (c.loop-at.invariant.goes ys);
+      goes = λ ys. goes_closed c.args.delimiter c.args.position c.loop-at.now c.loop-at.at c.here_or_from-quote.result bytes ys (bytes ++ ys) between (omega arith) c.here_or_from-quote.ensures.value (c.loop-at.invariant.goes ys);
       within = omega arith;
       first = λ zero. absurd (omega arith);
       going = search rules;
