@@ -1,5 +1,5 @@
-use Rattle.std.proofs.Common.{rules, ◌≡◌, ◌≢◌, ◌++◌, ◌+◌, take, drop, get_or, false, refl, sym, ap, ◌∙◌, subst, arith}
-use Rattle.mmdb_filter.specs.Rows.{is_ended, position_after, Goes}
+use Rattle.std.proofs.Common.{rules, ◌≡◌, ◌≢◌, ◌++◌, ◌+◌, take, drop, get_or, refl, sym, ap, ◌∙◌, subst, arith}
+use Rattle.mmdb_filter.specs.Rows.{position_after, Goes}
 use Rattle.mmdb_filter.specs.Working.{position_behind}
 use Rattle.mmdb_filter.specs.declared.rows.Position.TheVariants as spec_position
 use Rattle.mmdb_filter.specs.declared.rows.Rows.TheVariants.{Csv}
