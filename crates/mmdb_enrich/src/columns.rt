@@ -19,7 +19,6 @@ pub fn delimiter_of(rows: Rows) -> u8
 
 // How many bytes stand before the first delimiter that is not between quotes, or all. It goes to the quote that closes, and
 // on where another one stands behind it, since the bytes before these are passed many at a time.
-#[inline(always)]
 fn quoted_cell_length(delimiter: u8, text: &[u8]) -> usize
     ensures length { result ≡ spec_cell_length (Csv delimiter) Cell text.now }
     ensures within { result ≤ length text.now }
