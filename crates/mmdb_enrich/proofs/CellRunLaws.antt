@@ -1,5 +1,5 @@
 -- Where a cell ends, over bytes that are passed many at a time.
-use Rattle.std.proofs.Common.{◌≡◌, ℕ, zero, suc, ◌+◌, ◌<◌, ◌≤◌, List, [], ◌∷◌, length, drop, get_or, Bool, true, false, not, ◌||◌, ◌&&◌, ◌==◌, cond, if◌then◌else◌, refl, sym, ap, ◌∙◌, subst, arith, ◌⊎◌, inl, inr}
+use Rattle.std.proofs.Common.{◌≡◌, ◌≢◌, ne_eqb, ℕ, zero, suc, ◌+◌, ◌<◌, ◌≤◌, List, [], ◌∷◌, length, drop, get_or, Bool, true, false, not, ◌||◌, ◌&&◌, ◌==◌, cond, if◌then◌else◌, refl, sym, ap, ◌∙◌, subst, arith, ◌⊎◌, inl, inr}
 use Rattle.std.proofs.lemmas.List.Sums.{prefix_len_passes, prefix_len_stops, prefix_len-le-length}
 use Rattle.std.proofs.lemmas.List.{get_or-drop, drop_more, length-drop}
 use Rattle.std.specs.List.{prefix_len}
@@ -141,3 +141,7 @@ tab_from text n is = at (or_less n (length text))
     at (inr g) =
         let all : length text ≡ n = omega (arith, prefix_len-le-length (is_neither 9 9) text) in
         no_tab_in Cell text refl (λ k below. bare k (omega arith)) ∙ all
+
+-- of CSV, where no quote begins it
+pub bare_cell : (d : ℕ) (text : List ℕ) (n : ℕ) → get_or text 0 0 ≢ 34 → n ≡ prefix_len (is_neither d d) text → n ≡ cell_length (Csv d) Cell text
+bare_cell d text n bare is = is ∙ sym (bare_length d text (λ _. ne_eqb (get_or text 0 0) 34 bare))

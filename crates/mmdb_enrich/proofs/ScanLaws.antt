@@ -11,7 +11,7 @@ use Rattle.json.specs.Word.{is_operator, is_space, head, ends_word, after_digits
 use Rattle.json.specs.Ascii.{true_text, false_text, null_text}
 use Rattle.json.specs.Lex.{Lexeme, token, comma, colon, quote, backslash, operator, space, other, class, Mode, between, in_word, in_string, in_escape, lex, lex_byte, string_token}
 use Rattle.json.specs.Json as json
-use Rattle.mmdb_enrich.specs.Scanned.{lexemes_at, bytes_between, is_plain, EndsAt, EndsPlain, EndsString, EndsEscape, IsCode, IsWordOf, HasWord, begins_number, begins_integer, HasName, HasKey}
+use Rattle.mmdb_enrich.specs.Scanned.{lexemes_at, bytes_between, is_plain, EndsAt, EndsPlain, EndsString, EndsEscape, EndsNumber, IsCode, IsWordOf, HasWord, begins_number, begins_integer, HasName, HasKey}
 use Rattle.mmdb_enrich.proofs.WordLaws.{ends, each_space, each_operator, no_digit_ends, NoneEnds}
 use Rattle.mmdb_enrich.proofs.StringLaws.{lex_plain, lex_backslash, lex_escaped, lex_unit}
 
@@ -404,16 +404,15 @@ has_number text from end begins e ended =
       },
     )
 
--- digits alone, the first of which is not 0
-integer_read : (t : List ℕ) (n : ℕ) → (head t == 45) ≡ false → (head t == 48) ≡ false → (n == 0) ≡ false → n ≡ prefix_len is_ascii_digit t → (head (drop n t) == 46) ≡ false
-    → ((head (drop n t) == 101) || (head (drop n t) == 69)) ≡ false → after_number t ≡ Some (drop n t)
+-- a number, of which the whole part was read and then the rest
+joined : (t : List ℕ) → after_number t ≡ option_and_then after_exponent (option_and_then after_fraction (after_whole (after_minus t)))
 unfolding after_number
-integer_read t n minus first some is dot letter =
-    ap (λ u. option_and_then after_exponent (option_and_then after_fraction (after_whole u))) (ap (λ b. cond b (drop 1 t) t) minus)
-    ∙ ap (λ w. option_and_then after_exponent (option_and_then after_fraction w)) (ap (λ b. cond b (Some (drop 1 t)) (after_digits t)) first
-    ∙ ap (λ k. cond (k == 0) None (Some (drop k t))) (sym is) ∙ ap (λ b. cond b None (Some (drop n t))) some)
-    ∙ ap (λ f. option_and_then after_exponent f) (ap (λ b. cond b (after_digits (drop 1 (drop n t))) (Some (drop n t))) dot)
-    ∙ ap (λ b. cond b (after_digits (after_sign (drop 1 (drop n t)))) (Some (drop n t))) letter
+joined t = refl
+
+pub has_parts : (text : List ℕ) (from point end : ℕ) → begins_number (head (drop from text)) ≡ true → Some (drop point text) ≡ after_whole (after_minus (drop from text)) → EndsNumber text point end
+    → (j : json.Json) × HasWord text from end j
+has_parts text from point end begins whole behind =
+    has_number text from end begins (sym (joined (drop from text) ∙ ap (λ w. option_and_then after_exponent (option_and_then after_fraction w)) (sym whole) ∙ behind.rest)) behind.ended
 
 -- what ends a word is no part of a number
 no_part : (x c : ℕ) → ends c ≡ false → ends x ≡ true → (x == c) ≡ false
@@ -431,22 +430,39 @@ some_digits (x ∷ xs) e =
     let digit : is_ascii_digit x ≡ true = ap₂ (λ a b. a && b) (le-leb 48 x (omega arith)) (le-leb x 57 (omega arith)) in
     omega (arith, ap (λ b. cond b (1 + prefix_len is_ascii_digit xs) 0) digit)
 
-pub has_integer : (text : List ℕ) (from end : ℕ) → begins_integer (head (drop from text)) ≡ true → end ≡ from + prefix_len is_ascii_digit (drop from text) → ends_word (drop end text) ≡ true
+-- a number that begins with a digit other than 0 begins with digits
+pub has_digits : (text : List ℕ) (from point end : ℕ) → begins_integer (head (drop from text)) ≡ true → point ≡ from + prefix_len is_ascii_digit (drop from text) → EndsNumber text point end
     → (j : json.Json) × HasWord text from end j
-has_integer text from end begins is ended =
+has_digits text from point end begins is behind =
     let t = drop from text in
     let n = prefix_len is_ascii_digit t in
     let x = head t in
-    let there : drop n t ≡ drop end text = drop-drop n from text ∙ ap (λ k. drop k text) (sym is) in
+    let there : drop n t ≡ drop point text = drop-drop n from text ∙ ap (λ k. drop k text) (sym is) in
     let bounds = integer_start x begins in
-    let behind : ends (head (drop n t)) ≡ true = ap ends_word there ∙ ended in
     let minus : (x == 45) ≡ false = ne_eqb x 45 (λ same. omega arith) in
     let zeroth : (x == 48) ≡ false = ne_eqb x 48 (λ same. omega arith) in
     let some : (n == 0) ≡ false = ne_eqb n 0 (λ same. omega (arith, some_digits t begins)) in
-    let letter = ap₂ (λ a b. a || b) (no_part (head (drop n t)) 101 refl behind) (no_part (head (drop n t)) 69 refl behind) in
-    let reads = integer_read t n minus zeroth some refl (no_part (head (drop n t)) 46 refl behind) letter in
+    let whole : after_whole (after_minus t) ≡ Some (drop point text) =
+    ap after_whole (ap (λ b. cond b (drop 1 t) t) minus) ∙ ap (λ b. cond b (Some (drop 1 t)) (after_digits t)) zeroth ∙ ap (λ b. cond b None (Some (drop n t))) some ∙ ap Some there in
     let number : begins_number x ≡ true = ap₂ (λ a b. a || b) minus (ap₂ (λ a b. a && b) (le-leb 48 x (omega arith)) (le-leb x 57 (omega arith))) in
-    has_number text from end number (sym (reads ∙ ap Some there)) ended
+    has_parts text from point end number (sym whole) behind
+
+-- of a rest that may not be read
+pub where_read : (P Q : ℕ → Type 0) (end : Option ℕ) → ((e : ℕ) → P e → Q e) → IfSome end P → IfSome end Q
+where_read P Q None f h = tt
+where_read P Q (Some e) f h = f e h
+
+-- what ends a word ends a number there
+pub ends_there : (text : List ℕ) (at : ℕ) → at ≤ length text → ends_word (drop at text) ≡ true → EndsNumber text at at
+ends_there text at within ended =
+    let t = drop at text in
+    let letter = ap₂ (λ a b. a || b) (no_part (head t) 101 refl ended) (no_part (head t) 69 refl ended) in
+    record {
+      low = omega arith;
+      high = within;
+      rest = ap (option_and_then after_exponent) (ap (λ b. cond b (after_digits (drop 1 t)) (Some t)) (no_part (head t) 46 refl ended)) ∙ ap (λ b. cond b (after_digits (after_sign (drop 1 t))) (Some t)) letter;
+      ended = ended;
+    }
 
 literal_is : (name t : List ℕ) (k : Token) → starts_with nat_eq t name ≡ true → ends_word (drop (length name) t) ≡ true → literal name k t ≡ k
 literal_is name t k e ended = ap₂ (λ a b. cond (a && b) k bad) e ended

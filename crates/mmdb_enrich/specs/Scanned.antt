@@ -1,8 +1,8 @@
 -- What one pass over a text of JSON finds. Only contracts of private functions and proofs name it.
-use Rattle.std.specs.Prelude.{◌≡◌, ◌≢◌, ℕ, ◌+◌, ◌-◌, ◌<◌, ◌≤◌, List, ◌∷◌, length, take, drop, get_or, Bool, true, false, not, ◌||◌, ◌&&◌, ◌==◌, nat_lt, Option, Some, None, option_map, IfSome, nat_eq}
+use Rattle.std.specs.Prelude.{◌≡◌, ◌≢◌, ℕ, ◌+◌, ◌-◌, ◌<◌, ◌≤◌, List, ◌∷◌, length, take, drop, get_or, Bool, true, false, not, ◌||◌, ◌&&◌, ◌==◌, nat_lt, Option, Some, None, option_map, option_and_then, IfSome, nat_eq}
 use Rattle.std.specs.List.{starts_with}
 use Rattle.std.specs.Char.{is_ascii_digit, digit_value}
-use Rattle.json.specs.Word.{head, ends_word}
+use Rattle.json.specs.Word.{head, ends_word, after_fraction, after_exponent}
 use Rattle.json.specs.Find.{as_str, as_object}
 use Rattle.json.specs.Token.{Token, number, string, boolean, null, begin_object, begin_array, end_object, end_array, key, bad}
 use Rattle.json.specs.Text.{content, plain, after_backslash}
@@ -43,6 +43,17 @@ pub record EndsString (text : List ℕ) (from quote : ℕ) : Type 0 where
   pub high : quote < length text
   pub bytes : (s : List ℕ) × (content plain (drop from text) ≡ Some s)
   pub passed : lex in_string (drop from text) ≡ lexemes_at text (quote + 1)
+
+-- what is left behind the fraction and the exponent of a number, of which each may be missing
+abbrev pub after_rest : List ℕ → Option (List ℕ)
+after_rest t = option_and_then after_exponent (after_fraction t)
+
+-- From behind its whole part on the rest of a number stands, which ends there, as the word does.
+pub record EndsNumber (text : List ℕ) (from end : ℕ) : Type 0 where
+  pub low : from ≤ end
+  pub high : end ≤ length text
+  pub rest : after_rest (drop from text) ≡ Some (drop end text)
+  pub ended : ends_word (drop end text) ≡ true
 
 -- Four digits of an escape stand from a byte on, the first of them decimal.
 pub record IsCode (text : List ℕ) (from end : ℕ) : Type 0 where

@@ -1,10 +1,10 @@
 //! The address in a row.
-ghost use Rattle.std.specs.Prelude.{◌≡◌, ◌≤◌, length, option_map};
+ghost use Rattle.std.specs.Prelude.{◌≡◌, ◌≢◌, ◌≤◌, get_or, length, option_map, false};
 ghost use Rattle.mmdb_filter.specs.declared.rows.Position.TheVariants.{Cell};
 ghost use Rattle.mmdb_filter.specs.declared.rows.Rows.TheVariants.{Csv};
 ghost use Rattle.mmdb_enrich.specs.Columns.{delimiter_of as spec_delimiter_of, cell_length as spec_cell_length, column_of as spec_column_of, value_of as spec_value_of};
 
-use mmdb_filter::{Rows, either_from};
+use mmdb_filter::{Rows, either_from, here_or_from};
 
 /// What stands between cells: tabs between those of a line.
 #[inline(always)]
@@ -25,13 +25,21 @@ fn quoted_cell_length(delimiter: u8, text: &[u8]) -> usize
 {
     let mut at = 0;
     while at < text.len() && text[at] == b'"' && delimiter != b'"' {
-        let quote = either_from(text, at + 1, b'"', b'"');
+        let quote = here_or_from(text, at + 1, b'"', b'"');
         if quote >= text.len() {
             return quote;
         }
         at = quote + 1;
     }
-    either_from(text, at, delimiter, delimiter)
+    here_or_from(text, at, delimiter, delimiter)
+}
+
+// Whether a cell begins with a quote.
+#[inline(always)]
+fn begins_with_quote(text: &[u8]) -> bool
+    ensures { result ≡ false → get_or text.now 0 0 ≢ 34 }
+{
+    !text.is_empty() && text[0] == b'"'
 }
 
 // How many bytes stand before the first delimiter of a cell, or all.
@@ -42,7 +50,8 @@ fn cell_length(rows: Rows, text: &[u8]) -> usize
 {
     match rows {
         Rows::Lines => either_from(text, 0, b'\t', b'\t'),
-        Rows::Csv { delimiter } => quoted_cell_length(delimiter, text),
+        Rows::Csv { delimiter } if begins_with_quote(text) => quoted_cell_length(delimiter, text),
+        Rows::Csv { delimiter } => here_or_from(text, 0, delimiter, delimiter),
     }
 }
 

@@ -3,10 +3,10 @@ ghost use Rattle.std.specs.Prelude.{◌≡◌, ℕ, ◌+◌, ◌<◌, ◌≤◌,
 ghost use Rattle.std.specs.List.{prefix_len, starts_with};
 ghost use Rattle.std.specs.Char.{is_ascii_digit};
 ghost use Rattle.std.specs.Simd.Lanes.{mask_l};
-ghost use Rattle.json.specs.Word.{is_operator, is_space as spec_is_space, head, ends_word, after_digits, after_minus, after_sign, after_whole, after_fraction, after_exponent, after_number};
+ghost use Rattle.json.specs.Word.{is_operator, is_space as spec_is_space, head, ends_word, after_digits, after_minus, after_sign, after_whole, after_fraction, after_exponent};
 ghost use Rattle.json.specs.Json.{Json};
 ghost use Rattle.json.specs.Text.{short_escape};
-ghost use Rattle.mmdb_enrich.specs.Scanned.{is_plain as spec_is_plain, is_stop, lexemes_at, EndsAt, EndsPlain, EndsString, EndsEscape, IsCode, HasWord, HasName, begins_number, begins_integer, is_other};
+ghost use Rattle.mmdb_enrich.specs.Scanned.{is_plain as spec_is_plain, is_stop, lexemes_at, EndsAt, EndsPlain, EndsString, EndsEscape, EndsNumber, IsCode, HasWord, HasName, begins_number, begins_integer, is_other};
 
 use std::simd::prelude::*;
 
@@ -391,17 +391,6 @@ fn exponent_end(text: &[u8], from: usize) -> Option<usize>
     some_digits_end(text, sign_end(text, from + 1))
 }
 
-#[inline(always)]
-#[tactic(auto, unfolding(json::specs::Word::after_number))]
-fn number_end(text: &[u8], from: usize) -> Option<usize>
-    requires { from ≤ length text.now }
-    ensures { EndsAt text.now from result (after_number (drop from text.now)) }
-{
-    let point = whole_end(text, minus_end(text, from))?;
-    let power = fraction_end(text, point)?;
-    exponent_end(text, power)
-}
-
 // Where a literal of this name ends.
 fn literal_end(text: &[u8], from: usize, name: &[u8]) -> Option<usize>
     requires { from ≤ length text.now }
@@ -445,20 +434,31 @@ pub(crate) fn is_integer_start(byte: u8) -> bool
     byte >= b'1' && byte <= b'9'
 }
 
-// Where a number ends that begins with a minus or a digit.
+// Where a number ends of which the whole part ends at a byte.
 #[inline(never)]
+fn rest_word_end(text: &[u8], from: usize) -> Option<usize>
+    requires { from ≤ length text.now }
+    ensures { IfSome result (EndsNumber text.now from) }
+{
+    let power = fraction_end(text, from)?;
+    let end = exponent_end(text, power)?;
+    if ends_before(byte_at(text, end)) {
+        Some(end)
+    } else {
+        None
+    }
+}
+
+// Where a number ends that begins with a minus or a digit.
+#[inline(always)]
 fn number_word_end(text: &[u8], from: usize) -> Option<usize>
     requires within { from ≤ length text.now }
     requires first { begins_number (head (drop from text.now)) ≡ true }
     ensures bounds { IfSome result (λ end. (from ≤ end) × (end ≤ length text.now)) }
     ensures word { IfSome result (λ end. (j : Json) × HasWord text.now from end j) }
 {
-    let end = number_end(text, from)?;
-    if ends_before(byte_at(text, end)) {
-        Some(end)
-    } else {
-        None
-    }
+    let point = whole_end(text, minus_end(text, from))?;
+    rest_word_end(text, point)
 }
 
 /// Where a number ends that begins with a digit other than 0. Most of these are integers.
@@ -473,7 +473,7 @@ pub(crate) fn digits_word_end(text: &[u8], from: usize) -> Option<usize>
     if ends_before(stop.byte) {
         Some(stop.at)
     } else {
-        number_word_end(text, from)
+        rest_word_end(text, stop.at)
     }
 }
 

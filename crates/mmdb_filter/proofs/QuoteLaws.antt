@@ -1,8 +1,8 @@
 -- Bytes of CSV that are neither quotes nor line feeds.
-use Rattle.std.proofs.Common.{◌≡◌, ℕ, zero, suc, ◌+◌, ◌-◌, ◌<◌, ◌≤◌, List, ◌++◌, length, take, drop, get_or, Bool, true, false, not, ◌||◌, ◌&&◌, ◌==◌, nat_le, if◌then◌else◌, refl, sym, ap, ◌∙◌, subst, arith}
+use Rattle.std.proofs.Common.{eqb-true, ne_eqb, ◌≢◌, ◌≡◌, ℕ, zero, suc, ◌+◌, ◌-◌, ◌<◌, ◌≤◌, List, ◌++◌, length, take, drop, get_or, Bool, true, false, not, ◌||◌, ◌&&◌, ◌==◌, nat_le, if◌then◌else◌, refl, sym, ap, ◌∙◌, subst, arith}
 use Rattle.std.proofs.lemmas.Bool.Decides.{nat_tests}
-use Rattle.std.proofs.lemmas.List.Sums.{prefix_len_passes}
-use Rattle.std.proofs.lemmas.List.{get_or-drop}
+use Rattle.std.proofs.lemmas.List.Sums.{prefix_len_passes, prefix_len_stops}
+use Rattle.std.proofs.lemmas.List.{get_or-drop, length-drop}
 use Rattle.std.specs.List.{prefix_len}
 use Rattle.mmdb_filter.specs.Rows.{is_ended, position_after, Goes}
 use Rattle.mmdb_filter.specs.Runs.{is_neither}
@@ -132,3 +132,90 @@ goes_quoted d first p at m bytes ys xs between l is g =
     λ k below. ap (is_neither 34 34) (sym (get_or-drop at bytes k 0)) ∙ prefix_len_passes (is_neither 34 34) (drop at bytes) k 0 below in
     let here = subst (λ q. Goes (Csv d) first xs (take at bytes) q (drop at bytes ++ ys)) between g in
     subst (λ q. Goes (Csv d) first xs (take m bytes) q (drop m bytes ++ ys)) (sym between) (goes_quoted_run d first at n m bytes ys xs is l run here)
+
+-- what ends a run is one of the two
+pub stopped : (a b at m : ℕ) (bytes : List ℕ) → m < length bytes → m ≡ at + prefix_len (is_neither a b) (drop at bytes) → is_neither a b (get_or bytes m 0) ≡ false
+stopped a b at m bytes below is =
+    let n = prefix_len (is_neither a b) (drop at bytes) in
+    let stop : is_neither a b (get_or (drop at bytes) n 0) ≡ false = prefix_len_stops (is_neither a b) (drop at bytes) 0 (omega (arith, is, length-drop at bytes)) in
+    ap (λ k. is_neither a b (get_or bytes k 0)) is ∙ ap (is_neither a b) (sym (get_or-drop at bytes n 0)) ∙ stop
+
+one_of : (s t : Bool) → not (s || t) ≡ false → t ≡ false → s ≡ true
+one_of true t e none = refl
+one_of false true e none = absurd (cc)
+one_of false false e none = absurd (cc)
+
+-- a run that no line feed ends is ended by a quote
+pub stopped_by_quote : (at m : ℕ) (bytes : List ℕ) → m < length bytes → m ≡ at + prefix_len (is_neither 34 10) (drop at bytes) → (get_or bytes m 0 ≡ 10 → ⊥) → get_or bytes m 0 ≡ 34
+stopped_by_quote at m bytes below is other =
+    let x = get_or bytes m 0 in
+    eqb-true x 34 (one_of (x == 34) (x == 10) (stopped 34 10 at m bytes below is) (ne_eqb x 10 other))
+
+-- one byte on
+pub goes_to : (d : ℕ) (first p q : Position) (at m : ℕ) (bytes ys xs : List ℕ) → m ≡ at + 1 → at < length bytes → is_ended p ≡ false → position_after (Csv d) p (get_or bytes at 0) ≡ q
+    → Goes (Csv d) first xs (take at bytes) p (drop at bytes ++ ys) → Goes (Csv d) first xs (take m bytes) q (drop m bytes ++ ys)
+goes_to d first p q at m bytes ys xs is below going next g =
+    subst (λ n. Goes (Csv d) first xs (take n bytes) q (drop n bytes ++ ys)) (sym is)
+    (subst (λ r. Goes (Csv d) first xs (take (at + 1) bytes) r (drop (at + 1) bytes ++ ys)) next (goes_one (Csv d) first p at bytes ys xs below going g))
+
+closes : (d x : ℕ) → is_neither 34 34 x ≡ false → position_after (Csv d) Quoted x ≡ Closing
+unfolding position_after
+closes d x h = ap (λ b. if b then Closing else Quoted) (either_one (x == 34) h)
+  where
+    either_one : (b : Bool) → not (b || b) ≡ false → b ≡ true
+    either_one true e = refl
+    either_one false e = absurd (cc)
+
+-- from between quotes to behind the quote that closes
+pub goes_closed : (d : ℕ) (first p : Position) (at m : ℕ) (bytes ys xs : List ℕ) → p ≡ Quoted → m < length bytes → m ≡ at + prefix_len (is_neither 34 34) (drop at bytes)
+    → Goes (Csv d) first xs (take at bytes) p (drop at bytes ++ ys) → Goes (Csv d) first xs (take (m + 1) bytes) Closing (drop (m + 1) bytes ++ ys)
+goes_closed d first p at m bytes ys xs between below is g =
+    let run = subst (λ q. Goes (Csv d) first xs (take m bytes) q (drop m bytes ++ ys)) between (goes_quoted d first p at m bytes ys xs between (omega arith) is g) in
+    goes_to d first Quoted Closing m (m + 1) bytes ys xs refl below refl (closes d (get_or bytes m 0) (stopped 34 34 at m bytes below is)) run
+
+-- a quote does not end a row
+either_goes : (b : Bool) (p q : Position) → is_ended p ≡ false → is_ended q ≡ false → is_ended (if b then p else q) ≡ false
+either_goes true p q e f = e
+either_goes false p q e f = f
+
+going_by_quote : (d : ℕ) (p : Position) → is_ended p ≡ false → is_ended (position_after (Csv d) p 34) ≡ false
+unfolding position_after
+going_by_quote d Cell e = either_goes (34 == d) Cell Quoted refl refl
+going_by_quote d Plain e = either_goes (34 == d) Cell Plain refl refl
+going_by_quote d Closing e = either_goes (34 == d) Cell Quoted refl refl
+going_by_quote d Quoted e = refl
+going_by_quote d Ended e = absurd (cc)
+
+ends : (p : Position) → is_ended p ≡ false → p ≢ Ended
+ends p e = λ is. absurd (cc (ap is_ended is))
+
+pub not_ended_by_quote : (d : ℕ) (p : Position) → is_ended p ≡ false → position_after (Csv d) p 34 ≢ Ended
+not_ended_by_quote d p e = ends (position_after (Csv d) p 34) (going_by_quote d p e)
+
+-- outside of quotes a line feed does
+by_last : (b : Bool) → (if b then Cell else Plain) ≢ Quoted
+by_last true = λ is. absurd (cc)
+by_last false = λ is. absurd (cc)
+
+past_outside : (d : ℕ) (p : Position) (x : ℕ) → p ≢ Quoted → position_past d p x ≢ Quoted
+past_outside d Quoted x other = absurd (other refl)
+past_outside d Cell x other = by_last (x == d)
+past_outside d Plain x other = by_last (x == d)
+past_outside d Closing x other = by_last (x == d)
+past_outside d Ended x other = by_last (x == d)
+
+behind_outside : (d : ℕ) (p : Position) (x : ℕ) (b : Bool) → p ≢ Quoted → (if b then p else position_past d p x) ≢ Quoted
+behind_outside d p x true other = other
+behind_outside d p x false other = past_outside d p x other
+
+ended_by_feed : (d : ℕ) (p : Position) → p ≢ Quoted → position_after (Csv d) p 10 ≡ Ended
+unfolding position_after
+ended_by_feed d Quoted other = absurd (other refl)
+ended_by_feed d Cell other = refl
+ended_by_feed d Plain other = refl
+ended_by_feed d Closing other = refl
+ended_by_feed d Ended other = refl
+
+pub ended_behind : (d : ℕ) (p : Position) (bytes : List ℕ) (at m x : ℕ) → p ≢ Quoted → x ≡ 10 → position_after (Csv d) (position_behind d p bytes at m) x ≡ Ended
+ended_behind d p bytes at m x other feed =
+    ap (position_after (Csv d) (position_behind d p bytes at m)) feed ∙ ended_by_feed d (position_behind d p bytes at m) (behind_outside d p (get_or bytes (m - 1) 0) (nat_le m at) other)

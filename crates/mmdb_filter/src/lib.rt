@@ -17,5 +17,5 @@ pub use counts::{Counts, Outcome};
 pub use filter::{Added, Additions, Progress, filter_rows};
 pub use quotes::put_csv_cell;
 pub use rows::{Position, Rows, first_row};
-pub use runs::either_from;
+pub use runs::{either_from, here_or_from};
 pub use text::MOST_SEEN;

@@ -1,12 +1,12 @@
 //! Where rows end.
-ghost use Rattle.std.specs.Prelude.{◌≡◌, ◌≢◌, ◌<◌, ◌≤◌, ◌++◌, [], ℕ, List, None, IfSome, length, take, drop};
+ghost use Rattle.std.specs.Prelude.{◌≡◌, ◌≢◌, ◌+◌, ◌<◌, ◌≤◌, ◌++◌, [], ℕ, List, None, IfSome, get_or, length, take, drop, true};
 ghost use Rattle.mmdb_filter.specs.Lines.{text_of};
 ghost use Rattle.mmdb_filter.specs.Rows.{position_after, row_from, rows_after, Goes};
 ghost use Rattle.mmdb_filter.specs.Working.{position_behind};
 ghost use Rattle.mmdb_filter.specs.declared.rows.Position.TheVariants as spec_position;
 ghost use Rattle.mmdb_filter.specs.declared.rows.Rows.TheVariants.{Csv};
 
-use crate::runs::either_from;
+use crate::runs::{either_from, here_or_from};
 use crate::text::text_length;
 use memchr::memchr;
 
@@ -73,9 +73,27 @@ fn behind_run(delimiter: u8, now: Position, bytes: &[u8], from: usize, to: usize
     }
 }
 
+// Whether a delimiter stands at an index, and a quote behind it, so that a cell in quotes begins there.
+#[inline(always)]
+#[tactic(auto, unfolding(crate::specs::Rows::position_after))]
+fn next_is_quoted(delimiter: u8, bytes: &[u8], at: usize) -> bool
+    requires { at ≤ length bytes.now }
+    ensures within { result ≡ true → at + 1 < length bytes.now }
+    ensures cell { result ≡ true → position_after (Csv delimiter) spec_position.Closing
+        (get_or bytes.now at 0) ≡ spec_position.Cell }
+    ensures quoted { result ≡ true → position_after (Csv delimiter) spec_position.Cell
+        (get_or bytes.now (at + 1) 0) ≡ spec_position.Quoted }
+{
+    at + 1 < bytes.len()
+        && bytes[at] == delimiter
+        && bytes[at + 1] == b'"'
+        && delimiter != b'\n'
+        && delimiter != b'"'
+}
+
 // How many of the bytes belong to a row of CSV, and the position behind them. Between quotes it goes to the next quote, else
-// to the next one or a line feed, since the bytes before these are passed many at a time. What stands behind a quote is
-// mostly a quote or a delimiter, and is looked at alone.
+// to the next one or a line feed, since the bytes before these are passed many at a time. Cells in quotes mostly stand side
+// by side, so what leads from one to the next is passed at once.
 fn scan_quotes(delimiter: u8, position: Position, bytes: &[u8]) -> (usize, Position)
     requires { position ≢ spec_position.Ended }
     ensures within { result.0 ≤ length bytes.now }
@@ -88,20 +106,21 @@ fn scan_quotes(delimiter: u8, position: Position, bytes: &[u8]) -> (usize, Posit
     let mut now = position;
     let mut at = 0;
     while at < bytes.len() {
-        if now == Position::Ended {
-            return (at, now);
-        }
         if now == Position::Quoted {
-            let quote = either_from(bytes, at, b'"', b'"');
+            let quote = here_or_from(bytes, at, b'"', b'"');
             if quote >= bytes.len() {
                 return (quote, now);
             }
-            now = now.after(rows, bytes[quote]);
-            at = quote + 1;
+            if next_is_quoted(delimiter, bytes, quote + 1) {
+                at = quote + 3;
+            } else {
+                now = Position::Closing;
+                at = quote + 1;
+            }
             continue;
         }
-        if now == Position::Closing || bytes[at] == b'"' {
-            now = now.after(rows, bytes[at]);
+        if bytes[at] == b'"' {
+            now = now.after(rows, b'"');
             at += 1;
             continue;
         }
@@ -110,7 +129,10 @@ fn scan_quotes(delimiter: u8, position: Position, bytes: &[u8]) -> (usize, Posit
         if stop >= bytes.len() {
             return (stop, now);
         }
-        now = now.after(rows, bytes[stop]);
+        if bytes[stop] == b'\n' {
+            return (stop + 1, Position::Ended);
+        }
+        now = now.after(rows, b'"');
         at = stop + 1;
     }
     (at, now)

@@ -64,3 +64,17 @@ pub fn either_from(bytes: &[u8], from: usize, first: u8, second: u8) -> usize
     }
     short_either_from(bytes, at, first, second)
 }
+
+/// The same where it often stands at the index itself, which is looked at alone first.
+#[inline(always)]
+pub fn here_or_from(bytes: &[u8], from: usize, first: u8, second: u8) -> usize
+    requires { from ≤ length bytes.now }
+    ensures value { result ≡ from + prefix_len (is_neither first second) (drop from bytes.now) }
+    ensures bound { result ≤ length bytes.now }
+{
+    if from < bytes.len() && (bytes[from] == first || bytes[from] == second) {
+        from
+    } else {
+        either_from(bytes, from, first, second)
+    }
+}

@@ -7,6 +7,7 @@ mod helps;
 mod kept_rows;
 mod lists;
 mod memory;
+mod numbers;
 mod program;
 mod record_texts;
 mod rows;

@@ -5,4 +5,5 @@ mod behind;
 mod cells;
 mod faults;
 mod pieces;
+mod quotes;
 mod streams;

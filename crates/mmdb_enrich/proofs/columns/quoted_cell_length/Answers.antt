@@ -11,19 +11,19 @@ pub returns-then-quote-text-clause-length : goal.returns-then-quote-text-clause-
 returns-then-quote-text-clause-length c =
     let d = c.args.delimiter in
     let text = c.args.text.now in
-    let quote = c.either_from-quote.result in
+    let quote = c.here_or_from-quote.result in
     let other : (34 == d) ≡ false = ne_eqb 34 d (λ e. c.if-delimiter-ne34.true (sym e)) in
-    let inside = opened d c.loop-at.at quote text c.loop-at-test.true c.if-text-at-eq34.true other c.either_from-quote.ensures.bound c.either_from-quote.ensures.value in
+    let inside = opened d c.loop-at.at quote text c.loop-at-test.true c.if-text-at-eq34.true other c.here_or_from-quote.ensures.bound c.here_or_from-quote.ensures.value in
     omega (arith, c.loop-at.invariant.rest, inside, cell_ends (Csv d) Quoted text quote c.if-quote-text.true)
 
 pub loop-at-preserved : goal.loop-at-preserved
 loop-at-preserved c =
     let d = c.args.delimiter in
     let text = c.args.text.now in
-    let quote = c.either_from-quote.result in
+    let quote = c.here_or_from-quote.result in
     let other : (34 == d) ≡ false = ne_eqb 34 d (λ e. c.if-delimiter-ne34.true (sym e)) in
-    let inside = opened d c.loop-at.at quote text c.loop-at-test.true c.if-text-at-eq34.true other c.either_from-quote.ensures.bound c.either_from-quote.ensures.value in
-    let behind = closed d (c.loop-at.at + 1) quote text (omega arith) c.either_from-quote.ensures.value in
+    let inside = opened d c.loop-at.at quote text c.loop-at-test.true c.if-text-at-eq34.true other c.here_or_from-quote.ensures.bound c.here_or_from-quote.ensures.value in
+    let behind = closed d (c.loop-at.at + 1) quote text (omega arith) c.here_or_from-quote.ensures.value in
     record {
       rest = omega (arith, c.loop-at.invariant.rest, inside, behind);
       within = omega arith;
@@ -43,4 +43,4 @@ returns-clause-length c =
       | then-loop-at-test+else-text-at-eq34 w ↦ λ e. ne_eqb x 34 (λ is. w.if-text-at-eq34.false (sym same ∙ is))
       | else-loop-at-test w ↦ λ e. ap (λ xs. get_or xs 0 0 == 34) (drop_all at text w.loop-at-test.false)
     ] in
-    omega (arith, c.loop-at.invariant.rest, c.either_from.ensures.value, bare_length d (drop at text) bare)
+    omega (arith, c.loop-at.invariant.rest, c.here_or_from.ensures.value, bare_length d (drop at text) bare)
