@@ -116,20 +116,26 @@ impl<'a, S: AsSlice<u8> + Drop> Comparison<'a, S> {
         }
     }
 
-    // The block of both networks, where the two begin at an address and are the same. It is the largest one then.
+    // The block of the narrower one of the networks that both stand at, where it begins at an address and the other one holds
+    // it. It is the largest one then.
     #[inline(always)]
-    fn shared_block(&self, at: u128) -> Option<Block>
+    fn inner_block(&self, at: u128) -> Option<Block>
         ensures block { MatchOption result Unit (λ block. IsBlock block) }
         ensures first { MatchOption result Unit (λ block. block.first ≡ at) }
     {
-        if !self.old.begins_at(at) || !self.new.begins_at(at) {
+        if !self.old.has_begun(at) || !self.new.has_begun(at) {
             return None;
         }
+        let narrower = if self.old.prefix() < self.new.prefix() {
+            &self.new
+        } else {
+            &self.old
+        };
         let block = Block {
             first: at,
-            prefix: self.old.prefix(),
+            prefix: narrower.prefix(),
         };
-        if self.old.has_same_addresses(&self.new) && block.is_block() {
+        if narrower.first() == at && block.is_block() {
             Some(block)
         } else {
             None
@@ -161,8 +167,8 @@ impl<'a, S: AsSlice<u8> + Drop> Comparison<'a, S> {
         ensures some { MatchOption result Unit
             (λ part. IsNextPart self.entry.now self.exit.now part) }
     {
-        if let Some(block) = self.shared_block(at) {
-            self.are_even = true;
+        if let Some(block) = self.inner_block(at) {
+            self.are_even = self.old.prefix() == self.new.prefix();
             return Some(Part::Stretch(self.stretch_of(block, true, true)));
         }
         let (old, new) = (self.old.at(at), self.new.at(at));

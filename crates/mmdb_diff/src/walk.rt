@@ -210,10 +210,10 @@ impl<'a, S: AsSlice<u8> + Drop> Walk<'a, S> {
         }
     }
 
-    /// Whether it stands at a network that begins at an address.
+    /// Whether it stands at a network that begins at an address or before.
     #[inline(always)]
-    pub(crate) fn begins_at(&self, at: u128) -> bool {
-        self.stand == Stand::AtNetwork && self.first == at
+    pub(crate) fn has_begun(&self, at: u128) -> bool {
+        self.stand == Stand::AtNetwork && self.first <= at
     }
 
     /// Whether the network that it stands at has the addresses of another walk's.
