@@ -1,10 +1,12 @@
 //! Two databases side by side.
-ghost use Rattle.std.specs.Prelude.{Option, ℕ, MatchOption, IfOk, ◌≡◌, ◌≤◌};
+ghost use Rattle.std.specs.Prelude.{Option, MatchOption, IfOk, ◌≡◌, ◌+◌, if◌then◌else◌};
 ghost use Rattle.mmdb_blocks.specs.Blocks.{IsBlock, end};
-ghost use Rattle.mmdb_diff.specs.Parts.{IsNextPart, start_of};
+ghost use Rattle.mmdb_diff.specs.Coming.{coming_from};
+ghost use Rattle.mmdb_diff.specs.Listed.{all_of};
+ghost use Rattle.mmdb_diff.specs.Parts.{IsNextPart, IsOver, IsSameLeft, IsBegun, start_of};
 
-use crate::blocks::largest_block;
-use crate::walk::{Here, UnreadLeaf, Walk};
+use crate::walk::{UnreadLeaf, Walk};
+use crate::walks::{Both, Walks};
 use mmdb_blocks::Block;
 use mmdb_reader::{IpNetwork, LookupResult, MaxMindDbError, Reader};
 use std::alloc::Global;
@@ -39,8 +41,7 @@ pub enum Part {
 /// Two databases side by side. Memory is taken by `new` alone.
 #[derive(Drop)]
 pub struct Comparison<'a, S: AsSlice<u8> + Drop> {
-    old: Walk<'a, S>,
-    new: Walk<'a, S>,
+    walks: Walks<'a, S>,
     /// Whether the range is one of IPv4, so that all blocks are.
     is_ipv4: bool,
     /// The address up to which all is compared, if there is one left.
@@ -52,27 +53,31 @@ pub struct Comparison<'a, S: AsSlice<u8> + Drop> {
 }
 
 impl<'a, S: AsSlice<u8> + Drop> Model for Comparison<'a, S> {
-    ghost Value = { Option ℕ };
+    ghost use Rattle.mmdb_diff.specs.Coming.{Comparing};
+    ghost use Rattle.mmdb_diff.specs.Working.{comparing, IsComparing};
 
-    ghost view = { λ c. c.at };
+    ghost Value = { Comparing };
+
+    ghost view = { λ c. comparing c.at c.unread c.walks.old c.walks.new };
+
+    ghost invariant = { λ c. IsComparing c.at c.are_even c.unread c.walks.old c.walks.new };
 }
 
-// The address up to which something holds.
-fn until(here: Here) -> u128 {
-    match here {
-        Here::Record(last) | Here::Nothing(last) | Here::Unknown(last) => last,
-    }
+// The address behind another one, if there is one.
+#[inline(always)]
+fn next_to(last: u128) -> Option<u128>
+    ensures { start_of result ≡ last + 1 }
+{
+    last.checked_add(1)
 }
 
-// Whether there is a record.
-fn is_record(here: Here) -> bool {
-    matches!(here, Here::Record(_))
-}
-
-// Whether there is something to compare.
-fn is_compared(old: Here, new: Here) -> bool {
-    let is_known = !matches!(old, Here::Unknown(_)) && !matches!(new, Here::Unknown(_));
-    is_known && (is_record(old) || is_record(new))
+// The address behind a block, if there is one.
+#[inline(always)]
+fn behind(block: Block) -> Option<u128>
+    requires { IsBlock block }
+    ensures { start_of result ≡ end block }
+{
+    next_to(block.last())
 }
 
 impl<'a, S: AsSlice<u8> + Drop> Comparison<'a, S> {
@@ -83,7 +88,8 @@ impl<'a, S: AsSlice<u8> + Drop> Comparison<'a, S> {
         new: &'a Reader<S>,
         range: IpNetwork,
     ) -> Result<Comparison<'a, S>, (Side, MaxMindDbError)>
-        ensures { IfOk result (λ comparison. start_of comparison ≡ 0) }
+        ensures { IfOk result
+            (λ comparison. IsBegun (all_of old.now range) (all_of new.now range) comparison) }
     {
         let old = match Walk::new(alloc, old, range) {
             Ok(walk) => walk,
@@ -91,8 +97,7 @@ impl<'a, S: AsSlice<u8> + Drop> Comparison<'a, S> {
         };
         match Walk::new(alloc, new, range) {
             Ok(new) => Ok(Comparison {
-                old,
-                new,
+                walks: Walks { old, new },
                 is_ipv4: matches!(range, IpNetwork::V4(_)),
                 at: Some(0),
                 are_even: false,
@@ -102,122 +107,11 @@ impl<'a, S: AsSlice<u8> + Drop> Comparison<'a, S> {
         }
     }
 
-    // Goes on to an address in both, or names the side of a leaf that can't be read.
-    #[inline(always)]
-    fn go_to(&mut self, at: u128) -> Option<Side>
-        ensures { self.exit.now ≡ self.entry.now }
-    {
-        if !self.old.go_to(at) {
-            Some(Side::Old)
-        } else if !self.new.go_to(at) {
-            Some(Side::New)
-        } else {
-            None
-        }
-    }
-
-    // The block of both networks, where the two begin at an address and are the same. It is the largest one then.
-    #[inline(always)]
-    fn shared_block(&self, at: u128) -> Option<Block>
-        ensures block { MatchOption result Unit (λ block. IsBlock block) }
-        ensures first { MatchOption result Unit (λ block. block.first ≡ at) }
-    {
-        if !self.old.begins_at(at) || !self.new.begins_at(at) {
-            return None;
-        }
-        let block = Block {
-            first: at,
-            prefix: self.old.prefix(),
-        };
-        if self.old.has_same_addresses(&self.new) && block.is_block() {
-            Some(block)
-        } else {
-            None
-        }
-    }
-
-    // The stretch of a block. Goes behind it.
-    #[inline(always)]
-    fn stretch_of(&mut self, block: Block, has_old: bool, has_new: bool) -> Stretch
-        requires { IsBlock block }
-        ensures block { result.block ≡ block }
-        ensures behind { start_of self.exit.now ≡ end block }
-    {
-        self.at = block.last().checked_add(1);
-        let shows_ipv4 = has_old && self.old.is_ipv4() || has_new && self.new.is_ipv4();
-        Stretch {
-            block,
-            is_ipv4: self.is_ipv4 || shows_ipv4,
-            has_old,
-            has_new,
-        }
-    }
-
-    // The part of what both have at an address, if there is something to compare. Goes behind it.
-    fn part_at(&mut self, at: u128) -> Option<Part>
-        requires { start_of self.now ≡ at }
-        ensures none { MatchOption result (start_of self.entry.now ≤ start_of self.exit.now)
-            (λ _. Unit) }
-        ensures some { MatchOption result Unit
-            (λ part. IsNextPart self.entry.now self.exit.now part) }
-    {
-        if let Some(block) = self.shared_block(at) {
-            self.are_even = true;
-            return Some(Part::Stretch(self.stretch_of(block, true, true)));
-        }
-        let (old, new) = (self.old.at(at), self.new.at(at));
-        let last = until(old).min(until(new)).max(at);
-        if !is_compared(old, new) {
-            self.at = last.checked_add(1);
-            return None;
-        }
-        let block = largest_block(at, last);
-        let stretch = self.stretch_of(block, is_record(old), is_record(new));
-        Some(Part::Stretch(stretch))
-    }
-
-    // The block of the networks that both stand at, where that is one network, at an address or behind it.
-    #[inline(always)]
-    fn block_behind(&self, at: u128) -> Option<Block>
-        ensures block { MatchOption result Unit (λ block. IsBlock block) }
-        ensures behind { MatchOption result Unit (λ block. at ≤ block.first) }
-    {
-        if !self.old.is_at_network() || !self.new.is_at_network() {
-            return None;
-        }
-        let block = Block {
-            first: self.old.first(),
-            prefix: self.old.prefix(),
-        };
-        if self.old.has_same_addresses(&self.new) && at <= block.first && block.is_block() {
-            Some(block)
-        } else {
-            None
-        }
-    }
-
-    // Goes on from one network that both stand at to the next of each. Whether both can be read.
-    #[inline(always)]
-    fn go_on(&mut self) -> bool
-        ensures { self.exit.now ≡ self.entry.now }
-    {
-        if !self.old.go_on() {
-            self.unread = Some(Side::Old);
-            return false;
-        }
-        if !self.new.go_on() {
-            self.unread = Some(Side::New);
-            return false;
-        }
-        true
-    }
-
     /// The next stretch, where both databases had the same network before it and have the same next one. Most stretches of
     /// two days come this way, in fewer steps than by `next_part`, which gives what comes where this gives none.
     #[inline(always)]
     pub fn next_shared(&mut self) -> Option<Stretch>
-        ensures none { MatchOption result (self.exit.now ≡ self.entry.now) (λ _. Unit) }
-        ensures some { MatchOption result Unit
+        ensures { MatchOption result (IsSameLeft self.entry.now self.exit.now)
             (λ stretch. IsNextPart self.entry.now self.exit.now (Part.Stretch stretch)) }
     {
         if !self.are_even {
@@ -225,49 +119,65 @@ impl<'a, S: AsSlice<u8> + Drop> Comparison<'a, S> {
         }
         self.are_even = false;
         let at = self.at?;
-        if !self.go_on() {
+        self.unread = self.walks.go_on();
+        if self.unread.is_some() {
             return None;
         }
-        let block = self.block_behind(at)?;
+        let block = self.walks.shared_behind(at)?;
+        self.at = behind(block);
         self.are_even = true;
-        Some(self.stretch_of(block, true, true))
+        Some(self.walks.stretch_of(block, true, true, self.is_ipv4))
     }
 
     /// The next part. A stretch begins where the one before ends, or later. None where all is compared.
     pub fn next_part(&mut self) -> Option<Part>
-        ensures { MatchOption result Unit
+        ensures { MatchOption result (IsOver self.entry.now self.exit.now)
             (λ part. IsNextPart self.entry.now self.exit.now part) }
     {
         self.are_even = false;
         if let Some(side) = self.unread.take() {
             return Some(Part::Unread(side));
         }
-        for _ in 0..u64::MAX {
-            let at = self.at?;
-            if let Some(side) = self.go_to(at) {
+        while let Some(at) = self.at {
+            if let Some(side) = self.walks.go_to(at) {
                 return Some(Part::Unread(side));
             }
-            let part = self.part_at(at);
-            if part.is_some() {
-                return part;
+            match self.walks.at(at) {
+                Both::Skipped(last) => self.at = next_to(last),
+                Both::Compared {
+                    block,
+                    has_old,
+                    has_new,
+                    is_even,
+                } => {
+                    self.at = behind(block);
+                    self.are_even = is_even;
+                    let is_ipv4 = self.is_ipv4;
+                    let stretch = self.walks.stretch_of(block, has_old, has_new, is_ipv4);
+                    return Some(Part::Stretch(stretch));
+                }
             }
         }
         None
     }
 
     /// The leaf that can't be read of a side, where the last part names one.
-    pub fn take_unread(&mut self, side: Side) -> Option<UnreadLeaf> {
+    pub fn take_unread(&mut self, side: Side) -> Option<UnreadLeaf>
+        ensures { self.exit.now ≡ self.entry.now }
+    {
         match side {
-            Side::Old => self.old.take_unread(),
-            Side::New => self.new.take_unread(),
+            Side::Old => self.walks.old.take_unread(),
+            Side::New => self.walks.new.take_unread(),
         }
     }
 
     /// Where the record of the old database is in the last stretch, if it has one.
     #[inline(always)]
-    pub fn offset_in_old(&self, stretch: Stretch) -> Option<usize> {
+    pub fn offset_in_old(&self, stretch: Stretch) -> Option<usize>
+        ensures { result ≡ (if stretch.has_old then self.now.old_offset else None) }
+    {
         if stretch.has_old {
-            self.old.offset()
+            self.walks.old.offset()
         } else {
             None
         }
@@ -275,9 +185,11 @@ impl<'a, S: AsSlice<u8> + Drop> Comparison<'a, S> {
 
     /// Where the record of the new database is in the last stretch, if it has one.
     #[inline(always)]
-    pub fn offset_in_new(&self, stretch: Stretch) -> Option<usize> {
+    pub fn offset_in_new(&self, stretch: Stretch) -> Option<usize>
+        ensures { result ≡ (if stretch.has_new then self.now.new_offset else None) }
+    {
         if stretch.has_new {
-            self.new.offset()
+            self.walks.new.offset()
         } else {
             None
         }
@@ -286,7 +198,9 @@ impl<'a, S: AsSlice<u8> + Drop> Comparison<'a, S> {
     /// What the old database has in a stretch, if it has a record there.
     pub fn found_in_old(&self, stretch: Stretch) -> Option<LookupResult<'a, S>> {
         if stretch.has_old {
-            self.old.found_at(stretch.block.first, stretch.is_ipv4)
+            self.walks
+                .old
+                .found_at(stretch.block.first, stretch.is_ipv4)
         } else {
             None
         }
@@ -295,7 +209,9 @@ impl<'a, S: AsSlice<u8> + Drop> Comparison<'a, S> {
     /// What the new database has in a stretch, if it has a record there.
     pub fn found_in_new(&self, stretch: Stretch) -> Option<LookupResult<'a, S>> {
         if stretch.has_new {
-            self.new.found_at(stretch.block.first, stretch.is_ipv4)
+            self.walks
+                .new
+                .found_at(stretch.block.first, stretch.is_ipv4)
         } else {
             None
         }

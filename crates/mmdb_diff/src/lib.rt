@@ -4,6 +4,7 @@
 mod blocks;
 mod comparison;
 mod walk;
+mod walks;
 
 pub use comparison::{Comparison, Part, Side, Stretch};
 pub use walk::UnreadLeaf;

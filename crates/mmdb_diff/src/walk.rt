@@ -1,8 +1,18 @@
 //! The networks of one database.
+ghost use Rattle.std.specs.Prelude.{◌≡◌, ◌+◌, ◌-◌, ◌≤◌, ◌<◌, ◌↔◌, IsTrue, IfOk, MatchBool, true, false};
+ghost use Rattle.mmdb_blocks.specs.Blocks.{IsBlock, end};
+ghost use Rattle.mmdb_reader.specs.Enumeration.{items_to_come, database_walked};
+ghost use Rattle.mmdb_diff.specs.Coming.{coming, coming_from};
+ghost use Rattle.mmdb_diff.specs.Listed.{all_of, leaves_of_items, block_within as block_in_range};
+ghost use Rattle.mmdb_diff.specs.Working.{Standing, left_of, behind_of, IsMet, IsTaken, IsFrom, IsBehind, IsGone, IsStanding, IsHere};
+
 use mmdb_blocks::Block;
-use mmdb_reader::{IpNetwork, LookupResult, MaxMindDbError, Reader, Within, WithinOptions};
+use mmdb_reader::{
+    IpNetwork, LookupResult, MaxMindDbError, NumberedNetwork, Reader, Within, WithinOptions,
+};
 use std::alloc::Global;
 use std::convert::AsSlice;
+use std::marker::Model;
 use std::net::{IpAddr, Ipv4Addr, Ipv6Addr};
 
 /// A leaf that can't be read, and the network behind which it comes, if there is one.
@@ -13,8 +23,8 @@ pub struct UnreadLeaf {
 }
 
 // Where a walk stands.
-#[derive(Clone, Copy, PartialEq, Eq)]
-enum Stand {
+#[derive(Clone, Copy)]
+pub(crate) enum Stand {
     /// At no network: before the first one, or behind a leaf that can't be read.
     Nowhere,
     AtNetwork,
@@ -46,6 +56,23 @@ pub(crate) struct Walk<'a, S: AsSlice<u8> + Drop> {
     is_unknown: bool,
 }
 
+impl<'a, S: AsSlice<u8> + Drop> Model for Walk<'a, S> {
+    ghost use Rattle.mmdb_reader.specs.Enumeration.{items_to_come, database_walked};
+    ghost use Rattle.mmdb_diff.specs.Listed.{leaves_of_items};
+    ghost use Rattle.mmdb_diff.specs.Working.{Standing, IsStanding, standing};
+
+    ghost Value = { Standing };
+
+    ghost view = { λ w. standing w.stand w.first w.prefix w.offset (leaves_of_items
+        (database_walked w.networks) (record { first = w.range_first; prefix = w.range_prefix })
+        (items_to_come w.networks)) w.is_unknown };
+
+    ghost invariant = { λ w. IsStanding (record { first = w.range_first; prefix = w.range_prefix })
+        (standing w.stand w.first w.prefix w.offset (leaves_of_items (database_walked w.networks)
+        (record { first = w.range_first; prefix = w.range_prefix }) (items_to_come w.networks))
+        w.is_unknown) };
+}
+
 /// What a database has at an address, as far as the same holds.
 #[derive(Clone, Copy)]
 pub(crate) enum Here {
@@ -57,10 +84,25 @@ pub(crate) enum Here {
     Unknown(u128),
 }
 
-// The last address of those that begin with the same bits as the first one.
+// As much of a network as lies in a range. One that is wider than the range has all of it.
 #[inline(always)]
-fn last_of(first: u128, prefix: u8) -> u128 {
-    first | u128::MAX.checked_shr(u32::from(prefix)).unwrap_or(0)
+fn block_within(network: NumberedNetwork, range: Block) -> Block
+    requires prefix { network.prefix ≤ network.width }
+    requires width { network.width ≤ 128 }
+    ensures { result ≡ block_in_range range (record {
+      first = network.first;
+      prefix = 128 - network.width + network.prefix;
+    }) }
+{
+    let prefix = (128 - network.width + network.prefix) as u8;
+    if prefix < range.prefix {
+        range
+    } else {
+        Block {
+            first: network.first,
+            prefix,
+        }
+    }
 }
 
 impl<'a, S: AsSlice<u8> + Drop> Walk<'a, S> {
@@ -69,7 +111,9 @@ impl<'a, S: AsSlice<u8> + Drop> Walk<'a, S> {
         alloc: Global,
         reader: &'a Reader<S>,
         range: IpNetwork,
-    ) -> Result<Walk<'a, S>, MaxMindDbError> {
+    ) -> Result<Walk<'a, S>, MaxMindDbError>
+        ensures { IfOk result (λ walk. left_of walk ≡ all_of reader.now range) }
+    {
         let networks = reader.within(alloc, range, WithinOptions::default())?;
         let block = Block::of_network(range);
         Ok(Walk {
@@ -88,32 +132,12 @@ impl<'a, S: AsSlice<u8> + Drop> Walk<'a, S> {
         })
     }
 
-    // Stands at a network, of which the first address and the prefix are these. One that is wider than the range has all
-    // of it.
-    #[inline(always)]
-    fn stand_at(&mut self, first: u128, prefix: u8, is_ipv4: bool) {
-        if prefix < self.range_prefix {
-            self.first = self.range_first;
-            self.prefix = self.range_prefix;
-        } else {
-            self.first = first;
-            self.prefix = prefix;
-        }
-        self.is_ipv4 = is_ipv4;
-        self.stand = Stand::AtNetwork;
-    }
-
-    // Takes what was found as the next network.
-    #[inline(always)]
-    fn take(&mut self, found: &LookupResult<'a, S>) {
-        self.offset = found.offset();
-        let network = found.numbered_network();
-        let prefix = 128 - network.width + network.prefix;
-        self.stand_at(network.first, prefix as u8, network.width == 32);
-    }
-
     // Keeps a leaf behind the network that it stands at, which can't be read.
-    fn give(&mut self, error: MaxMindDbError) {
+    #[cold]
+    #[inline(never)]
+    fn give(&mut self, error: MaxMindDbError)
+        ensures { self.new ≡ record self.old { stand = Stand.Nowhere; is_unknown = true } }
+    {
         if let Some(found) = self.found() {
             self.behind = found.network().ok();
         }
@@ -125,12 +149,28 @@ impl<'a, S: AsSlice<u8> + Drop> Walk<'a, S> {
         });
     }
 
-    // Ends, or keeps the next leaf, which can't be read. Whether there is none.
-    #[cold]
-    #[inline(never)]
-    fn stop(&mut self, error: Option<MaxMindDbError>) -> bool {
-        match error {
-            Some(error) => {
+    // Takes the next network, or keeps the next leaf, if it can't be read. Whether it can.
+    #[inline(always)]
+    fn advance(&mut self) -> bool
+        ensures { let before = coming self.old.leaves self.old.is_unknown in
+            MatchBool result (IsTaken before self.new) (IsMet before self.new) }
+    {
+        match self.networks.next() {
+            Some(Ok(found)) => {
+                let range = Block {
+                    first: self.range_first,
+                    prefix: self.range_prefix,
+                };
+                let network = found.numbered_network();
+                let block = block_within(network, range);
+                self.first = block.first;
+                self.prefix = block.prefix;
+                self.is_ipv4 = network.width == 32;
+                self.offset = found.offset();
+                self.stand = Stand::AtNetwork;
+                true
+            }
+            Some(Err(error)) => {
                 self.give(error);
                 false
             }
@@ -141,28 +181,23 @@ impl<'a, S: AsSlice<u8> + Drop> Walk<'a, S> {
         }
     }
 
-    // Takes the next network, or keeps the next leaf, if it can't be read. Whether it can.
-    #[inline(always)]
-    fn advance(&mut self) -> bool {
-        match self.networks.next() {
-            Some(Ok(found)) => {
-                self.take(&found);
-                true
-            }
-            Some(Err(error)) => self.stop(Some(error)),
-            None => self.stop(None),
-        }
-    }
-
     // The last address of the network that it stands at.
     #[inline(always)]
-    fn last(&self) -> u128 {
-        last_of(self.first, self.prefix)
+    fn last(&self) -> u128
+        ensures { result + 1 ≡ end self.now.block }
+    {
+        let block = Block {
+            first: self.first,
+            prefix: self.prefix,
+        };
+        block.last()
     }
 
     // Whether the network that it stands at ends before an address, or there is none yet.
     #[inline(always)]
-    fn is_behind(&self, at: u128) -> bool {
+    fn is_behind(&self, at: u128) -> bool
+        ensures { MatchBool result (IsBehind at self.now) (IsFrom at self.now) }
+    {
         match self.stand {
             Stand::Nowhere => true,
             Stand::AtNetwork => self.last() < at,
@@ -170,18 +205,27 @@ impl<'a, S: AsSlice<u8> + Drop> Walk<'a, S> {
         }
     }
 
+    // Goes on from where it stands. Says whether the next leaf can be read.
+    #[inline(always)]
+    fn pass(&mut self) -> bool
+        ensures { let before = behind_of self.old in
+            MatchBool result (IsTaken before self.new) (IsMet before self.new) }
+    {
+        if matches!(self.stand, Stand::AtNetwork) {
+            self.is_unknown = false;
+        }
+        self.advance()
+    }
+
     /// Goes on to the network that holds an address, or to the next one. Says whether no leaf before it can't be read;
     /// `take_unread` has the one that can't.
     #[inline(always)]
-    pub(crate) fn go_to(&mut self, at: u128) -> bool {
-        for _ in 0..u64::MAX {
-            if !self.is_behind(at) {
-                return true;
-            }
-            if self.stand == Stand::AtNetwork {
-                self.is_unknown = false;
-            }
-            if !self.advance() {
+    pub(crate) fn go_to(&mut self, at: u128) -> bool
+        ensures { MatchBool result (IsGone at self.old self.new)
+            (IsMet (coming_from at (left_of self.old)) self.new) }
+    {
+        while self.is_behind(at) {
+            if !self.pass() {
                 return false;
             }
         }
@@ -191,16 +235,23 @@ impl<'a, S: AsSlice<u8> + Drop> Walk<'a, S> {
     /// Goes on from the network that it stands at, of which nothing is left. Says whether the next leaf can be read;
     /// `take_unread` has it, if not.
     #[inline(always)]
-    pub(crate) fn go_on(&mut self) -> bool {
+    pub(crate) fn go_on(&mut self) -> bool
+        ensures { let before = coming self.old.leaves false in
+            MatchBool result (IsTaken before self.new) (IsMet before self.new) }
+    {
         self.is_unknown = false;
         self.advance()
     }
 
     /// What the database has at an address.
-    pub(crate) fn at(&self, at: u128) -> Here {
+    #[inline(always)]
+    pub(crate) fn at(&self, at: u128) -> Here
+        requires { IsFrom at self.now }
+        ensures { IsHere self.now at result }
+    {
         let until = match self.stand {
             Stand::AtNetwork if self.first <= at => return Here::Record(self.last()),
-            Stand::AtNetwork => self.first.saturating_sub(1),
+            Stand::AtNetwork => self.first - 1,
             Stand::Nowhere | Stand::AtEnd => u128::MAX,
         };
         if self.is_unknown {
@@ -210,39 +261,57 @@ impl<'a, S: AsSlice<u8> + Drop> Walk<'a, S> {
         }
     }
 
-    /// Whether it stands at a network that begins at an address.
+    /// Whether it stands at a network that begins at an address or before.
     #[inline(always)]
-    pub(crate) fn begins_at(&self, at: u128) -> bool {
-        self.stand == Stand::AtNetwork && self.first == at
+    pub(crate) fn has_begun(&self, at: u128) -> bool
+        ensures { IsTrue result
+            ↔ ((self.now.stand ≡ Stand.AtNetwork) × (self.now.block.first ≤ at)) }
+    {
+        self.is_at_network() && self.first <= at
     }
 
     /// Whether the network that it stands at has the addresses of another walk's.
     #[inline(always)]
-    pub(crate) fn has_same_addresses(&self, other: &Walk<'_, S>) -> bool {
+    pub(crate) fn has_same_addresses(&self, other: &Walk<'_, S>) -> bool
+        ensures { IsTrue result ↔ (self.now.block ≡ other.now.block) }
+    {
         self.first == other.first && self.prefix == other.prefix
     }
 
     /// Whether it stands at a network.
     #[inline(always)]
-    pub(crate) fn is_at_network(&self) -> bool {
-        self.stand == Stand::AtNetwork
+    pub(crate) fn is_at_network(&self) -> bool
+        ensures { IsTrue result ↔ (self.now.stand ≡ Stand.AtNetwork) }
+    {
+        matches!(self.stand, Stand::AtNetwork)
     }
 
-    /// The first address of the network that it stands at.
+    /// The block of the network that it stands at.
     #[inline(always)]
-    pub(crate) fn first(&self) -> u128 {
-        self.first
+    pub(crate) fn block(&self) -> Block
+        ensures value { result ≡ self.now.block }
+        ensures block { IsBlock result }
+    {
+        Block {
+            first: self.first,
+            prefix: self.prefix,
+        }
     }
 
     /// The prefix of the network that it stands at.
     #[inline(always)]
-    pub(crate) fn prefix(&self) -> u8 {
+    pub(crate) fn prefix(&self) -> u8
+        ensures value { result ≡ self.now.block.prefix }
+        ensures block { IsBlock self.now.block }
+    {
         self.prefix
     }
 
     /// Where the record of the network is that it stands at, if there is one.
     #[inline(always)]
-    pub(crate) fn offset(&self) -> Option<usize> {
+    pub(crate) fn offset(&self) -> Option<usize>
+        ensures { result ≡ self.now.offset }
+    {
         self.offset
     }
 
@@ -272,7 +341,9 @@ impl<'a, S: AsSlice<u8> + Drop> Walk<'a, S> {
     }
 
     /// The last leaf that can't be read.
-    pub(crate) fn take_unread(&mut self) -> Option<UnreadLeaf> {
+    pub(crate) fn take_unread(&mut self) -> Option<UnreadLeaf>
+        ensures { self.exit.now ≡ self.entry.now }
+    {
         self.unread.take()
     }
 }

@@ -1,8 +1,9 @@
 //! Two databases side by side, over trees that are made: networks that both have, taken in fewer steps, beside all taken
-//! one by one.
+//! one by one; and the stretches beside the networks of each database.
 use super::record_texts::Numbers;
+use mmdb_blocks::Block;
 use mmdb_diff::{Comparison, Part, Side, Stretch};
-use mmdb_reader::{IpNetwork, Reader};
+use mmdb_reader::{IpNetwork, Reader, WithinOptions};
 use mmdb_vectors::builder::{Field, changed_file, nodes_24};
 use std::alloc::{AllocError, Global};
 use std::net::{IpAddr, Ipv4Addr, Ipv6Addr};
@@ -253,6 +254,123 @@ fn assert_same(
     (lines.shared, count)
 }
 
+/// A network as much of it as lies in a range: its first and its last address, and where its record is.
+type Network = (u128, u128, Option<usize>);
+
+// The networks of a database in a range.
+fn networks_of(
+    rt: &impl Abort,
+    alloc: Global,
+    database: &Database,
+    range: IpNetwork,
+) -> Vec<Network> {
+    let whole = Block::of_network(range);
+    let mut networks = Vec::new(alloc);
+    let found = database.within(alloc, range, WithinOptions::default());
+    for item in found.expect(rt, "a list") {
+        let found = item.expect(rt, "no fault");
+        let block = Block::of_network(found.network().expect(rt, "a network"));
+        let network = (
+            block.first.max(whole.first),
+            block.last().min(whole.last()),
+            found.offset(),
+        );
+        networks.push(network).expect(rt, "memory");
+    }
+    networks
+}
+
+// What the networks have for all addresses of a block, if they have one.
+fn offset_in(networks: &[Network], block: Block, last: u128) -> Option<usize> {
+    let network = networks
+        .iter()
+        .find(|network| network.0 <= block.first && last <= network.1)?;
+    network.2
+}
+
+// How many addresses a network and another one have both.
+fn shared_count(one: Network, other: Network) -> u128 {
+    let (first, last) = (one.0.max(other.0), one.1.min(other.1));
+    if first <= last {
+        (last - first).wrapping_add(1)
+    } else {
+        0
+    }
+}
+
+// How many addresses one of two lists of networks has, or both.
+fn joint_count(old: &[Network], new: &[Network]) -> u128 {
+    let mut count = 0u128;
+    for network in old {
+        count = count.wrapping_add(shared_count(*network, *network));
+    }
+    for network in new {
+        count = count.wrapping_add(shared_count(*network, *network));
+        for other in old {
+            count = count.wrapping_sub(shared_count(*network, *other));
+        }
+    }
+    count
+}
+
+// Asserts that each stretch has what the networks of the databases have, and that all their addresses are in stretches; how
+// many stretches there are.
+fn assert_of_networks(
+    rt: &impl Abort,
+    alloc: Global,
+    databases: (&Database, &Database),
+    range: IpNetwork,
+    seed: u64,
+) -> usize {
+    let old = networks_of(rt, alloc, databases.0, range);
+    let new = networks_of(rt, alloc, databases.1, range);
+    let (mut addresses, mut next, mut count) = (0u128, Some(0u128), 0usize);
+    let compared = Comparison::new(alloc, databases.0, databases.1, range);
+    let mut comparison = match compared {
+        Ok(comparison) => comparison,
+        Err((_, error)) => {
+            drop(error);
+            return 0;
+        }
+    };
+    for _ in 0..2000 {
+        let stretch = match comparison.next_shared() {
+            Some(stretch) => stretch,
+            None => match comparison.next_part() {
+                Some(Part::Stretch(stretch)) => stretch,
+                _ => break,
+            },
+        };
+        let block = stretch.block;
+        assert!(rt; block.is_block(), "{seed} {range}: {block:?} is no block");
+        let last = block.last();
+        let is_behind = next.is_some_and(|next| next <= block.first);
+        assert!(rt;
+            is_behind,
+            "{seed} {range}: {block:?} is not behind the one before it"
+        );
+        let wanted = (offset_in(&old, block, last), offset_in(&new, block, last));
+        let given = (
+            comparison.offset_in_old(stretch),
+            comparison.offset_in_new(stretch),
+        );
+        assert!(rt;
+            wanted == given,
+            "{seed} {range} {block:?}: {given:?}, not {wanted:?}"
+        );
+        addresses = addresses.wrapping_add(last - block.first).wrapping_add(1);
+        next = last.checked_add(1);
+        count = count.saturating_add(1);
+    }
+    drop(comparison);
+    let wanted = joint_count(&old, &new);
+    assert!(rt;
+        addresses == wanted,
+        "{seed} {range}: {addresses} addresses, not {wanted}"
+    );
+    count
+}
+
 // A range of some bits of an address.
 fn range_of(rt: &impl Abort, numbers: &mut Numbers, is_ipv6: bool) -> IpNetwork {
     let prefix = (numbers.below(12) & 15) as u8;
@@ -283,6 +401,13 @@ fn assert_made(rt: &impl Abort, alloc: Global, seed: u64, faults_of_1000: usize)
             range = IpNetwork::new(range.ip(), 0).expect(rt, "a network");
         }
         let (some, lines) = assert_same(rt, alloc, (&old, &new), range, seed);
+        if faults_of_1000 == 0 {
+            let stretches = assert_of_networks(rt, alloc, (&old, &new), range, seed);
+            assert!(rt;
+                stretches.saturating_add(2) == lines,
+                "{seed} {range}: {stretches} and {lines}"
+            );
+        }
         shared = shared.saturating_add(some);
         count = count.saturating_add(lines);
     }

@@ -1,7 +1,15 @@
-use Rattle.std.proofs.Common.{◌≤◌}
+use Rattle.std.proofs.Common.{◌-◌, ◌^◌, ◌≡◌, None, false}
 use Rattle.mmdb_diff.specs.Parts.{start_of}
+use Rattle.mmdb_diff.specs.Working.{IsReached, comparing, IsOnWay}
 use Rattle.mmdb_diff.proofs.comparison.Comparison.next_part.Given as goal
 
--- a round does not go back
-abbrev pub invariant-loop : goal.invariant-loop
-invariant-loop g l = start_of l.initial.self ≤ start_of l.self
+-- what came before is skipped, and the rest is left
+abbrev pub invariant-loop-self : goal.invariant-loop-self
+invariant-loop-self g l =
+    let first = l.initial.self-inside in
+    let inside = l.self-inside in
+    IsOnWay (comparing first.at None first.walks.old first.walks.new) (comparing inside.at None inside.walks.old inside.walks.new) inside.are_even inside.unread
+
+-- each round skips an address
+abbrev pub decreases-loop-self : goal.decreases-loop-self
+decreases-loop-self g l = 2 ^ 128 - start_of l.self-inside.at

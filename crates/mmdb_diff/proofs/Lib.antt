@@ -1,0 +1,5 @@
+pub mod BlockLaws
+pub mod ComingLaws
+pub mod WalkLaws
+pub mod PartLaws
+pub mod ListedLaws
