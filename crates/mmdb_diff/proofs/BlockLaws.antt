@@ -1,11 +1,10 @@
 -- Blocks and the bits that their addresses begin with.
-use Rattle.std.proofs.Common.{◌≡◌, ℕ, ◌+◌, ◌-◌, ◌*◌, ◌/◌, ◌%◌, ◌^◌, ◌<◌, ◌≤◌, Bool, List, ◌++◌, length, take, refl, ap, arith, sym, ◌∙◌}
+use Rattle.std.proofs.Common.{◌≡◌, ℕ, ◌+◌, ◌-◌, ◌*◌, ◌/◌, ◌%◌, ◌^◌, ◌<◌, ◌≤◌, Bool, List, ◌++◌, length, take, ap, arith, sym, ◌∙◌}
 use Rattle.std.proofs.lemmas.List.{length-take-le}
-use Rattle.std.proofs.lemmas.Nat.{pow_pos}
 use Rattle.mmdb_net.specs.Bits.{bits_of, zero_bits, number_of}
 use Rattle.mmdb_net.proofs.BitLaws.{length-bits_of, bits_of-split, take-bits_of, bits_of-shifted, number_of-bits_of, number_of-filled}
 use Rattle.mmdb_blocks.specs.declared.block.Block.{Block}
-use Rattle.mmdb_blocks.specs.Blocks.{size, end, IsBlock}
+use Rattle.mmdb_blocks.specs.Blocks.{end, IsBlock}
 use Rattle.mmdb_blocks.proofs.NumberLaws.{quotient, nested, same-start}
 use Rattle.mmdb_diff.specs.Coming.{block_of_bits}
 

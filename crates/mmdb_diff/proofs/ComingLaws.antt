@@ -1,13 +1,13 @@
 -- Laws of what is still to come.
-use Rattle.std.proofs.Common.{◌≡◌, ℕ, ◌+◌, ◌<◌, ◌≤◌, ◌⊎◌, inl, inr, Bool, true, false, cond, List, [], ◌∷◌, Option, refl, ap, arith, sym, ◌∙◌}
+use Rattle.std.proofs.Common.{◌≡◌, ℕ, ◌<◌, ◌≤◌, inl, inr, Bool, false, List, [], ◌∷◌, Option, refl, ap, arith, sym, ◌∙◌}
 use Rattle.std.proofs.lemmas.Bool.{cases_lt, lt-ltb}
 use Rattle.std.proofs.Math.Dec.{ltb}
 use Rattle.std.proofs.lemmas.Bool.Decides.{nat_tests}
 use Rattle.mmdb_blocks.specs.declared.block.Block.{Block}
 use Rattle.mmdb_blocks.specs.Blocks.{end}
-use Rattle.mmdb_diff.specs.Coming.{Leaf, Coming, coming, passed, coming_from, Answer, answer_of, answer_at, between}
+use Rattle.mmdb_diff.specs.Coming.{Leaf, Coming, coming, passed, coming_from, answer_of, answer_at, between}
 use Rattle.mmdb_diff.specs.Coming.Leaf.{Network, Unread}
-use Rattle.mmdb_diff.specs.Coming.Answer.{Record, Nothing, Unknown, Unreadable}
+use Rattle.mmdb_diff.specs.Coming.Answer.{Record}
 
 -- a network that is not passed stays
 pub stays : (at : ℕ) (block : Block) (offset : Option ℕ) (leaves : List Leaf) (u : Bool) → at < end block → passed at (Network block offset ∷ leaves) u ≡ coming (Network block offset ∷ leaves) u

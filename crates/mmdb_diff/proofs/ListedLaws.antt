@@ -1,5 +1,5 @@
 -- Networks that the reader lists, as blocks.
-use Rattle.std.proofs.Common.{◌≡◌, ℕ, ◌+◌, ◌-◌, ◌*◌, ◌/◌, ◌%◌, ◌^◌, ◌<◌, ◌≤◌, Bool, true, false, List, [], ◌∷◌, ◌++◌, Option, nat_eq, nat_lt, take, refl, ap, arith, sym, subst, ◌∙◌, eqb-true, if◌then◌else◌}
+use Rattle.std.proofs.Common.{◌≡◌, ℕ, ◌+◌, ◌-◌, ◌*◌, ◌/◌, ◌%◌, ◌^◌, ◌<◌, ◌≤◌, Bool, true, false, List, [], ◌∷◌, ◌++◌, Option, nat_eq, take, refl, ap, arith, sym, subst, ◌∙◌, eqb-true, if◌then◌else◌}
 use Rattle.std.proofs.lemmas.Bool.{lt-ltb}
 use Rattle.std.proofs.lemmas.Bool.Decides.{nat_tests}
 use Rattle.std.proofs.lemmas.Nat.{pow_pos}
@@ -8,10 +8,10 @@ use Rattle.std.proofs.Math.Nat.{mul-mod_left}
 use Rattle.mmdb_net.specs.Bits.{bits_of, zero_bits}
 use Rattle.mmdb_net.specs.declared.network.IpNetwork.{IpNetwork}
 use Rattle.mmdb_blocks.specs.declared.block.Block.{Block}
-use Rattle.mmdb_blocks.specs.Blocks.{IsBlock, end, size}
+use Rattle.mmdb_blocks.specs.Blocks.{IsBlock}
 use Rattle.mmdb_blocks.specs.Networks.{network_bits}
 use Rattle.mmdb_blocks.proofs.NetworkLaws.{wide_bits}
-use Rattle.mmdb_reader.specs.File.{Database, width, before_ipv4, has_ipv6}
+use Rattle.mmdb_reader.specs.File.{Database, width, has_ipv6}
 use Rattle.mmdb_reader.specs.Items.{Item, items_of}
 use Rattle.mmdb_reader.specs.Items.Item.{Network as ItemNetwork}
 use Rattle.mmdb_reader.specs.Listing.{listed}

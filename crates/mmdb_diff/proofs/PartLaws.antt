@@ -1,18 +1,17 @@
 -- Laws of parts.
-use Rattle.std.proofs.Common.{◌≡◌, ℕ, ◌+◌, ◌^◌, ◌<◌, ◌≤◌, ◌⊎◌, inl, inr, Bool, true, false, ◌||◌, List, [], ◌∷◌, Option, Some, None, refl, ap, arith, sym, subst, ◌∙◌, if◌then◌else◌}
+use Rattle.std.proofs.Common.{◌≡◌, ℕ, ◌+◌, ◌≤◌, inl, inr, Bool, true, false, ◌||◌, Option, Some, None, refl, ap, arith, sym, subst, ◌∙◌, if◌then◌else◌}
 use Rattle.std.proofs.lemmas.Bool.{cases_lt}
 use Rattle.mmdb_blocks.specs.declared.block.Block.{Block}
-use Rattle.mmdb_blocks.specs.Blocks.{end, IsBlock, IsWithin}
+use Rattle.mmdb_blocks.specs.Blocks.{end, IsBlock}
 use Rattle.mmdb_diff.specs.declared.walk.Stand.{Stand}
-use Rattle.mmdb_diff.specs.declared.walk.Stand.TheVariants.{Nowhere, AtNetwork, AtEnd}
+use Rattle.mmdb_diff.specs.declared.walk.Stand.TheVariants.{Nowhere}
 use Rattle.mmdb_diff.specs.declared.comparison.Side.{Side}
 use Rattle.mmdb_diff.specs.declared.comparison.Side.TheVariants.{Old, New}
 use Rattle.mmdb_diff.specs.declared.comparison.Stretch.{Stretch}
-use Rattle.mmdb_diff.specs.Coming.{Leaf, Coming, Comparing, Answer, coming, passed, coming_from, answer_at}
-use Rattle.mmdb_diff.specs.Coming.Leaf.{Network, Unread}
+use Rattle.mmdb_diff.specs.Coming.{Coming, Comparing, coming, coming_from, answer_at}
 use Rattle.mmdb_diff.specs.Coming.Answer.{Record, Nothing}
-use Rattle.mmdb_diff.specs.Parts.{start_of, IsSkipped, IsSkippedTo, IsAnswered, IsPast, IsPastIn, IsNextStretch, IsNextUnread}
-use Rattle.mmdb_diff.specs.Working.{Standing, left_of, IsMet, IsMetIn, IsGone, AreGone, AreFrom, IsFrom, IsSkippedAt, IsComparedAt, IsDone, IsComparing, IsBehindUnread, IsReached, comparing, is_old, is_new}
+use Rattle.mmdb_diff.specs.Parts.{start_of, IsAnswered, IsPast, IsNextStretch, IsNextUnread}
+use Rattle.mmdb_diff.specs.Working.{Standing, left_of, IsMet, IsMetIn, IsGone, AreGone, IsSkippedAt, IsComparedAt, IsComparing, IsBehindUnread, IsReached, comparing, is_old, is_new}
 use Rattle.mmdb_diff.proofs.ComingLaws.{once_more, same_answer}
 use Rattle.mmdb_diff.proofs.WalkLaws.{from_stays}
 

@@ -1,15 +1,15 @@
 -- Laws of walks.
-use Rattle.std.proofs.Common.{◌≡◌, ℕ, ◌+◌, ◌-◌, ◌^◌, ◌*◌, ◌<◌, ◌≤◌, ◌⊎◌, inl, inr, Bool, true, false, List, [], ◌∷◌, Option, length, refl, ap, arith, sym, ◌∙◌}
+use Rattle.std.proofs.Common.{◌≡◌, ℕ, ◌+◌, ◌-◌, ◌^◌, ◌*◌, ◌<◌, ◌≤◌, ◌⊎◌, inl, inr, Bool, true, List, ◌∷◌, Option, length, refl, ap, arith, sym, ◌∙◌}
 use Rattle.mmdb_blocks.specs.declared.block.Block.{Block}
 use Rattle.mmdb_blocks.specs.Blocks.{end, size, IsBlock}
 use Rattle.mmdb_diff.specs.declared.walk.Stand.{Stand}
 use Rattle.mmdb_diff.specs.declared.walk.Stand.TheVariants.{Nowhere, AtNetwork, AtEnd}
 use Rattle.mmdb_diff.specs.Coming.{Leaf, Coming, coming, passed, coming_from}
-use Rattle.mmdb_diff.specs.Coming.Leaf.{Network, Unread}
+use Rattle.mmdb_diff.specs.Coming.Leaf.{Network}
 use Rattle.mmdb_diff.specs.Working.{Standing, left_at, left_of, behind_at, behind_of, IsFromAt, IsFrom, IsBehindAt, IsBehind, IsTakenAt, IsTaken, steps_left, step_to_end, StandsAround, IsDone}
 use Rattle.mmdb_diff.specs.Parts.{IsAnswered}
 use Rattle.mmdb_diff.proofs.BlockLaws.{inside, one_block}
-use Rattle.mmdb_diff.proofs.ComingLaws.{stays, goes, answer_inside, answer_before}
+use Rattle.mmdb_diff.proofs.ComingLaws.{stays, goes, answer_inside}
 
 -- what is left behind a network that ends there is what comes behind it
 pub passed_behind : (stand : Stand) (at : ℕ) (block : Block) (offset : Option ℕ) (leaves : List Leaf) (u : Bool) → IsBehindAt stand at block → coming_from at (left_at stand block offset leaves u) ≡ coming_from at (behind_at stand leaves u)

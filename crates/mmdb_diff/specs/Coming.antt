@@ -1,5 +1,5 @@
 -- What is still to come of a database in a range, and what it answers for an address.
-use Rattle.std.specs.Prelude.{ℕ, length, Bool, true, false, List, [], ◌∷◌, Option, if◌then◌else◌, nat_lt}
+use Rattle.std.specs.Prelude.{ℕ, length, Bool, false, List, [], ◌∷◌, Option, if◌then◌else◌, nat_lt}
 use Rattle.mmdb_blocks.specs.declared.block.Block.{Block}
 use Rattle.mmdb_blocks.specs.Blocks.{end}
 use Rattle.mmdb_net.specs.Bits.{number_of}

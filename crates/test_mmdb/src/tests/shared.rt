@@ -288,6 +288,17 @@ fn offset_in(networks: &[Network], block: Block, last: u128) -> Option<usize> {
     network.2
 }
 
+// Whether a block is a whole network.
+fn is_network(networks: &[Network], block: Block, last: u128) -> bool {
+    networks
+        .iter()
+        .any(|network| network.0 == block.first && last == network.1)
+}
+
+/// How many stretches are no network of either database, one of the old database alone, one of the new one alone, and one
+/// of both.
+type Kinds = [usize; 4];
+
 // How many addresses a network and another one have both.
 fn shared_count(one: Network, other: Network) -> u128 {
     let (first, last) = (one.0.max(other.0), one.1.min(other.1));
@@ -315,12 +326,13 @@ fn joint_count(old: &[Network], new: &[Network]) -> u128 {
 
 // Asserts that each stretch has what the networks of the databases have, and that all their addresses are in stretches; how
 // many stretches there are.
-fn assert_of_networks(
+fn assert_of_networks<'a>(
     rt: &impl Abort,
     alloc: Global,
-    databases: (&Database, &Database),
+    databases: (&'a Database, &'a Database),
     range: IpNetwork,
     seed: u64,
+    kinds: &mut Kinds,
 ) -> usize {
     let old = networks_of(rt, alloc, databases.0, range);
     let new = networks_of(rt, alloc, databases.1, range);
@@ -358,6 +370,13 @@ fn assert_of_networks(
             wanted == given,
             "{seed} {range} {block:?}: {given:?}, not {wanted:?}"
         );
+        let kind = match (is_network(&old, block, last), is_network(&new, block, last)) {
+            (false, false) => 0,
+            (true, false) => 1,
+            (false, true) => 2,
+            (true, true) => 3,
+        };
+        kinds[kind] = kinds[kind].saturating_add(1);
         addresses = addresses.wrapping_add(last - block.first).wrapping_add(1);
         next = last.checked_add(1);
         count = count.saturating_add(1);
@@ -384,7 +403,13 @@ fn range_of(rt: &impl Abort, numbers: &mut Numbers, is_ipv6: bool) -> IpNetwork 
 }
 
 // Asserts of two made trees, of all their addresses and of some ranges.
-fn assert_made(rt: &impl Abort, alloc: Global, seed: u64, faults_of_1000: usize) -> (usize, usize) {
+fn assert_made(
+    rt: &impl Abort,
+    alloc: Global,
+    seed: u64,
+    faults_of_1000: usize,
+    kinds: &mut Kinds,
+) -> (usize, usize) {
     let mut numbers = Numbers { state: seed };
     let is_ipv6 = seed % 2 == 1;
     let mut nodes = tree_of(alloc, &mut numbers, is_ipv6, faults_of_1000).expect(rt, "a tree");
@@ -402,7 +427,7 @@ fn assert_made(rt: &impl Abort, alloc: Global, seed: u64, faults_of_1000: usize)
         }
         let (some, lines) = assert_same(rt, alloc, (&old, &new), range, seed);
         if faults_of_1000 == 0 {
-            let stretches = assert_of_networks(rt, alloc, (&old, &new), range, seed);
+            let stretches = assert_of_networks(rt, alloc, (&old, &new), range, seed, kinds);
             assert!(rt;
                 stretches.saturating_add(2) == lines,
                 "{seed} {range}: {stretches} and {lines}"
@@ -416,10 +441,11 @@ fn assert_made(rt: &impl Abort, alloc: Global, seed: u64, faults_of_1000: usize)
 
 #[test]
 fn shared_networks_as_one_by_one(rt: HostRuntime) {
+    let mut kinds = [0; 4];
     for faults_of_1000 in [0, 5, 100] {
         let (mut shared, mut count) = (0usize, 0usize);
         for seed in 0..40u64 {
-            let (some, lines) = assert_made(&rt, rt.alloc(), seed, faults_of_1000);
+            let (some, lines) = assert_made(&rt, rt.alloc(), seed, faults_of_1000, &mut kinds);
             shared = shared.saturating_add(some);
             count = count.saturating_add(lines);
         }
@@ -427,5 +453,8 @@ fn shared_networks_as_one_by_one(rt: HostRuntime) {
             shared > 500 && shared < count,
             "{faults_of_1000}: {shared} of {count}"
         );
+    }
+    for count in kinds {
+        assert!(rt; count > 30, "{kinds:?}");
     }
 }

@@ -1,4 +1,4 @@
-use Rattle.std.proofs.Common.{◌≡◌, refl, ◌∙◌}
+use Rattle.std.proofs.Common.{refl, ◌∙◌}
 use Rattle.mmdb_diff.specs.Working.{left_of}
 use Rattle.mmdb_diff.proofs.ListedLaws.{from_first}
 use Rattle.mmdb_diff.proofs.comparison.Comparison.new.Goals as goal

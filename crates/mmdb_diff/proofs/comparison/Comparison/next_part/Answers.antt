@@ -2,7 +2,7 @@ use Rattle.std.proofs.Common.{Option, Some, None, ◌≡◌, ℕ, ap, sym, subst
 use Rattle.mmdb_diff.specs.declared.comparison.Side.{Side}
 use Rattle.mmdb_diff.specs.Coming.{Comparing}
 use Rattle.mmdb_diff.specs.Parts.{IsNextUnread, IsNextStretch}
-use Rattle.mmdb_diff.specs.Working.{comparing, is_old, is_new, IsReached, AreGone}
+use Rattle.mmdb_diff.specs.Working.{comparing, is_old, is_new, IsReached}
 use Rattle.mmdb_diff.proofs.PartLaws.{unread_before, reached_start, reached_gone, reached_skipped, reached_stretch}
 use Rattle.mmdb_diff.proofs.comparison.Comparison.next_part.Goals as goal
 

@@ -1,6 +1,6 @@
-use Rattle.std.proofs.Common.{◌-◌, ◌^◌, ◌≡◌, None, false}
+use Rattle.std.proofs.Common.{◌-◌, ◌^◌, None}
 use Rattle.mmdb_diff.specs.Parts.{start_of}
-use Rattle.mmdb_diff.specs.Working.{IsReached, comparing, IsOnWay}
+use Rattle.mmdb_diff.specs.Working.{comparing, IsOnWay}
 use Rattle.mmdb_diff.proofs.comparison.Comparison.next_part.Given as goal
 
 -- what came before is skipped, and the rest is left

@@ -1,4 +1,4 @@
-use Rattle.std.proofs.Common.{◌≡◌, ◌∷◌, Bool, List, refl, ap, sym, ◌∙◌}
+use Rattle.std.proofs.Common.{◌∷◌, List, ap, sym, ◌∙◌}
 use Rattle.mmdb_blocks.specs.declared.block.Block.{Block}
 use Rattle.mmdb_reader.specs.Enumeration.{database_walked}
 use Rattle.mmdb_diff.specs.Coming.{Leaf, coming}

@@ -1,4 +1,3 @@
-use Rattle.std.proofs.Common.{◌≡◌}
 use Rattle.mmdb_diff.proofs.ListedLaws.{begun}
 use Rattle.mmdb_diff.proofs.walk.Walk.new.Goals as goal
 

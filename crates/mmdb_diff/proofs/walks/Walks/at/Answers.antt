@@ -1,5 +1,4 @@
-use Rattle.std.proofs.Common.{◌≡◌, ◌≤◌, ℕ, arith, ap, sym, ◌∙◌, refl, eqb-true}
-use Rattle.mmdb_diff.specs.Working.{IsBoth}
+use Rattle.std.proofs.Common.{◌≡◌, sym, ◌∙◌, refl, eqb-true}
 use Rattle.mmdb_diff.proofs.WalkLaws.{around, done, prefixes}
 use Rattle.mmdb_diff.proofs.walks.Walks.at.Goals as goal
 

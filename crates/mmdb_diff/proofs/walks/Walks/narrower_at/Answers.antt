@@ -1,7 +1,6 @@
-use Rattle.std.proofs.Common.{◌≡◌, ◌≤◌, ℕ, arith, ap, subst, sym, ◌∙◌, refl, inl, inr}
+use Rattle.std.proofs.Common.{◌≡◌, arith, ap, subst, sym, ◌∙◌, refl, inl, inr}
 use Rattle.mmdb_blocks.specs.declared.block.Block.{Block}
 use Rattle.mmdb_blocks.specs.Blocks.{IsBlock}
-use Rattle.mmdb_diff.specs.Working.{IsNarrower}
 use Rattle.mmdb_diff.proofs.walks.Walks.narrower_at.Goals as goal
 use Rattle.mmdb_diff.proofs.walks.Walks.narrower_at.Goals.{then-prefix, else-prefix}
 
