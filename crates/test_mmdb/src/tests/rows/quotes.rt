@@ -156,7 +156,7 @@ fn cells_in_quotes_of_all_lengths(rt: HostRuntime) {
 // Adds what stands behind a row: a delimiter and, where this cell is the address, the record's text.
 fn put_added(delimiter: u8, cell: &[u8], out: &mut Vec<u8>) {
     let _ = out.push(delimiter);
-    if cell == b"200.0.0.1" || cell == b"\"200.0.0.1\"" {
+    if cell == b"200.0.0.1".as_slice() || cell == b"\"200.0.0.1\"".as_slice() {
         let _ = out.extend_from_slice(b"\"a\"\"b,c\"");
     }
 }
