@@ -6,13 +6,12 @@ ghost use Rattle.mmdb_cache.specs.Cache.{AreOfBefore, AreOfBeforeOr, IsNone};
 use std::alloc::{AllocError, Global};
 use std::marker::Model;
 
-/// How many places there are at first, and how many there can be.
+/// How many places there are at first, for so many values, and how many for more.
 const FEWEST: usize = 64;
 
-const MOST: usize = 8192;
+const FEW: usize = 16;
 
-/// As many times as many places there are, where as many values were put as there are places.
-const GROWTH: usize = 16;
+const MOST: usize = 8192;
 
 /// A value that is kept for a key, and the bytes that it takes.
 #[derive(Drop)]
@@ -31,7 +30,7 @@ pub struct Cache<V: Drop> {
     /// How many bytes there are for all values, and how many of them are left.
     most: usize,
     left: usize,
-    /// How many values were put since there are as many places.
+    /// How many values were put.
     puts: usize,
     /// The place from which on values are let go next where there is no room.
     next: usize,
@@ -102,14 +101,16 @@ impl<V: Drop> Cache<V> {
         *self = Cache::new(self.alloc, self.most);
     }
 
-    // Makes more places, where as many values were put as there are; what was kept is let go. Without memory there are none.
+    // Makes places, or more of them; the few values that are kept are let go. Without memory there are none.
     #[cold]
     #[inline(never)]
     fn grow(&mut self)
         ensures { AreOfBefore self.old self.new }
     {
-        let count = self.places.len().saturating_mul(GROWTH).clamp(FEWEST, MOST);
+        let count = if self.puts < FEW { FEWEST } else { MOST };
+        let puts = self.puts;
         self.clear();
+        self.puts = puts;
         if let Ok(places) = empty_places(self.alloc, count) {
             self.places = places;
         }
@@ -162,7 +163,7 @@ impl<V: Drop> Cache<V> {
         ensures { AreOfBeforeOr (record { key = key; value = value; bytes = bytes })
             self.old self.new }
     {
-        if self.puts >= self.places.len() && self.places.len() < MOST {
+        if self.places.is_empty() || self.puts >= FEW && self.places.len() < MOST {
             self.grow();
         }
         self.puts = self.puts.saturating_add(1);
