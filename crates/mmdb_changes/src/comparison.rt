@@ -135,6 +135,24 @@ fn report_at<O: Write, E: Write>(
     console.report_behind(format!(in console.alloc; "{file}: {name}"), error)
 }
 
+// The same. Where there is no memory, all that is kept as text is let go, and it is tried once more: nothing was reported.
+fn report_in<O: Write, E: Write>(
+    file: &str,
+    place: Where,
+    error: &MaxMindDbError,
+    so_far: &mut SoFar<'_, '_>,
+    console: &mut Console<'_, O, E>,
+) -> Result<(), ProgramError> {
+    match report_at(file, place, error, console) {
+        Err(problem) if problem.is_memory() => {
+            drop(problem);
+            so_far.pairs.let_go();
+            report_at(file, place, error, console)
+        }
+        done => done,
+    }
+}
+
 // Reports a leaf that can't be read, behind what waits.
 #[inline(never)]
 fn report_leaf<O: Write, E: Write>(
@@ -148,7 +166,7 @@ fn report_leaf<O: Write, E: Write>(
         Some(network) => Where::Behind(network),
         None => Where::First,
     };
-    report_at(file, place, &leaf.error, console)
+    report_in(file, place, &leaf.error, so_far, console)
 }
 
 // Reports a value that can't be read, unless memory is out, behind what waits.
@@ -166,7 +184,7 @@ fn report_value<O: Write, E: Write>(
     }
     let file = file_of(task, unreadable.side);
     let network = network_of(stretch.block, stretch.is_ipv4)?;
-    report_at(file, Where::At(network), &unreadable.error, console)
+    report_in(file, Where::At(network), &unreadable.error, so_far, console)
 }
 
 // Compares what was found in a stretch, and takes or reports it where there is something to say.
@@ -369,6 +387,7 @@ fn compare_with<'r, O: Write, E: Write>(
 ) -> Result<u8, ProgramError> {
     put_names(console.alloc, &task.layout, console.out)?;
     compare_all(task, comparison, so_far, console)?;
+    so_far.pairs.let_go();
     report_counts(
         so_far.changes.counts,
         so_far.faults,

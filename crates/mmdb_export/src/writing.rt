@@ -168,7 +168,8 @@ impl<'a, 'r> Export<'a, 'r> {
         }
     }
 
-    // Reports why a network can't be written, behind what was written.
+    // Reports why a network can't be written, behind what was written. Where there is no memory, all that is kept is let go,
+    // and it is tried once more: nothing was reported.
     fn report<O: Write, E: Write>(
         &mut self,
         place: Where,
@@ -176,7 +177,13 @@ impl<'a, 'r> Export<'a, 'r> {
         console: &mut Console<'_, O, E>,
     ) -> Result<(), ProgramError> {
         self.faults = self.faults.saturating_add(1);
-        console.report_behind(place.name(console.alloc), error)
+        match console.report_behind(place.name(console.alloc), error) {
+            Err(problem) if problem.is_memory() && self.writing.let_go(&mut self.texts) => {
+                drop(problem);
+                console.report_behind(place.name(console.alloc), error)
+            }
+            done => done,
+        }
     }
 
     // Whether the network of an answer is chosen.

@@ -1,10 +1,9 @@
 -- What grows into the text of a map or an array.
-use Rattle.std.proofs.Common.{◌≡◌, ◌≤◌, ◌+◌, ◌*◌, ℕ, zero, suc, Bool, true, false, List, [], ◌∷◌, ◌++◌, length, inl, inr, refl, sym, ap, ◌∙◌, subst, append_assoc, arith}
-use Rattle.std.specs.Prelude.{Option, Some, None, IfSome}
-use Rattle.std.specs.Option.{is_some}
+use Rattle.std.proofs.Common.{◌≡◌, ◌≤◌, ◌+◌, ◌*◌, ℕ, suc, Bool, true, false, List, [], ◌∷◌, ◌++◌, length, inl, inr, refl, sym, ap, ◌∙◌, subst, append_assoc, arith}
+use Rattle.std.specs.Prelude.{Some}
 use Rattle.std.specs.Str.{IsUtf8, is_utf8}
 use Rattle.std.proofs.lemmas.Str.{IsUtf8-append, IsUtf8-from_is_utf8}
-use Rattle.json.specs.Json.{Json, array, object, Items, no_items, item, Members, no_members, member}
+use Rattle.json.specs.Json.{array, object, Items, no_items, item, Members, no_members, member}
 use Rattle.json.specs.Tree.{json_tokens, items_tokens, members_tokens, ItemsHaveNumbers, MembersHaveNumbers}
 use Rattle.json.specs.Print.{print, print_from, quoted}
 use Rattle.json.proofs.Printed.Utf8.{IsUtf8-are_ascii, IsUtf8-key}
@@ -13,8 +12,8 @@ use Rattle.mmdb_format.specs.declared.header.Pointer.{Pointer}
 use Rattle.mmdb_format.specs.Header.{header_at}
 use Rattle.mmdb_format.specs.Pointer.{pointer_at}
 use Rattle.mmdb_format.specs.Contents.{Scalar, text, content_at, content_end, bytes_of_content, scalar_payload}
-use Rattle.mmdb_format.specs.Unfolding.{Tree, scalar, scalar_here, array as array_tree, table, pointer, Trees, no_trees, tree, Pairs, no_pairs, pair, Unfolds, table_here, array_here, pointer_here, AllUnfold, none_left, one_more, PairsUnfold, no_pairs_left, one_more_pair, pairs_keyed, pairs_texts, trees_keyed, trees_texts}
-use Rattle.mmdb_json.specs.Shown.{Shows, AllShow, PairsShow, key_bytes}
+use Rattle.mmdb_format.specs.Unfolding.{scalar, scalar_here, array as array_tree, table, pointer, Trees, no_trees, tree, Pairs, no_pairs, pair, Unfolds, table_here, array_here, pointer_here, AllUnfold, none_left, one_more, PairsUnfold, no_pairs_left, one_more_pair, pairs_keyed, pairs_texts, trees_keyed, trees_texts}
+use Rattle.mmdb_json.specs.Shown.{AllShow, PairsShow, key_bytes}
 use Rattle.json.specs.Lex.{tokens}
 use Rattle.json.proofs.Printed.Tokens.{tokens-print}
 use Rattle.json.proofs.Printed.Trees.{ArePrintable-json_tokens}
@@ -22,8 +21,8 @@ use Rattle.mmdb_json.proofs.ReadingBack.{reads_back}
 use Rattle.mmdb_texts.specs.declared.budget.Budget.{Budget}
 use Rattle.mmdb_texts.specs.RecordText.{AppendsRecord}
 use Rattle.mmdb_texts.specs.Drafts.{Drafted, shown, Grows}
-use Rattle.mmdb_texts.specs.Working.{IsTextOf, IsTextAt, IsNameAt, IsOwnNameAt, ChargesBytes, Costs, AppendsText, AppendsName, AppendsOwnName, AppendsItem, AppendsMember, WritesScalar, comma_if}
-use Rattle.mmdb_texts.proofs.Drafting.{grows_more, grows_nothing}
+use Rattle.mmdb_texts.specs.Working.{ChargesBytes, AppendsText, AppendsName, AppendsOwnName, AppendsItem, AppendsMember, WritesScalar, comma_if}
+use Rattle.mmdb_texts.proofs.Drafting.{grows_more}
 use Rattle.mmdb_texts.proofs.Measuring.{both, is_key_of, texts_of_key, bytes_of_key, PairsCost, TreesCost, pair_costs, tree_costs, table_costs, array_costs, pointer_costs, scalar_costs}
 use Rattle.mmdb_texts.proofs.Printing.{item_behind, member_behind, members_end, items_end, object_text, array_text}
 

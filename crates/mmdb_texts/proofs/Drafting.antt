@@ -1,9 +1,7 @@
 -- How drafts grow.
-use Rattle.std.proofs.Common.{Bool, true, false, cond, Result, Ok, Err, OnOk, is_ok, slice_index_or, ◌≡◌, ◌≤◌, ◌<◌, ◌+◌, ◌-◌, ℕ, suc, List, [], ◌∷◌, ◌++◌, length, take, drop, slice_range, refl, sym, ap, ◌∙◌, subst, append_assoc, append-nil, arith, length-append}
-use Rattle.std.specs.List.{All}
+use Rattle.std.proofs.Common.{cond, Result, Ok, Err, OnOk, is_ok, slice_index_or, ◌≡◌, ◌≤◌, ◌+◌, ◌-◌, ℕ, suc, List, [], ◌∷◌, ◌++◌, length, take, drop, slice_range, refl, sym, ap, ◌∙◌, subst, append_assoc, append-nil, arith, length-append}
 use Rattle.std.proofs.lemmas.List.Elements.{All-append}
 use Rattle.std.proofs.lemmas.List.{take-append-le, drop-append-le, take_all, drop_all, length-drop}
-use Rattle.std.proofs.lemmas.List.Folds.{drop_split}
 use Rattle.std.proofs.Math.Seq.{drop-append_seam}
 use Rattle.mmdb_texts.specs.declared.draft.Hole.{Hole}
 use Rattle.mmdb_texts.specs.Drafts.{Drafted, later_string, filled, shown, AreWithin, Grows, IsBehind}

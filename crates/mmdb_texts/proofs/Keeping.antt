@@ -1,5 +1,5 @@
 -- What is kept stays right.
-use Rattle.std.proofs.Common.{◌≡◌, ◌≤◌, ◌<◌, ◌+◌, ◌-◌, ◌⊎◌, inl, inr, ℕ, suc, List, [], drop, Option, Some, None, length, refl, sym, ap, ◌∙◌, subst, arith}
+use Rattle.std.proofs.Common.{◌≡◌, ◌≤◌, ◌+◌, ◌-◌, ◌⊎◌, inl, inr, ℕ, List, [], drop, Option, Some, None, length, sym, ◌∙◌, subst, arith}
 use Rattle.std.specs.Prelude.{IfSome}
 use Rattle.std.specs.List.{Contains}
 use Rattle.std.proofs.lemmas.List.Elements.{All-contains}
@@ -10,7 +10,7 @@ use Rattle.mmdb_texts.specs.declared.budget.Budget.{Budget}
 use Rattle.mmdb_texts.specs.declared.kept.Kept.{Kept}
 use Rattle.mmdb_texts.specs.Drafts.{Drafted, Grows}
 use Rattle.mmdb_texts.specs.Kept.{IsKeptText, IsKeptName, AreRight}
-use Rattle.mmdb_texts.specs.Working.{IsTextAt, IsOwnNameAt, ChargesBytes, Costs, AppendsText, AppendsOwnName}
+use Rattle.mmdb_texts.specs.Working.{IsTextAt, AppendsText, AppendsOwnName}
 use Rattle.mmdb_texts.proofs.Drafting.{end_of_text}
 
 in_nothing : {A : Type 0} (x : A) → Contains [] x → ⊥

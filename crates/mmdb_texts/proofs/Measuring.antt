@@ -1,8 +1,8 @@
 -- What trees cost.
-use Rattle.std.proofs.Common.{◌≡◌, ◌≤◌, ◌+◌, ◌*◌, ◌⊎◌, inl, inr, ℕ, suc, max, Bool, true, false, ◌&&◌, List, length, refl, sym, ap, ◌∙◌, subst, arith}
+use Rattle.std.proofs.Common.{◌≡◌, ◌≤◌, ◌+◌, ◌*◌, inl, inr, ℕ, suc, Bool, true, false, ◌&&◌, List, length, ap, ◌∙◌, arith}
 use Rattle.std.specs.Str.{is_utf8}
-use Rattle.mmdb_format.specs.Contents.{Scalar, text, scalar_payload, scalar_is_text}
-use Rattle.mmdb_format.specs.Unfolding.{Tree, scalar, array, table, pointer, Trees, tree, Pairs, pair, value_count, trees_count, pairs_count, payload, trees_payload, pairs_payload, levels_without_key_pointers, key_levels, trees_levels, pairs_levels, is_key, is_keyed, trees_keyed, pairs_keyed, has_texts, trees_texts, pairs_texts}
+use Rattle.mmdb_format.specs.Contents.{Scalar, scalar_payload}
+use Rattle.mmdb_format.specs.Unfolding.{Tree, scalar, array, table, pointer, Trees, tree, Pairs, pair, value_count, trees_count, pairs_count, payload, trees_payload, pairs_payload, key_levels, trees_levels, pairs_levels, is_key, has_texts}
 use Rattle.mmdb_json.specs.Shown.{key_bytes}
 use Rattle.mmdb_texts.specs.declared.budget.Budget.{Budget}
 use Rattle.mmdb_texts.specs.Working.{IsKeyOf, ChargesBytes, Costs}

@@ -5,7 +5,7 @@ use Rattle.std.specs.List.{fold}
 use Rattle.json.specs.Token.{Token, key}
 use Rattle.json.specs.Json.{Json, null, boolean, number, string, array, object, Items, no_items, item, Members, no_members, member}
 use Rattle.json.specs.Tree.{json_tokens, items_tokens, members_tokens}
-use Rattle.json.specs.Print.{print, print_from, quoted, ends, separator, token_text}
+use Rattle.json.specs.Print.{print, print_from, quoted, ends, token_text}
 use Rattle.json.proofs.Printed.Tokens.{print_from-append}
 use Rattle.mmdb_texts.specs.Working.{comma_if}
 

@@ -1,5 +1,5 @@
 -- What is kept of a data section.
-use Rattle.std.specs.Prelude.{◌≡◌, ◌≤◌, ℕ, ◌+◌, List, length, Option, Some, None}
+use Rattle.std.specs.Prelude.{◌≡◌, ◌≤◌, ℕ, ◌+◌, List, length, Option, Some}
 use Rattle.std.specs.List.{Contains}
 use Rattle.mmdb_cache.specs.declared.cache.Entry.{Entry}
 use Rattle.mmdb_format.specs.Unfolding.{value_count, payload, levels_without_key_pointers}

@@ -1,4 +1,4 @@
-use Rattle.std.proofs.Common.{rules, ◌≡◌, refl, sym, ap, ◌∙◌, subst}
+use Rattle.std.proofs.Common.{rules, refl, sym, subst}
 use Rattle.std.specs.Float.{binary64}
 use Rattle.json.specs.Json.{number, null}
 use Rattle.json.specs.Print.{IsNumber}

@@ -1,6 +1,6 @@
 use Rattle.std.proofs.Common.{rules, ◌≡◌, sym, subst}
 use Rattle.std.specs.Prelude.{Some}
-use Rattle.mmdb_format.specs.Contents.{content_at, content_end}
+use Rattle.mmdb_format.specs.Contents.{content_at}
 use Rattle.mmdb_format.specs.Views.{content_view}
 use Rattle.mmdb_texts.specs.Working.{AppendsText}
 use Rattle.mmdb_texts.proofs.Containers.{scalar_stands}

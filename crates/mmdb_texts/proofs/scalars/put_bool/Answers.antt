@@ -1,4 +1,4 @@
-use Rattle.std.proofs.Common.{rules, ◌≡◌, true, false, refl, ap}
+use Rattle.std.proofs.Common.{rules, true, false, refl}
 use Rattle.json.specs.Json.{boolean}
 use Rattle.mmdb_format.specs.Contents.{boolean as boolean_scalar}
 use Rattle.mmdb_texts.proofs.ScalarTexts.{grows, true_written, false_written}

@@ -1,5 +1,5 @@
-use Rattle.std.proofs.Common.{◌≡◌, ◌++◌, ◌∷◌, [], Result, Ok, Err, OnOk, OnErr, ap, sym, ◌∙◌, append-nil}
-use Rattle.json.specs.Token.{Token, string}
+use Rattle.std.proofs.Common.{◌++◌, ◌∷◌, [], ap, ◌∙◌}
+use Rattle.json.specs.Token.{string}
 use Rattle.json.specs.Print.{print}
 use Rattle.mmdb_json.proofs.ShownLaws.{on_ok}
 use Rattle.mmdb_texts.proofs.Printing.{string_text}

@@ -1,7 +1,7 @@
 use Rattle.mmdb_texts.proofs.Drafting.{grows_nothing}
 use Rattle.mmdb_texts.specs.Drafts.{Grows}
 use Rattle.mmdb_texts.specs.Working.{comma_if}
-use Rattle.std.proofs.Common.{◌≡◌, rules, sym, subst, true, false, ◌∷◌, [], OnOk}
+use Rattle.std.proofs.Common.{sym, subst, OnOk}
 use Rattle.mmdb_texts.proofs.draft.Draft.put_comma.Goals as goal
 
 pub returns-then-after_value : goal.returns-then-after_value

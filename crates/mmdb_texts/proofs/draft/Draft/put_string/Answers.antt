@@ -1,4 +1,4 @@
-use Rattle.std.proofs.Common.{◌≡◌, ◌++◌, ap, ◌∙◌, OnOk, subst}
+use Rattle.std.proofs.Common.{◌≡◌, ◌++◌, OnOk, subst}
 use Rattle.json.specs.Print.{quoted}
 use Rattle.mmdb_texts.proofs.Drafting.{string_grew_in}
 use Rattle.mmdb_texts.proofs.draft.Draft.put_string.Goals as goal

@@ -1,4 +1,4 @@
-use Rattle.std.proofs.Common.{rules, ◌≡◌, ◌≤◌, ◌++◌, ◌∷◌, [], ◌-◌, ◌+◌, ◌*◌, ◌<◌, refl, sym, ap, ◌∙◌, subst, arith}
+use Rattle.std.proofs.Common.{rules, ◌≡◌, ◌-◌, ◌+◌, refl, ◌∙◌, subst, arith}
 use Rattle.std.specs.Prelude.{ℕ, Some, IfSome}
 use Rattle.mmdb_format.specs.Pointer.{pointer_at}
 use Rattle.mmdb_texts.specs.Drafts.{Grows}

@@ -1,4 +1,4 @@
-use Rattle.std.proofs.Common.{◌≡◌, sym, ap, ◌∙◌, drop, refl, subst, arith}
+use Rattle.std.proofs.Common.{sym, ap, ◌∙◌, drop, refl, subst}
 use Rattle.mmdb_texts.specs.Working.{AppendsOwnName}
 use Rattle.mmdb_texts.proofs.Keeping.{keeps_name, name_to_keep}
 use Rattle.mmdb_texts.proofs.record_texts.RecordTexts.keep_name.Goals as goal

@@ -1,4 +1,4 @@
-use Rattle.std.proofs.Common.{◌≡◌, sym, ap, ◌∙◌, drop, refl, subst, arith}
+use Rattle.std.proofs.Common.{sym, ap, ◌∙◌, drop, subst}
 use Rattle.mmdb_texts.specs.Working.{AppendsText}
 use Rattle.mmdb_texts.proofs.Keeping.{keeps_text, text_to_keep}
 use Rattle.mmdb_texts.proofs.record_texts.RecordTexts.keep_value.Goals as goal

@@ -1,7 +1,7 @@
 use Rattle.std.proofs.Common.{rules, ◌≡◌, refl, subst}
 use Rattle.mmdb_texts.specs.Working.{AppendsName}
 use Rattle.mmdb_texts.proofs.Keeping.{some_goes}
-use Rattle.std.specs.Prelude.{Some, Option, None, IfSome}
+use Rattle.std.specs.Prelude.{Some, IfSome}
 use Rattle.mmdb_format.specs.Header.{header_at}
 use Rattle.mmdb_format.specs.Pointer.{pointer_at}
 use Rattle.mmdb_texts.proofs.Containers.{name_behind_pointer, own_name}
