@@ -6,12 +6,27 @@ ghost use Rattle.mmdb_cache.specs.Cache.{AreOfBefore, AreOfBeforeOr, IsNone};
 use std::alloc::{AllocError, Global};
 use std::marker::Model;
 
-/// How many places there are at first, for so many values, and how many for more.
+/// How many places there are for so many values: for few, for some, and for more.
 const FEWEST: usize = 64;
 
 const FEW: usize = 16;
 
+const FEWER: usize = 512;
+
+const SOME: usize = 64;
+
 const MOST: usize = 8192;
+
+// How many places there are for values of which so many were put.
+fn places_for(puts: usize) -> usize {
+    if puts < FEW {
+        FEWEST
+    } else if puts < SOME {
+        FEWER
+    } else {
+        MOST
+    }
+}
 
 /// A value that is kept for a key, and the bytes that it takes.
 #[derive(Drop)]
@@ -107,7 +122,7 @@ impl<V: Drop> Cache<V> {
     fn grow(&mut self)
         ensures { AreOfBefore self.old self.new }
     {
-        let count = if self.puts < FEW { FEWEST } else { MOST };
+        let count = places_for(self.puts);
         let puts = self.puts;
         self.clear();
         self.puts = puts;
@@ -163,7 +178,7 @@ impl<V: Drop> Cache<V> {
         ensures { AreOfBeforeOr (record { key = key; value = value; bytes = bytes })
             self.old self.new }
     {
-        if self.places.is_empty() || self.puts >= FEW && self.places.len() < MOST {
+        if self.places.len() < places_for(self.puts) {
             self.grow();
         }
         self.puts = self.puts.saturating_add(1);

@@ -153,6 +153,15 @@ fn have_same_text(
     Ok(old_text == new_text)
 }
 
+// Whether two records are equal, or there is none.
+fn are_equal(old: &Option<Explained<'_>>, new: &Option<Explained<'_>>) -> bool {
+    match (old, new) {
+        (Some(old), Some(new)) => old.value == new.value,
+        (None, None) => true,
+        _ => false,
+    }
+}
+
 // Whether a record of the old database is shown as what was found in the new one.
 fn is_shown_as<'r>(
     alloc: Global,
@@ -160,7 +169,7 @@ fn is_shown_as<'r>(
     new: &Found<'r>,
 ) -> Result<bool, Unreadable> {
     let new = record_in(alloc, Side::New, new)?;
-    let is_same = if *old == new {
+    let is_same = if are_equal(old, &new) {
         Ok(true)
     } else {
         have_same_text(alloc, old, &new)

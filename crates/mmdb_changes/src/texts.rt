@@ -37,6 +37,14 @@ fn text_of(alloc: Global, offset: Option<usize>, texts: &mut RecordTexts<'_>) ->
     }
 }
 
+// Whether it is noted that the record at an offset can't be read, if there is one.
+fn is_noted(offset: Option<usize>, texts: &RecordTexts<'_>) -> bool {
+    match offset {
+        Some(offset) => texts.is_noted(offset),
+        None => false,
+    }
+}
+
 impl<'r> BothTexts<'r> {
     /// Of the records of two data sections, of which none was met yet. At most so many bytes are kept of each.
     pub(crate) fn new(alloc: Global, old: &'r [u8], new: &'r [u8], most: usize) -> BothTexts<'r> {
@@ -68,6 +76,9 @@ impl<'r> BothTexts<'r> {
         old: Option<usize>,
         new: Option<usize>,
     ) -> Option<Shown> {
+        if is_noted(old, &self.old) || is_noted(new, &self.new) {
+            return None;
+        }
         Some(Shown {
             old: text_of(alloc, old, &mut self.old)?,
             new: text_of(alloc, new, &mut self.new)?,

@@ -226,7 +226,7 @@ fn write_explained(
 
 // The row of a record as a line with an object, with an empty network; the record is read step by step.
 fn explained_row(alloc: Global, found: &Found<'_>) -> Result<Vec<u8>, MaxMindDbError> {
-    let mut out = Writer::new(Vec::new(alloc));
+    let mut out = Writer::new(Vec::with_capacity(alloc, 256)?);
     begin_object(&mut out)?;
     out.token(Token::Key("record"))?;
     write_explained(alloc, found, &mut out)?;
@@ -302,6 +302,7 @@ impl Layout<'_> {
         if put_record_row(offset, texts, row)? {
             return Ok(());
         }
+        *row = Vec::new(alloc);
         match explained_row(alloc, found) {
             Ok(explained) => {
                 *row = explained;

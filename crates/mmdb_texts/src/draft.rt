@@ -62,13 +62,18 @@ impl<'r> Model for Draft<'r> {
 }
 
 // Appends the string of what is put in last.
-fn put_later(alloc: Global, later: Later<'_>, out: &mut Vec<u8>) -> Result<(), AllocError>
+fn put_later(
+    alloc: Global,
+    later: Later<'_>,
+    room: &mut Vec<u8>,
+    out: &mut Vec<u8>,
+) -> Result<(), AllocError>
     ensures put { OnOk result (out.new.items ≡ out.old.items ++ later_string later.entry) }
     ensures behind { IsBehind out.old.items out.new.items }
 {
     match later {
-        Later::Text(text) => put_string(alloc, text, out),
-        Later::Bytes(bytes) => put_bytes(alloc, bytes, out),
+        Later::Text(text) => put_string(alloc, text, room, out),
+        Later::Bytes(bytes) => put_bytes(alloc, bytes, room, out),
     }
 }
 
@@ -84,11 +89,12 @@ fn put_filled(
     ensures behind { IsBehind out.old.items out.new.items }
 {
     let mut from = 0;
+    let mut room = Vec::new(alloc);
     for hole in holes {
         if from <= hole.at && hole.at <= text.len() {
             out.extend_from_slice(&text[from..hole.at])?;
         }
-        put_later(alloc, hole.later, out)?;
+        put_later(alloc, hole.later, &mut room, out)?;
         from = hole.at;
     }
     out.extend_from_slice(text.split_at(from.min(text.len())).1)
@@ -170,7 +176,8 @@ impl<'r> Draft<'r> {
         if !self.may_be_at_once(text.len()) {
             return self.put_last(Later::Text(text));
         }
-        put_string(self.alloc, text, &mut self.text)
+        let mut room = Vec::new(self.alloc);
+        put_string(self.alloc, text, &mut room, &mut self.text)
     }
 
     /// Appends the string of a text.
@@ -192,7 +199,8 @@ impl<'r> Draft<'r> {
         if !self.may_be_at_once(bytes.len()) {
             return self.put_last(Later::Bytes(bytes));
         }
-        put_bytes(self.alloc, bytes, &mut self.text)
+        let mut room = Vec::new(self.alloc);
+        put_bytes(self.alloc, bytes, &mut room, &mut self.text)
     }
 
     /// How far it has come.

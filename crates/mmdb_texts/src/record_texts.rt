@@ -17,8 +17,10 @@ use std::alloc::Global;
 use std::marker::Model;
 use std::mem;
 
-/// No longer text is kept.
+/// No longer text is kept, and no shorter one of a value: it is laid out in fewer steps than it is kept in.
 const MOST_KEPT: usize = 2048;
+
+const LEAST_KEPT: usize = 16;
 
 /// What is kept of the names of members takes this part of all that is kept: one of so many.
 const PART_OF_NAMES: usize = 8;
@@ -184,6 +186,9 @@ impl<'r> RecordTexts<'r> {
             return;
         };
         let bytes = text.len();
+        if bytes < LEAST_KEPT {
+            return;
+        }
         let kept = Kept {
             text,
             levels: levels.saturating_sub(budget.levels),
@@ -499,7 +504,7 @@ impl<'r> RecordTexts<'r> {
         ensures left { result ≡ false → out.new.items ≡ out.old.items }
         ensures section { self.new ≡ self.old }
     {
-        if self.unreadable.get(offset).is_some() {
+        if self.is_noted(offset) {
             return false;
         }
         let room = mem::replace(&mut self.room, Vec::new(self.alloc));
@@ -507,6 +512,11 @@ impl<'r> RecordTexts<'r> {
         let is_put = self.put_by(offset, &mut draft, out);
         self.room = draft.into_room();
         is_put
+    }
+
+    /// Whether it is noted that the record at an offset can't be read.
+    pub fn is_noted(&self, offset: usize) -> bool {
+        self.unreadable.get(offset).is_some()
     }
 
     /// Notes that the record at an offset can't be read, so that it is left at once from now on.

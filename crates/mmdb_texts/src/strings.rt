@@ -1,5 +1,5 @@
 //! Strings of JSON.
-ghost use Rattle.std.specs.Prelude.{◌≡◌, ◌++◌, true, OnOk};
+ghost use Rattle.std.specs.Prelude.{◌≡◌, ◌++◌, true, OnOk, IfOk};
 ghost use Rattle.json.specs.Print.{escape, quoted};
 ghost use Rattle.base64.specs.GeneralPurpose.{encode_of};
 ghost use Rattle.base64.specs.Engines.{standard};
@@ -10,6 +10,9 @@ use base64::engine::general_purpose::STANDARD;
 use json::Writer;
 use std::alloc::{AllocError, Global};
 use std::mem;
+
+/// A string of a longer text is not written apart.
+const MOST_APART: usize = 1024;
 
 // Whether a byte is not escaped in a string.
 #[inline(always)]
@@ -43,9 +46,8 @@ pub(crate) fn put_plain(text: &[u8], out: &mut Vec<u8>) -> Result<(), AllocError
     Ok(out.push(b'"')?)
 }
 
-/// Appends the string of a text.
-#[inline(never)]
-pub(crate) fn put_string(alloc: Global, text: &str, out: &mut Vec<u8>) -> Result<(), AllocError>
+// Appends the string of a text, which is written where the others are.
+fn put_long(alloc: Global, text: &str, out: &mut Vec<u8>) -> Result<(), AllocError>
     ensures put { OnOk result (out.new.items ≡ out.old.items ++ quoted text.now) }
     ensures behind { IsBehind out.old.items out.new.items }
 {
@@ -55,9 +57,46 @@ pub(crate) fn put_string(alloc: Global, text: &str, out: &mut Vec<u8>) -> Result
     written
 }
 
+// The string of a text, written in a room.
+fn string_in(room: Vec<u8>, text: &str) -> Result<Vec<u8>, AllocError>
+    ensures { IfOk result (λ string. string.items ≡ quoted text.now) }
+{
+    let mut room = room;
+    room.clear();
+    let mut writer = Writer::new(room);
+    writer.string(text)?;
+    Ok(writer.into_inner())
+}
+
+/// Appends the string of a text. A short one is written apart, in a room for it: the kit's writer fills room ahead of what it
+/// writes, the more the longer the text before it is.
+#[inline(never)]
+pub(crate) fn put_string(
+    alloc: Global,
+    text: &str,
+    room: &mut Vec<u8>,
+    out: &mut Vec<u8>,
+) -> Result<(), AllocError>
+    ensures put { OnOk result (out.new.items ≡ out.old.items ++ quoted text.now) }
+    ensures behind { IsBehind out.old.items out.new.items }
+{
+    if text.len() > MOST_APART {
+        return put_long(alloc, text, out);
+    }
+    let string = string_in(mem::replace(room, Vec::new(alloc)), text)?;
+    let done = out.extend_from_slice(string.as_slice());
+    *room = string;
+    done
+}
+
 /// Appends the string of bytes, in base64.
 #[inline(never)]
-pub(crate) fn put_bytes(alloc: Global, bytes: &[u8], out: &mut Vec<u8>) -> Result<(), AllocError>
+pub(crate) fn put_bytes(
+    alloc: Global,
+    bytes: &[u8],
+    room: &mut Vec<u8>,
+    out: &mut Vec<u8>,
+) -> Result<(), AllocError>
     ensures put { OnOk result
         (out.new.items ≡ out.old.items ++ quoted (encode_of standard bytes.now)) }
     ensures behind { IsBehind out.old.items out.new.items }
@@ -66,5 +105,5 @@ pub(crate) fn put_bytes(alloc: Global, bytes: &[u8], out: &mut Vec<u8>) -> Resul
     if is_plain(text.as_bytes()) {
         return put_plain(text.as_bytes(), out);
     }
-    put_string(alloc, text.as_str(), out)
+    put_string(alloc, text.as_str(), room, out)
 }

@@ -151,38 +151,3 @@ impl<'de> Decode<'de> for Value<'de> {
         read_value(alloc, d)
     }
 }
-
-/// A `Value`, read by steps that say at once why one can't be taken. A `Value` itself is read in fewer, and once more where
-/// it can't be, to say why: what is known to be unreadable is read in half the time by this.
-#[derive(Debug, PartialEq, Eq, Drop)]
-pub struct Explained<'de> {
-    pub value: Value<'de>,
-}
-
-// Any value, by steps that say why one can't be taken.
-fn read_explained<'de>(alloc: Global, d: &mut Decoder<'de>) -> DecodeResult<Explained<'de>>
-    requires { Within d.old.budget }
-    ensures { ReadsValue (λ x. value_tree x.value) false (value_at true) d.old d.new result }
-{
-    match shared::value_at::<Tested, Decoder<'de>>(alloc, d) {
-        Ok(value) => Ok(Explained { value }),
-        Err(error) => Err(error),
-    }
-}
-
-impl<'de> Decode<'de> for Explained<'de> {
-    ghost Datum = { Tree };
-
-    ghost datum = { λ x. value_tree x.value };
-
-    ghost meaning = { value_at true };
-
-    ghost starts = { true };
-
-    ghost free = { false };
-
-    fn decode(alloc: Global, d: &mut Decoder<'de>) -> DecodeResult<Explained<'de>> {
-        d.begin_budget();
-        read_explained(alloc, d)
-    }
-}

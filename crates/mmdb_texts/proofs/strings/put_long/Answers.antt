@@ -3,7 +3,7 @@ use Rattle.json.specs.Token.{string}
 use Rattle.json.specs.Print.{print}
 use Rattle.mmdb_json.proofs.ShownLaws.{on_ok}
 use Rattle.mmdb_texts.proofs.Printing.{string_text}
-use Rattle.mmdb_texts.proofs.strings.put_string.Goals as goal
+use Rattle.mmdb_texts.proofs.strings.put_long.Goals as goal
 
 pub returns-clause-put : goal.returns-clause-put
 returns-clause-put c = on_ok c.string-written.result (λ e.

@@ -1,10 +1,10 @@
 use Rattle.std.proofs.Common.{true, false}
 use Rattle.mmdb_value.specs.AnyValue.{value_at}
 use Rattle.mmdb_format.specs.Unfolding.{Tree}
-use Rattle.mmdb_value.specs.declared.any_value.Explained.{Explained}
+use Rattle.mmdb_value.specs.declared.explained.Explained.{Explained}
 use Rattle.mmdb_value.specs.Values.{value_tree}
 use Rattle.mmdb_value.proofs.Started.{started_ok, started_kept, started_err, started_given_up}
-use Rattle.mmdb_value.proofs.any_value.ExplainedDecode.decode.Goals as goal
+use Rattle.mmdb_value.proofs.explained.ExplainedDecode.decode.Goals as goal
 
 abbrev explained_tree : Explained → Tree
 explained_tree x = value_tree x.value
