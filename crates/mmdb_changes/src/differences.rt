@@ -154,7 +154,7 @@ fn have_same_text(
 }
 
 // Whether two records are equal, or there is none.
-fn are_equal(old: &Option<Explained<'_>>, new: &Option<Explained<'_>>) -> bool {
+fn are_equal<'r>(old: &Option<Explained<'r>>, new: &Option<Explained<'r>>) -> bool {
     match (old, new) {
         (Some(old), Some(new)) => old.value == new.value,
         (None, None) => true,
