@@ -122,9 +122,9 @@ fn large_file(alloc: Global, first: u8) -> Result<Vec<u8>, AllocError> {
         nodes.push((2 * node + 1, 2 * node + 2))?;
     }
     for network in 0..NETWORKS / 2 {
-        let letter = first + (network % 20) as u8;
+        let letter = first.wrapping_add((network % 20) as u8);
         let left = push_record(letter, &mut data)?;
-        let right = push_record(letter + 1, &mut data)?;
+        let right = push_record(letter.wrapping_add(1), &mut data)?;
         nodes.push((
             (left & 0xff_ffff) as u32 + 63 + 16,
             (right & 0xff_ffff) as u32 + 63 + 16,

@@ -226,7 +226,7 @@ fn string_of(alloc: Global, control: u8, unit: &[u8], len: usize) -> Vec<u8> {
     } else if len < 285 {
         [kind | 29, (len - 29) as u8, 0]
     } else {
-        let [high, low] = ((len - 285) as u16).to_be_bytes();
+        let [high, low] = (((len - 285) & 0xffff) as u16).to_be_bytes();
         [kind | 30, high, low]
     };
     let used = if len < 29 {

@@ -193,6 +193,16 @@ fn read_plainly(alloc: Global, delimiter: u8, column: usize, input: &[u8]) -> Ve
 /// What stands in a cell, of which each four are tried.
 const MARKS: &[u8] = b"\",a\n";
 
+// Adds a row that begins with `front` and so many letters, and goes on with the marks.
+fn put_marked(front: &[u8], before: usize, marks: &[u8], all: &mut Vec<u8>) {
+    let _ = all.extend_from_slice(front);
+    for _ in 0..before {
+        let _ = all.push(b'x');
+    }
+    let _ = all.extend_from_slice(marks);
+    let _ = all.extend_from_slice(b",200.0.0.1\n");
+}
+
 // Rows that begin with so many bytes, behind a quote or not, and go on with each four of the marks.
 fn marked(alloc: Global, front: &[u8], before: usize) -> Vec<u8> {
     let mut all: Vec<u8> = Vec::new(alloc);
@@ -201,13 +211,7 @@ fn marked(alloc: Global, front: &[u8], before: usize) -> Vec<u8> {
             for third in MARKS {
                 for fourth in MARKS {
                     let marks = [*first, *second, *third, *fourth];
-                    let row = [
-                        (front, 1),
-                        (b"x", before),
-                        (&marks, 1),
-                        (b",200.0.0.1\n", 1),
-                    ];
-                    let _ = all.extend_from_slice(section_of(alloc, &row).as_slice());
+                    put_marked(front, before, &marks, &mut all);
                 }
             }
         }
