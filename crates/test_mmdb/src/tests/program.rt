@@ -7,7 +7,7 @@ use std::process::Abort;
 use std::str;
 
 /// Reads enough for each file of a test.
-const ALL_READS: u32 = 1000;
+const ALL_READS: u32 = 1_000_000;
 
 /// What a run left.
 #[derive(Drop)]

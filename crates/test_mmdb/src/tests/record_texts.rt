@@ -425,7 +425,7 @@ fn offsets_of_one_place_differ(rt: HostRuntime) {
 const LONG_MEMBERS: &[u8] = b"\xE3\x41a\x20\x10\x41b\x24\xC3\x41c\x28\x01\x76\0\0";
 
 /// How many bytes of memory there are more in each turn, and how many turns.
-const MEMORY_STEP: usize = 256;
+const MEMORY_STEP: usize = 1024;
 
 const MEMORY_STEPS: usize = 64;
 
