@@ -91,11 +91,11 @@ const TEXT_BYTES: usize = 1900;
 
 /// Where budgets of an export and of a `diff` begin, by how many bytes they differ, and how many there are. A `diff` has a
 /// table of its own from its beginning on.
-const EXPORTS: (usize, usize) = (4096, 8192);
+const EXPORTS: (usize, usize) = (4096, 65_536);
 
-const DIFFS: (usize, usize) = (4_194_304, 24_576);
+const DIFFS: (usize, usize) = (4_194_304, 196_608);
 
-const BUDGETS: usize = 200;
+const BUDGETS: usize = 25;
 
 // Adds a text of the letter, and an array of two pointers to it. Where the array stands.
 fn push_record(letter: u8, data: &mut Vec<u8>) -> Result<usize, AllocError> {
