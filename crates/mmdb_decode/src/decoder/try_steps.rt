@@ -1,8 +1,9 @@
 //! Single steps of a reader of any value that say only whether they could be taken. Each is in line, so that the decoder
 //! and what was read can stay in registers; why a step failed is found by a slower reader, which begins again.
-ghost use Rattle.std.specs.Prelude.{◌≡◌, ◌<◌, ◌^◌, true, false, Some, IfSome, ◌-◌};
+ghost use Rattle.std.specs.Prelude.{◌≡◌, ◌<◌, ◌^◌, true, false, Some, None, IfSome, IfNone, ◌-◌};
 ghost use Rattle.mmdb_format.specs.Header.{header_at as spec_header_at};
 ghost use Rattle.mmdb_format.specs.Views.{content_view};
+ghost use Rattle.mmdb_decode.specs.State.{decoded, GivenUp};
 ghost use Rattle.mmdb_decode.specs.Errors.{IsRead};
 ghost use Rattle.mmdb_decode.specs.Levels.{content_of, entered_pointer, entered_parts};
 ghost use Rattle.mmdb_decode.specs.Maps.{key_at};
@@ -26,8 +27,10 @@ impl<'de> Decoder<'de> {
     #[inline(always)]
     pub fn try_content(&mut self, header: Header) -> Option<Content<'de>>
         requires { header.size < 2 ^ 25 }
-        ensures { IfSome result (λ c.
+        ensures read { IfSome result (λ c.
             IsRead false (content_of header) self.old (content_view c) self.new) }
+        ensures none { IfNone result (decoded false (content_of header) self.old ≡ None) }
+        ensures given_up { IfNone result (GivenUp self.old self.new) }
     {
         self.take_content(header).ok()
     }
@@ -35,7 +38,9 @@ impl<'de> Decoder<'de> {
     /// The key at the offset, which is text and charged in full.
     #[inline(always)]
     pub fn try_key(&mut self) -> Option<&'de str>
-        ensures { IfSome result (λ x. IsRead false key_at self.old x.now self.new) }
+        ensures read { IfSome result (λ x. IsRead false key_at self.old x.now self.new) }
+        ensures none { IfNone result (decoded false key_at self.old ≡ None) }
+        ensures given_up { IfNone result (GivenUp self.old self.new) }
     {
         self.take_text_key().ok()
     }
@@ -45,8 +50,10 @@ impl<'de> Decoder<'de> {
     #[inline(always)]
     pub fn try_follow(&mut self, header: Header) -> Option<usize>
         requires { header.size < 32 }
-        ensures { IfSome result (λ next.
+        ensures entered { IfSome result (λ next.
             entered_pointer self.old header ≡ Some (next, self.new)) }
+        ensures none { IfNone result (entered_pointer self.old header ≡ None) }
+        ensures given_up { IfNone result (GivenUp self.old self.new) }
     {
         self.follow(header).ok()
     }
@@ -56,7 +63,9 @@ impl<'de> Decoder<'de> {
     #[inline(always)]
     pub fn try_descend(&mut self, header: Header, count: usize) -> bool
         requires { count < 2 ^ 26 }
-        ensures { result ≡ true → entered_parts self.old header count ≡ Some self.new }
+        ensures entered { result ≡ true → entered_parts self.old header count ≡ Some self.new }
+        ensures none { result ≡ false → entered_parts self.old header count ≡ None }
+        ensures given_up { result ≡ false → GivenUp self.old self.new }
     {
         self.descend(header, count).is_ok()
     }

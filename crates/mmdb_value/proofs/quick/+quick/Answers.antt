@@ -18,51 +18,51 @@ value_of-returns-in_default t c = rw (any_scalar true c.args.d.now c.args.header
 
 pub target_of-value_here-requires : goal.target_of-value_here-requires
 target_of-value_here-requires t c =
-    let go = goes_to_target c.args.d.now c.try_follow.new.self c.args.header c.in-Some.next c.in-Some.ensures in
+    let go = goes_to_target c.args.d.now c.try_follow.new.self c.args.header c.in-Some.next c.in-Some.ensures.entered in
     (omega (arith, go.0.levels, go.0.below), rw go.1 c.requires.within)
 
 pub target_of-rise_to-requires : goal.target_of-rise_to-requires
 target_of-rise_to-requires t c =
-    let go = goes_to_target c.args.d.now c.try_follow.new.self c.args.header c.in-Some.next c.in-Some.ensures in
+    let go = goes_to_target c.args.d.now c.try_follow.new.self c.args.header c.in-Some.next c.in-Some.ensures.entered in
     let kept = kept_decoded false (value_at true) c.try_follow.new.self c.value_here.new.d (value_tree c.in_ok-value.value) c.in_ok-value.ensures in
     omega (arith, go.0.levels, kept.levels)
 
 pub target_of-returns : goal.target_of-returns
 target_of-returns t c =
     let kept = kept_decoded false (value_at true) c.try_follow.new.self c.value_here.new.d (value_tree c.in_ok-value.value) c.in_ok-value.ensures in
-    pointer_read true c.args.d.now c.try_follow.new.self c.args.header c.requires.header c.value_here.new.d c.rise_to.new.self c.in-Some.next (value_tree c.in_ok-value.value) c.requires.kind c.in-Some.ensures c.in_ok-value.ensures kept c.rise_to.ensures
+    pointer_read true c.args.d.now c.try_follow.new.self c.args.header c.requires.header c.value_here.new.d c.rise_to.new.self c.in-Some.next (value_tree c.in_ok-value.value) c.requires.kind c.in-Some.ensures.entered c.in_ok-value.ensures kept c.rise_to.ensures
 
 pub array_of-values_of-requires : goal.array_of-values_of-requires
 array_of-values_of-requires t c =
-    let go = goes_to_parts c.args.d.now c.try_descend.new.self c.args.header c.args.header.size (c.try_descend.ensures c.if-not-try_descend.false) in
+    let go = goes_to_parts c.args.d.now c.try_descend.new.self c.args.header c.args.header.size (c.try_descend.ensures.entered c.if-not-try_descend.false) in
     (omega (arith, go.0.levels, go.0.below), go.1)
 
 pub array_of-rise-requires : goal.array_of-rise-requires
 array_of-rise-requires t c =
-    let go = goes_to_parts c.args.d.now c.try_descend.new.self c.args.header c.args.header.size (c.try_descend.ensures c.if-not-try_descend.false) in
+    let go = goes_to_parts c.args.d.now c.try_descend.new.self c.args.header c.args.header.size (c.try_descend.ensures.entered c.if-not-try_descend.false) in
     let kept = kept_decoded false (elements (value_at true) c.args.header.size) c.try_descend.new.self c.values_of.new.d (map value_tree c.in_ok-all.all.items) c.in_ok-all.ensures in
     omega (arith, go.0.levels, kept.levels)
 
 pub array_of-returns : goal.array_of-returns
 array_of-returns t c =
     let kept = kept_decoded false (elements (value_at true) c.args.header.size) c.try_descend.new.self c.values_of.new.d (map value_tree c.in_ok-all.all.items) c.in_ok-all.ensures in
-    rw (tree-Array c.in_ok-all.all) (array_read true c.args.d.now c.try_descend.new.self c.args.header c.requires.header c.values_of.new.d c.rise.new.self (map value_tree c.in_ok-all.all.items) c.requires.kind (c.try_descend.ensures c.if-not-try_descend.false) c.in_ok-all.ensures kept c.rise.ensures)
+    rw (tree-Array c.in_ok-all.all) (array_read true c.args.d.now c.try_descend.new.self c.args.header c.requires.header c.values_of.new.d c.rise.new.self (map value_tree c.in_ok-all.all.items) c.requires.kind (c.try_descend.ensures.entered c.if-not-try_descend.false) c.in_ok-all.ensures kept c.rise.ensures)
 
 pub table_of-pairs_of-requires : goal.table_of-pairs_of-requires
 table_of-pairs_of-requires t c =
-    let go = goes_to_parts c.args.d.now c.try_descend.new.self c.args.header (2 * c.args.header.size) (c.try_descend.ensures c.if-not-try_descend.false) in
+    let go = goes_to_parts c.args.d.now c.try_descend.new.self c.args.header (2 * c.args.header.size) (c.try_descend.ensures.entered c.if-not-try_descend.false) in
     (omega (arith, go.0.levels, go.0.below), go.1)
 
 pub table_of-rise-requires : goal.table_of-rise-requires
 table_of-rise-requires t c =
-    let go = goes_to_parts c.args.d.now c.try_descend.new.self c.args.header (2 * c.args.header.size) (c.try_descend.ensures c.if-not-try_descend.false) in
+    let go = goes_to_parts c.args.d.now c.try_descend.new.self c.args.header (2 * c.args.header.size) (c.try_descend.ensures.entered c.if-not-try_descend.false) in
     let kept = kept_decoded false (elements (pair_at true (value_at true)) c.args.header.size) c.try_descend.new.self c.pairs_of.new.d (map (λ x. (x.0.now, value_tree x.1)) c.in_ok-all.all.items) c.in_ok-all.ensures in
     omega (arith, go.0.levels, kept.levels)
 
 pub table_of-returns : goal.table_of-returns
 table_of-returns t c =
     let kept = kept_decoded false (elements (pair_at true (value_at true)) c.args.header.size) c.try_descend.new.self c.pairs_of.new.d (map (λ x. (x.0.now, value_tree x.1)) c.in_ok-all.all.items) c.in_ok-all.ensures in
-    rw (tree-Map c.in_ok-all.all) (table_read true c.args.d.now c.try_descend.new.self c.args.header c.requires.header c.pairs_of.new.d c.rise.new.self (map (λ x. (x.0.now, value_tree x.1)) c.in_ok-all.all.items) c.requires.kind (c.try_descend.ensures c.if-not-try_descend.false) c.in_ok-all.ensures kept c.rise.ensures)
+    rw (tree-Map c.in_ok-all.all) (table_read true c.args.d.now c.try_descend.new.self c.args.header c.requires.header c.pairs_of.new.d c.rise.new.self (map (λ x. (x.0.now, value_tree x.1)) c.in_ok-all.all.items) c.requires.kind (c.try_descend.ensures.entered c.if-not-try_descend.false) c.in_ok-all.ensures kept c.rise.ensures)
 
 pub values_of-loop-preserved : goal.values_of-loop-preserved
 values_of-loop-preserved t c = record {
@@ -76,15 +76,15 @@ values_of-returns t c = parts_end (value_at true) (decoded false (elements (valu
 
 pub pairs_of-value_of-requires : goal.pairs_of-value_of-requires
 pairs_of-value_of-requires t c =
-    let kept = kept_decoded false (key_at true) c.loop.d c.try_key.new.self c.in-Some.key.now c.in-Some.ensures in
-    (omega (arith, kept.levels, c.loop.invariant.kept.levels), (within_decoded false (key_at true) c.loop.d c.try_key.new.self c.in-Some.key.now c.in-Some.ensures, (sym c.in-Some-try_header.ensures.value, (c.in-Some-try_header.ensures.bound.0, c.in-Some-try_header.ensures.bound.1))))
+    let kept = kept_decoded false (key_at true) c.loop.d c.try_key.new.self c.in-Some.key.now c.in-Some.ensures.read in
+    (omega (arith, kept.levels, c.loop.invariant.kept.levels), (within_decoded false (key_at true) c.loop.d c.try_key.new.self c.in-Some.key.now c.in-Some.ensures.read, (sym c.in-Some-try_header.ensures.value, (c.in-Some-try_header.ensures.bound.0, c.in-Some-try_header.ensures.bound.1))))
 
 pub pairs_of-loop-preserved : goal.pairs_of-loop-preserved
 pairs_of-loop-preserved t c =
     let put : (x : Bor (List ℕ) × Value) × ((decoded false (pair_at true (value_at true)) c.loop.d ≡ Some ((x.0.now, value_tree x.1), c.if-header-eq-TEXT.d)) × (c.if-header-eq-TEXT.all.items ≡ c.loop.all.items ++ (x ∷ []))) =
     elim c.if-header-eq-TEXT.branch [
-      | pairs_of-then-header-eq-TEXT+in-Some-text_here+in_ok-push w ↦ ((c.in-Some.key, String w.in-Some-text_here.text), (rw (w.d-is, tree-String w.in-Some-text_here.text) (pair_read true (value_at true) c.loop.d c.try_key.new.self w.text_here.new.d c.in-Some.key.now (scalar (text w.in-Some-text_here.text.now)) c.in-Some.ensures (any_scalar true c.try_key.new.self c.in-Some-try_header.header (sym c.in-Some-try_header.ensures.value) (omega (arith, w.if-header-eq-TEXT.true)) (omega (arith, w.if-header-eq-TEXT.true)) (omega (arith, w.if-header-eq-TEXT.true)) ∙ w.in-Some-text_here.ensures)), rw w.all-is w.in_ok-push.ensures.items))
-      | pairs_of-else-header-eq-TEXT+in_ok-value+in_ok-push-2 w ↦ ((c.in-Some.key, w.in_ok-value.value), (rw w.d-is (pair_read true (value_at true) c.loop.d c.try_key.new.self w.value_of.new.d c.in-Some.key.now (value_tree w.in_ok-value.value) c.in-Some.ensures w.in_ok-value.ensures), rw w.all-is w.in_ok-push-2.ensures.items))
+      | pairs_of-then-header-eq-TEXT+in-Some-text_here+in_ok-push w ↦ ((c.in-Some.key, String w.in-Some-text_here.text), (rw (w.d-is, tree-String w.in-Some-text_here.text) (pair_read true (value_at true) c.loop.d c.try_key.new.self w.text_here.new.d c.in-Some.key.now (scalar (text w.in-Some-text_here.text.now)) c.in-Some.ensures.read (any_scalar true c.try_key.new.self c.in-Some-try_header.header (sym c.in-Some-try_header.ensures.value) (omega (arith, w.if-header-eq-TEXT.true)) (omega (arith, w.if-header-eq-TEXT.true)) (omega (arith, w.if-header-eq-TEXT.true)) ∙ w.in-Some-text_here.ensures)), rw w.all-is w.in_ok-push.ensures.items))
+      | pairs_of-else-header-eq-TEXT+in_ok-value+in_ok-push-2 w ↦ ((c.in-Some.key, w.in_ok-value.value), (rw w.d-is (pair_read true (value_at true) c.loop.d c.try_key.new.self w.value_of.new.d c.in-Some.key.now (value_tree w.in_ok-value.value) c.in-Some.ensures.read w.in_ok-value.ensures), rw w.all-is w.in_ok-push-2.ensures.items))
     ] in
     let read = put.1.0 in
     record {

@@ -5,4 +5,4 @@ use Rattle.mmdb_value.proofs.AnySteps.{scalar_looked_at}
 use Rattle.mmdb_value.proofs.quick.scalar_here.Goals as goal
 
 pub returns-in-Ok : goal.returns-in-Ok
-returns-in-Ok c = scalar_looked_at true c.args.header c.args.d.now c.try_content.new.self (content_view c.in-Some.content) (Some (value_tree c.in-Ok.value)) c.in-Some.ensures c.in-Ok.ensures
+returns-in-Ok c = scalar_looked_at true c.args.header c.args.d.now c.try_content.new.self (content_view c.in-Some.content) (Some (value_tree c.in-Ok.value)) c.in-Some.ensures.read c.in-Ok.ensures

@@ -10,4 +10,4 @@ same_text true x y h = let e : y ≡ x = cc in rw e refl
 same_text false x y h = absurd (cc)
 
 pub returns-in-Ok : goal.returns-in-Ok
-returns-in-Ok c = scalar_looked_at true c.args.header c.args.d.now c.try_content.new.self (text c.in-Some-Text.bytes.now) (Some (scalar (text c.in-Ok.text.now))) (rw c.in-Some-Text.field-0-is at c.in-Some-Text.ensures) (same_text (is_utf8 c.in-Some-Text.bytes.now) c.in-Some-Text.bytes.now c.in-Ok.text.now c.in-Ok.ensures.value)
+returns-in-Ok c = scalar_looked_at true c.args.header c.args.d.now c.try_content.new.self (text c.in-Some-Text.bytes.now) (Some (scalar (text c.in-Ok.text.now))) (rw c.in-Some-Text.field-0-is at c.in-Some-Text.ensures.read) (same_text (is_utf8 c.in-Some-Text.bytes.now) c.in-Some-Text.bytes.now c.in-Ok.text.now c.in-Ok.ensures.value)
