@@ -3,6 +3,7 @@ ghost use Rattle.std.specs.Prelude.{true, false};
 ghost use Rattle.mmdb_decode.specs.Skipping.{skip_at};
 
 use mmdb_decode::decoder::Decoder;
+use mmdb_decode::detours::again;
 use mmdb_equality::KnownMaps;
 use mmdb_format::error::DecodeResult;
 use mmdb_layout::Found;
@@ -29,7 +30,7 @@ impl<'de> Decode<'de> for AtRecord<'de> {
     ghost exact = { false };
 
     fn decode(_alloc: Global, d: &mut Decoder<'de>) -> DecodeResult<AtRecord<'de>> {
-        Ok(AtRecord { decoder: d.again() })
+        Ok(AtRecord { decoder: again(d) })
     }
 }
 

@@ -2,6 +2,7 @@
 use crate::allowance::{Allowance, MOST_LEVELS, VALUE, is_text};
 use crate::known_maps::{KnownMaps, SharedMap, is_behind_pointer};
 use mmdb_decode::decoder::Decoder;
+use mmdb_decode::detours::{forget_array, forget_map, spend};
 use mmdb_decode::items::{Entries, Items};
 use mmdb_format::kind::Kind;
 use std::alloc::Global;
@@ -122,7 +123,7 @@ impl<'de> SideBySide<'de> {
             return false;
         };
         let Ok(mut new) = self.new.try_map() else {
-            old.forget();
+            forget_map(old);
             return false;
         };
         let are_shared = is_behind_pointer(old_at, &self.old)
@@ -132,8 +133,8 @@ impl<'de> SideBySide<'de> {
         } else {
             self.has_same_pairs(depth, &mut old, &mut new)
         };
-        old.spend();
-        new.spend();
+        spend(&mut old);
+        spend(&mut new);
         self.old.end_map(old);
         self.new.end_map(new);
         is_same
@@ -160,7 +161,7 @@ impl<'de> SideBySide<'de> {
             return false;
         };
         let Ok(new) = self.new.try_array() else {
-            old.forget();
+            forget_array(old);
             return false;
         };
         let count = self.old.remaining(&old);
@@ -178,7 +179,7 @@ pub(crate) fn leave(d: &mut Decoder<'_>, items: Items) {
         let _ = d.next_item(&mut items);
     }
     if d.next_item(&mut items) {
-        items.forget();
+        forget_array(items);
     } else {
         d.end_array(items);
     }

@@ -3,6 +3,7 @@ use crate::allowance::{Allowance, MOST_LEVELS, VALUE, is_text};
 use crate::equality::leave;
 use crate::known_maps::{KnownMaps, SharedMap, is_behind_pointer};
 use mmdb_decode::decoder::Decoder;
+use mmdb_decode::detours::spend;
 use mmdb_decode::items::Entries;
 use mmdb_format::kind::Kind;
 use std::alloc::{AllocError, Global};
@@ -120,7 +121,7 @@ impl RecordReader {
         } else {
             self.reads_pairs(d, depth, &mut entries)
         };
-        entries.spend();
+        spend(&mut entries);
         d.end_map(entries);
         is_read
     }

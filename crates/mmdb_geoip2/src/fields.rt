@@ -7,6 +7,7 @@ ghost use Rattle.mmdb_record.specs.TableReads.{TakesPart};
 ghost use Rattle.mmdb_geoip2.specs.Working.{FailsEarly};
 
 use mmdb_decode::decoder::Decoder;
+use mmdb_decode::detours::forget_array;
 use mmdb_decode::failed::Failed;
 use mmdb_record::try_decode::{TryDecode, try_items};
 use std::alloc::Global;
@@ -39,7 +40,7 @@ fn read_few<'de, T: TryDecode<'de>>(alloc: Global, d: &mut Decoder<'de>) -> Resu
     let mut items = d.try_array()?;
     let declared = d.remaining(&items);
     if d.hint(&items) > MAX_SUBDIVISIONS {
-        items.forget();
+        forget_array(items);
         return Err(d.fail_list());
     }
     match try_items(alloc, d, &mut items) {
@@ -51,7 +52,7 @@ fn read_few<'de, T: TryDecode<'de>>(alloc: Global, d: &mut Decoder<'de>) -> Resu
             Ok(list)
         }
         Err(e) => {
-            items.forget();
+            forget_array(items);
             Err(e)
         }
     }

@@ -7,6 +7,7 @@ ghost use Rattle.mmdb_record.specs.TableReads.{TakesField, TakesPairs, TakesReco
 use crate::decode::Decode;
 use crate::memo::Place;
 use mmdb_decode::decoder::Decoder;
+use mmdb_decode::detours::{again, forget_map, go_to};
 use mmdb_decode::failed::Failed;
 use mmdb_decode::items::Entries;
 use mmdb_format::error::DecodeResult;
@@ -104,7 +105,7 @@ fn read_map_into<'de, R: Fields<'de>, const NOTES: bool>(
         → IsPlaceOf R.table place.new fields.new d.old.section) }
 {
     let mut entries = d.try_map()?;
-    let before = d.again();
+    let before = again(d);
     let count = entries.left();
     match read_each(alloc, d, &mut entries, fields) {
         Ok(()) => {
@@ -112,14 +113,14 @@ fn read_map_into<'de, R: Fields<'de>, const NOTES: bool>(
                 *place = Some(Place {
                     before,
                     count,
-                    behind: d.again(),
+                    behind: again(d),
                 });
             }
             d.end_map(entries);
             Ok(())
         }
         Err(rejected) => {
-            entries.forget();
+            forget_map(entries);
             Err(rejected)
         }
     }
@@ -137,10 +138,10 @@ pub(crate) fn read_into<'de, R: Fields<'de>, const NOTES: bool>(
     ensures noted { OnOk result (NOTES ≡ true
         → IsPlaceOf R.table place.new fields.new d.old.section) }
 {
-    let mut here = d.again();
+    let mut here = again(d);
     match read_map_into::<R, NOTES>(alloc, &mut here, fields, place) {
         Ok(()) => {
-            d.go_to(&here);
+            go_to(d, &here);
             Ok(())
         }
         Err(rejected) => {

@@ -8,6 +8,7 @@ ghost use Rattle.mmdb_record.specs.TableReads.{TakesPart};
 
 use crate::fields::{Fields, read_part_into};
 use mmdb_decode::decoder::Decoder;
+use mmdb_decode::detours::{again, forget_map, go_to, spend};
 use mmdb_decode::failed::Failed;
 use std::alloc::Global;
 
@@ -48,17 +49,17 @@ fn reuse<'de, R: Fields<'de>>(d: &mut Decoder<'de>, known: &R, place: &Option<Pl
     let Some(place) = place else {
         return false;
     };
-    let mut here = d.again();
+    let mut here = again(d);
     let Ok(mut entries) = here.try_map() else {
         return false;
     };
     if place.count != entries.left() || !here.repeat(&place.before, &place.behind) {
-        entries.forget();
+        forget_map(entries);
         return false;
     }
-    entries.spend();
+    spend(&mut entries);
     here.end_map(entries);
-    d.go_to(&here);
+    go_to(d, &here);
     true
 }
 

@@ -11,6 +11,7 @@ ghost use Rattle.mmdb_value.specs.Values.{value_tree};
 use crate::quick::value_here;
 use crate::shared::{self, Source};
 use mmdb_decode::decoder::Decoder;
+use mmdb_decode::detours::{again, go_to};
 use mmdb_decode::direct::text_of;
 use mmdb_decode::failed::Failed;
 use mmdb_decode::steps::Steps;
@@ -91,10 +92,10 @@ fn read_value<'de>(alloc: Global, d: &mut Decoder<'de>) -> DecodeResult<Value<'d
     requires { Within d.old.budget }
     ensures { ReadsValue value_tree false (value_at true) d.old d.new result }
 {
-    let mut here = d.again();
+    let mut here = again(d);
     match value_here(alloc, &mut here) {
         Ok(value) => {
-            d.go_to(&here);
+            go_to(d, &here);
             Ok(value)
         }
         Err(Failed::OutOfMemory) => Err(MaxMindDbError::Memory),

@@ -2,7 +2,7 @@
 ghost use Rattle.std.specs.Prelude.{◌≡◌, ◌+◌, ◌-◌, true, MatchBool, min, length, unwrap_or};
 ghost use Rattle.mmdb_decode.specs.State.{Within};
 ghost use Rattle.mmdb_decode.specs.Arrays.{entered_array, entered_array_of, left_array, items_left, with_items_left, levels_before_array};
-ghost use Rattle.mmdb_decode.specs.Maps.{entered_map, left_map, pairs_left, with_pairs_left, levels_before_map};
+ghost use Rattle.mmdb_decode.specs.Maps.{entered_map, left_map, pairs_left, levels_before_map};
 ghost use Rattle.mmdb_decode.specs.Errors.{Reads, Takes};
 
 use super::Decoder;
@@ -169,15 +169,6 @@ impl Items {
         } = self;
         d.leave(None, levels);
     }
-
-    /// Lets go of an array of which nothing more is read.
-    pub fn forget(self) {
-        let Items {
-            remaining: _,
-            after: _,
-            levels: _,
-        } = self;
-    }
 }
 
 impl Entries {
@@ -187,14 +178,6 @@ impl Entries {
         ensures { result ≡ pairs_left self.now }
     {
         self.remaining
-    }
-
-    /// Leaves no pair to be read: the decoder stands behind all of them.
-    #[inline(always)]
-    pub fn spend(&mut self)
-        ensures { self.new ≡ with_pairs_left 0 self.old }
-    {
-        self.remaining = 0;
     }
 
     /// Gives a map up: the levels are those before it, offset and charges stay.
@@ -207,14 +190,5 @@ impl Entries {
             levels,
         } = self;
         d.leave(None, levels);
-    }
-
-    /// Lets go of a map of which nothing more is read.
-    pub fn forget(self) {
-        let Entries {
-            remaining: _,
-            after: _,
-            levels: _,
-        } = self;
     }
 }

@@ -20,9 +20,9 @@ use mmdb_format::header::header_at;
 use mmdb_format::kind::{DOUBLE, U16, U32};
 
 impl<'de> Decoder<'de> {
-    /// Another decoder at the same offset.
+    // Another decoder at the same offset.
     #[inline(always)]
-    pub fn again(&self) -> Decoder<'de>
+    pub(crate) fn again(&self) -> Decoder<'de>
         ensures { result ≡ self.now }
     {
         Decoder {
@@ -35,9 +35,9 @@ impl<'de> Decoder<'de> {
         }
     }
 
-    /// Goes to where another decoder of the section stands.
+    // Goes to where another decoder of the section stands.
     #[inline(always)]
-    pub fn go_to(&mut self, there: &Decoder<'de>)
+    pub(crate) fn go_to(&mut self, there: &Decoder<'de>)
         requires { there.now.section ≡ self.old.section }
         ensures { self.new ≡ there.now }
     {
