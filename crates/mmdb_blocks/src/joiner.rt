@@ -1,5 +1,5 @@
 //! The joiner, which takes blocks one by one.
-ghost use Rattle.std.specs.Prelude.{◌≡◌, ◌≤◌, ◌↔◌, List, [], ◌∷◌, ◌++◌, IsOk, IfOk, OnOk, OnErr, take, drop};
+ghost use Rattle.std.specs.Prelude.{◌≡◌, ◌≤◌, ◌↔◌, List, [], ◌∷◌, ◌++◌, IsOk, IsErrOf, IfOk, OnOk, OnErr, take, drop};
 ghost use Rattle.std.specs.Vec.{vec_capacity};
 ghost use Rattle.mmdb_blocks.specs.Blocks.{IsBlock, IsJoined};
 ghost use Rattle.mmdb_blocks.specs.Joining.{IsAfter, IsReady, IsJoining, waiting_of, settled_of, most_waiting};
@@ -63,6 +63,8 @@ impl Joiner {
         ensures taken { (pushed handed : List SpecBlock)
             → IsJoining pushed handed (waiting_of self.old)
             → IsOk result ↔ (IsBlock block × IsAfter pushed block) }
+        ensures not_a_block { IsErrOf result JoinError.NotABlock ↔ ¬ (IsBlock block) }
+        ensures out_of_order { IsErrOf result JoinError.OutOfOrder → IsBlock block }
         ensures err { OnErr result (self.new ≡ self.old) }
     {
         if !block.is_block() {

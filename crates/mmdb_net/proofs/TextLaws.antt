@@ -16,8 +16,11 @@ use Rattle.std.specs.Net.Grammar.{IsIpText, Parses}
 use Rattle.std.proofs.Common.{Bor, inl, inr, subst}
 use Rattle.mmdb_net.specs.declared.network.IpNetwork.{IpNetwork}
 use Rattle.mmdb_net.specs.Address.{address_width}
-use Rattle.mmdb_net.specs.Network.{ip_of, prefix_of}
-use Rattle.mmdb_net.specs.NetworkText.{IsPrefixText, IsNetworkText}
+use Rattle.std.specs.declared.net.ip_addr.IpAddr.TheVariants as Ip
+use Rattle.mmdb_net.specs.declared.network.Ipv4Network.{Ipv4Network}
+use Rattle.mmdb_net.specs.declared.network.Ipv6Network.{Ipv6Network}
+use Rattle.mmdb_net.specs.Network.{ip_of, prefix_of, ipv4_ip_of, ipv4_prefix_of, ipv6_ip_of, ipv6_prefix_of}
+use Rattle.mmdb_net.specs.NetworkText.{IsPrefixText, IsNetworkText, IsIpv4TextOf, IsIpv6TextOf}
 use Rattle.mmdb_net.specs.Bits.{bits_of, zero_bits, number_of}
 use Rattle.mmdb_net.specs.FullText.{hex_group, groups_text, prefix_text, ipv4_full_text, ipv6_full_text}
 use Rattle.mmdb_net.proofs.BitLaws.{length-bits_of, bits_of-masked, number_of-bits_of, number_of-filled}
@@ -125,6 +128,18 @@ network_text-made (Ok n) text ip prefix same_ip same_prefix spelled =
     let Q : ℕ → Type 0 = λ k. IsNetworkText text ip k in
     subst P (sym same_ip) (subst Q (sym same_prefix) spelled)
 network_text-made (Err e) text ip prefix same_ip same_prefix spelled = tt
+
+pub ipv4_text-made : {E : Type 0} (made : Result Ipv4Network E) (text : List ℕ) (ip : Ipv4Addr) (prefix : ℕ) → IfOk made (λ n. ipv4_ip_of n ≡ ip) → IfOk made (λ n. ipv4_prefix_of n ≡ prefix) → IsNetworkText text (Ip.V4 ip) prefix
+    → IfOk made (IsIpv4TextOf text)
+ipv4_text-made (Ok n) text ip prefix same_ip same_prefix spelled =
+    subst (λ a. IsNetworkText text (Ip.V4 a) (ipv4_prefix_of n)) (sym same_ip) (subst (λ k. IsNetworkText text (Ip.V4 ip) k) (sym same_prefix) spelled)
+ipv4_text-made (Err e) text ip prefix same_ip same_prefix spelled = tt
+
+pub ipv6_text-made : {E : Type 0} (made : Result Ipv6Network E) (text : List ℕ) (ip : Ipv6Addr) (prefix : ℕ) → IfOk made (λ n. ipv6_ip_of n ≡ ip) → IfOk made (λ n. ipv6_prefix_of n ≡ prefix) → IsNetworkText text (Ip.V6 ip) prefix
+    → IfOk made (IsIpv6TextOf text)
+ipv6_text-made (Ok n) text ip prefix same_ip same_prefix spelled =
+    subst (λ a. IsNetworkText text (Ip.V6 a) (ipv6_prefix_of n)) (sym same_ip) (subst (λ k. IsNetworkText text (Ip.V6 ip) k) (sym same_prefix) spelled)
+ipv6_text-made (Err e) text ip prefix same_ip same_prefix spelled = tt
 
 -- what is read from a text, with its error turned into another, is what the text spells
 pub parsed-mapped : {A E F : Type 0} (Spells : List ℕ → A → Type 0) (text : List ℕ) (read : Result A E) (mapped : Result A F) (x : A) (Q : E → F → Type 0) → Parses Spells text read → MatchResult read (λ y. mapped ≡ Ok y) (λ e. IsErrAnd mapped (Q e)) → mapped ≡ Ok x

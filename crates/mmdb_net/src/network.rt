@@ -1,6 +1,6 @@
 ghost use Rattle.std.specs.Prelude.{◌≡◌, ◌≤◌, ◌↔◌, ◌++◌, IsTrue, IsOk, IfOk, IfErr, OnOk, Some};
 ghost use Rattle.std.specs.String.{string_bytes};
-ghost use Rattle.mmdb_net.specs.NetworkText.{IsNetworkText};
+ghost use Rattle.std.specs.Net.Grammar.{Parses};
 ghost use Rattle.mmdb_net.specs.Address.{address_width, bits_of_address, IsSameKind, IsMaskedIp};
 ghost use Rattle.mmdb_net.specs.Bits.{IsPrefix};
 
@@ -111,13 +111,11 @@ impl Display for Ipv4Network {
 }
 
 impl FromStr for Ipv4Network {
-    ghost use Rattle.std.specs.declared.net.ip_addr.IpAddr.TheVariants.{V4};
-    ghost use Rattle.mmdb_net.specs.Network.{ipv4_ip_of, ipv4_prefix_of};
+    ghost use Rattle.mmdb_net.specs.NetworkText.{IsIpv4TextOf};
 
     type Err = IpNetworkError;
 
-    ghost from_str_gives = { λ text result.
-        IfOk result (λ n. IsNetworkText text (V4 (ipv4_ip_of n)) (ipv4_prefix_of n)) };
+    ghost from_str_gives = { Parses IsIpv4TextOf };
 
     fn from_str(text: &str) -> Result<Ipv4Network, IpNetworkError> {
         let (address, prefix) = text::split_prefix(text)?;
@@ -235,13 +233,11 @@ impl Display for Ipv6Network {
 }
 
 impl FromStr for Ipv6Network {
-    ghost use Rattle.std.specs.declared.net.ip_addr.IpAddr.TheVariants.{V6};
-    ghost use Rattle.mmdb_net.specs.Network.{ipv6_ip_of, ipv6_prefix_of};
+    ghost use Rattle.mmdb_net.specs.NetworkText.{IsIpv6TextOf};
 
     type Err = IpNetworkError;
 
-    ghost from_str_gives = { λ text result.
-        IfOk result (λ n. IsNetworkText text (V6 (ipv6_ip_of n)) (ipv6_prefix_of n)) };
+    ghost from_str_gives = { Parses IsIpv6TextOf };
 
     fn from_str(text: &str) -> Result<Ipv6Network, IpNetworkError> {
         let (address, prefix) = text::split_prefix(text)?;
@@ -370,11 +366,11 @@ impl Display for IpNetwork {
 }
 
 impl FromStr for IpNetwork {
-    ghost use Rattle.mmdb_net.specs.Working.{IsTextOf};
+    ghost use Rattle.mmdb_net.specs.NetworkText.{IsTextOf};
 
     type Err = IpNetworkError;
 
-    ghost from_str_gives = { λ text result. IfOk result (IsTextOf text) };
+    ghost from_str_gives = { Parses IsTextOf };
 
     fn from_str(text: &str) -> Result<IpNetwork, IpNetworkError> {
         let (address, prefix) = text::split_prefix(text)?;

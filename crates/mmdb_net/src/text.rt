@@ -1,5 +1,5 @@
 // The texts of networks: their parts in writing and in reading.
-ghost use Rattle.std.specs.Prelude.{◌≡◌, ◌+◌, ◌++◌, ◌<◌, ◌≤◌, ◌∷◌, Some, IfOk, OnOk, MatchOption, codes, decimal, length};
+ghost use Rattle.std.specs.Prelude.{◌≡◌, ◌+◌, ◌++◌, ◌<◌, ◌≤◌, ◌∷◌, Some, IfOk, OnOk, OnErr, MatchOption, codes, decimal, length};
 ghost use Rattle.std.specs.Char.{digit_char};
 ghost use Rattle.mmdb_net.specs.Address.{address_width};
 ghost use Rattle.std.specs.Net.Addr.{ipv6_segments};
@@ -7,6 +7,7 @@ ghost use Rattle.std.specs.Net.Text as Short;
 ghost use Rattle.std.specs.Net.Text.{ipv4_text, ipv6_text};
 ghost use Rattle.mmdb_net.specs.FullText.{hex_group, groups_text, prefix_text};
 ghost use Rattle.mmdb_net.specs.NetworkText.{IsPrefixText};
+ghost use Rattle.mmdb_net.specs.Working.{LacksSlash, HasSlashes, HasNoPrefix};
 
 use super::error::IpNetworkError;
 use std::alloc::AllocError;
@@ -230,8 +231,10 @@ const MAX_PREFIX_DIGITS: usize = 3;
 
 // The text of the address, and that of the prefix where there is a `/`.
 pub(crate) fn split_prefix(text: &str) -> Result<(&str, Option<&str>), IpNetworkError>
-    ensures { IfOk result (λ parts. MatchOption parts.1 (text.now ≡ parts.0.now)
+    ensures parts { IfOk result (λ parts. MatchOption parts.1 (text.now ≡ parts.0.now)
         (λ prefix. text.now ≡ parts.0.now ++ codes "/" ++ prefix.now)) }
+    ensures first { IfOk result (λ parts. LacksSlash parts.0.now) }
+    ensures several { OnErr result (HasSlashes text.now) }
 {
     match text.split_once('/') {
         None => Ok((text, None)),
@@ -243,13 +246,16 @@ pub(crate) fn split_prefix(text: &str) -> Result<(&str, Option<&str>), IpNetwork
 // The prefix that the text gives in one to three ASCII digits, or the whole address where there is
 // no text.
 pub(crate) fn read_prefix(text: Option<&str>, whole: u8) -> Result<u8, IpNetworkError>
-    ensures { IfOk result (λ prefix. MatchOption text.entry (prefix ≡ whole)
+    ensures prefix { IfOk result (λ prefix. MatchOption text.entry (prefix ≡ whole)
         (λ digits. IsPrefixText digits.now prefix)) }
+    ensures none { OnErr result (HasNoPrefix text.entry) }
 {
     let Some(digits) = text else {
         return Ok(whole);
     };
-    if digits.len() > MAX_PREFIX_DIGITS || !digits.bytes().all(|digit| digit.is_ascii_digit()) {
+    if digits.len() > MAX_PREFIX_DIGITS
+        || !digits.as_bytes().iter().all(|digit| digit.is_ascii_digit())
+    {
         return Err(IpNetworkError::InvalidPrefix);
     }
     digits.parse().map_err(|_| IpNetworkError::InvalidPrefix)
