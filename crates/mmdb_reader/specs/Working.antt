@@ -41,9 +41,6 @@ pub record IsLeafAt (db : Database) (address : IpAddr) (leaf : List Bool) (numbe
 abbrev pub block_of : Database → Leaf → List Bool
 block_of db leaf = numbered_block db leaf.address.width leaf.address.bits leaf.prefix
 
-abbrev pub addresses_left : LookupsLeft → List IpAddr
-addresses_left l = l.addresses
-
 -- no marker stands in the file
 abbrev pub HasNoMarker : List ℕ → Type 0
 HasNoMarker file = (offset : ℕ) → ¬ IsMarkerAt file offset
@@ -103,23 +100,6 @@ pub record IsRangeOf (db : Database) (network : IpNetwork) (address prefix : ℕ
   pub block : take prefix (bits_of (width db) address) ≡ block_in db network
   pub within : prefix ≤ width db
   pub positions : width db - prefix + 1 ≡ positions_for network
-
-module _ {S : Type 0} {G : Ghosts S ℕ} where
-  -- The result is what a lookup of the address in the database answers: the leaf on the address's bits with its
-  -- outcome, or an error exactly where IPv6 is asked of an IPv4 database or the leaf's number is invalid.
-  pub record IsLookup (db : Database) (address : IpAddr) (result : Result (LookupResult S G) MaxMindDbError) : Type 0 where
-    pub answered : IfOk result (λ r. Answers db address (leaf_of r) (outcome_at (offset_found r)))
-    pub shown : IfOk result (λ r. shown_as_ipv4 r ≡ is_shown_as_ipv4 db address)
-    pub database : IfOk result (λ r. database_asked r ≡ db)
-    pub of_input : FailsAs OfInput result ↔ ¬ (CanAsk db address)
-    pub of_database : FailsAs OfDatabase result ↔ IsInvalidAt db address
-    pub no_other : IfErr result (λ e. (kind_of e ≡ OfInput) ⊎ (kind_of e ≡ OfDatabase))
-
-  -- one step: the first of the addresses left, with what a lookup of it answers; the database stays
-  abbrev pub AnswersFirst : LookupsLeft → Option (IpAddr × Result (LookupResult S G) MaxMindDbError) → LookupsLeft → Type 0
-  AnswersFirst s r t =
-      YieldsFirstBy (λ p. p.0) addresses_left s r t
-      × ((t.database ≡ s.database) × IfSome r (λ p. IsLookup s.database p.0 p.1))
 
 -- an error is a fault, and an offset is that of a value
 abbrev pub finding_of_answer : Option (Result (Option ℕ) MaxMindDbError) → Option TreeRecord

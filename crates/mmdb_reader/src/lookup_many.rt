@@ -66,7 +66,7 @@ impl<S: AsSlice<u8> + Drop> Reader<S> {
 
 impl<'r, 'a, S: AsSlice<u8> + Drop> Iterator for LookupMany<'r, 'a, S> {
     ghost use Rattle.std.specs.Iterator.{item_count};
-    ghost use Rattle.mmdb_reader.specs.Working.{addresses_left, AnswersFirst};
+    ghost use Rattle.mmdb_reader.specs.Many.{addresses_left, AnswersFirst};
 
     type Item = (IpAddr, Result<LookupResult<'r, S>, MaxMindDbError>);
 

@@ -50,7 +50,8 @@ impl<S: AsSlice<u8> + Drop> Reader<S> {
     ghost use Rattle.mmdb_tree.specs.Groups.{most_cached};
     ghost use Rattle.mmdb_tree.specs.Descents.{Walks};
     ghost use Rattle.mmdb_reader.specs.Lookup.{CanAsk, Answers, IsInvalidAt, outcome_at};
-    ghost use Rattle.mmdb_reader.specs.Working.{IsLeafAt, IsLookup, block_of};
+    ghost use Rattle.mmdb_reader.specs.Many.{IsLookup};
+    ghost use Rattle.mmdb_reader.specs.Working.{IsLeafAt, block_of};
     ghost use Rattle.mmdb_reader.specs.Shown.{is_shown_as_ipv4};
     ghost use Rattle.mmdb_reader.specs.Many.{HasWalk, IsFoundFor, first_number};
 

@@ -65,7 +65,8 @@ impl<S: AsSlice<u8> + Drop> Reader<S> {
     ghost use Rattle.mmdb_reader.specs.Counting.{CountsAnswer, CountsNodes};
     ghost use Rattle.mmdb_reader.specs.Kept.{IsLayoutOf, database_of};
     ghost use Rattle.mmdb_reader.specs.Lookup.{CanAsk, Answers, IsInvalidAt, outcome_of, outcome_at, record_at};
-    ghost use Rattle.mmdb_reader.specs.Working.{IsLeafAt, IsLookup, block_of};
+    ghost use Rattle.mmdb_reader.specs.Many.{IsLookup};
+    ghost use Rattle.mmdb_reader.specs.Working.{IsLeafAt, block_of};
     ghost use Rattle.mmdb_reader.specs.Shown.{is_shown_as_ipv4, has_ipv4_subtree, ipv4_start};
     ghost use Rattle.mmdb_tree.specs.Nodes.{tree_in};
     ghost use Rattle.mmdb_tree.specs.declared.record.TreeRecord.TheVariants.{Invalid};
