@@ -96,20 +96,26 @@ impl<S: AsSlice<u8> + Drop> Reader<S> {
         Ok((walked, set))
     }
 
-    // What is found of the tree: by the sweep, and where that fails by the walk in order.
-    fn walk_once(&self, alloc: Global) -> Result<(Walked, OffsetSet), AllocError>
+    // What is found of the tree: by the sweep, if one is wanted, and where that fails by the walk in order.
+    fn walk_once<const SWEEPS: bool>(
+        &self,
+        alloc: Global,
+    ) -> Result<(Walked, OffsetSet), AllocError>
         requires few { self.now.metadata.node_count < 2 ^ 32 }
         ensures { IfOk result (λ w. IsWalkOf self.now w.0 w.1) }
     {
-        match self.sweep_tree(alloc)? {
-            Some(swept) => Ok(swept),
-            None => self.walk_in_order(alloc),
+        if SWEEPS {
+            if let Some(swept) = self.sweep_tree(alloc)? {
+                return Ok(swept);
+            }
         }
+        self.walk_in_order(alloc)
     }
 
-    // The offsets of walked leaves, if no walked leaf is faulty and there are not too many stops.
+    // The offsets of walked leaves, if no walked leaf is faulty and there are not too many stops. Where a sweep comes before
+    // the walk in order, its positions are not counted.
     #[tactic(auto, using(crate::proofs::WholeLemmas::clean_of_tree))]
-    fn walk_tree(
+    fn walk_tree<const SWEEPS: bool>(
         &self,
         alloc: Global,
         node_count: usize,
@@ -127,7 +133,7 @@ impl<S: AsSlice<u8> + Drop> Reader<S> {
             (λ e. MemoryApart e (steps.new ≡ steps.old + walk_cost self.now)) }
         ensures most { steps.new ≤ steps.old + walk_cost self.now }
     {
-        let (walked, set) = self.walk_once(alloc)?;
+        let (walked, set) = self.walk_once::<SWEEPS>(alloc)?;
         steps.add(walked.taken);
         match walked.end {
             WalkEnd::Whole => Ok(set),
@@ -167,7 +173,7 @@ impl<S: AsSlice<u8> + Drop> Reader<S> {
     }
 
     // Whether the metadata, the tree of so many nodes, the separator and the values are whole.
-    fn verify_whole(
+    fn verify_whole<const SWEEPS: bool>(
         &self,
         alloc: Global,
         node_count: usize,
@@ -188,7 +194,7 @@ impl<S: AsSlice<u8> + Drop> Reader<S> {
         ensures most { steps.new ≤ steps.old + walk_cost self.now }
     {
         self.verify_metadata(alloc)?;
-        let set = self.walk_tree(alloc, node_count, steps)?;
+        let set = self.walk_tree::<SWEEPS>(alloc, node_count, steps)?;
         self.verify_separator()?;
         self.verify_values(alloc, &set)
     }
@@ -197,10 +203,8 @@ impl<S: AsSlice<u8> + Drop> Reader<S> {
     ///
     /// They are at most six for each node and 130 more: each node and each leaf on the way, and each alias, behind
     /// which it does not go. Where the metadata are whole, or `verify` succeeds, they are exactly those up to the
-    /// last leaf or alias, or up to the one at which it fails. The tree is swept first, over at most three nodes
-    /// for each node: where the sweep finds a whole tree, its positions are those that are counted, and no walk comes
-    /// after it. Of a tree that is rejected only the positions of the walk in order are counted; with those of the
-    /// sweep at most twelve for each node and 130 are looked at.
+    /// last leaf or alias, or up to the one at which it fails. The tree is walked in order, once, and each position that
+    /// is looked at is counted. `verify` sweeps the tree, which is faster.
     pub fn verify_counted(&self, alloc: Global, steps: &mut Steps) -> Result<(), MaxMindDbError>
         requires { steps.old + (6 * self.now.metadata.node_count + 130) < 2 ^ 64 }
         ensures whole { OnOk result (IsWhole self.now) }
@@ -214,7 +218,7 @@ impl<S: AsSlice<u8> + Drop> Reader<S> {
             → steps.new ≡ steps.old + walk_cost self.now)) }
         ensures most { steps.new ≤ steps.old + walk_cost self.now }
     {
-        self.verify_whole(alloc, self.nodes().node_count, steps)
+        self.verify_whole::<false>(alloc, self.nodes().node_count, steps)
     }
 
     /// Checks the whole database: its metadata, its tree, the separator after it, and the values of all leaves that
@@ -230,6 +234,6 @@ impl<S: AsSlice<u8> + Drop> Reader<S> {
         ensures answers { OnOk result (AnswersAll self.now) }
         ensures rejected { IfErr result (λ e. MemoryApart e (¬ IsWhole self.now)) }
     {
-        self.verify_whole(alloc, self.nodes().node_count, &mut Steps::new())
+        self.verify_whole::<true>(alloc, self.nodes().node_count, &mut Steps::new())
     }
 }
