@@ -60,13 +60,18 @@ impl Reader<Vec<u8>> {
     /// A reader of the file at a path, which is read whole.
     ///
     /// Fails as `Io` where a call on the file failed, as `Memory`, or as `from_source` rejects what was
-    /// read.
+    /// read. A read that the system rejects since it has no memory is `Memory` too.
     pub fn open_readfile<R: Files, P: AsPath + Drop>(
         rt: &R,
         alloc: Global,
         path: P,
     ) -> Result<Reader<Vec<u8>>, MaxMindDbError>
-        ensures { IfOk result (λ reader. IsDatabaseOf reader.bytes reader) }
+        ensures accepted { IfOk result (λ reader. IsDatabaseOf reader.bytes reader) }
+        // Where a file's bytes are known, they are those that the reader has, whole, or that are no database.
+        ensures of_file { IfOk result (λ reader. (file : R.File)
+            × IfSome (R.File.remaining file) (λ left. reader.bytes ≡ left)) }
+        ensures rejected { IfErr result (λ e. (kind_of e ≡ OfIo) ⊎ MemoryApart e ((file : R.File)
+            × IfSome (R.File.remaining file) IsNoDatabase)) }
     {
         let mut file = File::open(rt, path)?;
         let expected = expected_len(&file);
