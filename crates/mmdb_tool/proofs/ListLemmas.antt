@@ -1,5 +1,6 @@
 -- The text of a list, line by line.
-use Rattle.std.proofs.Common.{◌≡◌, ℕ, List, [], ◌∷◌, ◌++◌, Option, Some, None, Result, Ok, Err, OnErr, sym, ap, ◌∙◌, subst, refl, append_assoc, append-nil}
+use Rattle.std.proofs.Common.{◌≡◌, ◌+◌, ◌≤◌, ◌⊎◌, ℕ, List, [], ◌∷◌, ◌++◌, length, Option, Some, None, Result, Ok, Err, OnErr, inl, inr, arith, sym, ap, ◌∙◌, subst, refl, append_assoc, append-nil}
+use Rattle.std.proofs.lemmas.List.{length-append}
 use Rattle.std.specs.Io.KnownBytes.{Appends}
 use Rattle.std.proofs.KnownBytes.{Appends-trans}
 use Rattle.mmdb_net.specs.declared.network.IpNetwork.{IpNetwork}
@@ -11,7 +12,9 @@ use Rattle.mmdb_reader.specs.Shown.{block_in}
 use Rattle.mmdb_reader.proofs.ListingLemmas.{range_walk_lists}
 use Rattle.mmdb_tool.specs.Lines.{line_of, lines_of}
 use Rattle.mmdb_tool.specs.Putting.{AppendsFront}
-use Rattle.mmdb_tool.specs.ListText.{BeginsList}
+use Rattle.mmdb_tool.specs.ListText.{BeginsList, HasPutChunk, IfDatabase, chunk_bytes}
+use Rattle.mmdb_tool.specs.declared.list.ListError.{ListError}
+use Rattle.mmdb_tool.specs.declared.list.ListError.TheVariants.{Database as database_error, Write, Stopped}
 
 lines_of-cons : (db : Database) (i : Item) (rest : List Item) → lines_of db (i ∷ rest) ≡ line_of db i ++ lines_of db rest
 unfolding lines_of
@@ -91,3 +94,25 @@ listing_of walked db options range list same is =
 pub on_err_given : {T E : Type 0} (r : Result T E) (C P : Type 0) → P → OnErr r (C → P)
 on_err_given (Ok x) C P p = tt
 on_err_given (Err e) C P p = λ _. p
+
+-- what holds anyway holds where the database is named
+if_database : {T : Type 0} (r : Result T ListError) (P : Type 0) → P → IfDatabase r P
+if_database (Ok x) P p = tt
+if_database (Err (database_error e)) P p = p
+if_database (Err (Write e)) P p = tt
+if_database (Err Stopped) P p = tt
+
+-- a sink is as it was, or a chunk was put
+pub kept_more : {S : Type 0} (initial before after : S) (done front left lines : List ℕ) → (before ≡ initial) ⊎ (chunk_bytes ≤ length done) → (after ≡ before) ⊎ ((left ≡ []) × (chunk_bytes ≤ length lines)) → lines ≡ front ++ left
+    → (after ≡ initial) ⊎ (chunk_bytes ≤ length (done ++ front))
+kept_more initial before after done front left lines (inl same) (inl more) is_front = inl (more ∙ same)
+kept_more initial before after done front left lines (inl same) (inr (none, long)) is_front =
+    let all : length lines ≡ length front + length left = ap length is_front ∙ length-append front left in
+    let nothing : length left ≡ 0 = ap length none in
+    inr (omega (arith, long, all, nothing, length-append done front))
+kept_more initial before after done front left lines (inr long) more is_front = inr (omega (arith, long, length-append done front))
+
+pub kept_or_put : {S T : Type 0} (r : Result T ListError) (initial after : S) (db : Database) (options : WithinOptions) (range : IpNetwork) (old new : Option (List ℕ)) (begun : BeginsList db options range old new) → (after ≡ initial) ⊎ (chunk_bytes ≤ length begun.written.front)
+    → IfDatabase r ((after ≡ initial) ⊎ HasPutChunk db options range old new)
+kept_or_put r initial after db options range old new begun (inl same) = if_database r _ (inl same)
+kept_or_put r initial after db options range old new begun (inr long) = if_database r _ (inr (record { begun = begun; chunk = long }))

@@ -1,5 +1,5 @@
 -- What a list writes to a sink.
-use Rattle.std.specs.Prelude.{◌≡◌, ◌⊎◌, ℕ, List, Option, Result, Ok, Err}
+use Rattle.std.specs.Prelude.{◌≡◌, ◌≤◌, ◌⊎◌, ℕ, List, length, Option, Result, Ok, Err}
 use Rattle.std.specs.Io.KnownBytes.{Appends}
 use Rattle.mmdb_format.specs.Error.{OfInput, OfMemory, kind_of}
 use Rattle.mmdb_net.specs.declared.network.IpNetwork.{IpNetwork}
@@ -26,6 +26,22 @@ pub record BeginsList (db : Database) (options : WithinOptions) (range : IpNetwo
   pub list : List Listed
   pub is_listing : IsListing db options (block_in db range) list
   pub written : AppendsFront old new (lines_of db (items_of db list))
+
+-- The lines are put in chunks of at least so many bytes, but the last.
+abbrev pub chunk_bytes : ℕ
+chunk_bytes = 65472
+
+-- known bytes grow by a beginning of those lines, of at least a chunk
+pub record HasPutChunk (db : Database) (options : WithinOptions) (range : IpNetwork) (old new : Option (List ℕ)) : Type 0 where
+  pub begun : BeginsList db options range old new
+  pub chunk : chunk_bytes ≤ length begun.written.front
+
+-- the database is named, and this holds; or it is not named
+abbrev pub IfDatabase : {T : Type 0} → Result T ListError → Type 0 → Type 0
+IfDatabase (Ok _) P = Unit {0}
+IfDatabase (Err (database_error error)) P = P
+IfDatabase (Err (Write error)) P = Unit {0}
+IfDatabase (Err Stopped) P = Unit {0}
 
 -- what makes a list fail: its range, memory, or the sink
 abbrev pub IsOfRange : {T : Type 0} → Result T ListError → Type 0

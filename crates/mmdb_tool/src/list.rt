@@ -1,10 +1,10 @@
 //! The list of a range, as text.
-ghost use Rattle.std.specs.Prelude.{◌≡◌, ◌↔◌, OnOk, OnErr};
+ghost use Rattle.std.specs.Prelude.{◌≡◌, ◌≤◌, ◌⊎◌, ◌↔◌, [], length, OnOk, OnErr};
 ghost use Rattle.mmdb_net.specs.Network.{ip_of};
 ghost use Rattle.mmdb_reader.specs.Lookup.{CanAsk};
 ghost use Rattle.mmdb_tool.specs.Putting.{AppendsFront, TellsFault};
 ghost use Rattle.mmdb_tool.specs.Working.{PutsFront};
-ghost use Rattle.mmdb_tool.specs.ListText.{WritesList, BeginsList, IsOfRange, NamesRangeOrMemory, TellsListFault};
+ghost use Rattle.mmdb_tool.specs.ListText.{WritesList, BeginsList, HasPutChunk, IfDatabase, chunk_bytes, IsOfRange, NamesRangeOrMemory, TellsListFault};
 
 use crate::line::put_item_line;
 use crate::sink::{PutError, Sink, put_all};
@@ -75,6 +75,8 @@ fn make_room<W: Sink>(sink: &mut W, lines: &mut Vec<u8>) -> Result<(), PutError>
         lines.old.items lines.new.items) }
     ensures begun { OnErr result
         (AppendsFront (W.held sink.old) (W.held sink.new) lines.old.items) }
+    ensures kept { OnOk result ((sink.new ≡ sink.old)
+        ⊎ ((lines.new.items ≡ []) × (chunk_bytes ≤ length lines.old.items))) }
     ensures fault { TellsFault (W.fault sink.old) (W.fault sink.new) result }
 {
     if lines.len() <= ROOM - MOST_BYTES {
@@ -88,8 +90,9 @@ fn make_room<W: Sink>(sink: &mut W, lines: &mut Vec<u8>) -> Result<(), PutError>
 /// Writes a line for each network of a range that `within` hands out, and `fault` for an error item.
 ///
 /// `Database` is `InvalidInput` exactly where `within` fails so, and then nothing is written;
-/// else it is `Memory`. `Write` is a put at which the sink failed, an interrupted one too, and `Stopped` one
-/// that took no byte. On any error what was written is a beginning of the text.
+/// else it is `Memory`, and nothing is written before 65,472 bytes of lines have come. `Write` is a put at which the sink
+/// failed, an interrupted one too, and `Stopped` one that took no byte. On any error what was written is a beginning of
+/// the text.
 pub fn list_to<S: AsSlice<u8> + Drop, W: Sink>(
     alloc: Global,
     reader: &Reader<S>,
@@ -104,6 +107,8 @@ pub fn list_to<S: AsSlice<u8> + Drop, W: Sink>(
     ensures of_range { IsOfRange result ↔ ¬ (CanAsk reader.now (ip_of range)) }
     ensures no_other { NamesRangeOrMemory result }
     ensures untouched { ¬ (CanAsk reader.now (ip_of range)) → sink.new ≡ sink.old }
+    ensures kept { IfDatabase result ((sink.new ≡ sink.old)
+        ⊎ HasPutChunk reader.now options range (W.held sink.old) (W.held sink.new)) }
     ensures fault { TellsListFault (W.fault sink.old) (W.fault sink.new) result }
 {
     let items = reader.within(alloc, range, options)?;
