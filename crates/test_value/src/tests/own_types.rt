@@ -1,4 +1,5 @@
-//! Values of types that are made of others.
+//! Values of types of one's own.
+use crate::span::first_end;
 use crate::system_number::SystemNumber;
 use mmdb_value::fuzzing;
 use mmdb_vectors::answer::shown;
@@ -22,6 +23,27 @@ fn system_numbers(rt: HostRuntime) -> Result<(), Failures> {
             rt.alloc(),
             fuzzing::decode::<SystemNumber>(rt.alloc(), section),
         );
+        failures.expect_text(section, read, text);
+    }
+    failures.verdict()
+}
+
+/// Sections, and where the value at the beginning of each ends.
+const ENDS: &[(&[u8], &str)] = &[
+    (b"\xC2\xFB\xF0\xC0", "3"),
+    (b"\xE1\x41k\xA1\x07\xC0", "5"),
+    (b"\x20\x02", "2"),
+    (
+        b"\x42k",
+        "invalid database at offset 0: string of size 2",
+    ),
+];
+
+#[test]
+fn spans(rt: HostRuntime) -> Result<(), Failures> {
+    let mut failures = Failures::new(rt.alloc());
+    for (section, text) in ENDS {
+        let read = shown(rt.alloc(), first_end(rt.alloc(), section));
         failures.expect_text(section, read, text);
     }
     failures.verdict()
