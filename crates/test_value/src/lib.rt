@@ -1,7 +1,10 @@
 //! Tests of values: any value, typed reads, single steps, limits, errors and equalities, and of checks of a
-//! section. A record written by hand and a type of one's own stand beside them.
+//! section. Beside them stand a record and a list that are read by hand, one that the loop of all records reads, and a type
+//! of one's own.
 #![tactic(auto)]
 
+pub mod lone;
+pub mod numbers;
 pub mod probe;
 pub mod system_number;
 #[cfg(test)]
