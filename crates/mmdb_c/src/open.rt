@@ -60,7 +60,7 @@ pub extern "C" fn mmdb_c_open(
 {
     let layout = match FileLayout::of(alloc, file) {
         Ok(layout) => layout,
-        Err(error) => return code_of(&error),
+        Err(error) => return code_of(alloc, file, &error),
     };
     source_decides();
     let nodes = layout.nodes(file);
@@ -96,6 +96,6 @@ pub extern "C" fn mmdb_c_verify(alloc: Global, file: &[u8]) -> u32
 {
     match verify(alloc, file) {
         Ok(()) => FOUND,
-        Err(error) => code_of(&error),
+        Err(error) => code_of(alloc, file, &error),
     }
 }

@@ -1,15 +1,20 @@
 -- A record of two fields, either of which may be missing: a number and a text.
-use Rattle.std.specs.Prelude.{ℕ, List, Option, Some, None, if◌then◌else◌, codes}
+use Rattle.std.specs.Prelude.{ℕ, List, Option, None, if◌then◌else◌, codes, option_map}
 use Rattle.mmdb_decode.specs.Reading.{Meaning}
 use Rattle.mmdb_decode.specs.Scalars.{u16_at, text_at}
 use Rattle.mmdb_decode.specs.Maps.{Fields}
 use Rattle.mmdb_decode.specs.Names.{named}
-use Rattle.mmdb_record.specs.Records.{field, skipped, record_at, finished}
+use Rattle.mmdb_record.specs.Records.{field, skipped, record_at}
+use Rattle.test_value.specs.declared.probe.Probe.{Probe as Read}
 
 -- what was read of a probe
 pub record Probe : Type 0 where
   pub a : Option ℕ
   pub k : Option (List ℕ)
+
+-- what the fields say, apart from where they lie in memory
+abbrev pub fields_of : Read → Probe
+fields_of v = record { a = v.a; k = option_map (λ s. s.now) v.k }
 
 abbrev pub no_probe : Probe
 no_probe = record { a = None; k = None }
@@ -23,4 +28,4 @@ probe_fields p name =
 
 -- a map whose keys name the fields, none of which must stand
 abbrev pub probe_at : Meaning Probe
-probe_at = finished Some (record_at probe_fields no_probe)
+probe_at = record_at probe_fields no_probe

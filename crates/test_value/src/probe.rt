@@ -1,13 +1,17 @@
-//! A record written by hand, from outside the crates that read.
-ghost use Rattle.std.specs.Prelude.{◌≡◌, Some, true, IfOk, IfErr, option_map};
-ghost use Rattle.mmdb_decode.specs.Errors.{Fails, answer};
-ghost use Rattle.test_value.specs.Probe.{Probe as SpecProbe, no_probe, probe_fields, probe_at};
+//! A record read by hand, from outside the crates that read: over the public calls of a decoder alone.
+ghost use Rattle.std.specs.Prelude.{◌≡◌, Some, true, false, IfOk, IfErr, OnOk, OnErr, IsSome};
+ghost use Rattle.mmdb_decode.specs.Maps.{pairs_from, name_at, pairs_left, with_pairs_left};
+ghost use Rattle.mmdb_decode.specs.State.{decoded, GivenUp};
+ghost use Rattle.mmdb_decode.specs.Errors.{Fails, IsRead, FailsToRead, Kept, answer};
+ghost use Rattle.mmdb_record.specs.Records.{FieldRead};
+ghost use Rattle.test_value.specs.Probe.{Probe as SpecProbe, no_probe, fields_of, probe_fields, probe_at};
 
 use mmdb_decode::decoder::Decoder;
+use mmdb_decode::items::Entries;
 use mmdb_format::error::DecodeResult;
 use mmdb_record::decode::Decode;
 use mmdb_record::fuzzing;
-use mmdb_record::record::{Record, named, read_once, read_record};
+use mmdb_record::record::{named, read_once};
 use std::alloc::Global;
 
 /// A number and a text, either of which may be missing.
@@ -17,36 +21,19 @@ pub struct Probe<'de> {
     pub k: Option<&'de str>,
 }
 
-impl<'de> Record<'de> for Probe<'de> {
-    type Whole = Probe<'de>;
-
-    ghost Datum = { SpecProbe };
-
-    ghost datum = { λ v. record { a = v.a; k = option_map (λ s. s.now) v.k } };
-
-    ghost none = { no_probe };
-
-    ghost fields = { probe_fields };
-
-    ghost WholeDatum = { SpecProbe };
-
-    ghost whole_datum = { λ v. record { a = v.a; k = option_map (λ s. s.now) v.k } };
-
-    ghost whole = { Some };
-
-    ghost free = { true };
-
-    fn empty(_alloc: Global) -> Probe<'de> {
-        Probe { a: None, k: None }
-    }
-
+impl<'de> Probe<'de> {
+    // Reads or skips the value after a name.
     #[tactic(auto, unfolding(crate::specs::Probe::probe_fields, mmdb_decode::specs::State::decoded, mmdb_decode::specs::Names::named, mmdb_record::specs::Records::field, mmdb_record::specs::Records::skipped))]
     fn read_field(
         &mut self,
         alloc: Global,
         name: &'de [u8],
         d: &mut Decoder<'de>,
-    ) -> DecodeResult<()> {
+    ) -> DecodeResult<()>
+        requires { IsSome d.old.budget }
+        ensures { FieldRead true (decoded false (probe_fields (fields_of self.old) name.now) d.old)
+            (fields_of self.new) d.old d.new result }
+    {
         if named(name, "a") {
             read_once(alloc, d, "a", &mut self.a)
         } else if named(name, "k") {
@@ -56,15 +43,35 @@ impl<'de> Record<'de> for Probe<'de> {
         }
     }
 
-    fn finish(self, _alloc: Global, _offset: usize) -> DecodeResult<Probe<'de>> {
-        Ok(self)
+    // The fields that are left of a map.
+    fn read_fields(
+        alloc: Global,
+        d: &mut Decoder<'de>,
+        entries: &mut Entries,
+    ) -> DecodeResult<Probe<'de>>
+        requires { IsSome d.old.budget }
+        ensures ok { IfOk result (λ v. IsRead false
+            (pairs_from name_at probe_fields no_probe (pairs_left entries.old))
+            d.old (fields_of v) d.new) }
+        ensures rest { entries.new ≡ with_pairs_left (pairs_left entries.new) entries.old }
+        ensures spent { OnOk result (pairs_left entries.new ≡ 0) }
+        ensures kept { OnOk result (Kept d.old d.new) }
+        ensures err { IfErr result (λ e. FailsToRead true e false
+            (pairs_from name_at probe_fields no_probe (pairs_left entries.old)) d.old) }
+        ensures given_up { OnErr result (GivenUp d.old d.new) }
+    {
+        let mut probe = Probe { a: None, k: None };
+        while let Some(name) = d.next_field(alloc, entries)? {
+            probe.read_field(alloc, name, d)?;
+        }
+        Ok(probe)
     }
 }
 
 impl<'de> Decode<'de> for Probe<'de> {
     ghost Datum = { SpecProbe };
 
-    ghost datum = { λ v. record { a = v.a; k = option_map (λ s. s.now) v.k } };
+    ghost datum = { fields_of };
 
     ghost meaning = { probe_at };
 
@@ -73,14 +80,24 @@ impl<'de> Decode<'de> for Probe<'de> {
     ghost free = { true };
 
     fn decode(alloc: Global, d: &mut Decoder<'de>) -> DecodeResult<Probe<'de>> {
-        read_record::<Probe<'de>>(alloc, d)
+        let mut entries = d.begin_map(alloc)?;
+        match Probe::read_fields(alloc, d, &mut entries) {
+            Ok(probe) => {
+                d.end_map(entries);
+                Ok(probe)
+            }
+            Err(error) => {
+                entries.give_up(d);
+                Err(error)
+            }
+        }
     }
 }
 
 /// The probe at the beginning of a section.
 pub fn read_probe<'de>(alloc: Global, section: &'de [u8]) -> DecodeResult<Probe<'de>>
     ensures ok { IfOk result (λ v. answer true probe_at section.now 0
-        ≡ Some (record { a = v.a; k = option_map (λ s. s.now) v.k })) }
+        ≡ Some (fields_of v)) }
     ensures err { IfErr result (λ e. Fails true e (answer true probe_at section.now 0)) }
 {
     fuzzing::decode::<Probe<'de>>(alloc, section)

@@ -1,4 +1,5 @@
 //! Reads where memory runs out.
+use crate::numbers::Numbers;
 use crate::probe::Probe;
 use mmdb_value::{Decode, DecodeResult, MaxMindDbError, OwnedBytes, RawValue, Value, fuzzing};
 use mmdb_vectors::failures::Failures;
@@ -54,6 +55,13 @@ fn reads_that_take_no_memory(rt: HostRuntime) -> Result<(), Failures> {
     expect_turns::<&str>(it, alloc, b"\x41x", false, Outcome::Value);
     expect_turns::<Option<&[u8]>>(it, alloc, b"\x81x", false, Outcome::Value);
     // An error with a fixed text takes none either; one that names a number does.
+    expect_turns::<Probe<'_>>(
+        it,
+        alloc,
+        b"\xE2\x41a\xA1\x07\x41k\x41x",
+        false,
+        Outcome::Value,
+    );
     expect_turns::<u16>(it, alloc, b"", false, Outcome::Error);
     expect_turns::<u16>(it, alloc, b"\x41x", true, Outcome::Error);
     failures.verdict()
@@ -68,12 +76,14 @@ fn reads_fail_in_turn(rt: HostRuntime) -> Result<(), Failures> {
     expect_turns::<Vec<u16>>(it, alloc, b"\x01\x04\xA1\x05", true, Outcome::Value);
     expect_turns::<BTreeMap<String, u16>>(it, alloc, b"\xE1\x41k\xA1\x05", true, Outcome::Value);
     expect_turns::<Value<'_>>(it, alloc, PAIR, true, Outcome::Value);
+    expect_turns::<Numbers>(it, alloc, b"\x01\x04\xA1\x05", true, Outcome::Value);
     expect_turns::<RawValue<'_>>(it, alloc, PAIR, true, Outcome::Value);
     expect_turns::<String>(it, alloc, b"\xA1\x07", true, Outcome::Error);
     expect_turns::<OwnedBytes>(it, alloc, b"\xA1\x07", true, Outcome::Error);
     expect_turns::<Vec<u16>>(it, alloc, b"\xA1\x07", true, Outcome::Error);
     expect_turns::<BTreeMap<String, u16>>(it, alloc, b"\xA1\x07", true, Outcome::Error);
     expect_turns::<Value<'_>>(it, alloc, b"\x00\x06", true, Outcome::Error);
+    expect_turns::<Numbers>(it, alloc, b"\xE0", true, Outcome::Error);
     expect_turns::<RawValue<'_>>(it, alloc, b"\x00\x06", true, Outcome::Error);
     expect_turns::<Probe<'_>>(it, alloc, b"\xE1\x41a\x41x", true, Outcome::Error);
     failures.verdict()

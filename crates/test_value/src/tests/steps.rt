@@ -1,5 +1,5 @@
 //! The single steps of a decoder, by hand.
-use crate::probe::Probe;
+use crate::lone::Lone;
 use mmdb_value::laws::{
     answer_is_whole_value, answer_is_within_limits, any_value_is_exact, how_containers_are_read,
     how_owned_bytes_are_read, how_scalars_are_read, how_small_numbers_are_read,
@@ -143,7 +143,7 @@ fn laws_are_called() {
     small_number_is_what_stands();
     list_is_what_stands::<u16>();
     text_map_is_what_stands::<u16>();
-    record_is_what_stands::<Probe<'_>>();
+    record_is_what_stands::<Lone>();
     scalars_equal_where_same();
     owned_bytes_equal_where_same();
     values_equal_where_same();

@@ -1,4 +1,6 @@
 //! Values of one type.
+use crate::lone::Lone;
+use crate::numbers::Numbers;
 use crate::probe::Probe;
 use mmdb_value::{Decode, Decoder, Double, Float, OwnedBytes, fuzzing};
 use mmdb_vectors::answer::shown;
@@ -142,9 +144,27 @@ const MAP: Rows = &[
 
 #[rattlefmt::skip]
 const PROBE: Rows = &[
+    (b"\xE3\x41z\x20\xFF\x41k\x41x\x41a\xA1\x07", "Probe { a: Some(7), k: Some(\"x\") }"),
+    (b"\xE0", "Probe { a: None, k: None }"),
     (b"\xE1\xA1\x07\xA1\x08", "invalid database at offset 1: expected string, got type 5"),
     (b"\xE2\x41a\xA1\x07\x41a\xA1\x08", "decoding error at offset 7: duplicate field `a`"),
     (b"\x00\x04", "decoding error at offset 0: expected map, got type 11"),
+];
+
+#[rattlefmt::skip]
+const NUMBERS: Rows = &[
+    (b"\x02\x04\xA1\x05\xA1\x06", "Numbers([5, 6])"),
+    (b"\x00\x04", "Numbers([])"),
+    (b"\x01\x04\xC1\x05", "decoding error at offset 2: expected u16, got type 6"),
+    (b"\xE0", "decoding error at offset 0: expected array, got type 7"),
+];
+
+#[rattlefmt::skip]
+const LONE: Rows = &[
+    (b"\xE2\x41a\xA1\x07\x41z\x20\xFF", "Lone { a: Some(7) }"),
+    (b"\xE0", "Lone { a: None }"),
+    (b"\xE2\x41a\xA1\x07\x41a\xA1\x08", "decoding error at offset 7: duplicate field `a`"),
+    (b"\xE1\xA1\x07\xA1\x08", "invalid database at offset 1: expected string, got type 5"),
 ];
 
 #[rattlefmt::skip]
@@ -205,6 +225,8 @@ fn texts_and_containers(rt: HostRuntime) -> Result<(), Failures> {
     expect_shown::<Vec<u16>>(it, alloc, LIST);
     expect_shown::<BTreeMap<String, u16>>(it, alloc, MAP);
     expect_shown::<Probe<'_>>(it, alloc, PROBE);
+    expect_shown::<Lone>(it, alloc, LONE);
+    expect_shown::<Numbers>(it, alloc, NUMBERS);
     failures.verdict()
 }
 
