@@ -118,7 +118,8 @@ pub(crate) fn skip_whole(entries: &[Entry], free: u8, found: Option<u32>) -> (Op
     requires free { free ≤ 128 }
     requires ordered { IsOrdered entries.now }
     ensures value { (first a : ℕ) → AllByRecursion (IsInside first free) entries.now → a < 2 ^ free
-        → offset_after result.0 result.1.now (first + a) ≡ offset_after found entries.now (first + a) }
+        → offset_after result.0 result.1.now (first + a)
+        ≡ offset_after found entries.now (first + a) }
     ensures inside { (first : ℕ) → AllByRecursion (IsInside first free) entries.now
         → AllByRecursion (IsInside first free) result.1.now }
     ensures smaller { (first : ℕ) → AllByRecursion (IsInside first free) entries.now

@@ -61,7 +61,8 @@ pub(crate) fn join(
 ) -> Result<Record, TreeError>
     requires { place < vec_len nodes.old }
     ensures ok { IfOk result (IsJoined place left right nodes.old.items nodes.new.items) }
-    ensures too_large { IfErr result (λ e. e ≡ TreeError.TooLarge → IsKept left right × (2 ^ 32 ≤ place)) }
+    ensures too_large { IfErr result (λ e. e ≡ TreeError.TooLarge
+        → IsKept left right × (2 ^ 32 ≤ place)) }
 {
     if are_same_leaf(left, right) {
         nodes.truncate(place);

@@ -32,18 +32,22 @@ pub(crate) fn plant(
     requires aligned { first % 2 ^ free ≡ 0 }
     requires ordered { IsOrdered entries.now }
     requires inside { AllByRecursion (IsInside first free) entries.now }
-    ensures grown { OnOk result ((more : List SpecNode) × (nodes.new.items ≡ nodes.old.items ++ more)) }
-    ensures leads { IfOk result (λ r. Leads (length nodes.old.items) nodes.new.items r first free found entries.now) }
+    ensures grown { OnOk result ((more : List SpecNode)
+        × (nodes.new.items ≡ nodes.old.items ++ more)) }
+    ensures leads { let from = length nodes.old.items in
+        IfOk result (λ r. Leads from nodes.new.items r first free found entries.now) }
     ensures sound { OnOk result ((bound : ℕ) → AllByRecursion (HasOffsetBelow bound) entries.now
         → IfSome found (IsUnder bound) → IsSound (length nodes.old.items) bound nodes.new.items) }
-    ensures below { IfOk result (λ r. (bound : ℕ) → AllByRecursion (HasOffsetBelow bound) entries.now
+    ensures below { IfOk result (λ r. (bound : ℕ)
+        → AllByRecursion (HasOffsetBelow bound) entries.now
         → IfSome found (IsUnder bound) → IsBelow (length nodes.new.items) bound r) }
     // The first of its nodes comes before the others.
     ensures preorder { IfOk result (λ r. (n : ℕ) → r ≡ Record.Node n
         → (n ≡ length nodes.old.items) × (n < length nodes.new.items)) }
     ensures few { IfOk result (λ r. HasFewEnds (length nodes.old.items) nodes.new.items r free) }
     ensures reduced { OnOk result (HasNoTwins (length nodes.old.items) nodes.new.items) }
-    ensures count { IfOk result (λ r. HasAsMany (length nodes.old.items) (length nodes.new.items) r first free found entries.now) }
+    ensures count { let from = length nodes.old.items in let to = length nodes.new.items in
+        IfOk result (λ r. HasAsMany from to r first free found entries.now) }
     ensures too_large { IfErr result (λ e. e ≡ TreeError.TooLarge
         → NeedsTooMany (length nodes.old.items) first free found entries.now) }
 {

@@ -110,7 +110,8 @@ fn plant_tree(
     requires ordered { IsOrdered entries.now }
     requires entries { AllByRecursion (IsEntry version data_len) entries.now }
     ensures ok { IfOk result (λ nodes. AreNodesOf version entries.now data_len nodes.items) }
-    ensures too_large { IfErr result (λ e. e ≡ TreeError.TooLarge → 2 ^ 32 < nodes_for version entries.now) }
+    ensures too_large { IfErr result (λ e. e ≡ TreeError.TooLarge
+        → 2 ^ 32 < nodes_for version entries.now) }
 {
     let mut nodes = Vec::new(alloc);
     let root = plant(&mut nodes, entries, 0, version.width(), None)?;
