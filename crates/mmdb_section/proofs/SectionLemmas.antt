@@ -1,9 +1,9 @@
 -- Sections with one value more, and values that stand in them already.
-use Rattle.std.proofs.Common.{◌≡◌, inl, inr, ℕ, zero, suc, ◌+◌, eqb, Bool, true, false, List, [], ◌∷◌, ◌++◌, length, map, Some, refl, ap, sym, ◌∙◌, subst, append-nil, append_assoc, length-append}
+use Rattle.std.proofs.Common.{◌≡◌, inl, inr, ℕ, zero, suc, ◌+◌, eqb, Bool, true, false, List, [], ◌∷◌, ◌++◌, length, map, Some, arith, refl, ap, sym, ◌∙◌, subst, append-nil, append_assoc, length-append}
 use Rattle.std.specs.Prelude.{◌||◌}
 use Rattle.std.specs.List.{AllByRecursion, slice_get}
 use Rattle.std.proofs.lemmas.Bool.{false≢true}
-use Rattle.mmdb_format.specs.Unfolding.{Tree, Unfolds, without_pointers}
+use Rattle.mmdb_format.specs.Unfolding.{Tree, Unfolds, levels, without_pointers}
 use Rattle.mmdb_format.proofs.UnfoldingLaws.{one_tree}
 use Rattle.mmdb_section.specs.declared.value.Part.TheVariants.{At}
 use Rattle.mmdb_section.specs.Sections.{Tile, IsChain, IsTile, is_start, IsLaid, AreTiles, SectionView, IsSection, IsPart, Holds}
@@ -48,6 +48,7 @@ still_laid tiles u old more t laid = record {
   direct = laid.direct;
   texts = laid.texts;
   closed = λ q h. earlier_start q tiles u (laid.closed q h);
+  levels = laid.levels;
 }
 
 module _ (tiles : List Tile) (v : Tree) (old new : SectionView) (start : ℕ) (xs : List ℕ) (section : IsSection tiles old) (w : IsWrittenDirect tiles old.bytes v xs)
@@ -64,6 +65,7 @@ module _ (tiles : List Tile) (v : Tree) (old new : SectionView) (start : ℕ) (x
     direct = w.direct;
     texts = w.written.texts;
     closed = λ q h. earlier_start q tiles added (w.written.closed q h);
+    levels = let e = ap levels w.written.value in let f = w.levels in omega arith;
   }
 
   more_tiles : AreTiles (tiles ++ added ∷ []) (old.bytes ++ xs)

@@ -1,12 +1,12 @@
 -- Parts and values, wherever they stand in what begins with a section.
 use Rattle.std.proofs.Common.{◌≡◌, ◌⊎◌, inl, inr, ℕ, suc, ◌+◌, eqb, Bool, true, false, List, [], ◌∷◌, ◌++◌, length, refl, ap, sym, ◌∙◌, subst, arith, Some, length-append}
-use Rattle.std.specs.Prelude.{◌&&◌, ◌||◌}
+use Rattle.std.specs.Prelude.{◌&&◌, ◌||◌, max}
 use Rattle.std.specs.List.{AllByRecursion}
 use Rattle.std.proofs.lemmas.Bool.{false≢true}
 use Rattle.std.proofs.lemmas.Bool.Decides.{nat_tests}
 use Rattle.mmdb_format.specs.Header.{header_at}
 use Rattle.mmdb_format.specs.Contents.{Scalar, scalar_is_text}
-use Rattle.mmdb_format.specs.Unfolding.{Tree, scalar, array, table, pointer, Trees, no_trees, tree, Pairs, no_pairs, pair, Unfolds, array_here, table_here, pointer_here, AllUnfold, none_left, one_more, PairsUnfold, no_pairs_left, one_more_pair, has_texts, trees_texts, pairs_texts, without_pointers, trees_without, pairs_without}
+use Rattle.mmdb_format.specs.Unfolding.{Tree, scalar, array, table, pointer, Trees, no_trees, tree, Pairs, no_pairs, pair, Unfolds, array_here, table_here, pointer_here, AllUnfold, none_left, one_more, PairsUnfold, no_pairs_left, one_more_pair, levels, trees_all_levels, pairs_all_levels, has_texts, trees_texts, pairs_texts, without_pointers, trees_without, pairs_without}
 use Rattle.mmdb_check.specs.Checking.{leads_to, trees_lead_to, pairs_lead_to}
 use Rattle.mmdb_section.specs.declared.value.Number.{Number as SpecNumber}
 use Rattle.mmdb_section.specs.declared.value.Number.TheVariants as numbers
@@ -54,7 +54,7 @@ start_of_tile t (u ∷ us) (inr more) = or_true (eqb t.start u.start) (is_start 
 -- ---- parts
 
 pub scalar_written : (tiles : List Tile) (section : List ℕ) (c : Scalar) (xs : List ℕ) → scalar_is_text c ≡ true → IsScalar c xs → IsWritten tiles section (scalar c) xs
-scalar_written tiles section c xs utf8 is = record { t = scalar c; unfolds = λ before behind g. is before behind; value = refl; texts = utf8; closed = λ q h. absurd (false≢true h) }
+scalar_written tiles section c xs utf8 is = record { t = scalar c; unfolds = λ before behind g. is before behind; value = refl; texts = utf8; closed = λ q h. absurd (false≢true h); levels = omega arith }
 
 pub number_is_text : (n : SpecNumber) → scalar_is_text (scalar_of n) ≡ true
 number_is_text (numbers.Bool b) = refl
@@ -87,6 +87,7 @@ pointer_written tiles section offset t xs are is at p =
             subst (λ (n : ℕ). is_start tiles n ≡ true) same (start_of_tile t tiles is)
         | inr below ↦ laid.closed q below
       ];
+      levels = let l = laid.levels in omega arith;
     }
 
 pub pointer_part : (offset : ℕ) (xs : List ℕ) → IsPointer offset xs → WritesPart (At offset) xs
@@ -114,6 +115,11 @@ trees_texts-snoc no_trees v h i = rw i refl
 trees_texts-snoc (tree a ts) v h i =
     let x : has_texts a ≡ true = and_first (has_texts a) (trees_texts ts) h in
     rw x (trees_texts-snoc ts v (and_second (has_texts a) (trees_texts ts) h) i)
+
+trees_levels-snoc : (ts : Trees) (v : Tree) → trees_all_levels (snoc_tree ts v) ≡ max (trees_all_levels ts) (levels v)
+unfolding snoc_tree
+trees_levels-snoc no_trees v = omega arith
+trees_levels-snoc (tree a ts) v = let e = trees_levels-snoc ts v in omega arith
 
 trees_closed-snoc : (tiles : List Tile) (ts : Trees) (v : Tree) → ((q : ℕ) → trees_lead_to ts q ≡ true → is_start tiles q ≡ true) → IsClosed tiles v → (q : ℕ) → trees_lead_to (snoc_tree ts v) q ≡ true → is_start tiles q ≡ true
 unfolding snoc_tree
@@ -148,6 +154,7 @@ no_parts tiles section no_trees are parts = record {
   value = refl;
   texts = refl;
   closed = λ q h. absurd (false≢true h);
+  levels = omega arith;
 }
 no_parts tiles section (tree v vs) are parts = absurd parts
 
@@ -163,6 +170,10 @@ one_more_part tiles section n vs v xs ys a w = record {
   value = trees_without-snoc a.ts w.t ∙ ap (λ (us : Trees). snoc_tree us (without_pointers w.t)) a.value ∙ ap (snoc_tree vs) w.value;
   texts = trees_texts-snoc a.ts w.t a.texts w.texts;
   closed = trees_closed-snoc tiles a.ts w.t a.closed w.closed;
+  levels =
+      let e = trees_levels-snoc a.ts w.t in let f = trees_levels-snoc vs v in
+      let g = a.levels in let h = w.levels in
+      omega arith;
 }
 
 pub more_parts : (ps : List Part) (p : Part) (xs ys : List ℕ) → WritesParts ps xs → WritesPart p ys → WritesParts (ps ++ p ∷ []) (xs ++ ys)
@@ -183,8 +194,10 @@ array_written ps xs ys header a tiles section vs are parts =
         value = ap array w.value;
         texts = w.texts;
         closed = w.closed;
+        levels = let l = w.levels in omega arith;
       };
       direct = refl;
+      levels = let l = w.levels in omega arith;
     }
 
 -- ---- one pair more
@@ -212,6 +225,11 @@ pairs_texts-snoc (pair a b ps) k v h i j =
     let z : has_texts b ≡ true = and_first (has_texts b) (pairs_texts ps) y in
     let w : pairs_texts ps ≡ true = and_second (has_texts b) (pairs_texts ps) y in
     rw (x, z) (pairs_texts-snoc ps k v w i j)
+
+pairs_levels-snoc : (ps : Pairs) (k v : Tree) → pairs_all_levels (snoc_pair ps k v) ≡ max (pairs_all_levels ps) (max (levels k) (levels v))
+unfolding snoc_pair
+pairs_levels-snoc no_pairs k v = omega arith
+pairs_levels-snoc (pair a b ps) k v = let e = pairs_levels-snoc ps k v in omega arith
 
 pairs_closed-snoc : (tiles : List Tile) (ps : Pairs) (k v : Tree) → ((q : ℕ) → pairs_lead_to ps q ≡ true → is_start tiles q ≡ true) → IsClosed tiles k → IsClosed tiles v → (q : ℕ) → pairs_lead_to (snoc_pair ps k v) q ≡ true → is_start tiles q ≡ true
 unfolding snoc_pair
@@ -254,6 +272,7 @@ no_pairs_written tiles section no_pairs are pairs = record {
   value = refl;
   texts = refl;
   closed = λ q h. absurd (false≢true h);
+  levels = omega arith;
 }
 no_pairs_written tiles section (pair k v vs) are pairs = absurd pairs
 
@@ -279,6 +298,10 @@ one_more_pair_written tiles section n vs k v xs ys zs a key value = record {
       ∙ ap (λ (x : Tree). snoc_pair vs x (without_pointers value.t)) key.value ∙ ap (snoc_pair vs k) value.value;
   texts = pairs_texts-snoc a.ps key.t value.t a.texts key.texts value.texts;
   closed = pairs_closed-snoc tiles a.ps key.t value.t a.closed key.closed value.closed;
+  levels =
+      let e = pairs_levels-snoc a.ps key.t value.t in let f = pairs_levels-snoc vs k v in
+      let g = a.levels in let h = key.levels in let i = value.levels in
+      omega arith;
 }
 
 -- the pairs so far and a key, in their bytes
@@ -309,15 +332,17 @@ map_written ps xs ys header a tiles section vs are pairs =
         value = ap table w.value;
         texts = w.texts;
         closed = w.closed;
+        levels = let l = w.levels in omega arith;
       };
       direct = refl;
+      levels = let l = w.levels in omega arith;
     }
 
 -- ---- values
 
 value_written : (tiles : List Tile) (section : List ℕ) (c : Scalar) (v : Tree) (xs : List ℕ) → scalar_is_text c ≡ true → IsScalar c xs → v ≡ scalar c → IsWrittenDirect tiles section v xs
 unfolding scalar_written
-value_written tiles section c v xs utf8 is same = subst (λ (w : Tree). IsWrittenDirect tiles section w xs) (sym same) (record { written = scalar_written tiles section c xs utf8 is; direct = refl })
+value_written tiles section c v xs utf8 is same = subst (λ (w : Tree). IsWrittenDirect tiles section w xs) (sym same) (record { written = scalar_written tiles section c xs utf8 is; direct = refl; levels = omega arith })
 
 pub scalar_value : (value : Value) (c : Scalar) (xs : List ℕ) → ((tiles : List Tile) (v : Tree) → IsValue tiles value v → v ≡ scalar c) → scalar_is_text c ≡ true → IsScalar c xs → WritesValue value xs
 scalar_value value c xs f utf8 is tiles section v are stands = value_written tiles section c v xs utf8 is (f tiles v stands)

@@ -1,9 +1,9 @@
 -- A data section as values that stand one behind the other, whose pointers lead to the beginnings of values ("Output Data
 -- Section" of the MaxMind DB File Format Specification 2.0).
-use Rattle.std.specs.Prelude.{◌≡◌, ℕ, ◌<◌, ◌≤◌, ◌^◌, ◌⊎◌, ◌==◌, ◌||◌, Bool, true, false, List, [], ◌∷◌, ◌++◌, length, map}
+use Rattle.std.specs.Prelude.{◌≡◌, ℕ, ◌*◌, ◌<◌, ◌≤◌, ◌^◌, ◌⊎◌, ◌==◌, ◌||◌, Bool, true, false, List, [], ◌∷◌, ◌++◌, length, map}
 use Rattle.std.specs.List.{AllByRecursion}
 use Rattle.mmdb_format.specs.Contents.{Scalar, text, bytes, boolean, signed32, number16, number32, number64, number128, double_bits, float_bits}
-use Rattle.mmdb_format.specs.Unfolding.{Tree, scalar, array, table, pointer, Trees, no_trees, tree, Pairs, no_pairs, pair, Unfolds, has_texts, without_pointers}
+use Rattle.mmdb_format.specs.Unfolding.{Tree, scalar, array, table, pointer, Trees, no_trees, tree, Pairs, no_pairs, pair, Unfolds, levels, has_texts, without_pointers}
 use Rattle.mmdb_check.specs.Checking.{leads_to}
 use Rattle.mmdb_section.specs.declared.value.Number.{Number as SpecNumber}
 use Rattle.mmdb_section.specs.declared.value.Number.TheVariants.{Bool as BoolNumber, I32, U16, U32, U64, U128, Double, Float}
@@ -43,13 +43,14 @@ is_pointer (scalar c) = false
 is_pointer (array ts) = false
 is_pointer (table ps) = false
 
--- The value stands there, whatever comes behind the bytes. It is no pointer, its texts are UTF-8, and its pointers lead to
--- where values begin.
+-- The value stands there, whatever comes behind the bytes. It is no pointer, its texts are UTF-8, its pointers lead to where
+-- values begin, and with them it is at most twice as deep.
 pub record IsLaid (tiles : List Tile) (bytes : List ℕ) (t : Tile) : Type 0 where
   pub unfolds : (behind : List ℕ) → Unfolds (bytes ++ behind) t.start t.tree t.end
   pub direct : is_pointer t.tree ≡ false
   pub texts : has_texts t.tree ≡ true
   pub closed : IsClosed tiles t.tree
+  pub levels : levels t.tree ≤ 2 * levels (without_pointers t.tree)
 
 -- the bytes are these values and nothing else
 pub record AreTiles (tiles : List Tile) (bytes : List ℕ) : Type 0 where

@@ -1,10 +1,10 @@
 -- What contracts of private functions and proofs name.
-use Rattle.std.specs.Prelude.{◌≡◌, ℕ, ◌+◌, ◌≤◌, List, ◌++◌, length, true, false, Some, slice_get}
+use Rattle.std.specs.Prelude.{◌≡◌, ℕ, ◌+◌, ◌*◌, ◌≤◌, List, ◌++◌, length, true, false, Some, slice_get}
 use Rattle.mmdb_format.specs.Header.{big_endian, bytes_at, size_at, sized_header, header_at}
 use Rattle.mmdb_format.specs.Pointer.{pointer_at}
 use Rattle.std.specs.Str.{is_utf8}
 use Rattle.mmdb_format.specs.Contents.{Scalar, text}
-use Rattle.mmdb_format.specs.Unfolding.{Tree, scalar, array, table, Trees, Pairs, Unfolds, AllUnfold, PairsUnfold, has_texts, trees_texts, pairs_texts, without_pointers, trees_without, pairs_without}
+use Rattle.mmdb_format.specs.Unfolding.{Tree, scalar, array, table, Trees, Pairs, Unfolds, AllUnfold, PairsUnfold, levels, trees_all_levels, pairs_all_levels, has_texts, trees_texts, pairs_texts, without_pointers, trees_without, pairs_without}
 use Rattle.mmdb_check.specs.Checking.{trees_lead_to, pairs_lead_to}
 use Rattle.mmdb_section.specs.declared.value.Part.{Part}
 use Rattle.mmdb_section.specs.declared.value.Value.{Value}
@@ -70,11 +70,13 @@ pub record IsWritten (tiles : List Tile) (section : List ℕ) (v : Tree) (bytes 
   pub value : without_pointers t ≡ v
   pub texts : has_texts t ≡ true
   pub closed : IsClosed tiles t
+  pub levels : levels t ≤ 1 + 2 * levels v
 
 -- and no pointer itself
 pub record IsWrittenDirect (tiles : List Tile) (section : List ℕ) (v : Tree) (bytes : List ℕ) : Type 0 where
   pub written : IsWritten tiles section v bytes
   pub direct : is_pointer written.t ≡ false
+  pub levels : levels written.t ≤ 2 * levels v
 
 abbrev pub WritesPart : Part → List ℕ → Type 0
 WritesPart part bytes = (tiles : List Tile) (section : List ℕ) (v : Tree) → AreTiles tiles section → IsPart tiles part v → IsWritten tiles section v bytes
@@ -84,6 +86,7 @@ pub record AreWritten (tiles : List Tile) (section : List ℕ) (n : ℕ) (vs : T
   pub ts : Trees
   pub unfolds : (before behind : List ℕ) → Grows section (before ++ (bytes ++ behind)) → AllUnfold (before ++ (bytes ++ behind)) (length before) n ts (length before + length bytes)
   pub value : trees_without ts ≡ vs
+  pub levels : trees_all_levels ts ≤ 1 + 2 * trees_all_levels vs
   pub texts : trees_texts ts ≡ true
   pub closed : (q : ℕ) → trees_lead_to ts q ≡ true → is_start tiles q ≡ true
 
@@ -91,6 +94,7 @@ pub record ArePairsWritten (tiles : List Tile) (section : List ℕ) (n : ℕ) (v
   pub ps : Pairs
   pub unfolds : (before behind : List ℕ) → Grows section (before ++ (bytes ++ behind)) → PairsUnfold (before ++ (bytes ++ behind)) (length before) n ps (length before + length bytes)
   pub value : pairs_without ps ≡ vs
+  pub levels : pairs_all_levels ps ≤ 1 + 2 * pairs_all_levels vs
   pub texts : pairs_texts ps ≡ true
   pub closed : (q : ℕ) → pairs_lead_to ps q ≡ true → is_start tiles q ≡ true
 

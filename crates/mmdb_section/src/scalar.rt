@@ -69,7 +69,8 @@ pub(crate) fn push_text(out: &mut Vec<u8>, text: &str) -> Result<(), AllocError>
 // A string of bytes.
 pub(crate) fn push_bytes(out: &mut Vec<u8>, bytes: &[u8]) -> Result<(), AllocError>
     requires { length bytes.now ≤ most_size }
-    ensures { OnOk result (Appends (IsScalar (bytes_scalar bytes.now)) out.old.items out.new.items) }
+    ensures { let scalar = bytes_scalar bytes.now in
+        OnOk result (Appends (IsScalar scalar) out.old.items out.new.items) }
 {
     push_sized(out, BYTES, bytes)
 }

@@ -109,10 +109,12 @@ impl Section {
 
     /// Adds a value, unless it stands in the section, and answers the part that stands for it. An error changes nothing.
     pub fn add(&mut self, alloc: Global, value: Value<'_>) -> Result<Part, SectionError>
-        ensures value { IfOk result (λ part. (tiles : List Tile) (v : Tree) → IsSection tiles self.old
-            → IsValue tiles value.entry v → Holds tiles v self.new part) }
+        ensures value { IfOk result (λ part. (tiles : List Tile) (v : Tree)
+            → IsSection tiles self.old → IsValue tiles value.entry v
+            → Holds tiles v self.new part) }
         ensures kept { OnErr result (self.new ≡ self.old) }
-        ensures too_large { IfErr result (λ e. e ≡ SectionError.TooLarge → IsTooLarge self.old value.entry) }
+        ensures too_large { IfErr result (λ e. e ≡ SectionError.TooLarge
+            → IsTooLarge self.old value.entry) }
     {
         if value.size() > MOST_SIZE {
             return Err(SectionError::TooLarge);
