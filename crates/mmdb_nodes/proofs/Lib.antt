@@ -1,0 +1,7 @@
+pub mod EntryLemmas
+pub mod LeadLemmas
+pub mod ByteLemmas
+pub mod LongestLemmas
+pub mod CountLemmas
+pub mod SplitLemmas
+pub mod TreeLemmas

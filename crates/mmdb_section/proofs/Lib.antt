@@ -1,0 +1,7 @@
+pub mod StandLemmas
+pub mod HeaderLemmas
+pub mod ScalarLemmas
+pub mod WriteLemmas
+pub mod CostLemmas
+pub mod AllowanceLemmas
+pub mod SectionLemmas

@@ -1,0 +1,121 @@
+-- Sections with one value more, and values that stand in them already.
+use Rattle.std.proofs.Common.{◌≡◌, inl, inr, ℕ, zero, suc, ◌+◌, eqb, Bool, true, false, List, [], ◌∷◌, ◌++◌, length, map, Some, arith, refl, ap, sym, ◌∙◌, subst, append-nil, append_assoc, length-append}
+use Rattle.std.specs.Prelude.{◌||◌}
+use Rattle.std.specs.List.{AllByRecursion, slice_get}
+use Rattle.std.proofs.lemmas.Bool.{false≢true}
+use Rattle.mmdb_format.specs.Unfolding.{Tree, Unfolds, levels, without_pointers}
+use Rattle.mmdb_format.proofs.UnfoldingLaws.{one_tree}
+use Rattle.mmdb_section.specs.declared.value.Part.TheVariants.{At}
+use Rattle.mmdb_section.specs.Sections.{Tile, IsChain, IsTile, is_start, IsLaid, AreTiles, SectionView, IsSection, IsPart, Holds}
+use Rattle.mmdb_section.specs.Working.{Grows, IsWrittenDirect, StandAt}
+use Rattle.mmdb_section.proofs.WriteLemmas.{laid_tile}
+
+-- ---- lists of values with one more
+
+chain_snoc : (from to : ℕ) (ts : List Tile) (t : Tile) → IsChain from ts to → t.start ≡ to → IsChain from (ts ++ t ∷ []) t.end
+chain_snoc from to [] t h e = (e ∙ sym h, refl)
+chain_snoc from to (u ∷ us) t h e = (h.0, chain_snoc u.end to us t h.1 e)
+
+last_tile : (t : Tile) (ts : List Tile) → IsTile t (ts ++ t ∷ [])
+last_tile t [] = inl refl
+last_tile t (u ∷ us) = inr (last_tile t us)
+
+or_weaker : (a b c : Bool) → (b ≡ true → c ≡ true) → (a || b) ≡ true → (a || c) ≡ true
+or_weaker true b c h k = refl
+or_weaker false b c h k = h k
+
+earlier_start : (q : ℕ) (ts : List Tile) (t : Tile) → is_start ts q ≡ true → is_start (ts ++ t ∷ []) q ≡ true
+earlier_start q [] t h = absurd (false≢true h)
+earlier_start q (u ∷ us) t h = or_weaker (eqb q u.start) (is_start us q) (is_start (us ++ t ∷ []) q) (earlier_start q us t) h
+
+all_snoc : (P : Tile → Type 0) (ts : List Tile) (t : Tile) → AllByRecursion P ts → P t → AllByRecursion P (ts ++ t ∷ [])
+all_snoc P [] t all last = (last, tt)
+all_snoc P (u ∷ us) t all last = (all.0, all_snoc P us t all.1 last)
+
+all_weaker : (P Q : Tile → Type 0) → ((t : Tile) → P t → Q t) → (ts : List Tile) → AllByRecursion P ts → AllByRecursion Q ts
+all_weaker P Q f [] all = tt
+all_weaker P Q f (t ∷ ts) all = (f t all.0, all_weaker P Q f ts all.1)
+
+starts_snoc : (ts : List Tile) (t : Tile) → map (λ (u : Tile). u.start) (ts ++ t ∷ []) ≡ map (λ (u : Tile). u.start) ts ++ t.start ∷ []
+starts_snoc [] t = refl
+starts_snoc (u ∷ us) t = ap (λ (xs : List ℕ). u.start ∷ xs) (starts_snoc us t)
+
+-- ---- a section with one value more
+
+still_laid : (tiles : List Tile) (u : Tile) (old more : List ℕ) (t : Tile) → IsLaid tiles old t → IsLaid (tiles ++ u ∷ []) (old ++ more) t
+still_laid tiles u old more t laid = record {
+  unfolds = λ behind. subst (λ (xs : List ℕ). Unfolds xs t.start t.tree t.end) (sym (append_assoc old more behind)) (laid.unfolds (more ++ behind));
+  direct = laid.direct;
+  texts = laid.texts;
+  closed = λ q h. earlier_start q tiles u (laid.closed q h);
+  levels = laid.levels;
+}
+
+module _ (tiles : List Tile) (v : Tree) (old new : SectionView) (start : ℕ) (xs : List ℕ) (section : IsSection tiles old) (w : IsWrittenDirect tiles old.bytes v xs)
+    (bytes : new.bytes ≡ old.bytes ++ xs) (starts : new.starts ≡ old.starts ++ start ∷ []) (at : start ≡ length old.bytes) where
+  added : Tile
+  added = record { start = length old.bytes; tree = w.written.t; end = length old.bytes + length xs }
+
+  added_laid : IsLaid (tiles ++ added ∷ []) (old.bytes ++ xs) added
+  unfolding added
+  added_laid = record {
+    unfolds = λ behind.
+        subst (λ (s : List ℕ). Unfolds s (length old.bytes) w.written.t (length old.bytes + length xs)) (sym (append_assoc old.bytes xs behind))
+        (w.written.unfolds old.bytes behind (xs ++ behind, refl));
+    direct = w.direct;
+    texts = w.written.texts;
+    closed = λ q h. earlier_start q tiles added (w.written.closed q h);
+    levels = let e = ap levels w.written.value in let f = w.levels in omega arith;
+  }
+
+  more_tiles : AreTiles (tiles ++ added ∷ []) (old.bytes ++ xs)
+  unfolding added
+  more_tiles = record {
+    chain = subst (λ (n : ℕ). IsChain 0 (tiles ++ added ∷ []) n) (sym (length-append old.bytes xs)) (chain_snoc 0 (length old.bytes) tiles added section.are.chain refl);
+    each = all_snoc (IsLaid (tiles ++ added ∷ []) (old.bytes ++ xs)) tiles added
+        (all_weaker (IsLaid tiles old.bytes) (IsLaid (tiles ++ added ∷ []) (old.bytes ++ xs)) (still_laid tiles added old.bytes xs) tiles section.are.each) added_laid;
+  }
+
+  pub value_added : Holds tiles v new (At start)
+  unfolding added
+  value_added = record {
+    more = added ∷ [];
+    has = record {
+      are = subst (AreTiles (tiles ++ added ∷ [])) (sym bytes) more_tiles;
+      starts = starts ∙ ap (λ (ys : List ℕ). ys ++ start ∷ []) section.starts ∙ ap (λ (n : ℕ). map (λ (u : Tile). u.start) tiles ++ n ∷ []) at ∙ sym (starts_snoc tiles added);
+    };
+    is_part = (added, last_tile added tiles, sym at, w.written.value);
+  }
+
+-- ---- a value that stands in the section already
+
+record IsAmong (tiles : List Tile) (start : ℕ) : Type 0 where
+  tile : Tile
+  is : IsTile tile tiles
+  at : tile.start ≡ start
+
+tile_at : (tiles : List Tile) (starts : List ℕ) (i start : ℕ) → starts ≡ map (λ (t : Tile). t.start) tiles → slice_get starts i ≡ Some start → IsAmong tiles start
+tile_at [] [] i start is at = absurd (cc)
+tile_at [] (x ∷ xs) i start is at = absurd (cc)
+tile_at (t ∷ ts) [] i start is at = absurd (cc)
+tile_at (t ∷ ts) (x ∷ xs) zero start is at = record { tile = t; is = inl refl; at = (let same : x ≡ t.start = cc in let here : x ≡ start = cc in sym same ∙ here) }
+tile_at (t ∷ ts) (x ∷ xs) (suc i) start is at =
+    let rest : xs ≡ map (λ (u : Tile). u.start) ts = cc in
+    let w = tile_at ts xs i start rest at in
+    record { tile = w.tile; is = inr w.is; at = w.at }
+
+pub value_found : (tiles : List Tile) (v : Tree) (section : SectionView) (start : ℕ) (xs : List ℕ) → IsSection tiles section → IsWrittenDirect tiles section.bytes v xs → StandAt section start xs → Holds tiles v section (At start)
+value_found tiles v section start xs has w there =
+    let among = tile_at tiles section.starts there.index start has.starts there.among in
+    let laid = laid_tile (IsLaid tiles section.bytes) among.tile tiles has.are.each among.is in
+    let whole : Unfolds section.bytes among.tile.start among.tile.tree among.tile.end = subst (λ (s : List ℕ). Unfolds s among.tile.start among.tile.tree among.tile.end) (append-nil section.bytes) (laid.unfolds []) in
+    let grown : Grows section.bytes (there.before ++ (xs ++ there.behind)) = ([], sym there.whole ∙ sym (append-nil section.bytes)) in
+    let written = w.written.unfolds there.before there.behind grown in
+    let moved : Unfolds section.bytes (length there.before) w.written.t (length there.before + length xs) = subst (λ (s : List ℕ). Unfolds s (length there.before) w.written.t (length there.before + length xs)) (sym there.whole) written in
+    let from : length there.before ≡ among.tile.start = there.start_is ∙ sym among.at in
+    let same : among.tile.tree ≡ w.written.t = (one_tree whole (subst (λ (n : ℕ). Unfolds section.bytes n w.written.t (length there.before + length xs)) from moved)).0 in
+    record {
+      more = [];
+      has = subst (λ (ts : List Tile). IsSection ts section) (sym (append-nil tiles)) has;
+      is_part = subst (λ (ts : List Tile). IsPart ts (At start) v) (sym (append-nil tiles)) (among.tile, among.is, among.at, ap without_pointers same ∙ w.written.value);
+    }

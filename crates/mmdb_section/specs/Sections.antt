@@ -1,0 +1,129 @@
+-- A data section as values that stand one behind the other, whose pointers lead to the beginnings of values ("Output Data
+-- Section" of the MaxMind DB File Format Specification 2.0).
+use Rattle.std.specs.Prelude.{◌≡◌, ℕ, ◌*◌, ◌<◌, ◌≤◌, ◌^◌, ◌⊎◌, ◌==◌, ◌||◌, Bool, true, false, List, [], ◌∷◌, ◌++◌, length, map}
+use Rattle.std.specs.List.{AllByRecursion}
+use Rattle.mmdb_format.specs.Contents.{Scalar, text, bytes, boolean, signed32, number16, number32, number64, number128, double_bits, float_bits}
+use Rattle.mmdb_format.specs.Unfolding.{Tree, scalar, array, table, pointer, Trees, no_trees, tree, Pairs, no_pairs, pair, Unfolds, levels, has_texts, without_pointers}
+use Rattle.mmdb_check.specs.Checking.{leads_to}
+use Rattle.mmdb_section.specs.declared.value.Number.{Number as SpecNumber}
+use Rattle.mmdb_section.specs.declared.value.Number.TheVariants.{Bool as BoolNumber, I32, U16, U32, U64, U128, Double, Float}
+use Rattle.mmdb_section.specs.declared.value.Part.{Part}
+use Rattle.mmdb_section.specs.declared.value.Part.TheVariants.{Number, At}
+use Rattle.mmdb_section.specs.declared.value.Value.{Value}
+use Rattle.mmdb_section.specs.declared.value.Value.TheVariants as values
+
+-- ---- values of a section
+
+-- a value of a section: where it begins, what unfolds there, and where it ends
+pub record Tile : Type 0 where
+  pub start : ℕ
+  pub tree : Tree
+  pub end : ℕ
+
+-- each begins where the one before ends
+abbrev pub IsChain : ℕ → List Tile → ℕ → Type 0
+IsChain from [] to = from ≡ to
+IsChain from (t ∷ ts) to = (t.start ≡ from) × IsChain t.end ts to
+
+abbrev pub IsTile : Tile → List Tile → Type 0
+IsTile t [] = ⊥
+IsTile t (u ∷ us) = (t ≡ u) ⊎ IsTile t us
+
+abbrev pub is_start : List Tile → ℕ → Bool
+is_start [] q = false
+is_start (t ∷ ts) q = (q == t.start) || is_start ts q
+
+-- each pointer of the tree leads to where a value begins
+abbrev pub IsClosed : List Tile → Tree → Type 0
+IsClosed tiles t = (q : ℕ) → leads_to t q ≡ true → is_start tiles q ≡ true
+
+abbrev pub is_pointer : Tree → Bool
+is_pointer (pointer a t) = true
+is_pointer (scalar c) = false
+is_pointer (array ts) = false
+is_pointer (table ps) = false
+
+-- The value stands there, whatever comes behind the bytes. It is no pointer, its texts are UTF-8, its pointers lead to where
+-- values begin, and with them it is at most twice as deep.
+pub record IsLaid (tiles : List Tile) (bytes : List ℕ) (t : Tile) : Type 0 where
+  pub unfolds : (behind : List ℕ) → Unfolds (bytes ++ behind) t.start t.tree t.end
+  pub direct : is_pointer t.tree ≡ false
+  pub texts : has_texts t.tree ≡ true
+  pub closed : IsClosed tiles t.tree
+  pub levels : levels t.tree ≤ 2 * levels (without_pointers t.tree)
+
+-- the bytes are these values and nothing else
+pub record AreTiles (tiles : List Tile) (bytes : List ℕ) : Type 0 where
+  pub chain : IsChain 0 tiles (length bytes)
+  pub each : AllByRecursion (IsLaid tiles bytes) tiles
+
+-- what contracts see of a section: its bytes, and where its values begin
+pub record SectionView : Type 0 where
+  pub bytes : List ℕ
+  pub starts : List ℕ
+
+-- the section has these values
+pub record IsSection (tiles : List Tile) (section : SectionView) : Type 0 where
+  pub are : AreTiles tiles section.bytes
+  pub starts : section.starts ≡ map (λ t. t.start) tiles
+
+-- ---- values that are put into a section
+
+abbrev pub scalar_of : SpecNumber → Scalar
+scalar_of (BoolNumber b) = boolean b
+scalar_of (I32 z) = signed32 z
+scalar_of (U16 n) = number16 n
+scalar_of (U32 n) = number32 n
+scalar_of (U64 n) = number64 n
+scalar_of (U128 n) = number128 n
+scalar_of (Double x) = double_bits x.bits
+scalar_of (Float x) = float_bits x.bits
+
+-- a part stands for a number, or for the value that begins at its offset, pointers dropped
+abbrev pub IsPart : List Tile → Part → Tree → Type 0
+IsPart tiles (Number n) v = v ≡ scalar (scalar_of n)
+IsPart tiles (At offset) v = (t : Tile) × IsTile t tiles × (t.start ≡ offset) × (without_pointers t.tree ≡ v)
+
+abbrev pub AreParts : List Tile → List Part → Trees → Type 0
+AreParts tiles [] no_trees = Unit {0}
+AreParts tiles [] (tree v vs) = ⊥
+AreParts tiles (p ∷ ps) no_trees = ⊥
+AreParts tiles (p ∷ ps) (tree v vs) = IsPart tiles p v × AreParts tiles ps vs
+
+abbrev pub ArePairs : List Tile → List (Part × Part) → Pairs → Type 0
+ArePairs tiles [] no_pairs = Unit {0}
+ArePairs tiles [] (pair k v vs) = ⊥
+ArePairs tiles (p ∷ ps) no_pairs = ⊥
+ArePairs tiles (p ∷ ps) (pair k v vs) = IsPart tiles p.0 k × IsPart tiles p.1 v × ArePairs tiles ps vs
+
+-- the tree of a value whose parts stand for these of the section
+abbrev pub IsValue : List Tile → Value → Tree → Type 0
+IsValue tiles (values.Text x) v = v ≡ scalar (text x.now)
+IsValue tiles (values.Bytes x) v = v ≡ scalar (bytes x.now)
+IsValue tiles (values.Number n) v = v ≡ scalar (scalar_of n)
+IsValue tiles (values.Array parts) v = (vs : Trees) × AreParts tiles parts.now vs × (v ≡ array vs)
+IsValue tiles (values.Map pairs) v = (vs : Pairs) × ArePairs tiles pairs.now vs × (v ≡ table vs)
+
+-- The section has these values, and perhaps one more, and the part stands for the tree.
+pub record Holds (tiles : List Tile) (v : Tree) (section : SectionView) (part : Part) : Type 0 where
+  pub more : List Tile
+  pub has : IsSection (tiles ++ more) section
+  pub is_part : IsPart (tiles ++ more) part v
+
+-- ---- sizes
+
+-- the greatest size that a header can have ("Data Field Format", payload size)
+abbrev pub most_size : ℕ
+most_size = 16843036
+
+-- how many bytes, parts or pairs a value has
+abbrev pub size_of : Value → ℕ
+size_of (values.Text x) = length x.now
+size_of (values.Bytes x) = length x.now
+size_of (values.Number n) = 0
+size_of (values.Array parts) = length parts.now
+size_of (values.Map pairs) = length pairs.now
+
+-- a header cannot have its size, or a pointer cannot have its offset
+abbrev pub IsTooLarge : SectionView → Value → Type 0
+IsTooLarge section value = (most_size < size_of value) ⊎ (2 ^ 32 ≤ length section.bytes)

@@ -1,0 +1,142 @@
+//! Sections, made value by value.
+ghost use Rattle.std.specs.Prelude.{◌≡◌, [], ℕ, List, ◌∷◌, ◌++◌, IfOk, IfErr, OnOk, OnErr, IfSome, Some, slice_get, length};
+ghost use Rattle.mmdb_section.specs.Sections.{Tile, SectionView, IsSection, IsValue, IsTooLarge, Holds};
+ghost use Rattle.mmdb_section.specs.Working.{StandAt};
+ghost use Rattle.mmdb_format.specs.Unfolding.{Tree};
+
+use crate::header::MOST_SIZE;
+use crate::value::{Part, Value};
+use crate::write::push_value;
+use std::alloc::{AllocError, AllocFailed, Global};
+use std::collections::HashMap;
+use std::marker::Model;
+
+/// Why a value is not added.
+#[derive(Clone, Copy, Debug, PartialEq, Eq)]
+pub enum SectionError {
+    /// Out of memory.
+    Memory,
+    /// A text, a byte string, an array or a map is larger than a header can say, or the section than pointers can lead.
+    TooLarge,
+}
+
+impl From<AllocError> for SectionError {
+    ghost use Rattle.mmdb_section.specs.declared.section.SectionError.TheVariants.{Memory};
+
+    ghost from_gives = { λ _ e. e ≡ Memory };
+
+    fn from(_error: AllocError) -> SectionError {
+        SectionError::Memory
+    }
+}
+
+impl<T: Drop> From<AllocFailed<T>> for SectionError {
+    ghost use Rattle.mmdb_section.specs.declared.section.SectionError.TheVariants.{Memory};
+
+    ghost from_gives = { λ _ e. e ≡ Memory };
+
+    fn from(_error: AllocFailed<T>) -> SectionError {
+        SectionError::Memory
+    }
+}
+
+/// A data section that grows by a value at a time. A value is added after its parts. One that stands in it already is not
+/// written again.
+#[derive(Drop)]
+pub struct Section {
+    bytes: Vec<u8>,
+    /// Where the values begin, ascending.
+    starts: Vec<u32>,
+    /// From a hash of a value's bytes to the index of where it begins: a hint, since values may share a hash.
+    indexes: HashMap<u64, usize>,
+}
+
+impl Model for Section {
+    ghost Value = { SectionView };
+
+    ghost view = { λ s. record { bytes = s.bytes.items; starts = s.starts.items } };
+}
+
+// A number that equal bytes share, and few others (FNV-1a).
+fn hash_of(bytes: &[u8]) -> u64 {
+    let mut hash = 0xcbf2_9ce4_8422_2325;
+    for byte in bytes {
+        hash = (hash ^ u64::from(*byte)).wrapping_mul(0x0100_0000_01b3);
+    }
+    hash
+}
+
+impl Section {
+    /// A section without values.
+    pub fn new(alloc: Global) -> Section
+        ensures bytes { result.bytes ≡ [] }
+        ensures starts { result.starts ≡ [] }
+    {
+        Section {
+            bytes: Vec::new(alloc),
+            starts: Vec::new(alloc),
+            indexes: HashMap::new(alloc),
+        }
+    }
+
+    // Where a value with these bytes begins, if the hint of their hash leads to one.
+    fn find(&self, hash: u64, bytes: &[u8]) -> Option<u32>
+        ensures { IfSome result (λ start. StandAt self.now start bytes.now) }
+    {
+        let index = *self.indexes.get(&hash)?;
+        let start = *self.starts.get(index)?;
+        let (_, there) = self.bytes.split_at_checked(start as usize)?;
+        if there.starts_with(bytes) {
+            Some(start)
+        } else {
+            None
+        }
+    }
+
+    // Puts the bytes of a value behind the others.
+    fn put(&mut self, start: u32, bytes: &[u8]) -> Result<(), AllocError>
+        ensures bytes { OnOk result (self.new.bytes ≡ self.old.bytes ++ bytes.now) }
+        ensures starts { OnOk result (self.new.starts ≡ self.old.starts ++ start ∷ []) }
+        ensures kept { OnErr result (self.new ≡ self.old) }
+    {
+        self.starts.push(start)?;
+        if let Err(error) = self.bytes.extend_from_slice(bytes) {
+            self.starts.pop();
+            return Err(error);
+        }
+        Ok(())
+    }
+
+    /// Adds a value, unless it stands in the section, and answers the part that stands for it. An error changes nothing.
+    pub fn add(&mut self, alloc: Global, value: Value<'_>) -> Result<Part, SectionError>
+        ensures value { IfOk result (λ part. (tiles : List Tile) (v : Tree)
+            → IsSection tiles self.old → IsValue tiles value.entry v
+            → Holds tiles v self.new part) }
+        ensures kept { OnErr result (self.new ≡ self.old) }
+        ensures too_large { IfErr result (λ e. e ≡ SectionError.TooLarge
+            → IsTooLarge self.old value.entry) }
+    {
+        if value.size() > MOST_SIZE {
+            return Err(SectionError::TooLarge);
+        }
+        let Ok(start) = u32::try_from(self.bytes.len()) else {
+            return Err(SectionError::TooLarge);
+        };
+        let mut added = Vec::new(alloc);
+        push_value(&mut added, value)?;
+        let hash = hash_of(&added);
+        if let Some(earlier) = self.find(hash, &added) {
+            return Ok(Part::At(earlier));
+        }
+        self.indexes.insert(hash, self.starts.len())?;
+        self.put(start, &added)?;
+        Ok(Part::At(start))
+    }
+
+    /// The bytes of the section.
+    pub fn bytes(&self) -> &[u8]
+        ensures { result.now ≡ self.now.bytes }
+    {
+        &self.bytes
+    }
+}

@@ -1,0 +1,72 @@
+//! Values as bytes.
+ghost use Rattle.std.specs.Prelude.{◌≡◌, ◌≤◌, length, OnOk};
+ghost use Rattle.mmdb_section.specs.Sections.{most_size, size_of};
+ghost use Rattle.mmdb_section.specs.Working.{Appends, WritesPart, WritesParts, WritesPairs, WritesArray, WritesMap, WritesValue};
+
+use crate::header::push_header;
+use crate::pointer::push_pointer;
+use crate::scalar::{push_bytes, push_number, push_text};
+use crate::value::{Part, Value};
+use mmdb_format::kind::{ARRAY, MAP};
+use std::alloc::AllocError;
+
+// A part: a number, or a pointer to a value.
+fn push_part(out: &mut Vec<u8>, part: Part) -> Result<(), AllocError>
+    ensures { OnOk result (Appends (WritesPart part) out.old.items out.new.items) }
+{
+    match part {
+        Part::Number(number) => push_number(out, number),
+        Part::At(offset) => push_pointer(out, offset),
+    }
+}
+
+// The elements of an array.
+fn push_parts(out: &mut Vec<u8>, parts: &[Part]) -> Result<(), AllocError>
+    ensures { OnOk result (Appends (WritesParts parts.now) out.old.items out.new.items) }
+{
+    for part in parts {
+        push_part(out, *part)?;
+    }
+    Ok(())
+}
+
+// The pairs of a map.
+fn push_pairs(out: &mut Vec<u8>, pairs: &[(Part, Part)]) -> Result<(), AllocError>
+    ensures { OnOk result (Appends (WritesPairs pairs.now) out.old.items out.new.items) }
+{
+    for (key, value) in pairs {
+        push_part(out, *key)?;
+        push_part(out, *value)?;
+    }
+    Ok(())
+}
+
+fn push_array(out: &mut Vec<u8>, parts: &[Part]) -> Result<(), AllocError>
+    requires { length parts.now ≤ most_size }
+    ensures { OnOk result (Appends (WritesArray parts.now) out.old.items out.new.items) }
+{
+    push_header(out, ARRAY, parts.len())?;
+    push_parts(out, parts)
+}
+
+fn push_map(out: &mut Vec<u8>, pairs: &[(Part, Part)]) -> Result<(), AllocError>
+    requires { length pairs.now ≤ most_size }
+    ensures { OnOk result (Appends (WritesMap pairs.now) out.old.items out.new.items) }
+{
+    push_header(out, MAP, pairs.len())?;
+    push_pairs(out, pairs)
+}
+
+// A value, which begins with no pointer.
+pub(crate) fn push_value(out: &mut Vec<u8>, value: Value<'_>) -> Result<(), AllocError>
+    requires { size_of value ≤ most_size }
+    ensures { OnOk result (Appends (WritesValue value.entry) out.old.items out.new.items) }
+{
+    match value {
+        Value::Text(text) => push_text(out, text),
+        Value::Bytes(bytes) => push_bytes(out, bytes),
+        Value::Number(number) => push_number(out, number),
+        Value::Array(parts) => push_array(out, parts),
+        Value::Map(pairs) => push_map(out, pairs),
+    }
+}

@@ -1,0 +1,7 @@
+//! Tests of what files are written from: search trees of entries, and data sections.
+#![tactic(auto)]
+
+#[cfg(test)]
+mod sections;
+#[cfg(test)]
+mod trees;
