@@ -251,6 +251,17 @@ fn texts_of<'r>(
     }
 }
 
+// Notes which record can't be read, so that it is not laid out again.
+fn note_unreadable(texts: &mut BothTexts<'_>, unreadable: &Unreadable, answers: Answers<'_, '_>) {
+    let found = match unreadable.side {
+        Side::Old => answers.old,
+        Side::New => answers.new,
+    };
+    if let (false, Some(offset)) = (unreadable.is_memory(), offset_of(found)) {
+        texts.note_unreadable(unreadable.side, offset);
+    }
+}
+
 impl<'r> Pairs<'r> {
     /// No pairs yet.
     pub(crate) fn new(
@@ -316,26 +327,20 @@ impl<'r> Pairs<'r> {
             }
             None => {
                 let is_same = are_same(alloc, layout, answers);
-                if let Err(unreadable) = &is_same {
-                    self.note(unreadable, answers);
-                }
+                self.note(&is_same, answers);
                 is_same
             }
         }
     }
 
-    // Notes which record can't be read, so that it is not laid out again.
-    fn note(&mut self, unreadable: &Unreadable, answers: Answers<'_, '_>) {
-        let found = match unreadable.side {
-            Side::Old => answers.old,
-            Side::New => answers.new,
+    // Notes whether two records that were compared can be read, and if not, which one can't.
+    fn note(&mut self, compared: &Result<bool, Unreadable>, answers: Answers<'_, '_>) {
+        let Some(texts) = &mut self.texts else {
+            return;
         };
-        if let (false, Some(texts), Some(offset)) = (
-            unreadable.is_memory(),
-            &mut self.texts,
-            offset_of(found),
-        ) {
-            texts.note_unreadable(unreadable.side, offset);
+        match compared {
+            Ok(_) => texts.note_readable(),
+            Err(unreadable) => note_unreadable(texts, unreadable, answers),
         }
     }
 

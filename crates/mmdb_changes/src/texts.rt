@@ -37,10 +37,10 @@ fn text_of(alloc: Global, offset: Option<usize>, texts: &mut RecordTexts<'_>) ->
     }
 }
 
-// Whether it is noted that the record at an offset can't be read, if there is one.
-fn is_noted(offset: Option<usize>, texts: &RecordTexts<'_>) -> bool {
+// Whether the record at an offset is thought to be one that can't be read, if there is one.
+fn is_suspected(offset: Option<usize>, texts: &RecordTexts<'_>) -> bool {
     match offset {
-        Some(offset) => texts.is_noted(offset),
+        Some(offset) => texts.is_suspected(offset),
         None => false,
     }
 }
@@ -68,15 +68,21 @@ impl<'r> BothTexts<'r> {
         }
     }
 
-    /// What is shown of the records at these offsets, or of no record. None where one can't be laid out so, or there is no
-    /// memory: others read it then, and say why not.
+    /// Notes that two records of which one was suspected can be read.
+    pub(crate) fn note_readable(&mut self) {
+        self.old.note_readable();
+        self.new.note_readable();
+    }
+
+    /// What is shown of the records at these offsets, or of no record. None where one can't be laid out so or is thought not to
+    /// be readable, and where there is no memory: others read it then, and say why not.
     pub(crate) fn shown(
         &mut self,
         alloc: Global,
         old: Option<usize>,
         new: Option<usize>,
     ) -> Option<Shown> {
-        if is_noted(old, &self.old) || is_noted(new, &self.new) {
+        if is_suspected(old, &self.old) || is_suspected(new, &self.new) {
             return None;
         }
         Some(Shown {

@@ -299,12 +299,13 @@ impl Layout<'_> {
             *row = self.row(alloc, found)?;
             return Ok(());
         };
-        if put_record_row(offset, texts, row)? {
+        if !texts.is_suspected(offset) && put_record_row(offset, texts, row)? {
             return Ok(());
         }
         *row = Vec::new(alloc);
         match explained_row(alloc, found) {
             Ok(explained) => {
+                texts.note_readable();
                 *row = explained;
                 Ok(())
             }

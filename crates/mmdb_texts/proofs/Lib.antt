@@ -1,4 +1,5 @@
 pub mod Drafting
+pub mod Escaping
 pub mod Printing
 pub mod Measuring
 pub mod Containers

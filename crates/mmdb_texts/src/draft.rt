@@ -6,16 +6,33 @@ ghost use Rattle.base64.specs.Engines.{standard};
 ghost use Rattle.mmdb_texts.specs.Working.{comma_if};
 ghost use Rattle.mmdb_texts.specs.Drafts.{AreWithin, Grows, IsBehind, filled, shown, later_string};
 
-use crate::strings::{is_plain, put_bytes, put_plain, put_string};
+use crate::strings::{MOST_APART, is_plain, put_bytes, put_plain, put_string};
 use std::alloc::{AllocError, Global};
 use std::marker::Model;
 
 /// So many bytes of texts with escapes and of byte strings are laid out at once. More of them are put in when all of a
 /// record was read: to lay them out takes far longer than to read them, which is in vain where the record can't be read.
-const MOST_AT_ONCE: usize = 64;
+const MOST_AT_ONCE: usize = 65_536;
 
 /// A larger room for a text is not kept for the next one.
 const MOST_ROOM: usize = 65_536;
+
+/// Where a text is laid out, and where strings are that are written apart.
+#[derive(Drop)]
+pub(crate) struct Rooms {
+    text: Vec<u8>,
+    string: Vec<u8>,
+}
+
+impl Rooms {
+    /// Rooms that take no memory yet.
+    pub(crate) fn new(alloc: Global) -> Rooms {
+        Rooms {
+            text: Vec::new(alloc),
+            string: Vec::new(alloc),
+        }
+    }
+}
 
 /// What is put in last.
 #[derive(Clone, Copy)]
@@ -49,6 +66,8 @@ pub(crate) struct Draft<'r> {
     holes: Vec<Hole<'r>>,
     /// So many bytes may still be laid out at once.
     at_once: usize,
+    /// Where strings are written apart.
+    room: Vec<u8>,
 }
 
 impl<'r> Model for Draft<'r> {
@@ -82,6 +101,7 @@ fn put_filled(
     alloc: Global,
     text: &[u8],
     holes: &[Hole<'_>],
+    room: &mut Vec<u8>,
     out: &mut Vec<u8>,
 ) -> Result<(), AllocError>
     requires { AreWithin text.now holes.now }
@@ -89,38 +109,41 @@ fn put_filled(
     ensures behind { IsBehind out.old.items out.new.items }
 {
     let mut from = 0;
-    let mut room = Vec::new(alloc);
     for hole in holes {
         if from <= hole.at && hole.at <= text.len() {
             out.extend_from_slice(&text[from..hole.at])?;
         }
-        put_later(alloc, hole.later, &mut room, out)?;
+        put_later(alloc, hole.later, room, out)?;
         from = hole.at;
     }
     out.extend_from_slice(text.split_at(from.min(text.len())).1)
 }
 
 impl<'r> Draft<'r> {
-    /// Of no text yet, which is laid out in a room.
-    pub(crate) fn new(alloc: Global, room: Vec<u8>) -> Draft<'r>
+    /// Of no text yet, which is laid out in these rooms.
+    pub(crate) fn new(alloc: Global, rooms: Rooms) -> Draft<'r>
         ensures { result ≡ record { text = []; holes = [] } }
     {
-        let mut text = room;
+        let mut text = rooms.text;
         text.clear();
         Draft {
             alloc,
             text,
             holes: Vec::new(alloc),
             at_once: MOST_AT_ONCE,
+            room: rooms.string,
         }
     }
 
-    /// The room for another text. A large one is let go.
-    pub(crate) fn into_room(self) -> Vec<u8> {
+    /// The rooms for another text. A large one is let go.
+    pub(crate) fn into_rooms(self) -> Rooms {
         if self.text.capacity() > MOST_ROOM {
-            return Vec::new(self.alloc);
+            return Rooms::new(self.alloc);
         }
-        self.text
+        Rooms {
+            text: self.text,
+            string: self.room,
+        }
     }
 
     /// Appends a byte.
@@ -157,11 +180,12 @@ impl<'r> Draft<'r> {
         Ok(())
     }
 
-    // Whether so many bytes may be laid out at once. They are counted then.
+    // Whether so many bytes may be laid out at once. They are counted then. A long string is put in last, so that it is
+    // copied once.
     fn may_be_at_once(&mut self, bytes: usize) -> bool
         ensures { self.new ≡ self.old }
     {
-        if bytes > self.at_once {
+        if bytes > MOST_APART || bytes > self.at_once {
             return false;
         }
         self.at_once -= bytes;
@@ -176,8 +200,7 @@ impl<'r> Draft<'r> {
         if !self.may_be_at_once(text.len()) {
             return self.put_last(Later::Text(text));
         }
-        let mut room = Vec::new(self.alloc);
-        put_string(self.alloc, text, &mut room, &mut self.text)
+        put_string(self.alloc, text, &mut self.room, &mut self.text)
     }
 
     /// Appends the string of a text.
@@ -199,8 +222,7 @@ impl<'r> Draft<'r> {
         if !self.may_be_at_once(bytes.len()) {
             return self.put_last(Later::Bytes(bytes));
         }
-        let mut room = Vec::new(self.alloc);
-        put_bytes(self.alloc, bytes, &mut room, &mut self.text)
+        put_bytes(self.alloc, bytes, &mut self.room, &mut self.text)
     }
 
     /// How far it has come.
@@ -227,16 +249,22 @@ impl<'r> Draft<'r> {
     }
 
     // Appends the text with what is put into it, as far as there is memory.
-    fn put_all(&self, out: &mut Vec<u8>) -> Result<(), AllocError>
-        ensures put { OnOk result (out.new.items ≡ out.old.items ++ shown self.now) }
+    fn put_all(&mut self, out: &mut Vec<u8>) -> Result<(), AllocError>
+        ensures put { OnOk result (out.new.items ≡ out.old.items ++ shown self.old) }
         ensures behind { IsBehind out.old.items out.new.items }
     {
-        put_filled(self.alloc, self.text.as_slice(), self.holes.as_slice(), out)
+        put_filled(
+            self.alloc,
+            self.text.as_slice(),
+            self.holes.as_slice(),
+            &mut self.room,
+            out,
+        )
     }
 
     /// Appends the whole text. Whether there was memory for it; if not, nothing is appended.
-    pub(crate) fn append_to(&self, out: &mut Vec<u8>) -> bool
-        ensures put { result ≡ true → out.new.items ≡ out.old.items ++ shown self.now }
+    pub(crate) fn append_to(&mut self, out: &mut Vec<u8>) -> bool
+        ensures put { result ≡ true → out.new.items ≡ out.old.items ++ shown self.old }
         ensures left { result ≡ false → out.new.items ≡ out.old.items }
     {
         let before = out.len();

@@ -5,7 +5,7 @@ ghost use Rattle.mmdb_texts.specs.Working.{AppendsText, AppendsOwnName, ChargesK
 ghost use Rattle.mmdb_texts.specs.Drafts.{Drafted, Grows, shown};
 
 use crate::budget::Budget;
-use crate::draft::{Draft, Reached};
+use crate::draft::{Draft, Reached, Rooms};
 use crate::kept::Kept;
 use crate::scalars::{put_content, utf8_of};
 use mmdb_cache::Cache;
@@ -17,10 +17,22 @@ use std::alloc::Global;
 use std::marker::Model;
 use std::mem;
 
-/// No longer text is kept, and no shorter one of a value: it is laid out in fewer steps than it is kept in.
+/// No longer text is kept, and no shorter one of a map or an array, or of another value: it is laid out in fewer steps than
+/// it is kept in.
 const MOST_KEPT: usize = 2048;
 
 const LEAST_KEPT: usize = 16;
+
+const LEAST_KEPT_STRING: usize = 512;
+
+/// All that is kept of a record takes at most so many times the bytes of its text: of values behind many pointers in turn the
+/// inner ones are kept, and the others where they are met again.
+const MOST_COPIES: usize = 2;
+
+/// After a record that can't be read at least so many are thought to be such, and at most so many after several.
+const LEAST_SUSPECTED: u8 = 4;
+
+const MOST_SUSPECTED: u8 = 64;
 
 /// What is kept of the names of members takes this part of all that is kept: one of so many.
 const PART_OF_NAMES: usize = 8;
@@ -37,8 +49,11 @@ pub struct RecordTexts<'r> {
     names: Cache<Kept>,
     /// The offsets of records of which it is noted that they can't be read.
     unreadable: Cache<bool>,
-    /// Where a text is laid out.
-    room: Vec<u8>,
+    rooms: Rooms,
+    /// So many bytes of the record that is laid out are kept.
+    copied: usize,
+    /// So many records that come next are thought to be such, by the last ones that were met.
+    suspected: u8,
 }
 
 impl<'r> Model for RecordTexts<'r> {
@@ -124,6 +139,31 @@ fn put_kept_name(kept: &Kept, budget: &mut Budget, out: &mut Draft<'_>) -> bool
     out.put(kept.text.as_slice()).is_ok()
 }
 
+// Whether what was appended since then is kept, the text of a value that a pointer leads to: it takes longer to lay out than
+// to keep and to copy.
+#[inline(always)]
+fn is_worth_keeping(before: Reached, out: &Draft<'_>) -> bool {
+    let Some(text) = out.since(before) else {
+        return false;
+    };
+    match text.first() {
+        Some(b'{' | b'[') => text.len() >= LEAST_KEPT,
+        _ => text.len() >= LEAST_KEPT_STRING,
+    }
+}
+
+// A copy of a text, where it is not too long, not too much of the record was copied yet, and there is memory.
+fn copy_of(alloc: Global, text: &[u8], laid_out: usize, copied: &mut usize) -> Option<Vec<u8>>
+    ensures { IfSome result (λ copy. copy.items ≡ text.now) }
+{
+    let bytes = copied.saturating_add(text.len());
+    if text.len() > MOST_KEPT || bytes / MOST_COPIES > laid_out {
+        return None;
+    }
+    *copied = bytes;
+    Vec::from_slice(alloc, text).ok()
+}
+
 impl<'r> RecordTexts<'r> {
     ghost use Rattle.mmdb_texts.specs.Working.{AppendsText, AppendsName, AppendsOwnName, AppendsMember, AppendsItem};
     ghost use Rattle.mmdb_texts.specs.Kept.{IsKeptText, IsKeptName};
@@ -140,7 +180,9 @@ impl<'r> RecordTexts<'r> {
             values: Cache::new(alloc, most.saturating_sub(2 * most_of_names)),
             names: Cache::new(alloc, most_of_names),
             unreadable: Cache::new(alloc, most_of_names),
-            room: Vec::new(alloc),
+            rooms: Rooms::new(alloc),
+            copied: 0,
+            suspected: 0,
         }
     }
 
@@ -151,19 +193,7 @@ impl<'r> RecordTexts<'r> {
         self.values.clear();
         self.names.clear();
         self.unreadable.clear();
-        self.room = Vec::new(self.alloc);
-    }
-
-    // A copy of what was appended since then, where it is short, nothing of it is put in last, and there is memory.
-    fn copy_since(&self, before: Reached, out: &Draft<'r>) -> Option<Vec<u8>>
-        ensures { IfSome result (λ text. (text.items ≡ drop before.bytes out.now.text)
-            × (length out.now.holes ≡ before.holes)) }
-    {
-        let text = out.since(before)?;
-        if text.len() > MOST_KEPT {
-            return None;
-        }
-        Vec::from_slice(self.alloc, text).ok()
+        self.rooms = Rooms::new(self.alloc);
     }
 
     // Keeps what was appended since then, the text of the value at an offset.
@@ -182,13 +212,14 @@ impl<'r> RecordTexts<'r> {
             × AppendsText self.old offset end levels before budget.now old out.now }
         ensures { self.new ≡ self.old }
     {
-        let Some(text) = self.copy_since(reached, out) else {
+        let Some(text) = out.since(reached) else {
+            return;
+        };
+        let laid_out = out.reached().bytes;
+        let Some(text) = copy_of(self.alloc, text, laid_out, &mut self.copied) else {
             return;
         };
         let bytes = text.len();
-        if bytes < LEAST_KEPT {
-            return;
-        }
         let kept = Kept {
             text,
             levels: levels.saturating_sub(budget.levels),
@@ -213,7 +244,11 @@ impl<'r> RecordTexts<'r> {
             × AppendsOwnName self.old offset end before budget.now old out.now }
         ensures { self.new ≡ self.old }
     {
-        let Some(text) = self.copy_since(reached, out) else {
+        let Some(text) = out.since(reached) else {
+            return;
+        };
+        let laid_out = out.reached().bytes;
+        let Some(text) = copy_of(self.alloc, text, laid_out, &mut self.copied) else {
             return;
         };
         let bytes = text.len();
@@ -297,7 +332,9 @@ impl<'r> RecordTexts<'r> {
         let Some(_) = self.put_value(offset, levels, budget, out) else {
             return false;
         };
-        self.keep_value(offset, levels, inner, budget, reached, out);
+        if is_worth_keeping(reached, out) {
+            self.keep_value(offset, levels, inner, budget, reached, out);
+        }
         budget.note_levels(before.levels);
         true
     }
@@ -504,25 +541,38 @@ impl<'r> RecordTexts<'r> {
         ensures left { result ≡ false → out.new.items ≡ out.old.items }
         ensures section { self.new ≡ self.old }
     {
-        if self.is_noted(offset) {
-            return false;
-        }
-        let room = mem::replace(&mut self.room, Vec::new(self.alloc));
-        let mut draft = Draft::new(self.alloc, room);
+        self.copied = 0;
+        let rooms = mem::replace(&mut self.rooms, Rooms::new(self.alloc));
+        let mut draft = Draft::new(self.alloc, rooms);
         let is_put = self.put_by(offset, &mut draft, out);
-        self.room = draft.into_room();
+        self.rooms = draft.into_rooms();
         is_put
     }
 
-    /// Whether it is noted that the record at an offset can't be read.
-    pub fn is_noted(&self, offset: usize) -> bool {
-        self.unreadable.get(offset).is_some()
+    /// Whether the record at an offset is thought to be one that can't be read: that is noted of it, or it is noted of those
+    /// that were met last. To lay such a record out is mostly in vain, so it is better read by steps that say why it can't be.
+    pub fn is_suspected(&self, offset: usize) -> bool {
+        self.suspected > 0 || self.unreadable.get(offset).is_some()
     }
 
-    /// Notes that the record at an offset can't be read, so that it is left at once from now on.
+    /// Notes that the record at an offset can't be read.
     pub fn note_unreadable(&mut self, offset: usize)
         ensures { self.new ≡ self.old }
     {
+        if self.unreadable.get(offset).is_some() {
+            return;
+        }
         self.unreadable.put(offset, true, BYTES_OF_UNREADABLE);
+        let suspected = self.suspected.saturating_mul(2);
+        self.suspected = suspected
+            .saturating_add(LEAST_SUSPECTED)
+            .min(MOST_SUSPECTED);
+    }
+
+    /// Notes that a record which was suspected can be read.
+    pub fn note_readable(&mut self)
+        ensures { self.new ≡ self.old }
+    {
+        self.suspected = self.suspected.saturating_sub(1);
     }
 }

@@ -1,6 +1,8 @@
 //! Strings of JSON.
-ghost use Rattle.std.specs.Prelude.{◌≡◌, ◌++◌, true, OnOk, IfOk};
-ghost use Rattle.json.specs.Print.{escape, quoted};
+ghost use Rattle.std.specs.Char.{digit_char};
+ghost use Rattle.std.specs.Prelude.{◌≡◌, ◌<◌, ◌≤◌, ◌++◌, length, take, true, OnOk, IfOk};
+ghost use Rattle.std.specs.List.{All};
+ghost use Rattle.json.specs.Print.{escape, escape_byte, escape_letter, quoted};
 ghost use Rattle.base64.specs.GeneralPurpose.{encode_of};
 ghost use Rattle.base64.specs.Engines.{standard};
 ghost use Rattle.mmdb_texts.specs.Drafts.{IsBehind};
@@ -11,8 +13,14 @@ use json::Writer;
 use std::alloc::{AllocError, Global};
 use std::mem;
 
-/// A string of a longer text is not written apart.
-const MOST_APART: usize = 1024;
+/// A string of a longer text is not written apart, nor one behind less than this.
+pub(crate) const MOST_APART: usize = 1024;
+
+/// So many bytes are looked at together.
+const LANES: usize = 16;
+
+/// A shorter text is escaped by runs of bytes that are not, a longer one by the kit's writer, many bytes at a time.
+const SHORT: usize = 64;
 
 // Whether a byte is not escaped in a string.
 #[inline(always)]
@@ -25,7 +33,8 @@ fn is_plain_byte(byte: u8) -> bool
 /// Whether no byte of a text is escaped in a string. All bytes are looked at, which goes by vectors.
 #[inline(always)]
 pub(crate) fn is_plain(text: &[u8]) -> bool
-    ensures { result ≡ true → escape text.now ≡ text.now }
+    ensures escape { result ≡ true → escape text.now ≡ text.now }
+    ensures plain { result ≡ true → All IsPlain text.now }
 {
     let mut is_plain = true;
     for byte in text {
@@ -43,6 +52,88 @@ pub(crate) fn put_plain(text: &[u8], out: &mut Vec<u8>) -> Result<(), AllocError
 {
     out.push(b'"')?;
     out.extend_from_slice(text)?;
+    Ok(out.push(b'"')?)
+}
+
+// How many bytes at the beginning of a text are not escaped in a string.
+#[inline(always)]
+fn plain_len(text: &[u8]) -> usize
+    ensures bound { result ≤ length text.now }
+    ensures plain { All IsPlain (take result text.now) }
+{
+    let mut at = 0;
+    while text.len() - at >= LANES && is_plain(&text[at..at + LANES]) {
+        at += LANES;
+    }
+    while at < text.len() && is_plain_byte(text[at]) {
+        at += 1;
+    }
+    at
+}
+
+// The letter of a byte's short escape, or 0 where it has none.
+#[inline(always)]
+fn letter_of(byte: u8) -> u8
+    ensures { result ≡ escape_letter byte }
+{
+    match byte {
+        b'"' | b'\\' => byte,
+        8 => b'b',
+        9 => b't',
+        10 => b'n',
+        12 => b'f',
+        13 => b'r',
+        _ => 0,
+    }
+}
+
+#[inline(always)]
+fn hex_of(digit: u8) -> u8
+    requires { digit < 16 }
+    ensures { result ≡ digit_char digit }
+{
+    if digit < 10 {
+        b'0' + digit
+    } else {
+        b'a' - 10 + digit
+    }
+}
+
+// Appends what stands in a string for a byte.
+#[inline(always)]
+fn put_byte(byte: u8, out: &mut Vec<u8>) -> Result<(), AllocError>
+    ensures put { OnOk result (out.new.items ≡ out.old.items ++ escape_byte byte) }
+    ensures behind { IsBehind out.old.items out.new.items }
+{
+    let letter = letter_of(byte);
+    if letter > 0 {
+        return out.extend_from_slice(&[b'\\', letter]);
+    }
+    if byte < b' ' {
+        let digits = [hex_of(byte / 16), hex_of(byte % 16)];
+        return out.extend_from_slice(&[b'\\', b'u', b'0', b'0', digits[0], digits[1]]);
+    }
+    Ok(out.push(byte)?)
+}
+
+// Appends the string of a text, by runs of bytes that are not escaped.
+fn put_short(text: &[u8], out: &mut Vec<u8>) -> Result<(), AllocError>
+    ensures put { OnOk result (out.new.items ≡ out.old.items ++ quoted text.now) }
+    ensures behind { IsBehind out.old.items out.new.items }
+{
+    out.push(b'"')?;
+    let mut left = text;
+    while !left.is_empty() {
+        let (plain, escaped) = left.split_at(plain_len(left));
+        out.extend_from_slice(plain)?;
+        left = match escaped.split_first() {
+            Some((byte, behind)) => {
+                put_byte(*byte, out)?;
+                behind
+            }
+            None => escaped,
+        };
+    }
     Ok(out.push(b'"')?)
 }
 
@@ -68,8 +159,8 @@ fn string_in(room: Vec<u8>, text: &str) -> Result<Vec<u8>, AllocError>
     Ok(writer.into_inner())
 }
 
-/// Appends the string of a text. A short one is written apart, in a room for it: the kit's writer fills room ahead of what it
-/// writes, the more the longer the text before it is.
+/// Appends the string of a text. One of middling length behind much is written apart, in a room for it: the kit's writer fills room
+/// ahead of what it writes, the more the longer the text before it is.
 #[inline(never)]
 pub(crate) fn put_string(
     alloc: Global,
@@ -80,7 +171,10 @@ pub(crate) fn put_string(
     ensures put { OnOk result (out.new.items ≡ out.old.items ++ quoted text.now) }
     ensures behind { IsBehind out.old.items out.new.items }
 {
-    if text.len() > MOST_APART {
+    if text.len() < SHORT {
+        return put_short(text.as_bytes(), out);
+    }
+    if text.len() > MOST_APART || out.len() <= MOST_APART {
         return put_long(alloc, text, out);
     }
     let string = string_in(mem::replace(room, Vec::new(alloc)), text)?;
@@ -102,7 +196,7 @@ pub(crate) fn put_bytes(
     ensures behind { IsBehind out.old.items out.new.items }
 {
     let text = STANDARD.encode(alloc, bytes)?;
-    if is_plain(text.as_bytes()) {
+    if text.len() <= MOST_APART && is_plain(text.as_bytes()) {
         return put_plain(text.as_bytes(), out);
     }
     put_string(alloc, text.as_str(), room, out)

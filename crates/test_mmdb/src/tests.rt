@@ -3,6 +3,7 @@ mod changes;
 mod diffs;
 mod exports;
 mod failures;
+mod faults;
 mod helps;
 mod kept_rows;
 mod lists;

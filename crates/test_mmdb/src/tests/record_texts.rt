@@ -209,11 +209,12 @@ const STRINGS: &[(u8, &[u8])] = &[
     (0x9E, b"x"),
 ];
 
-/// Lengths of strings on both sides of those by which they are laid out otherwise: 64 bytes are laid out at once, and 64 or
-/// more are tested for UTF-8 together; 2,048 are kept.
+/// Lengths of strings on both sides of those by which they are laid out otherwise: those of up to 63 bytes are escaped by runs
+/// of bytes that are not, 16 at a time, 64 bytes or more are tested for UTF-8 together, texts of 512 to 2,048 bytes are kept,
+/// up to 1,024 are written apart behind as many, and longer ones last.
 const LENGTHS: &[usize] = &[
-    1, 15, 16, 17, 31, 32, 33, 62, 63, 64, 65, 66, 127, 128, 129, 1000, 2044, 2045, 2046, 2047,
-    2048,
+    1, 15, 16, 17, 31, 32, 33, 62, 63, 64, 65, 66, 127, 128, 129, 509, 510, 511, 512, 513, 1000,
+    1020, 1021, 1022, 1023, 1024, 1025, 2044, 2045, 2046, 2047, 2048, 4097,
 ];
 
 // A text (2) or byte string (4) of about so many bytes, with its header.
@@ -273,9 +274,21 @@ fn strings_of_all_lengths(rt: HostRuntime) {
 }
 
 #[test]
+fn each_byte_of_ascii(rt: HostRuntime) {
+    let alloc = rt.alloc();
+    for byte in 0..128u8 {
+        // alone, and in a text that is escaped many bytes at a time
+        assert_put(&rt, alloc, &[0x41, byte], 0, true);
+        let long = string_of(alloc, 0x5E, &[b'a', byte, b'z'], 90);
+        assert_put(&rt, alloc, long.as_slice(), 0, true);
+    }
+}
+
+#[test]
 fn long_texts(rt: HostRuntime) {
     let alloc = rt.alloc();
-    for len in [4000, 32_766, 32_767, 32_768, 65_535] {
+    // 65,536 bytes are laid out at once
+    for len in [4000, 32_766, 32_767, 32_768, 65_535, 65_536, 65_537] {
         for (control, unit) in [(0x5Eu8, b"x"), (0x5E, b"\""), (0x9E, b"x")] {
             let value = bytes_of(alloc, control, unit, len);
             assert_put(&rt, alloc, value.as_slice(), 0, true);
@@ -352,21 +365,74 @@ fn records_of_many_parts(rt: HostRuntime) {
     }
 }
 
-#[test]
-fn unreadable_records_are_left_at_once(rt: HostRuntime) {
-    let alloc = rt.alloc();
-    // an array of 9,000 items in another one, which ends too early: to lay the zeros out each time would take minutes
-    let header = array_of(9000);
-    let section = section_of(alloc, &[(&header, 2), (b"\xA0", 9000)]);
-    let mut texts = RecordTexts::new(alloc, section.as_slice(), MOST_KEPT);
-    let mut out = Vec::new(alloc);
-    assert!(rt; !texts.put(0, &mut out), "the first time");
-    texts.note_unreadable(0);
-    for turn in 0..1_000_000u32 {
-        assert!(rt; !texts.put(0, &mut out), "turn {turn}");
+/// What is noted in turn: another record that can't be read (u), the last such once more (U), a record that can (r). Then how
+/// many records that come next are suspected.
+const NOTED: &[(&str, u8)] = &[
+    ("", 0),
+    ("r", 0),
+    ("u", 4),
+    ("ur", 3),
+    ("urrrr", 0),
+    ("urrrrr", 0),
+    ("uU", 4),
+    ("uUrU", 3),
+    ("uu", 12),
+    ("urru", 8),
+    ("uuu", 28),
+    ("uuuu", 60),
+    ("uuuuu", 64),
+    ("uuuuuuuuuu", 64),
+];
+
+// How many records that come next are suspected.
+fn suspected_of(alloc: Global, section: &[u8], noted: &str) -> u8 {
+    let mut texts = RecordTexts::new(alloc, section, MOST_KEPT);
+    let mut last = 0usize;
+    for letter in noted.bytes() {
+        match letter {
+            b'u' => {
+                last = last.saturating_add(1);
+                texts.note_unreadable(last);
+            }
+            b'U' => texts.note_unreadable(last),
+            _ => texts.note_readable(),
+        }
     }
-    assert!(rt; out.is_empty());
-    assert!(rt; texts.put(8, &mut out), "another record");
+    let mut count = 0u8;
+    for _ in 0..u8::MAX {
+        if !texts.is_suspected(section.len()) {
+            break;
+        }
+        texts.note_readable();
+        count = count.saturating_add(1);
+    }
+    count
+}
+
+#[test]
+fn records_are_suspected(rt: HostRuntime) {
+    let alloc = rt.alloc();
+    for (noted, wanted) in NOTED {
+        let count = suspected_of(alloc, b"\xA0", noted);
+        assert!(rt; count == *wanted, "{noted}: {count}");
+    }
+    // one that can't be read stays suspected; what can be read is laid out all the same
+    let mut texts = RecordTexts::new(alloc, b"\x41\xFF\x42ab", MOST_KEPT);
+    let mut out = Vec::new(alloc);
+    assert!(rt; !texts.put(0, &mut out), "what can't be read");
+    texts.note_unreadable(0);
+    assert!(rt; texts.is_suspected(2), "the next one");
+    assert!(rt; texts.put(2, &mut out), "the next one");
+    assert!(rt; out.as_slice() == "\"ab\"".as_bytes(), "its text");
+    for _ in 0..4 {
+        texts.note_readable();
+    }
+    assert!(rt;
+        texts.is_suspected(0) && !texts.is_suspected(2),
+        "the same one"
+    );
+    texts.clear();
+    assert!(rt; !texts.is_suspected(0), "once all is let go");
 }
 
 /// Arrays in one another, so many, around a number.

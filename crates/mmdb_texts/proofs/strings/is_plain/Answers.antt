@@ -16,5 +16,8 @@ loop-byte-preserved c = λ e.
     let (before, here) = parts c.loop-byte.is_plain c.is_plain_byte-is_plain.result e in
     All-more IsPlain c.args.text.now c.loop-byte.byte-index 0 (omega arith) (c.loop-byte.invariant before) (c.is_plain_byte-is_plain.ensures here)
 
-pub returns : goal.returns
-returns c = λ e. escape_plain c.args.text.now (subst (All IsPlain) (take_all c.loop-byte.byte-index c.args.text.now (omega arith)) (c.loop-byte.invariant e))
+pub returns-clause-escape : goal.returns-clause-escape
+returns-clause-escape c = λ e. escape_plain c.args.text.now (subst (All IsPlain) (take_all c.loop-byte.byte-index c.args.text.now (omega arith)) (c.loop-byte.invariant e))
+
+pub returns-clause-plain : goal.returns-clause-plain
+returns-clause-plain c = λ e. subst (All IsPlain) (take_all c.loop-byte.byte-index c.args.text.now (omega arith)) (c.loop-byte.invariant e)

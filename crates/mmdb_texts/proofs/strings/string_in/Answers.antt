@@ -1,5 +1,5 @@
 use Rattle.std.proofs.Common.{rules, ◌≡◌, ◌++◌, ◌∷◌, [], ap, ◌∙◌}
-use Rattle.json.specs.Token.{Token, string}
+use Rattle.json.specs.Token.{string}
 use Rattle.json.specs.Print.{print}
 use Rattle.mmdb_texts.proofs.Printing.{string_text}
 use Rattle.mmdb_texts.proofs.strings.string_in.Goals as goal
