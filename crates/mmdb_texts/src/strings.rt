@@ -16,9 +16,6 @@ use std::mem;
 /// A string of a longer text is not written apart, nor one behind less than this.
 pub(crate) const MOST_APART: usize = 1024;
 
-/// So many bytes are looked at together.
-const LANES: usize = 16;
-
 /// A shorter text is escaped by runs of bytes that are not, a longer one by the kit's writer, many bytes at a time.
 const SHORT: usize = 64;
 
@@ -30,17 +27,44 @@ fn is_plain_byte(byte: u8) -> bool
     (byte >= b' ') & (byte != b'"') & (byte != b'\\')
 }
 
-/// Whether no byte of a text is escaped in a string. All bytes are looked at, which goes by vectors.
+// Whether none of some bytes is escaped in a string. All are looked at, which goes by vectors where it is known how many
+// there are.
+#[inline(always)]
+fn are_plain(text: &[u8]) -> bool
+    ensures { result ≡ true → All IsPlain text.now }
+{
+    let mut are_plain = true;
+    for byte in text {
+        are_plain &= is_plain_byte(*byte);
+    }
+    are_plain
+}
+
+// How many bytes at the beginning of a text are not escaped in a string.
+#[inline(always)]
+fn plain_len(text: &[u8]) -> usize
+    ensures bound { result ≤ length text.now }
+    ensures plain { All IsPlain (take result text.now) }
+{
+    let mut at = 0;
+    while text.len() - at >= 16 && are_plain(&text[at..at + 16]) {
+        at += 16;
+    }
+    while text.len() - at >= 4 && are_plain(&text[at..at + 4]) {
+        at += 4;
+    }
+    while at < text.len() && is_plain_byte(text[at]) {
+        at += 1;
+    }
+    at
+}
+
+/// Whether no byte of a text is escaped in a string.
 #[inline(always)]
 pub(crate) fn is_plain(text: &[u8]) -> bool
-    ensures escape { result ≡ true → escape text.now ≡ text.now }
-    ensures plain { result ≡ true → All IsPlain text.now }
+    ensures { result ≡ true → escape text.now ≡ text.now }
 {
-    let mut is_plain = true;
-    for byte in text {
-        is_plain &= is_plain_byte(*byte);
-    }
-    is_plain
+    plain_len(text) == text.len()
 }
 
 /// Appends the string of a text in which no byte is escaped.
@@ -53,22 +77,6 @@ pub(crate) fn put_plain(text: &[u8], out: &mut Vec<u8>) -> Result<(), AllocError
     out.push(b'"')?;
     out.extend_from_slice(text)?;
     Ok(out.push(b'"')?)
-}
-
-// How many bytes at the beginning of a text are not escaped in a string.
-#[inline(always)]
-fn plain_len(text: &[u8]) -> usize
-    ensures bound { result ≤ length text.now }
-    ensures plain { All IsPlain (take result text.now) }
-{
-    let mut at = 0;
-    while text.len() - at >= LANES && is_plain(&text[at..at + LANES]) {
-        at += LANES;
-    }
-    while at < text.len() && is_plain_byte(text[at]) {
-        at += 1;
-    }
-    at
 }
 
 // The letter of a byte's short escape, or 0 where it has none.

@@ -1,23 +1,12 @@
-use Rattle.std.proofs.Common.{◌≡◌, Bool, true, false, ◌&&◌, subst, refl, arith}
+use Rattle.std.proofs.Common.{length, subst, arith}
 use Rattle.std.specs.List.{All}
 use Rattle.std.proofs.lemmas.List.{take_all}
-use Rattle.std.proofs.lemmas.List.Elements.{All-more}
+use Rattle.std.proofs.lemmas.Bool.{eqb-true}
 use Rattle.mmdb_texts.specs.Working.{IsPlain}
 use Rattle.mmdb_texts.proofs.ScalarTexts.{escape_plain}
 use Rattle.mmdb_texts.proofs.strings.is_plain.Goals as goal
 
-parts : (b c : Bool) → (b && c) ≡ true → (b ≡ true) × (c ≡ true)
-parts true true e = (refl, refl)
-parts true false e = absurd (cc)
-parts false c e = absurd (cc)
-
-pub loop-byte-preserved : goal.loop-byte-preserved
-loop-byte-preserved c = λ e.
-    let (before, here) = parts c.loop-byte.is_plain c.is_plain_byte-is_plain.result e in
-    All-more IsPlain c.args.text.now c.loop-byte.byte-index 0 (omega arith) (c.loop-byte.invariant before) (c.is_plain_byte-is_plain.ensures here)
-
-pub returns-clause-escape : goal.returns-clause-escape
-returns-clause-escape c = λ e. escape_plain c.args.text.now (subst (All IsPlain) (take_all c.loop-byte.byte-index c.args.text.now (omega arith)) (c.loop-byte.invariant e))
-
-pub returns-clause-plain : goal.returns-clause-plain
-returns-clause-plain c = λ e. subst (All IsPlain) (take_all c.loop-byte.byte-index c.args.text.now (omega arith)) (c.loop-byte.invariant e)
+pub returns : goal.returns
+returns c = λ e.
+    let all = eqb-true c.plain_len.result (length c.args.text.now) e in
+    escape_plain c.args.text.now (subst (All IsPlain) (take_all c.plain_len.result c.args.text.now (omega (arith, all))) c.plain_len.ensures.plain)

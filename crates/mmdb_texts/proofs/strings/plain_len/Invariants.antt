@@ -14,3 +14,9 @@ invariant-loop-at-2 l = (l.at ≤ length l.text) × All IsPlain (take l.at l.tex
 
 abbrev pub decreases-loop-at-2 : goal.decreases-loop-at-2
 decreases-loop-at-2 l = length l.text - l.at
+
+abbrev pub invariant-loop-at-3 : goal.invariant-loop-at-3
+invariant-loop-at-3 l = (l.at ≤ length l.text) × All IsPlain (take l.at l.text)
+
+abbrev pub decreases-loop-at-3 : goal.decreases-loop-at-3
+decreases-loop-at-3 l = length l.text - l.at
