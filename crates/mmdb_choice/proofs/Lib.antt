@@ -1,2 +1,3 @@
 pub mod TextLaws
 pub mod ConditionLaws
+pub mod SignLaws

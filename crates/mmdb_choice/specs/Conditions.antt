@@ -1,5 +1,6 @@
 -- Which records meet conditions on the values at paths in them.
-use Rattle.std.specs.Prelude.{◌≡◌, ◌⊎◌, ℕ, List, [], ◌∷◌, map, Option, Some, None, Bool, true, false, not}
+use Rattle.std.specs.Prelude.{◌≡◌, ◌⊎◌, ℕ, ◌+◌, ◌%◌, ◌<◌, nat_eq, if◌then◌else◌, List, [], ◌∷◌, ◌++◌, length, slice_index, take, codes, map, Option, Some, None, Bool, true, false, not}
+use Rattle.std.specs.Borrow.{Bor}
 use Rattle.std.specs.List.{Contains}
 use Rattle.std.specs.declared.convert.AsSlice.{Ghosts}
 use Rattle.mmdb_format.specs.Contents.{text}
@@ -49,6 +50,24 @@ SaysFoundAt path texts s (Some offset) b = (value : Option Tree) × (read_at pat
 abbrev pub IsUnreadAt : List PathElement → List ℕ → Option ℕ → Type 0
 IsUnreadAt path s None = ⊥
 IsUnreadAt path s (Some offset) = read_at path s offset ≡ None
+
+-- how many quotes there are
+abbrev pub quotes : List ℕ → ℕ
+quotes [] = 0
+quotes (byte ∷ bytes) = (if nat_eq byte 34 then 1 else 0) + quotes bytes
+
+-- an equals sign stands at a place outside quotes, which is behind an even number of them
+pub record IsSign (bytes : List ℕ) (place : ℕ) : Type 0 where
+  pub within : place < length bytes
+  pub sign : slice_index bytes place ≡ 61
+  pub outside : quotes (take place bytes) % 2 ≡ 0
+
+-- what stands before and behind the first such sign; none where there is none
+abbrev pub SplitsAtSign : List ℕ → Option (Bor (List ℕ) × Bor (List ℕ)) → Type 0
+SplitsAtSign bytes None = (place : ℕ) → ¬ IsSign bytes place
+SplitsAtSign bytes (Some parts) =
+    (bytes ≡ parts.0.now ++ codes "=" ++ parts.1.now) × IsSign bytes (length parts.0.now)
+    × ((place : ℕ) → place < length parts.0.now → ¬ IsSign bytes place)
 
 -- what a condition says where the value is one of its texts or not
 abbrev pub wants : Wanted → Bool → Bool

@@ -1,8 +1,8 @@
 //! Conditions on the value at a path of a record.
-ghost use Rattle.std.specs.Prelude.{◌≡◌, IfOk, IfErr, map, option_map};
+ghost use Rattle.std.specs.Prelude.{◌≡◌, ◌<◌, ℕ, IfOk, IfErr, MatchOption, map, option_map};
 ghost use Rattle.mmdb_format.specs.Error.{MemoryApart};
 ghost use Rattle.mmdb_value.specs.Values.{value_tree};
-ghost use Rattle.mmdb_choice.specs.Conditions.{SaysOneOf, SaysAmong, wants as spec_wants, SaysMet, IsUnread};
+ghost use Rattle.mmdb_choice.specs.Conditions.{SaysOneOf, SaysAmong, wants as spec_wants, SaysMet, IsUnread, IsSign, SplitsAtSign};
 ghost use Rattle.mmdb_choice.specs.Working.{text_of as spec_text_of, is_container as spec_is_container, SaysFound};
 
 use mmdb_json::compact;
@@ -120,23 +120,28 @@ impl Condition<'_> {
 }
 
 // Where the first equals sign stands that is not in quotes.
-fn place_of_equals(text: &str) -> Option<usize> {
+fn place_of_equals(text: &[u8]) -> Option<usize>
+    ensures { MatchOption result ((place : ℕ) → ¬ IsSign text.now place)
+        (λ place. IsSign text.now place × ((i : ℕ) → i < place → ¬ IsSign text.now i)) }
+{
     let mut is_quoted = false;
-    for (place, byte) in text.as_bytes().iter().enumerate() {
-        match byte {
-            b'"' => is_quoted = !is_quoted,
-            b'=' if !is_quoted => return Some(place),
-            _ => {}
+    for place in 0..text.len() {
+        let byte = text[place];
+        if byte == b'=' && !is_quoted {
+            return Some(place);
         }
+        is_quoted = is_quoted != (byte == b'"');
     }
     None
 }
 
 /// The path and the value of a text `PATH=VALUE`: what stands before and behind its first equals sign that is not in
 /// quotes. None where there is no such sign.
-pub fn split_condition(text: &str) -> Option<(&str, &str)> {
-    let place = place_of_equals(text)?;
+pub fn split_condition(text: &str) -> Option<(&str, &str)>
+    ensures { SplitsAtSign text.now result }
+{
+    let place = place_of_equals(text.as_bytes())?;
     let path = text.get(..place)?;
-    let value = text.get(place.saturating_add(1)..)?;
+    let value = text.get(place + 1..)?;
     Some((path, value))
 }

@@ -33,10 +33,7 @@ const ENDS: &[(&[u8], &str)] = &[
     (b"\xC2\xFB\xF0\xC0", "3"),
     (b"\xE1\x41k\xA1\x07\xC0", "5"),
     (b"\x20\x02", "2"),
-    (
-        b"\x42k",
-        "invalid database at offset 0: string of size 2",
-    ),
+    (b"\x42k", "invalid database at offset 0: string of size 2"),
 ];
 
 #[test]
