@@ -1,7 +1,7 @@
 //! The program `mmdb_tool`: its arguments are handed on, with standard output and standard error.
 #![tactic(auto)]
 
-use mmdb_tool::{Out, run};
+use mmdb_tool::{Out, USAGE, run};
 use std::env;
 use std::io::{self, BufWriter, ErrorKind, Write};
 use std::process::ExitCode;
@@ -11,10 +11,6 @@ const REJECTED: u8 = 1;
 
 // The status of arguments that are no command.
 const BAD_WORDS: u8 = 2;
-
-// Arguments come as text alone, and a file is opened by text.
-const NOT_UTF8: &str =
-    "a word is not UTF-8; reach the file by a link, or as /dev/fd/3 with 3< FILE";
 
 // The arguments after the program's name.
 fn words(rt: &HostRuntime) -> io::Result<Vec<String>> {
@@ -49,8 +45,9 @@ fn program(rt: &HostRuntime) -> io::Result<u8> {
 fn main(rt: HostRuntime) -> ExitCode {
     match program(&rt) {
         Ok(status) => ExitCode::from(status),
+        // arguments come as text alone, so one that is not UTF-8 is no command's
         Err(error) if error.kind() == ErrorKind::InvalidData => {
-            let _ = eprintln!(rt; "{NOT_UTF8}");
+            let _ = rt.stderr().write_all(USAGE.as_bytes());
             ExitCode::from(BAD_WORDS)
         }
         Err(error) => {

@@ -2,8 +2,8 @@
 use mmdb_reader::{IpNetwork, WithinOptions};
 use std::net::IpAddr;
 
-/// The usage line.
-pub(crate) const USAGE: &str =
+/// The usage line, with its line feed.
+pub const USAGE: &str =
     "usage: mmdb_tool lookup FILE ADDR | list FILE RANGE [--aliases] [--empty] [--skip-empty] | verify FILE | report FILE RANGE [--aliases] [--empty] [--skip-empty]\n";
 
 const ALIASES: &str = "--aliases";

@@ -9,6 +9,7 @@ mod program;
 mod report_text;
 mod sink;
 
+pub use command::USAGE;
 pub use line::lookup_line;
 pub use list::{ListError, list_to};
 pub use program::{run, run_bytes};

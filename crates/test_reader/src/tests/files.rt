@@ -11,6 +11,8 @@ use std::rt::Files;
 
 const FOUND: &str = "128.0.0.0/1 true Some(0)";
 
+const ABSENT: &str = "0.0.0.0/1 false None";
+
 const UNREAD: &str = "i/o error";
 
 const NO_MARKER: &str = "invalid database: could not find MaxMind DB metadata in file";
@@ -29,16 +31,22 @@ fn unread<T: Drop>(alloc: Global, _opened: T) -> Result<String, AllocError> {
 fn text_of(
     alloc: Global,
     opened: Result<Reader<Vec<u8>>, MaxMindDbError>,
+    address: &str,
 ) -> Result<String, AllocError> {
     match is_unread(&opened) {
         true => unread(alloc, opened),
-        false => answer_by(alloc, opened, "200.0.0.1"),
+        false => answer_by(alloc, opened, address),
     }
 }
 
-// What a file at a path answers.
-fn answer_at<R: Files>(rt: &R, alloc: Global, path: &str) -> Result<String, AllocError> {
-    text_of(alloc, Reader::open_readfile(rt, alloc, path))
+// What a file at a path answers for an address.
+fn answer_at<R: Files>(
+    rt: &R,
+    alloc: Global,
+    path: &str,
+    address: &str,
+) -> Result<String, AllocError> {
+    text_of(alloc, Reader::open_readfile(rt, alloc, path), address)
 }
 
 /// A name, a path, the bytes of `here.mmdb`, its read that fails, and what the file answers. Of the base file there
@@ -66,18 +74,19 @@ fn reads_that_fail(rt: HostRuntime) -> Result<(), Failures> {
             fails_at: *fails_at,
             interrupts: 0,
         };
-        failures.expect_text(case, answer_at(&files, alloc, path), wanted);
+        failures.expect_text(case, answer_at(&files, alloc, path, "200.0.0.1"), wanted);
     }
     failures.verdict()
 }
 
-/// Paths, and what their files answer.
+/// Paths, addresses, and what the files answer.
 #[rattlefmt::skip]
-const ON_DISK: &[(&str, &str)] = &[
-    ("written.mmdb", FOUND),
-    ("empty.mmdb", NO_MARKER),
-    (".", UNREAD),
-    ("gone.mmdb", UNREAD),
+const ON_DISK: &[(&str, &str, &str)] = &[
+    ("written.mmdb", "200.0.0.1", FOUND),
+    ("written.mmdb", "1.1.1.1", ABSENT),
+    ("empty.mmdb", "1.1.1.1", NO_MARKER),
+    (".", "1.1.1.1", UNREAD),
+    ("gone.mmdb", "1.1.1.1", UNREAD),
 ];
 
 /// Files, and what they are written with.
@@ -88,8 +97,8 @@ fn expect_on_disk<R: Files>(failures: &mut Failures, rt: &R, alloc: Global) {
     for (path, bytes) in WRITTEN {
         failures.expect(path, is_ok(fs::write(rt, path, *bytes)));
     }
-    for (path, text) in ON_DISK {
-        failures.expect_text(path, answer_at(rt, alloc, path), text);
+    for (path, address, text) in ON_DISK {
+        failures.expect_text(&(path, address), answer_at(rt, alloc, path, address), text);
     }
 }
 

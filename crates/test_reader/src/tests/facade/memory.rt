@@ -4,7 +4,9 @@ ghost use Rattle.std.specs.Prelude.{◌<◌};
 use super::answers::{assert_row, assert_text, opened, reported, to_error};
 use maxminddb::{IpNetwork, LookupResult, MaxMindDbError, Metadata, Reader, fuzzing};
 use mmdb_vectors::base::BASE_FILE;
-use mmdb_vectors::builder::{BASE_DATA, BASE_NODE, Field, base_file, changed_file};
+use mmdb_vectors::builder::{
+    BASE_DATA, BASE_NODE, Field, base_file, changed_file, file_with_alias, file_without_subtree,
+};
 use mmdb_vectors::hoard::Hoard;
 use std::alloc::{AllocError, Global};
 use std::net::IpAddr;
@@ -310,6 +312,54 @@ fn table_fails(rt: HostRuntime) {
     assert_verdict(&rt, alloc, b"\xA1\x10", NO_TABLE, wrong_size);
     for page in 0..16usize {
         assert_verdict(&rt, alloc, b"\xA1\x18", page * 4_096, "out of memory");
+    }
+}
+
+/// Where budgets of a reader begin, by how many bytes they differ, and how many there are.
+const FIRST: usize = 65_536;
+
+const PIECE: usize = 131_072;
+
+const PIECES: usize = 24;
+
+// Of so many budgets, how often a file runs out of memory, and how often it is accepted.
+fn budgets_of(alloc: Global, file: &[u8]) -> (u32, u32) {
+    let (mut rejected, mut accepted) = (0u32, 0u32);
+    for piece in 0..PIECES {
+        let hoard = Hoard::around(alloc, FIRST + piece * PIECE);
+        let opened = Reader::from_source(alloc, file);
+        drop(hoard);
+        match opened {
+            Ok(_) => accepted = accepted.saturating_add(1),
+            Err(error) => match error_met(error, Outcome::Wrong) {
+                Outcome::Error => rejected = rejected.saturating_add(1),
+                _ => return (0, 0),
+            },
+        }
+    }
+    (rejected, accepted)
+}
+
+// The base file; one of IPv6, which has a table for each kind of addresses; or one of IPv6 without IPv4.
+fn file_with_tables(alloc: Global, tables: &str) -> Result<Vec<u8>, AllocError> {
+    match tables {
+        "both" => file_with_alias(alloc),
+        "IPv6" => file_without_subtree(alloc),
+        _ => base_file(alloc),
+    }
+}
+
+/// Which tables a file has, and how many budgets are smaller than these: a table takes 320 KiB.
+const TABLES: &[(&str, u32)] = &[("IPv4", 2), ("both", 5), ("IPv6", 2)];
+
+#[test]
+fn tables_fail_in_turn(rt: HostRuntime) {
+    let alloc = rt.alloc();
+    for (tables, least) in TABLES {
+        let file = file_with_tables(alloc, tables).expect(&rt, "a file");
+        let (rejected, accepted) = budgets_of(alloc, file.as_slice());
+        let is_right = rejected >= *least && accepted > 0;
+        assert_row(&rt, is_right, &(tables, rejected, accepted));
     }
 }
 
