@@ -47,8 +47,11 @@ pub struct Section {
     bytes: Vec<u8>,
     /// Where the values begin, ascending.
     starts: Vec<u32>,
-    /// From a hash of a value's bytes to the index of where it begins: a hint, since values may share a hash.
-    indexes: HashMap<u64, usize>,
+    /// From a hash to the index of the last value whose bytes have it.
+    last: HashMap<u64, usize>,
+    /// For each value the index of the one before it whose bytes have the same hash. After memory ran out some may not be
+    /// found: a value like them is written again.
+    earlier: Vec<Option<usize>>,
 }
 
 impl Model for Section {
@@ -75,15 +78,29 @@ impl Section {
         Section {
             bytes: Vec::new(alloc),
             starts: Vec::new(alloc),
-            indexes: HashMap::new(alloc),
+            last: HashMap::new(alloc),
+            earlier: Vec::new(alloc),
         }
     }
 
-    // Where a value with these bytes begins, if the hint of their hash leads to one.
+    // Where a value with these bytes begins, among those whose bytes have the same hash.
     fn find(&self, hash: u64, bytes: &[u8]) -> Option<u32>
         ensures { IfSome result (λ start. StandAt self.now start bytes.now) }
     {
-        let index = *self.indexes.get(&hash)?;
+        let mut index = *self.last.get(&hash)?;
+        for _ in 0..self.starts.len() {
+            if let Some(start) = self.start_of(index, bytes) {
+                return Some(start);
+            }
+            index = (*self.earlier.get(index)?)?;
+        }
+        None
+    }
+
+    // Where the value of an index begins, if these bytes stand there.
+    fn start_of(&self, index: usize, bytes: &[u8]) -> Option<u32>
+        ensures { IfSome result (λ start. StandAt self.now start bytes.now) }
+    {
         let start = *self.starts.get(index)?;
         let (_, there) = self.bytes.split_at_checked(start as usize)?;
         if there.starts_with(bytes) {
@@ -128,7 +145,10 @@ impl Section {
         if let Some(earlier) = self.find(hash, &added) {
             return Ok(Part::At(earlier));
         }
-        self.indexes.insert(hash, self.starts.len())?;
+        let index = self.starts.len();
+        let earlier = self.last.insert(hash, index)?;
+        self.earlier.truncate(index);
+        self.earlier.push(earlier)?;
         self.put(start, &added)?;
         Ok(Part::At(start))
     }
