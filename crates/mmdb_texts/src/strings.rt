@@ -115,7 +115,8 @@ fn put_byte(byte: u8, out: &mut Vec<u8>) -> Result<(), AllocError>
 {
     let letter = letter_of(byte);
     if letter > 0 {
-        return out.extend_from_slice(&[b'\\', letter]);
+        out.push(b'\\')?;
+        return Ok(out.push(letter)?);
     }
     if byte < b' ' {
         let digits = [hex_of(byte / 16), hex_of(byte % 16)];
