@@ -123,9 +123,12 @@ fn plant_tree(
 
 /// The search tree of entries in order, before a data section of `data_len` bytes, with records of the size that is asked
 /// for, or else of the least that serves. The bits of each address lead to the offset of the longest prefix that has it, of
-/// equal ones to that of the last entry; where none has it, to no data.
+/// equal ones to that of the last entry; where none has it, to no data. There is a node for each block whose addresses have
+/// not all the same offset, and one where there is no such block. So no node leads both bits to the same leaf, unless it is the
+/// only one, and a verification stops at most three times for each node.
 ///
-/// `are_ordered` and `all_fit` say whether entries are as they have to be.
+/// `are_ordered` and `all_fit` say whether entries are as they have to be. Unless out of memory it fails exactly where records
+/// of the size have not enough numbers for nodes, separator and offsets: `TooLarge`.
 pub fn search_tree(
     alloc: Global,
     version: IpVersion,
