@@ -14,6 +14,7 @@ use Rattle.mmdb_tree.proofs.LeadLemmas.{record-node, record-empty, record-data, 
 use Rattle.mmdb_format.specs.Header.{◌>>=◌}
 use Rattle.mmdb_decode.specs.Peeking.{is_empty_container, empty_at}
 use Rattle.mmdb_reader.specs.Empty.{IsUnreadable, IsEmptyContainer}
+use Rattle.mmdb_reader.proofs.EmptyLemmas.{direct_leads, leads_direct}
 use Rattle.mmdb_reader.specs.Options.{includes_without_data, skips_empty}
 use Rattle.mmdb_reader.specs.ListingLaws.{ListedAgrees}
 use Rattle.mmdb_reader.specs.Listing.{HasValueAt, LeadsNowhere, IsFaulty, IsListedWith, finding_at, finding_of, finding_unless_empty}
@@ -79,19 +80,26 @@ pub unreadable-none : (section : List ℕ) (place : ℕ) → empty_at section pl
 unreadable-none section place e = let w = header_of section place in go w.0 w.1 e
   where
     go : (found : Option Direct) → IsHeaderOf section place found → empty_at section place ≡ None → IsUnreadable section place
-    go None h e = sym h.0
+    go None h e = λ header leads.
+        let at = leads_direct section place header leads in
+        let wrong : None ≡ Some at.0 = h.0 ∙ at.1 in cc
     go (Some direct) h e = let wrong : Some (is_empty_container direct.header) ≡ None = sym h.1 ∙ e in cc
 
 pub none-unreadable : (section : List ℕ) (place : ℕ) → IsUnreadable section place → empty_at section place ≡ None
-none-unreadable section place u = let w = header_of section place in w.1.1 ∙ ap (option_map (λ direct. is_empty_container direct.header)) (w.1.0 ∙ u)
+none-unreadable section place u = let w = header_of section place in go w.0 w.1
+  where
+    go : (found : Option Direct) → IsHeaderOf section place found → empty_at section place ≡ None
+    go None h = h.1
+    go (Some direct) h = absurd (u direct.header (direct_leads section place direct (sym h.0)))
 
 pub full-value : (section : List ℕ) (place : ℕ) → empty_at section place ≡ Some false → (¬ IsUnreadable section place) × (¬ IsEmptyContainer section place)
 full-value section place e = (
   (λ u. let wrong : None ≡ Some false = sym (none-unreadable section place u) ∙ e in cc),
   λ c.
       let w = header_of section place in
-      let is : empty_at section place ≡ Some (is_empty_container c.direct.header) = w.1.1 ∙ ap (option_map (λ direct. is_empty_container direct.header)) (w.1.0 ∙ c.stands) in
-      let wrong : Some true ≡ Some false = sym (is ∙ ap Some (holds c.direct.header c.container c.empty)) ∙ e in
+      let (at, read, same) = leads_direct section place c.header c.leads in
+      let is : empty_at section place ≡ Some (is_empty_container at.header) = w.1.1 ∙ ap (option_map (λ direct. is_empty_container direct.header)) (w.1.0 ∙ read) in
+      let wrong : Some true ≡ Some false = sym (is ∙ ap (λ h. Some (is_empty_container h)) same ∙ ap Some (holds c.header c.container c.empty)) ∙ e in
       cc,
 )
   where
@@ -105,14 +113,14 @@ value-full section place readable kept = let w = header_of section place in go w
     container direct stands h =
         let parts = and_parts (direct.header.kind == 7 || direct.header.kind == 11) _ h in
         record {
-          direct = direct;
-          stands = stands;
+          header = direct.header;
+          leads = direct_leads section place direct stands;
           container = elim (either (direct.header.kind == 7) _ parts.0) [ inl map ↦ inl (eqb-true _ _ map) | inr array ↦ inr (eqb-true _ _ array) ];
           empty = eqb-true _ _ parts.1;
         }
 
     go : (found : Option Direct) → IsHeaderOf section place found → empty_at section place ≡ Some false
-    go None h = absurd (readable (sym h.0))
+    go None h = absurd (readable (λ header leads. let at = leads_direct section place header leads in let wrong : None ≡ Some at.0 = h.0 ∙ at.1 in cc))
     go (Some direct) h = elim (cases_Bool (is_empty_container direct.header)) [
       | inl empty ↦ absurd (kept (container direct (sym h.0) empty))
       | inr full ↦ h.1 ∙ ap Some full

@@ -14,6 +14,7 @@ pub mod ListingSteps
 pub mod StackLemmas
 pub mod RangeLemmas
 pub mod ItemLemmas
+pub mod EmptyLemmas
 pub mod FindingLemmas
 pub mod AliasLemmas
 pub mod ListingLemmas
