@@ -151,7 +151,7 @@ const COMMANDS: &[Usage] = &[
             Argument::Values(
                 "field",
                 "PATH",
-                "A field to add, as country.iso_code; may be repeated",
+                "A field to add, as country.iso_code; may be repeated; needed unless with --json",
             ),
             Argument::Flag(
                 "header",

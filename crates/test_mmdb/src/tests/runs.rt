@@ -86,7 +86,7 @@ const EMPTY_RUNS: &[Row<'static>] = &[
     (&["info", "here.mmdb"], 1, "", "here.mmdb: invalid database"),
     (&["show", "here.mmdb", "1.1.1.1"], 1, "", "here.mmdb: invalid database"),
     (&["export", "here.mmdb", "--field", "a", "--format", "csv"], 1, "", "here.mmdb: invalid database"),
-    (&["enrich", "here.mmdb"], 1, "", "here.mmdb: invalid database"),
+    (&["enrich", "here.mmdb", "--field", "a"], 1, "", "here.mmdb: invalid database"),
 ];
 
 #[rattlefmt::skip]
@@ -128,13 +128,62 @@ const NO_LINES: &[Row<'static>] = &[
         "",
         "ip: not the number of a column",
     ),
-    (&["enrich", "gone.mmdb"], 1, "", "gone.mmdb: i/o error: "),
     (
-        &["enrich", "here.mmdb", "--header", "--column", "ip"],
+        &["enrich", "gone.mmdb", "--field", "a"],
+        1,
+        "",
+        "gone.mmdb: i/o error: ",
+    ),
+    (
+        &["enrich", "gone.mmdb", "--json", "a"],
+        1,
+        "",
+        "gone.mmdb: i/o error: ",
+    ),
+    // nothing to add
+    (
+        &["enrich", "gone.mmdb"],
         2,
         "",
-        "the first line has no column ip",
+        "mmdb: enrich: needs a --field\n",
     ),
+    (
+        &[
+            "enrich",
+            "gone.mmdb",
+            "--header",
+            "--delimiter",
+            ",",
+            "--column",
+            "ip",
+        ],
+        2,
+        "",
+        "mmdb: enrich: needs a --field\n",
+    ),
+];
+
+/// Words that name a column, the first line, and what standard error has to hold where it has no such column.
+#[rattlefmt::skip]
+const NO_COLUMNS: &[(&[&str], &str, &str)] = &[
+    (&[], "", "mmdb: standard input: the first line has no column ip\n"),
+    (&[], "address\n", "mmdb: standard input: the first line has no column ip, only: address\n"),
+    (&[], "IP\t\"ip\"\tnäme\r\n1\tip\t3\n", "mmdb: standard input: the first line has no column ip, only: IP, \"ip\", näme\n"),
+    (&[], "ip,a", "mmdb: standard input: the first line has no column ip, only: ip,a\n"),
+    (&["--delimiter", ","], "", "mmdb: standard input: the first line has no column ip\n"),
+    (&["--delimiter", ","], "\"an \"\"ip\"\"\",b c,\n", "mmdb: standard input: the first line has no column ip, only: an \"ip\", b c, \n"),
+    (&["--delimiter", ","], "ip\ta\u{1b}[2J,b", "mmdb: standard input: the first line has no column ip, only: ip\\ta\\u001b[2J, b\n"),
+];
+
+/// The words before those.
+const BY_NAME: &[&str] = &[
+    "enrich",
+    "here.mmdb",
+    "--field",
+    "",
+    "--header",
+    "--column",
+    "ip",
 ];
 
 /// Runs over a file in which one network's record lies past the data.
@@ -280,6 +329,18 @@ fn assert_lines(rt: &impl Abort, alloc: Global, bytes: &[u8], rows: &[Lines<'_>]
 fn lines_with_fields(rt: HostRuntime) {
     assert_lines(&rt, rt.alloc(), BASE_FILE, LINES);
     assert_runs(&rt, rt.alloc(), BASE_FILE, NO_LINES);
+}
+
+#[test]
+fn columns_that_are_missing(rt: HostRuntime) {
+    for (words, lines, wanted) in NO_COLUMNS {
+        let mut all = Vec::new(rt.alloc());
+        all.extend_from_slice(BY_NAME).expect(&rt, "words");
+        all.extend_from_slice(words).expect(&rt, "words");
+        let run = run_of(rt.alloc(), BASE_FILE, all.as_slice(), lines);
+        let holds = run.status == 2 && run.out().is_empty() && run.err() == *wanted;
+        assert_of(&rt, all.as_slice(), &run, holds);
+    }
 }
 
 #[test]
