@@ -526,3 +526,55 @@ fn runs_over_small_files(rt: HostRuntime) {
         assert_runs(&rt, rt.alloc(), bytes.as_slice(), rows);
     }
 }
+
+/// The data of a record that is whole and can't be shown: bytes, others so often, more bytes and so many letters; and why not.
+type Unshown = (
+    &'static [u8],
+    (&'static [u8], usize),
+    &'static [u8],
+    usize,
+    &'static str,
+);
+
+#[rattlefmt::skip]
+const UNSHOWN: &[Unshown] = &[
+    // a key that is a number, and one that a pointer to a pointer leads to
+    (b"\xE1\xA1\x07\x01\x07", (b"", 0), b"", 0, "expected string, got type 5"),
+    (b"\x01\x00\x20\x06\x41y\x20\x08\x41k", (b"", 0), b"", 0, "pointer points to another pointer"),
+    // an array of 65,536 falses, and one of 33 pointers to a text of 65,536 letters
+    (b"\x1E\x04\xFE\xE3", (b"\x00\x07", 65_536), b"", 0, "exceeded maximum number of data structure values"),
+    (b"\x1D\x04\x04", (b"\x20\x45", 33), b"\x5E\xFE\xE3", 65_536, "exceeded maximum size of data structure string"),
+];
+
+// The base file with such data.
+fn unshown_file(alloc: Global, row: &Unshown) -> Result<Vec<u8>, AllocError> {
+    let (front, (part, times), back, letters, _) = row;
+    let mut data = Vec::new(alloc);
+    data.extend_from_slice(front)?;
+    for _ in 0..*times {
+        data.extend_from_slice(part)?;
+    }
+    data.extend_from_slice(back)?;
+    for _ in 0..*letters {
+        data.push(b'a')?;
+    }
+    changed_file(alloc, BASE_NODE, data.as_slice(), &[])
+}
+
+#[test]
+fn whole_files_of_records_that_are_not_shown(rt: HostRuntime) {
+    for row in UNSHOWN {
+        let file = unshown_file(rt.alloc(), row).expect(&rt, "a file");
+        let bytes = file.as_slice();
+        let shown: &[&str] = &["show", "here.mmdb", "200.0.0.1"];
+        assert_runs(
+            &rt,
+            rt.alloc(),
+            bytes,
+            &[
+                (&["verify", "here.mmdb"], 0, "here.mmdb: ok\n", ""),
+                (shown, 1, "", row.4),
+            ],
+        );
+    }
+}
