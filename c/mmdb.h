@@ -20,7 +20,9 @@ extern "C" {
 
 /* Whether a file is a whole database: its metadata are valid, no network's leaf leads outside the data section, the
  * separator is zero, and the values of all networks end and have valid texts. 0 (MMDB_SUCCESS) where it is; else a
- * status code of maxminddb.h says why not. So a damaged update can be rejected before it is opened. */
+ * status code of maxminddb.h says why not. So a damaged update can be rejected before it is opened. A whole file may still
+ * have records that can't be read: of a value with a pointer to a pointer, or of more than 65,536 parts, there is no list,
+ * and a path fails where it passes a key that is no text or that a pointer to a pointer leads to. */
 extern int mmdb_verify(const char *filename);
 
 /* Looks up many addresses at once. Each has in its place of `results` what MMDB_lookup_sockaddr returns for it, and in

@@ -25,7 +25,7 @@ fn finished<W: Write + Drop>(rt: &HostRuntime, mut writer: W, status: u8) -> u8 
     match writer.flush() {
         Err(error) if status == 0 => {
             if error.kind() != ErrorKind::BrokenPipe {
-                let _ = eprintln!(rt; "mmdb: write error: {error}");
+                let _ = eprintln!(rt; "mmdb: standard output: {error}");
             }
             FAILED
         }

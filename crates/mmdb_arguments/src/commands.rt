@@ -16,7 +16,10 @@ const INFO_EXAMPLE: &str = "Example:
 const VERIFY_EXAMPLE: &str = "Example:
   mmdb verify GeoLite2-City.mmdb GeoLite2-Country.mmdb
 
-The status is 0 where all files are whole, else 1.";
+The status is 0 where all files are whole, else 1. In a whole file every record
+is a finite tree of valid text, but it may be one that can't be shown: with a key
+that is no text, or that a pointer to a pointer leads to, or with more than
+65,536 values or 2 MiB of texts.";
 
 const ENRICH_EXAMPLE: &str = "Example:
   mmdb enrich GeoLite2-City.mmdb --field country.iso_code --field city.names.en < log > log.tsv
@@ -151,7 +154,7 @@ const COMMANDS: &[Usage] = &[
             Argument::Values(
                 "field",
                 "PATH",
-                "A field to add, as country.iso_code; may be repeated",
+                "A field to add, as country.iso_code; may be repeated; needed unless with --json",
             ),
             Argument::Flag(
                 "header",

@@ -10,10 +10,10 @@ pub enum ProgramError {
     Database(MaxMindDbError),
     /// Standard output can't be written.
     Write(io::Error),
-    /// Standard input can't be read, or standard output not written.
-    Lines(io::Error),
-    /// The first line has no column of this name.
-    NoColumn(String),
+    /// Standard input can't be read.
+    Read(io::Error),
+    /// The first line has no column of this name, but these.
+    NoColumn { name: String, columns: String },
     /// The first line, of which the names are wanted, is too long.
     LongHeader,
     /// The networks of a database do not ascend.
@@ -30,15 +30,40 @@ impl ProgramError {
             ProgramError::Memory | ProgramError::Database(MaxMindDbError::Memory)
         )
     }
+
+    /// Of a write to standard output that failed.
+    pub fn of_write(error: io::Error) -> ProgramError {
+        if error.kind() == io::ErrorKind::OutOfMemory {
+            ProgramError::Memory
+        } else {
+            ProgramError::Write(error)
+        }
+    }
+
+    /// The standard stream that it is of, if it is of one and not of a file.
+    pub fn stream(&self) -> Option<&'static str> {
+        match self {
+            ProgramError::Write(_) => Some("standard output"),
+            ProgramError::Read(_) | ProgramError::NoColumn { .. } | ProgramError::LongHeader => {
+                Some("standard input")
+            }
+            _ => None,
+        }
+    }
 }
 
 impl fmt::Display for ProgramError {
     fn fmt<W: fmt::Write>(&self, f: &mut fmt::Formatter<W>) -> fmt::Result {
         match self {
             ProgramError::Database(error) => write!(f, "{error}"),
-            ProgramError::Write(error) => write!(f, "write error: {error}"),
-            ProgramError::Lines(error) => write!(f, "{error}"),
-            ProgramError::NoColumn(name) => write!(f, "the first line has no column {name}"),
+            ProgramError::Write(error) => write!(f, "{error}"),
+            ProgramError::Read(error) => write!(f, "{error}"),
+            ProgramError::NoColumn { name, columns } if columns.is_empty() => {
+                write!(f, "the first line has no column {name}")
+            }
+            ProgramError::NoColumn { name, columns } => {
+                write!(f, "the first line has no column {name}, only: {columns}")
+            }
             ProgramError::LongHeader => f.write_str("the first line has more than 65536 bytes"),
             ProgramError::OutOfOrder => f.write_str("the networks do not ascend"),
             ProgramError::Memory => f.write_str("out of memory"),
@@ -46,12 +71,13 @@ impl fmt::Display for ProgramError {
     }
 }
 
+/// An error of standard input.
 impl From<io::Error> for ProgramError {
     fn from(error: io::Error) -> ProgramError {
         if error.kind() == io::ErrorKind::OutOfMemory {
             ProgramError::Memory
         } else {
-            ProgramError::Lines(error)
+            ProgramError::Read(error)
         }
     }
 }

@@ -60,9 +60,7 @@ pub fn put<O: Write>(text: &[u8], out: &mut O) -> Result<(), ProgramError> {
 // Whether an output was closed.
 fn is_closed(error: &ProgramError) -> bool {
     match error {
-        ProgramError::Write(error) | ProgramError::Lines(error) => {
-            error.kind() == io::ErrorKind::BrokenPipe
-        }
+        ProgramError::Write(error) => error.kind() == io::ErrorKind::BrokenPipe,
         _ => false,
     }
 }
@@ -117,10 +115,11 @@ impl<'c, O: Write, E: Write> Console<'c, O, E> {
         Ok(())
     }
 
-    /// Reports an error that ends the program. Of an output that was closed nothing is reported.
+    /// Reports an error that ends the program, with the standard stream that it is of, or else with a file. Of an output that
+    /// was closed nothing is reported.
     pub fn report_last(&mut self, of: &str, error: &ProgramError) {
         if !is_closed(error) {
-            self.report(of, error);
+            self.report(error.stream().unwrap_or(of), error);
         }
     }
 }

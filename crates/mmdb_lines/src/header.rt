@@ -1,7 +1,7 @@
 //! The first row, which may name the columns.
 use crate::task::{Column, RowsTask};
 use csv::{ByteRecord, ReaderBuilder};
-use mmdb_console::ProgramError;
+use mmdb_console::{ProgramError, put};
 use mmdb_enrich::delimiter_of;
 use mmdb_filter::{MOST_SEEN, Position, Rows, put_csv_cell, read_chunk};
 use std::alloc::{AllocError, Global};
@@ -50,12 +50,21 @@ fn put_names(rows: Rows, names: &[&str], row: &mut Vec<u8>) -> Result<(), AllocE
     row.extend_from_slice(end)
 }
 
-// Reads the cells of a row of CSV. Whether there was memory for them.
-fn read_cells(alloc: Global, delimiter: u8, row: &[u8], cells: &mut ByteRecord) -> bool {
+// Reads the cells of a row of CSV.
+fn read_cells(
+    alloc: Global,
+    delimiter: u8,
+    row: &[u8],
+    cells: &mut ByteRecord,
+) -> Result<(), AllocError> {
     let mut builder = ReaderBuilder::new();
     builder.has_headers(false).delimiter(delimiter);
     let mut reader = builder.from_reader(alloc, row);
-    reader.read_byte_record(cells).is_ok()
+    if reader.read_byte_record(cells).is_err() {
+        // of a first record, and of bytes at hand
+        return Err(AllocError);
+    }
+    Ok(())
 }
 
 // The place of a name among the cells of a row of CSV.
@@ -66,11 +75,8 @@ fn place_in_csv(
     name: &str,
 ) -> Result<Option<usize>, ProgramError> {
     let mut cells = ByteRecord::new(alloc);
-    if read_cells(alloc, delimiter, row, &mut cells) {
-        Ok(cells.iter().position(|cell| cell == name.as_bytes()))
-    } else {
-        Err(ProgramError::Memory)
-    }
+    read_cells(alloc, delimiter, row, &mut cells)?;
+    Ok(cells.iter().position(|cell| cell == name.as_bytes()))
 }
 
 // The place of a name among the columns of the first row.
@@ -91,6 +97,70 @@ fn place_in(
     }
 }
 
+// Adds the name of a column behind others.
+fn push_column(alloc: Global, cell: &[u8], names: &mut String) -> Result<(), AllocError> {
+    if !names.is_empty() {
+        names.push_str(", ")?;
+    }
+    let name: String = String::from_utf8_lossy(alloc, cell)?;
+    names.push_str(name.as_str())
+}
+
+// Adds the names of the columns of a row of CSV.
+fn push_csv_columns(
+    alloc: Global,
+    delimiter: u8,
+    row: &[u8],
+    names: &mut String,
+) -> Result<(), AllocError> {
+    let mut cells = ByteRecord::new(alloc);
+    read_cells(alloc, delimiter, row, &mut cells)?;
+    for cell in cells.iter() {
+        push_column(alloc, cell, names)?;
+    }
+    Ok(())
+}
+
+// Adds the names of the columns of a row.
+fn push_columns(
+    alloc: Global,
+    rows: Rows,
+    row: &[u8],
+    names: &mut String,
+) -> Result<(), AllocError> {
+    match rows {
+        Rows::Lines => {
+            for cell in row.split(|b| *b == b'\t') {
+                push_column(alloc, cell, names)?;
+            }
+            Ok(())
+        }
+        Rows::Csv { delimiter } => push_csv_columns(alloc, delimiter, row, names),
+    }
+}
+
+// The names of the columns of the first row.
+fn columns_of(alloc: Global, rows: Rows, header: &[u8]) -> Result<String, AllocError> {
+    let (cells, _) = split_end(header);
+    let mut names = String::new(alloc);
+    push_columns(alloc, rows, cells, &mut names)?;
+    Ok(names)
+}
+
+// The error that the first row has no column of a name.
+fn no_column(
+    alloc: Global,
+    rows: Rows,
+    name: &str,
+    header: &[u8],
+) -> Result<ProgramError, AllocError> {
+    let columns = columns_of(alloc, rows, header)?;
+    Ok(ProgramError::NoColumn {
+        name: String::from_str(alloc, name)?,
+        columns,
+    })
+}
+
 // The place of a column among those of the first row.
 fn place_of(
     alloc: Global,
@@ -104,7 +174,7 @@ fn place_of(
     };
     match place_in(alloc, rows, name, header)? {
         Some(place) => Ok(place),
-        None => Err(ProgramError::NoColumn(String::from_str(alloc, name)?)),
+        None => Err(no_column(alloc, rows, name, header)?),
     }
 }
 
@@ -118,7 +188,7 @@ fn write_header<O: Write>(
     let column = place_of(alloc, task.rows, task.column, header.as_slice())?;
     if !header.is_empty() {
         put_names(task.rows, task.names, header)?;
-        out.write_all(header.as_slice())?;
+        put(header.as_slice(), out)?;
     }
     Ok(column)
 }

@@ -3,6 +3,7 @@
 
 mod header;
 mod lines;
+mod output;
 mod progress;
 mod task;
 

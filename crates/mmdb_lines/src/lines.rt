@@ -1,5 +1,6 @@
 //! Rows with fields behind them.
 use crate::header::column_of;
+use crate::output::Output;
 use crate::progress::ProgressLine;
 use crate::task::{EnrichTask, JsonTask, RowsTask};
 use mmdb_console::{Console, DONE, ProgramError};
@@ -50,17 +51,18 @@ fn copy_rows<A: Additions, I: BufRead, O: Write, E: Write>(
 {
     let alloc = console.alloc;
     let mut progress = ProgressLine::new(alloc, console.terminals.errors, console.errors);
+    let mut out = Output::new(console.out);
     let counts = filter_rows(
         alloc,
         rows,
         additions,
         memory,
         input,
-        console.out,
+        &mut out,
         &mut progress,
     );
     progress.clear();
-    let counts = counts?;
+    let counts = out.of_filter(counts)?;
     console.flush()?;
     Ok(counts)
 }

@@ -147,9 +147,14 @@ fn enrich_rows<'a>(
     arguments: &'a EnrichArguments<'a>,
 ) -> Result<EnrichTask<'a>, NoRequest> {
     let names = arguments.fields.as_slice();
+    let rows = rows_of(alloc, arguments.delimiter)?;
+    let column = column_of(alloc, arguments.column, arguments.header)?;
+    if names.is_empty() {
+        return Err(NoRequest::bad_argument(alloc, "enrich", "needs a --field"));
+    }
     Ok(EnrichTask::Rows(RowsTask {
-        rows: rows_of(alloc, arguments.delimiter)?,
-        column: column_of(alloc, arguments.column, arguments.header)?,
+        rows,
+        column,
         names,
         paths: paths_of(alloc, names)?,
         header: arguments.header,

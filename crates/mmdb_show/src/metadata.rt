@@ -4,12 +4,11 @@ use json::{Pretty, Token};
 use mmdb_arguments::{InfoArguments, shown_text};
 use mmdb_console::{Console, DONE, ProgramError, line_of};
 use mmdb_json::write_value;
-use mmdb_reader::{MaxMindDbError, Metadata, Reader, Sections};
+use mmdb_reader::{Metadata, Reader, Sections};
 use mmdb_value::Value;
 use std::alloc::{AllocError, Global};
 use std::collections::BTreeMap;
-use std::fs::File;
-use std::io::{Read, Write};
+use std::io::Write;
 use std::rt::Files;
 
 // The date of a number of seconds since 1970, where it has one.
@@ -238,19 +237,6 @@ pub fn info(alloc: Global, bytes: &[u8], json: bool) -> Result<Vec<u8>, ProgramE
     Ok(text?)
 }
 
-// All bytes of a file.
-fn bytes_of<R: Files>(rt: &R, alloc: Global, file: &str) -> Result<Vec<u8>, ProgramError> {
-    let mut bytes = Vec::new(alloc);
-    let done = match File::open(rt, file) {
-        Ok(mut file) => file.read_to_end(&mut bytes),
-        Err(error) => Err(error),
-    };
-    match done {
-        Ok(_) => Ok(bytes),
-        Err(error) => Err(ProgramError::Database(MaxMindDbError::Io(error))),
-    }
-}
-
 // What a file says of itself.
 fn info_of_file<R: Files>(
     rt: &R,
@@ -258,8 +244,10 @@ fn info_of_file<R: Files>(
     file: &str,
     json: bool,
 ) -> Result<Vec<u8>, ProgramError> {
-    let bytes = bytes_of(rt, alloc, file)?;
-    info(alloc, bytes.as_slice(), json)
+    let reader = Reader::open_readfile(rt, alloc, file)?;
+    let text = info_text(alloc, reader.metadata(), &reader.sections(), json);
+    drop(reader);
+    Ok(text?)
 }
 
 /// Writes what a database says of itself, and answers the status. An `Err` where the file is no database that can be read,

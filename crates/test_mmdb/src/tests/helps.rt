@@ -64,7 +64,10 @@ const HELPS: &[(&[&str], &[&str])] = &[
             "Example:\n  mmdb diff ",
         ],
     ),
-    (&["verify", "--help"], &["Example:\n  mmdb verify "]),
+    (
+        &["verify", "--help"],
+        &["Example:\n  mmdb verify ", "65,536 values"],
+    ),
 ];
 
 // Whether a text holds all parts.

@@ -265,7 +265,7 @@ fn assert_cuts(rt: &impl Abort, alloc: Global, file: &[u8], whole: &[u8]) {
         let run = with_room(alloc, file, room);
         let is_cut = run.status == 1
             && run.written.as_slice() == &whole[..room.min(len)]
-            && run.err().contains("write error");
+            && run.err().contains("mmdb: standard output: ");
         assert!(rt; is_cut, "room for {room} of {len}");
     }
 }

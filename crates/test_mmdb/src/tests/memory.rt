@@ -52,6 +52,7 @@ fn with_budget(alloc: Global, words: &[String], budget: usize) -> Run
 
 const COMMANDS: &[&[&str]] = &[
     &["show", "here.mmdb", "200.0.0.1"],
+    &["info", "here.mmdb"],
     &["info", "here.mmdb", "--json"],
     &["export", "here.mmdb", "--field", "", "--format", "csv"],
     &["export", "here.mmdb"],
@@ -61,9 +62,16 @@ const COMMANDS: &[&[&str]] = &[
     &["enrich", "here.mmdb", "--json", "a", "--field", ""],
 ];
 
+/// What is reported where there is no memory, and where there is not even some for the name of a file.
+const REPORTS: &[&str] = &[
+    "mmdb: here.mmdb: out of memory\n",
+    "mmdb: diff: out of memory\n",
+    "mmdb: out of memory\n",
+];
+
 // Whether a run wrote nothing and reported that there was no memory.
 fn is_out_of_memory(run: &Run) -> bool {
-    run.status == 1 && run.written.is_empty() && run.reported.ends_with(b"out of memory\n")
+    run.status == 1 && run.written.is_empty() && REPORTS.contains(&run.err())
 }
 
 // Asserts that runs on words are out of memory with each budget, where no large block is left.

@@ -86,7 +86,7 @@ const EMPTY_RUNS: &[Row<'static>] = &[
     (&["info", "here.mmdb"], 1, "", "here.mmdb: invalid database"),
     (&["show", "here.mmdb", "1.1.1.1"], 1, "", "here.mmdb: invalid database"),
     (&["export", "here.mmdb", "--field", "a", "--format", "csv"], 1, "", "here.mmdb: invalid database"),
-    (&["enrich", "here.mmdb"], 1, "", "here.mmdb: invalid database"),
+    (&["enrich", "here.mmdb", "--field", "a"], 1, "", "here.mmdb: invalid database"),
 ];
 
 #[rattlefmt::skip]
@@ -128,13 +128,62 @@ const NO_LINES: &[Row<'static>] = &[
         "",
         "ip: not the number of a column",
     ),
-    (&["enrich", "gone.mmdb"], 1, "", "gone.mmdb: i/o error: "),
     (
-        &["enrich", "here.mmdb", "--header", "--column", "ip"],
+        &["enrich", "gone.mmdb", "--field", "a"],
+        1,
+        "",
+        "gone.mmdb: i/o error: ",
+    ),
+    (
+        &["enrich", "gone.mmdb", "--json", "a"],
+        1,
+        "",
+        "gone.mmdb: i/o error: ",
+    ),
+    // nothing to add
+    (
+        &["enrich", "gone.mmdb"],
         2,
         "",
-        "the first line has no column ip",
+        "mmdb: enrich: needs a --field\n",
     ),
+    (
+        &[
+            "enrich",
+            "gone.mmdb",
+            "--header",
+            "--delimiter",
+            ",",
+            "--column",
+            "ip",
+        ],
+        2,
+        "",
+        "mmdb: enrich: needs a --field\n",
+    ),
+];
+
+/// Words that name a column, the first line, and what standard error has to hold where it has no such column.
+#[rattlefmt::skip]
+const NO_COLUMNS: &[(&[&str], &str, &str)] = &[
+    (&[], "", "mmdb: standard input: the first line has no column ip\n"),
+    (&[], "address\n", "mmdb: standard input: the first line has no column ip, only: address\n"),
+    (&[], "IP\t\"ip\"\tnäme\r\n1\tip\t3\n", "mmdb: standard input: the first line has no column ip, only: IP, \"ip\", näme\n"),
+    (&[], "ip,a", "mmdb: standard input: the first line has no column ip, only: ip,a\n"),
+    (&["--delimiter", ","], "", "mmdb: standard input: the first line has no column ip\n"),
+    (&["--delimiter", ","], "\"an \"\"ip\"\"\",b c,\n", "mmdb: standard input: the first line has no column ip, only: an \"ip\", b c, \n"),
+    (&["--delimiter", ","], "ip\ta\u{1b}[2J,b", "mmdb: standard input: the first line has no column ip, only: ip\\ta\\u001b[2J, b\n"),
+];
+
+/// The words before those.
+const BY_NAME: &[&str] = &[
+    "enrich",
+    "here.mmdb",
+    "--field",
+    "",
+    "--header",
+    "--column",
+    "ip",
 ];
 
 /// Runs over a file in which one network's record lies past the data.
@@ -280,6 +329,18 @@ fn assert_lines(rt: &impl Abort, alloc: Global, bytes: &[u8], rows: &[Lines<'_>]
 fn lines_with_fields(rt: HostRuntime) {
     assert_lines(&rt, rt.alloc(), BASE_FILE, LINES);
     assert_runs(&rt, rt.alloc(), BASE_FILE, NO_LINES);
+}
+
+#[test]
+fn columns_that_are_missing(rt: HostRuntime) {
+    for (words, lines, wanted) in NO_COLUMNS {
+        let mut all = Vec::new(rt.alloc());
+        all.extend_from_slice(BY_NAME).expect(&rt, "words");
+        all.extend_from_slice(words).expect(&rt, "words");
+        let run = run_of(rt.alloc(), BASE_FILE, all.as_slice(), lines);
+        let holds = run.status == 2 && run.out().is_empty() && run.err() == *wanted;
+        assert_of(&rt, all.as_slice(), &run, holds);
+    }
 }
 
 #[test]
@@ -463,5 +524,57 @@ fn runs_over_small_files(rt: HostRuntime) {
         let bytes = changed_file(rt.alloc(), nodes, data, changes);
         let bytes = bytes.expect(&rt, "a file");
         assert_runs(&rt, rt.alloc(), bytes.as_slice(), rows);
+    }
+}
+
+/// The data of a record that is whole and can't be shown: bytes, others so often, more bytes and so many letters; and why not.
+type Unshown = (
+    &'static [u8],
+    (&'static [u8], usize),
+    &'static [u8],
+    usize,
+    &'static str,
+);
+
+#[rattlefmt::skip]
+const UNSHOWN: &[Unshown] = &[
+    // a key that is a number, and one that a pointer to a pointer leads to
+    (b"\xE1\xA1\x07\x01\x07", (b"", 0), b"", 0, "expected string, got type 5"),
+    (b"\x01\x00\x20\x06\x41y\x20\x08\x41k", (b"", 0), b"", 0, "pointer points to another pointer"),
+    // an array of 65,536 falses, and one of 33 pointers to a text of 65,536 letters
+    (b"\x1E\x04\xFE\xE3", (b"\x00\x07", 65_536), b"", 0, "exceeded maximum number of data structure values"),
+    (b"\x1D\x04\x04", (b"\x20\x45", 33), b"\x5E\xFE\xE3", 65_536, "exceeded maximum size of data structure string"),
+];
+
+// The base file with such data.
+fn unshown_file(alloc: Global, row: &Unshown) -> Result<Vec<u8>, AllocError> {
+    let (front, (part, times), back, letters, _) = row;
+    let mut data = Vec::new(alloc);
+    data.extend_from_slice(front)?;
+    for _ in 0..*times {
+        data.extend_from_slice(part)?;
+    }
+    data.extend_from_slice(back)?;
+    for _ in 0..*letters {
+        data.push(b'a')?;
+    }
+    changed_file(alloc, BASE_NODE, data.as_slice(), &[])
+}
+
+#[test]
+fn whole_files_of_records_that_are_not_shown(rt: HostRuntime) {
+    for row in UNSHOWN {
+        let file = unshown_file(rt.alloc(), row).expect(&rt, "a file");
+        let bytes = file.as_slice();
+        let shown: &[&str] = &["show", "here.mmdb", "200.0.0.1"];
+        assert_runs(
+            &rt,
+            rt.alloc(),
+            bytes,
+            &[
+                (&["verify", "here.mmdb"], 0, "here.mmdb: ok\n", ""),
+                (shown, 1, "", row.4),
+            ],
+        );
     }
 }

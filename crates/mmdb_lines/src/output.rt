@@ -1,0 +1,41 @@
+//! Standard output, as rows are written to it.
+use mmdb_console::ProgramError;
+use std::io::{self, Write};
+
+/// An output that knows whether its last write failed. A filter of rows reports the error of a read or of a write alike.
+#[derive(Drop)]
+pub(crate) struct Output<'o, O: Write> {
+    out: &'o mut O,
+    has_failed: bool,
+}
+
+impl<'o, O: Write> Output<'o, O> {
+    pub(crate) fn new(out: &'o mut O) -> Output<'o, O> {
+        Output {
+            out,
+            has_failed: false,
+        }
+    }
+
+    /// What a filter of rows answered that wrote here, as the program reports it.
+    pub(crate) fn of_filter<T>(&self, done: io::Result<T>) -> Result<T, ProgramError> {
+        match done {
+            Ok(value) => Ok(value),
+            Err(error) if self.has_failed => Err(ProgramError::of_write(error)),
+            Err(error) => Err(ProgramError::from(error)),
+        }
+    }
+}
+
+impl<'o, O: Write> Write for Output<'o, O> {
+    #[inline(always)]
+    fn write(&mut self, bytes: &[u8]) -> io::Result<usize> {
+        let written = self.out.write(bytes);
+        self.has_failed = !matches!(&written, Ok(1..));
+        written
+    }
+
+    fn flush(&mut self) -> io::Result<()> {
+        self.out.flush()
+    }
+}
