@@ -68,7 +68,7 @@ impl<'r> BothTexts<'r> {
         }
     }
 
-    /// Notes that two records of which one was suspected can be read.
+    /// Notes that two records that were read to be compared can be read.
     pub(crate) fn note_readable(&mut self) {
         self.old.note_readable();
         self.new.note_readable();

@@ -287,7 +287,8 @@ impl Layout<'_> {
     }
 
     /// Puts that row in place of another one; of whole records by the texts of the records of the same database. Those
-    /// copy what pointers lead to, where `row` reads and lays out each value again. What they leave is read step by step.
+    /// copy what pointers lead to, where `row` reads and lays out each value again. What they leave, or suspect not to be
+    /// readable, is read step by step.
     pub fn put_row(
         &self,
         alloc: Global,

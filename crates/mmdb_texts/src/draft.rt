@@ -12,7 +12,7 @@ use std::marker::Model;
 
 /// So many bytes of texts with escapes and of byte strings are laid out at once. More of them are put in when all of a
 /// record was read: to lay them out takes far longer than to read them, which is in vain where the record can't be read.
-const MOST_AT_ONCE: usize = 65_536;
+const MOST_AT_ONCE: usize = 512;
 
 /// A larger room for a text is not kept for the next one.
 const MOST_ROOM: usize = 65_536;

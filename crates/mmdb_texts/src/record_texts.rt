@@ -29,8 +29,9 @@ const LEAST_KEPT_STRING: usize = 512;
 /// inner ones are kept, and the others where they are met again.
 const MOST_COPIES: usize = 2;
 
-/// After a record that can't be read at least so many are thought to be such, and at most so many after several.
-const LEAST_SUSPECTED: u8 = 4;
+/// After the first record that was laid out in vain twice as many are thought to be such, after each further one twice as many
+/// as before, and at most so many.
+const FEWEST_SUSPECTED: u8 = 2;
 
 const MOST_SUSPECTED: u8 = 64;
 
@@ -54,6 +55,8 @@ pub struct RecordTexts<'r> {
     copied: usize,
     /// So many records that come next are thought to be such, by the last ones that were met.
     suspected: u8,
+    /// How many were after the last one that was laid out in vain.
+    span: u8,
 }
 
 impl<'r> Model for RecordTexts<'r> {
@@ -183,6 +186,7 @@ impl<'r> RecordTexts<'r> {
             rooms: Rooms::new(alloc),
             copied: 0,
             suspected: 0,
+            span: FEWEST_SUSPECTED,
         }
     }
 
@@ -563,10 +567,10 @@ impl<'r> RecordTexts<'r> {
             return;
         }
         self.unreadable.put(offset, true, BYTES_OF_UNREADABLE);
-        let suspected = self.suspected.saturating_mul(2);
-        self.suspected = suspected
-            .saturating_add(LEAST_SUSPECTED)
-            .min(MOST_SUSPECTED);
+        if self.suspected == 0 {
+            self.span = self.span.saturating_mul(2).min(MOST_SUSPECTED);
+        }
+        self.suspected = self.span;
     }
 
     /// Notes that a record which was suspected can be read.

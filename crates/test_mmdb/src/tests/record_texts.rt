@@ -287,7 +287,7 @@ fn each_byte_of_ascii(rt: HostRuntime) {
 #[test]
 fn long_texts(rt: HostRuntime) {
     let alloc = rt.alloc();
-    // 65,536 bytes are laid out at once
+    // more than 512 bytes with escapes are put in last
     for len in [4000, 32_766, 32_767, 32_768, 65_535, 65_536, 65_537] {
         for (control, unit) in [(0x5Eu8, b"x"), (0x5E, b"\""), (0x9E, b"x")] {
             let value = bytes_of(alloc, control, unit, len);
@@ -376,12 +376,12 @@ const NOTED: &[(&str, u8)] = &[
     ("urrrrr", 0),
     ("uU", 4),
     ("uUrU", 3),
-    ("uu", 12),
-    ("urru", 8),
-    ("uuu", 28),
-    ("uuuu", 60),
-    ("uuuuu", 64),
-    ("uuuuuuuuuu", 64),
+    ("uu", 4),
+    ("urru", 4),
+    ("urrrru", 8),
+    ("urrrruu", 8),
+    ("urrrrurrrrrrrru", 16),
+    ("urrrrurrrrrrrrurrrrrrrrrrrrrrrru", 32),
 ];
 
 // How many records that come next are suspected.
