@@ -400,7 +400,8 @@ fn suspected_of(alloc: Global, section: &[u8], noted: &str) -> u8 {
     }
     let mut count = 0u8;
     for _ in 0..u8::MAX {
-        if !texts.is_suspected(section.len()) {
+        // nothing was noted of the first offset
+        if !texts.is_suspected(0) {
             break;
         }
         texts.note_readable();
