@@ -64,6 +64,9 @@ fn plain_len(text: &[u8]) -> usize
 pub(crate) fn is_plain(text: &[u8]) -> bool
     ensures { result ≡ true → escape text.now ≡ text.now }
 {
+    if text.len() >= SHORT {
+        return are_plain(text);
+    }
     plain_len(text) == text.len()
 }
 

@@ -10,3 +10,6 @@ pub returns : goal.returns
 returns c = λ e.
     let all = eqb-true c.plain_len.result (length c.args.text.now) e in
     escape_plain c.args.text.now (subst (All IsPlain) (take_all c.plain_len.result c.args.text.now (omega (arith, all))) c.plain_len.ensures.plain)
+
+pub returns-then-text-ge-SHORT : goal.returns-then-text-ge-SHORT
+returns-then-text-ge-SHORT c = λ e. escape_plain c.args.text.now (c.are_plain.ensures e)
