@@ -1,45 +1,22 @@
 //! The program `mmdb`: its arguments are handed on, with the standard streams.
 #![tactic(auto)]
 
+use mmdb_main::{Messages, arguments_of};
 use mmdb_program::{Io, Terminals, run};
-use std::env;
-use std::io::{self, BufReader, BufWriter, ErrorKind, IsTerminal, Write};
+use std::io::{self, BufReader, BufWriter, IsTerminal};
 use std::process::ExitCode;
 
-// The status of an error.
-const FAILED: u8 = 1;
-
-// The status of arguments that are no command.
-const BAD_ARGUMENTS: u8 = 2;
-
-// Arguments come as text alone, and a file is opened by text.
-const NOT_UTF8: &str =
-    "mmdb: a word is not UTF-8; reach the file by a link, or as /dev/fd/3 with 3< FILE";
+/// What is said outside of the program's library. Of an output that was closed nothing is reported.
+const MESSAGES: Messages<'static> = Messages {
+    error: "mmdb: ",
+    output: "mmdb: standard output: ",
+    // arguments come as text alone, and a file is opened by text
+    not_utf8: "mmdb: a word is not UTF-8; reach the file by a link, or as /dev/fd/3 with 3< FILE\n",
+    reports_closed: false,
+};
 
 /// How many bytes are read and written at once.
 const BUFFER: usize = 1 << 16;
-
-// Writes out what is still buffered. What fails only here is an error as any other of standard output, and of an output
-// that was closed nothing is reported.
-fn finished<W: Write + Drop>(rt: &HostRuntime, mut writer: W, status: u8) -> u8 {
-    match writer.flush() {
-        Err(error) if status == 0 => {
-            if error.kind() != ErrorKind::BrokenPipe {
-                let _ = eprintln!(rt; "mmdb: standard output: {error}");
-            }
-            FAILED
-        }
-        _ => status,
-    }
-}
-
-fn arguments_of(rt: &HostRuntime) -> io::Result<Vec<String>> {
-    let mut arguments = Vec::new(rt.alloc());
-    for argument in env::args(rt)? {
-        arguments.push(argument)?;
-    }
-    Ok(arguments)
-}
 
 // Runs the program on arguments, and answers its status.
 fn program_on(rt: &HostRuntime, arguments: &[String]) -> io::Result<u8> {
@@ -56,7 +33,7 @@ fn program_on(rt: &HostRuntime, arguments: &[String]) -> io::Result<u8> {
         },
     };
     let status = run(rt, rt.alloc(), arguments, io);
-    Ok(finished(rt, out, status))
+    Ok(MESSAGES.finish(rt, out, status))
 }
 
 // Runs the program on its arguments, and answers its status.
@@ -68,15 +45,5 @@ fn program(rt: &HostRuntime) -> io::Result<u8> {
 }
 
 fn main(rt: HostRuntime) -> ExitCode {
-    match program(&rt) {
-        Ok(status) => ExitCode::from(status),
-        Err(error) if error.kind() == ErrorKind::InvalidData => {
-            let _ = eprintln!(rt; "{NOT_UTF8}");
-            ExitCode::from(BAD_ARGUMENTS)
-        }
-        Err(error) => {
-            let _ = eprintln!(rt; "mmdb: {error}");
-            ExitCode::from(FAILED)
-        }
-    }
+    MESSAGES.exit_code(&rt, program(&rt))
 }

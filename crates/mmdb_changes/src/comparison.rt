@@ -18,9 +18,9 @@ use std::rt::Files;
 /// How many stretches are compared together.
 const MOST_WAITING: usize = 64;
 
-/// What `diff` is asked for.
+// What `diff` is asked for.
 #[derive(Drop)]
-pub struct DiffTask<'a> {
+struct DiffTask<'a> {
     old: &'a str,
     new: &'a str,
     range: Option<IpNetwork>,
@@ -28,8 +28,8 @@ pub struct DiffTask<'a> {
     exit_code: bool,
 }
 
-/// What the arguments of `diff` ask for. An `Err` where one is not what is wanted in its place.
-pub fn diff_task<'a>(
+// What the arguments of `diff` ask for. An `Err` where one is not what is wanted in its place.
+fn diff_task<'a>(
     alloc: Global,
     arguments: &'a DiffArguments<'a>,
 ) -> Result<DiffTask<'a>, NoRequest> {
@@ -457,9 +457,8 @@ fn diff_databases<'a, O: Write, E: Write>(
     compare_range(databases, range, task, console)
 }
 
-/// Writes what changed between two files, reports what of them can't be read, and answers the status. An `Err` where
-/// standard output can't be written, the networks of a database do not ascend, or out of memory.
-pub fn diff<'a, R: Files, O: Write, E: Write>(
+// Opens two files and writes what changed between them, and answers the status.
+fn diff_files<'a, R: Files, O: Write, E: Write>(
     rt: &R,
     task: &'a DiffTask<'a>,
     console: &mut Console<'_, O, E>,
@@ -472,4 +471,18 @@ pub fn diff<'a, R: Files, O: Write, E: Write>(
         }
         None => Ok(FAILED),
     }
+}
+
+/// Writes what changed between two files, reports what of them can't be read, and answers the status. An `Err` where an
+/// argument is not what is wanted in its place, before a file is opened; where standard output can't be written, the
+/// networks of a database do not ascend, or out of memory.
+pub fn diff<R: Files, O: Write, E: Write>(
+    rt: &R,
+    arguments: &DiffArguments<'_>,
+    console: &mut Console<'_, O, E>,
+) -> Result<u8, ProgramError> {
+    let task = diff_task(console.alloc, arguments)?;
+    let done = diff_files(rt, &task, console);
+    drop(task);
+    done
 }

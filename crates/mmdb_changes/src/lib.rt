@@ -10,4 +10,4 @@ mod same;
 mod texts;
 mod two_databases;
 
-pub use comparison::{DiffTask, diff, diff_task};
+pub use comparison::diff;

@@ -1,4 +1,5 @@
 //! Why the program gave up.
+use mmdb_arguments::NoRequest;
 use mmdb_format::error::MaxMindDbError;
 use std::alloc::{AllocError, AllocFailed};
 use std::{fmt, io};
@@ -6,6 +7,8 @@ use std::{fmt, io};
 /// Why a command was not done.
 #[derive(Drop)]
 pub enum ProgramError {
+    /// The arguments ask for nothing that can be done.
+    Arguments(NoRequest),
     /// An error of the database.
     Database(MaxMindDbError),
     /// Standard output can't be written.
@@ -55,6 +58,12 @@ impl ProgramError {
 impl fmt::Display for ProgramError {
     fn fmt<W: fmt::Write>(&self, f: &mut fmt::Formatter<W>) -> fmt::Result {
         match self {
+            ProgramError::Arguments(NoRequest::Message(message)) => {
+                f.write_str(message.text.as_str())
+            }
+            ProgramError::Arguments(NoRequest::Memory) | ProgramError::Memory => {
+                f.write_str("out of memory")
+            }
             ProgramError::Database(error) => write!(f, "{error}"),
             ProgramError::Write(error) => write!(f, "{error}"),
             ProgramError::Read(error) => write!(f, "{error}"),
@@ -66,7 +75,6 @@ impl fmt::Display for ProgramError {
             }
             ProgramError::LongHeader => f.write_str("the first line has more than 65536 bytes"),
             ProgramError::OutOfOrder => f.write_str("the networks do not ascend"),
-            ProgramError::Memory => f.write_str("out of memory"),
         }
     }
 }
@@ -79,6 +87,12 @@ impl From<io::Error> for ProgramError {
         } else {
             ProgramError::Read(error)
         }
+    }
+}
+
+impl From<NoRequest> for ProgramError {
+    fn from(reason: NoRequest) -> ProgramError {
+        ProgramError::Arguments(reason)
     }
 }
 

@@ -6,8 +6,6 @@ mod output;
 mod place;
 
 pub use error::ProgramError;
-pub use output::{
-    BAD_ARGUMENTS, Console, DIFFERENT, DONE, FAILED, Io, NO_MEMORY, NOT_FOUND, Terminals, line_of,
-    put, reported,
-};
+pub use mmdb_main::{BAD_ARGUMENTS, DONE, FAILED};
+pub use output::{Console, DIFFERENT, Io, NO_MEMORY, NOT_FOUND, Terminals, line_of, put, reported};
 pub use place::Where;

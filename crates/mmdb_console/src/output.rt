@@ -6,15 +6,6 @@ use std::alloc::{AllocError, Global};
 use std::fmt::Display;
 use std::io::{self, BufRead, Write};
 
-/// All was done.
-pub const DONE: u8 = 0;
-
-/// Something failed.
-pub const FAILED: u8 = 1;
-
-/// The arguments are no command.
-pub const BAD_ARGUMENTS: u8 = 2;
-
 /// An address has no record, or a path leads nowhere in it.
 pub const NOT_FOUND: u8 = 6;
 

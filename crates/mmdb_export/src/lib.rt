@@ -8,4 +8,3 @@ mod task;
 mod writing;
 
 pub use networks::export;
-pub use task::{ExportTask, export_task};

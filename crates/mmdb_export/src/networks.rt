@@ -1,15 +1,17 @@
 //! The chosen networks of a range, written out.
 use crate::rows::{MOST_OF_TEXTS, Rows};
-use crate::task::{ExportTask, Shape};
+use crate::task::{ExportTask, Shape, export_task};
 use crate::writing::{Export, Writing, networks_in, of_list};
+use mmdb_arguments::ExportArguments;
 use mmdb_choice::{Choice, Condition};
 use mmdb_console::{Console, DONE, FAILED, ProgramError, put};
-use mmdb_layout::{Database, Layout, Networks};
+use mmdb_layout::{Database, Layout, Networks, open_database};
 use mmdb_lists::{Kinds, List, Syntax};
 use mmdb_reader::MaxMindDbError;
 use mmdb_texts::RecordTexts;
 use std::alloc::{AllocError, Global};
 use std::io::Write;
+use std::rt::Files;
 
 // Writes the header, where the layout has one.
 fn put_header<O: Write>(
@@ -157,9 +159,8 @@ fn export_with<'a, 'r, O: Write, E: Write>(
     report_faults(faults, console)
 }
 
-/// Writes the chosen networks of a range, reports each that can't be read, and answers the status. An `Err` where the range
-/// can't be asked, standard output can't be written, the networks do not ascend, or out of memory.
-pub fn export<'a, O: Write, E: Write>(
+// Writes the chosen networks of a database, reports each that can't be read, and answers the status.
+fn export_database<'a, O: Write, E: Write>(
     database: &Database,
     task: &'a ExportTask<'a>,
     console: &mut Console<'_, O, E>,
@@ -172,4 +173,35 @@ pub fn export<'a, O: Write, E: Write>(
             Err(error)
         }
     }
+}
+
+// Opens a file and writes its chosen networks, and answers the status.
+fn export_file<'a, R: Files, O: Write, E: Write>(
+    rt: &R,
+    file: &str,
+    task: &'a ExportTask<'a>,
+    console: &mut Console<'_, O, E>,
+) -> Result<u8, ProgramError> {
+    match open_database(rt, file, console) {
+        Some(database) => {
+            let done = export_database(&database, task, console);
+            drop(database);
+            done
+        }
+        None => Ok(FAILED),
+    }
+}
+
+/// Writes the chosen networks of a range, reports each that can't be read, and answers the status. An `Err` where an
+/// argument is not what is wanted in its place, before the file is opened; where the range can't be asked, standard output
+/// can't be written, the networks do not ascend, or out of memory.
+pub fn export<R: Files, O: Write, E: Write>(
+    rt: &R,
+    arguments: &ExportArguments<'_>,
+    console: &mut Console<'_, O, E>,
+) -> Result<u8, ProgramError> {
+    let task = export_task(console.alloc, arguments)?;
+    let done = export_file(rt, arguments.file, &task, console);
+    drop(task);
+    done
 }

@@ -18,7 +18,7 @@ pub(crate) enum Shape<'a> {
 
 /// What `export` is asked for.
 #[derive(Drop)]
-pub struct ExportTask<'a> {
+pub(crate) struct ExportTask<'a> {
     pub(crate) range: Option<IpNetwork>,
     pub(crate) conditions: Vec<Condition<'a>>,
     pub(crate) kinds: Kinds,
@@ -68,7 +68,7 @@ fn kinds_of(ipv4: bool, ipv6: bool) -> Kinds {
 }
 
 /// What the arguments of `export` ask for. An `Err` where one is not what is wanted in its place.
-pub fn export_task<'a>(
+pub(crate) fn export_task<'a>(
     alloc: Global,
     arguments: &'a ExportArguments<'a>,
 ) -> Result<ExportTask<'a>, NoRequest> {

@@ -8,4 +8,3 @@ mod progress;
 mod task;
 
 pub use lines::enrich;
-pub use task::{EnrichTask, JsonTask, RowsTask, enrich_task};

@@ -2,13 +2,15 @@
 use crate::header::column_of;
 use crate::output::Output;
 use crate::progress::ProgressLine;
-use crate::task::{EnrichTask, JsonTask, RowsTask};
-use mmdb_console::{Console, DONE, ProgramError};
+use crate::task::{JsonTask, RowsTask, json_task, rows_task};
+use mmdb_arguments::EnrichArguments;
+use mmdb_console::{Console, DONE, FAILED, ProgramError};
 use mmdb_enrich::{Enrichment, JsonEnrichment, JsonMemory, RowMemory};
 use mmdb_filter::{Additions, Counts, Rows, filter_rows};
-use mmdb_layout::Database;
+use mmdb_layout::{Database, open_database};
 use std::alloc::{AllocError, Global};
 use std::io::{BufRead, Write};
+use std::rt::Files;
 
 // How rows fared, in words.
 fn text_of_rows(alloc: Global, counts: Counts) -> Result<String, AllocError> {
@@ -128,17 +130,65 @@ fn enrich_json<I: BufRead, O: Write, E: Write>(
     enrich_objects(&enrichment, input, console)
 }
 
-/// Copies lines with fields of a database in each, reports how they fared, and answers the status. An `Err` where standard
-/// input can't be read, standard output can't be written, the first row has no such column or is too long, or out of
-/// memory.
-pub fn enrich<I: BufRead, O: Write, E: Write>(
-    database: &Database,
-    task: EnrichTask<'_>,
+// Opens a file and copies rows with fields of it behind each.
+fn enrich_columns_of<R: Files, I: BufRead, O: Write, E: Write>(
+    rt: &R,
+    file: &str,
+    task: RowsTask<'_>,
     input: &mut I,
     console: &mut Console<'_, O, E>,
 ) -> Result<u8, ProgramError> {
-    match task {
-        EnrichTask::Rows(task) => enrich_columns(database, task, input, console),
-        EnrichTask::Json(task) => enrich_json(database, task, input, console),
+    match open_database(rt, file, console) {
+        Some(database) => {
+            let done = enrich_columns(&database, task, input, console);
+            drop(database);
+            done
+        }
+        None => {
+            drop(task);
+            Ok(FAILED)
+        }
+    }
+}
+
+// Opens a file and copies lines with a member more in each object.
+fn enrich_json_of<R: Files, I: BufRead, O: Write, E: Write>(
+    rt: &R,
+    file: &str,
+    task: JsonTask<'_>,
+    input: &mut I,
+    console: &mut Console<'_, O, E>,
+) -> Result<u8, ProgramError> {
+    match open_database(rt, file, console) {
+        Some(database) => {
+            let done = enrich_json(&database, task, input, console);
+            drop(database);
+            done
+        }
+        None => {
+            drop(task);
+            Ok(FAILED)
+        }
+    }
+}
+
+/// Copies lines with fields of a database in each, reports how they fared, and answers the status. An `Err` where an
+/// argument is not what is wanted in its place, before the file is opened; where standard input can't be read, standard
+/// output can't be written, the first row has no such column or is too long, or out of memory.
+pub fn enrich<R: Files, I: BufRead, O: Write, E: Write>(
+    rt: &R,
+    arguments: &EnrichArguments<'_>,
+    input: &mut I,
+    console: &mut Console<'_, O, E>,
+) -> Result<u8, ProgramError> {
+    match arguments.json {
+        Some(path) => {
+            let task = json_task(console.alloc, path, arguments)?;
+            enrich_json_of(rt, arguments.file, task, input, console)
+        }
+        None => {
+            let task = rows_task(console.alloc, arguments)?;
+            enrich_columns_of(rt, arguments.file, task, input, console)
+        }
     }
 }

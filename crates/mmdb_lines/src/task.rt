@@ -15,9 +15,9 @@ pub(crate) enum Column<'a> {
     Name(&'a str),
 }
 
-/// What `enrich` is asked for of rows.
+/// What `enrich` is asked for of rows: fields behind them.
 #[derive(Drop)]
-pub struct RowsTask<'a> {
+pub(crate) struct RowsTask<'a> {
     pub(crate) rows: Rows,
     pub(crate) column: Column<'a>,
     pub(crate) names: &'a [&'a str],
@@ -25,23 +25,14 @@ pub struct RowsTask<'a> {
     pub(crate) header: bool,
 }
 
-/// What `enrich` is asked for of lines of JSON.
+/// What `enrich` is asked for of lines of JSON: fields in them.
 #[derive(Drop)]
-pub struct JsonTask<'a> {
+pub(crate) struct JsonTask<'a> {
     /// The path of the address in an object.
     pub(crate) path: Vec<PathElement<'a>>,
     /// The name of the member that is added.
     pub(crate) into: &'a str,
     pub(crate) fields: Vec<Field<'a>>,
-}
-
-/// What `enrich` is asked for.
-#[derive(Drop)]
-pub enum EnrichTask<'a> {
-    /// Fields behind rows.
-    Rows(RowsTask<'a>),
-    /// Fields in lines of JSON.
-    Json(JsonTask<'a>),
 }
 
 // The column that a text stands for: a name only where there is a header.
@@ -126,52 +117,43 @@ fn address_path<'a>(alloc: Global, text: &'a str) -> Result<Vec<PathElement<'a>>
     Ok(path)
 }
 
-fn enrich_json<'a>(
+/// What the arguments of `enrich` ask for of lines of JSON, whose addresses are at a path. An `Err` where one is not what
+/// is wanted in its place.
+pub(crate) fn json_task<'a>(
     alloc: Global,
     path: &'a str,
-    into: &'a str,
-    fields: &[&'a str],
-) -> Result<EnrichTask<'a>, NoRequest> {
+    arguments: &'a EnrichArguments<'a>,
+) -> Result<JsonTask<'a>, NoRequest> {
+    let into = arguments.into.unwrap_or("geo");
     if into.is_empty() {
         return Err(NoRequest::bad_argument(alloc, "--into", "an empty name"));
     }
-    Ok(EnrichTask::Json(JsonTask {
+    Ok(JsonTask {
         path: address_path(alloc, path)?,
         into,
-        fields: fields_of(alloc, fields)?,
-    }))
+        fields: fields_of(alloc, arguments.fields.as_slice())?,
+    })
 }
 
-fn enrich_rows<'a>(
+/// What the arguments of `enrich` ask for of rows. An `Err` where one is not what is wanted in its place.
+pub(crate) fn rows_task<'a>(
     alloc: Global,
     arguments: &'a EnrichArguments<'a>,
-) -> Result<EnrichTask<'a>, NoRequest> {
+) -> Result<RowsTask<'a>, NoRequest> {
+    if arguments.into.is_some() {
+        return Err(NoRequest::bad_argument(alloc, "--into", "needs a --json"));
+    }
     let names = arguments.fields.as_slice();
     let rows = rows_of(alloc, arguments.delimiter)?;
     let column = column_of(alloc, arguments.column, arguments.header)?;
     if names.is_empty() {
         return Err(NoRequest::bad_argument(alloc, "enrich", "needs a --field"));
     }
-    Ok(EnrichTask::Rows(RowsTask {
+    Ok(RowsTask {
         rows,
         column,
         names,
         paths: paths_of(alloc, names)?,
         header: arguments.header,
-    }))
-}
-
-/// What the arguments of `enrich` ask for. An `Err` where one is not what is wanted in its place.
-pub fn enrich_task<'a>(
-    alloc: Global,
-    arguments: &'a EnrichArguments<'a>,
-) -> Result<EnrichTask<'a>, NoRequest> {
-    match (arguments.json, arguments.into) {
-        (None, None) => enrich_rows(alloc, arguments),
-        (None, Some(_)) => Err(NoRequest::bad_argument(alloc, "--into", "needs a --json")),
-        (Some(path), into) => {
-            let into = into.unwrap_or("geo");
-            enrich_json(alloc, path, into, arguments.fields.as_slice())
-        }
-    }
+    })
 }

@@ -2,7 +2,6 @@
 #![tactic(auto)]
 
 mod program;
-mod task;
 
 pub use mmdb_console::{Io, ProgramError, Terminals};
 pub use mmdb_layout::path_of;

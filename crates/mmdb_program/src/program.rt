@@ -1,79 +1,13 @@
 //! What the program does with its arguments.
-use crate::task::{Query, Task, subject_of, task_of};
 use mmdb_arguments::{Message, NoRequest, Request, request_of};
 use mmdb_changes::diff;
-use mmdb_console::{BAD_ARGUMENTS, Console, DONE, FAILED, Io, NO_MEMORY, ProgramError, reported};
+use mmdb_console::{BAD_ARGUMENTS, Console, DONE, FAILED, Io, NO_MEMORY, ProgramError};
 use mmdb_export::export;
-use mmdb_layout::Database;
 use mmdb_lines::enrich;
-use mmdb_reader::Reader;
 use mmdb_show::{describe, show, verify};
 use std::alloc::Global;
 use std::io::{BufRead, Write};
 use std::rt::Files;
-
-// Does what is asked of an opened database.
-fn run_query<I: BufRead, O: Write, E: Write>(
-    database: &Database,
-    query: Query<'_>,
-    input: &mut I,
-    console: &mut Console<'_, O, E>,
-) -> Result<u8, ProgramError> {
-    match query {
-        Query::Show(task) => {
-            let done = show(database, &task, console);
-            drop(task);
-            done
-        }
-        Query::Enrich(task) => enrich(database, task, input, console),
-        Query::Export(task) => {
-            let done = export(database, &task, console);
-            drop(task);
-            done
-        }
-    }
-}
-
-// Opens a file, and does what is asked of it.
-fn query_file<R: Files, I: BufRead, O: Write, E: Write>(
-    rt: &R,
-    file: &str,
-    query: Query<'_>,
-    input: &mut I,
-    console: &mut Console<'_, O, E>,
-) -> Result<u8, ProgramError> {
-    let database = Reader::open_readfile(rt, console.alloc, file);
-    match reported(file, database, console) {
-        Some(database) => {
-            let done = run_query(&database, query, input, console);
-            drop(database);
-            done
-        }
-        None => {
-            drop(query);
-            Ok(FAILED)
-        }
-    }
-}
-
-// Does a task.
-fn run_task<R: Files, I: BufRead, O: Write, E: Write>(
-    rt: &R,
-    task: Task<'_>,
-    input: &mut I,
-    console: &mut Console<'_, O, E>,
-) -> Result<u8, ProgramError> {
-    match task {
-        Task::Info(arguments) => describe(rt, arguments, console),
-        Task::Verify(arguments) => verify(rt, arguments.files.as_slice(), console),
-        Task::Diff(task) => {
-            let done = diff(rt, &task, console);
-            drop(task);
-            done
-        }
-        Task::Query { file, query } => query_file(rt, file, query, input, console),
-    }
-}
 
 // Writes a message in the place of a request, and answers the status.
 fn put_message<O: Write, E: Write>(message: &Message, console: &mut Console<'_, O, E>) -> u8 {
@@ -99,6 +33,18 @@ fn put_reason<O: Write, E: Write>(reason: &NoRequest, console: &mut Console<'_, 
     }
 }
 
+// What an error of a request names: the file, or the command where there are several.
+fn subject_of<'a>(request: &Request<'a>) -> &'a str {
+    match request {
+        Request::Show(arguments) => arguments.file,
+        Request::Info(arguments) => arguments.file,
+        Request::Enrich(arguments) => arguments.file,
+        Request::Export(arguments) => arguments.file,
+        Request::Diff(_) => "diff",
+        Request::Verify(_) => "verify",
+    }
+}
+
 // The status of what was done, of which an error is reported with what it is of.
 fn status_of<O: Write, E: Write>(
     done: &Result<u8, ProgramError>,
@@ -107,6 +53,7 @@ fn status_of<O: Write, E: Write>(
 ) -> u8 {
     match done {
         Ok(status) => *status,
+        Err(ProgramError::Arguments(reason)) => put_reason(reason, console),
         Err(error) => {
             console.report_last(subject, error);
             match error {
@@ -117,6 +64,23 @@ fn status_of<O: Write, E: Write>(
     }
 }
 
+// Does what is requested.
+fn done_of<R: Files, I: BufRead, O: Write, E: Write>(
+    rt: &R,
+    request: &Request<'_>,
+    input: &mut I,
+    console: &mut Console<'_, O, E>,
+) -> Result<u8, ProgramError> {
+    match request {
+        Request::Show(arguments) => show(rt, arguments, console),
+        Request::Info(arguments) => describe(rt, arguments, console),
+        Request::Enrich(arguments) => enrich(rt, arguments, input, console),
+        Request::Export(arguments) => export(rt, arguments, console),
+        Request::Diff(arguments) => diff(rt, arguments, console),
+        Request::Verify(arguments) => verify(rt, arguments, console),
+    }
+}
+
 // Does what is requested, and answers the status.
 fn run_request<R: Files, I: BufRead, O: Write, E: Write>(
     rt: &R,
@@ -124,19 +88,10 @@ fn run_request<R: Files, I: BufRead, O: Write, E: Write>(
     input: &mut I,
     console: &mut Console<'_, O, E>,
 ) -> u8 {
-    match task_of(console.alloc, request) {
-        Ok(task) => {
-            let done = run_task(rt, task, input, console);
-            let status = status_of(&done, subject_of(request), console);
-            drop(done);
-            status
-        }
-        Err(reason) => {
-            let status = put_reason(&reason, console);
-            drop(reason);
-            status
-        }
-    }
+    let done = done_of(rt, request, input, console);
+    let status = status_of(&done, subject_of(request), console);
+    drop(done);
+    status
 }
 
 /// What the program does with its arguments, its own name first, and the status that it ends with.

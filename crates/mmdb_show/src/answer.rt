@@ -4,22 +4,23 @@ use mmdb_arguments::{NoRequest, ShowArguments};
 use mmdb_console::{Console, DONE, FAILED, NOT_FOUND, ProgramError};
 use mmdb_found::write_found;
 use mmdb_json::TokenSink;
-use mmdb_layout::{Database, Found, paths_of};
+use mmdb_layout::{Database, Found, open_database, paths_of};
 use mmdb_reader::{IpNetwork, MaxMindDbError, PathElement};
 use std::alloc::{AllocError, Global};
 use std::io::Write;
 use std::net::IpAddr;
+use std::rt::Files;
 
-/// What `show` is asked for.
+// What `show` is asked for.
 #[derive(Drop)]
-pub struct ShowTask<'a> {
+struct ShowTask<'a> {
     addresses: &'a [IpAddr],
     paths: Vec<Vec<PathElement<'a>>>,
     lines: bool,
 }
 
-/// What the arguments of `show` ask for. An `Err` where one is not a path.
-pub fn show_task<'a>(
+// What the arguments of `show` ask for. An `Err` where one is not a path.
+fn show_task<'a>(
     alloc: Global,
     arguments: &'a ShowArguments<'a>,
 ) -> Result<ShowTask<'a>, NoRequest> {
@@ -215,9 +216,8 @@ fn status_after(status: u8, next: u8) -> u8 {
     }
 }
 
-/// Writes what a database has for addresses, reports the error of each that has one, and answers the status. An `Err` where
-/// standard output can't be written, or out of memory.
-pub fn show<O: Write, E: Write>(
+// Writes what a database has for addresses, reports the error of each that has one, and answers the status.
+fn show_all<O: Write, E: Write>(
     database: &Database,
     task: &ShowTask<'_>,
     console: &mut Console<'_, O, E>,
@@ -227,4 +227,34 @@ pub fn show<O: Write, E: Write>(
         status = status_after(status, show_one(database, task, *address, console)?);
     }
     Ok(status)
+}
+
+// Opens a file and shows what it has, and answers the status.
+fn show_file<R: Files, O: Write, E: Write>(
+    rt: &R,
+    file: &str,
+    task: &ShowTask<'_>,
+    console: &mut Console<'_, O, E>,
+) -> Result<u8, ProgramError> {
+    match open_database(rt, file, console) {
+        Some(database) => {
+            let done = show_all(&database, task, console);
+            drop(database);
+            done
+        }
+        None => Ok(FAILED),
+    }
+}
+
+/// Writes what a database has for addresses, reports the error of each that has one, and answers the status. An `Err` where
+/// an argument is not a path, before the file is opened; where standard output can't be written, or out of memory.
+pub fn show<R: Files, O: Write, E: Write>(
+    rt: &R,
+    arguments: &ShowArguments<'_>,
+    console: &mut Console<'_, O, E>,
+) -> Result<u8, ProgramError> {
+    let task = show_task(console.alloc, arguments)?;
+    let done = show_file(rt, arguments.file, &task, console);
+    drop(task);
+    done
 }

@@ -6,6 +6,6 @@ mod answer;
 mod metadata;
 mod whole;
 
-pub use answer::{ShowTask, show, show_task, show_to};
+pub use answer::{show, show_to};
 pub use metadata::{describe, info};
 pub use whole::verify;

@@ -1,4 +1,5 @@
 //! Whether files are whole.
+use mmdb_arguments::VerifyArguments;
 use mmdb_console::{Console, DONE, FAILED, ProgramError, line_of};
 use mmdb_reader::{MaxMindDbError, Reader};
 use std::alloc::{AllocError, Global};
@@ -54,11 +55,11 @@ fn verify_one<R: Files, O: Write, E: Write>(
 /// of memory.
 pub fn verify<R: Files, O: Write, E: Write>(
     rt: &R,
-    files: &[&str],
+    arguments: &VerifyArguments<'_>,
     console: &mut Console<'_, O, E>,
 ) -> Result<u8, ProgramError> {
     let mut status = DONE;
-    for file in files {
+    for file in &arguments.files {
         if !verify_one(rt, file, console)? {
             status = FAILED;
         }

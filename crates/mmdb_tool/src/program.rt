@@ -6,18 +6,13 @@ use crate::line::lookup_line;
 use crate::list::{ListError, list_to};
 use crate::report_text::report_text;
 use crate::sink::{Sink, put_all};
+use mmdb_main::{BAD_ARGUMENTS, DONE, FAILED};
 use mmdb_reader::{MaxMindDbError, Reader};
 use mmdb_report::{ReportError, report_on};
 use std::alloc::{AllocError, Global};
 use std::convert::AsSlice;
 use std::rt::Files;
 use thiserror::Error;
-
-/// The status of an error.
-const REJECTED: u8 = 1;
-
-/// The status of arguments that are no command.
-const BAD_WORDS: u8 = 2;
 
 /// What is said of a file that is whole.
 const WHOLE: &str = "ok\n";
@@ -49,14 +44,14 @@ fn status_of<E: Sink>(alloc: Global, done: Result<(), RunError>, err: &mut E) ->
     ensures { result ≤ 1 }
 {
     let Err(error) = done else {
-        return 0;
+        return DONE;
     };
     let text: Result<String, AllocError> = format!(in alloc; "{error}\n");
     let _ = match text {
         Ok(text) => put_all(err, text.as_bytes()),
         Err(_) => put_all(err, NO_MEMORY.as_bytes()),
     };
-    REJECTED
+    FAILED
 }
 
 // The command that the arguments give, or the status where they give none: without arguments the usage line
@@ -77,7 +72,7 @@ fn command_or_status<'a, O: Sink, E: Sink>(
         Some(command) => Ok(command),
         None => {
             let _ = put_all(err, USAGE.as_bytes());
-            Err(BAD_WORDS)
+            Err(BAD_ARGUMENTS)
         }
     }
 }
