@@ -5,8 +5,8 @@ use Rattle.std.proofs.lemmas.Bool.{cases_lt}
 use Rattle.std.specs.Net.Grammar.{IsIpText}
 use Rattle.std.specs.declared.net.ip_addr.IpAddr.{IpAddr}
 use Rattle.mmdb_enrich.specs.Ahead.{AreSpelled}
-use Rattle.mmdb_enrich.specs.Spelling.{spelling}
-use Rattle.mmdb_enrich.specs.declared.address_text.AddressText.{AddressText}
+use Rattle.mmdb_addresses.specs.Spelling.{spelling}
+use Rattle.mmdb_addresses.specs.declared.address_text.AddressText.{AddressText}
 
 -- one more text, with the address that it spells
 pub spelled_more : (texts : List AddressText) (addresses : List IpAddr) (count : ℕ) (copy : AddressText) (address : IpAddr)

@@ -8,16 +8,19 @@ use Rattle.json.specs.Token.{Token, key, begin_object, end_object}
 use Rattle.json.specs.Tree.{json_tokens, depth}
 use Rattle.mmdb_reader.specs.File.{Database, data_section}
 use Rattle.mmdb_reader.specs.declared.path.PathElement.{PathElement}
+use Rattle.mmdb_objects.specs.declared.step.Step.{Step}
 use Rattle.mmdb_filter.specs.Lines.{text_length, text_of, front_of, back_of, most_seen, seen_of, is_long, row_with}
 use Rattle.mmdb_filter.specs.declared.counts.Outcome.TheVariants.{Found}
 use Rattle.mmdb_filter.proofs.TextLaws.{text_within}
 use Rattle.mmdb_enrich.specs.Fields.{AreValue, AreFields, member_tokens}
-use Rattle.mmdb_enrich.specs.Longer.{put_in, and_last, AreShown, GainsMember, LongerTextIsJson, LongerRowIsJson}
-use Rattle.mmdb_enrich.specs.Members.{comma_behind, AddsMember}
-use Rattle.mmdb_enrich.specs.Objects.{IsObject, is_empty}
+use Rattle.mmdb_enrich.specs.Longer.{AreShown, GainsMember, LongerTextIsJson, LongerRowIsJson}
+use Rattle.mmdb_objects.specs.Longer.{put_in, and_last}
+use Rattle.mmdb_enrich.specs.Members.{AddsMember}
+use Rattle.mmdb_objects.specs.Longer.{comma_behind}
+use Rattle.mmdb_objects.specs.Objects.{IsObject, is_empty}
 use Rattle.mmdb_enrich.specs.declared.members.Field.{Field}
-use Rattle.mmdb_enrich.proofs.ObjectTokens.{inner, inner-closed}
-use Rattle.mmdb_enrich.proofs.LongerLaws.{AllSpace, Brace, brace_and, last_brace, object_again, object_longer}
+use Rattle.mmdb_objects.proofs.ObjectTokens.{inner, inner-closed}
+use Rattle.mmdb_objects.proofs.LongerLaws.{AllSpace, Brace, brace_and, last_brace, object_again, object_longer}
 
 -- ---- the tokens of the fields are those of an object
 
@@ -40,7 +43,7 @@ member_is name ts shown e = ap (λ l. key name ∷ begin_object ∷ l) (ap (λ l
 
 -- ---- of any line that holds such a text
 
-module _ (db : Database) (path : List PathElement) (name : List ℕ) (fields : List Field) (text : List ℕ) (goes_on : Bool) (extra : List ℕ) (behind : ℕ) (line longer : List ℕ)
+module _ (db : Database) (path : List Step) (name : List ℕ) (fields : List Field) (text : List ℕ) (goes_on : Bool) (extra : List ℕ) (behind : ℕ) (line longer : List ℕ)
     (was : (ms : Members) → IsObject text goes_on ms behind → document line ≡ Some (object ms))
     (becomes : (ms shown : Members) → IsObject text goes_on ms behind → extra ≡ comma_behind (is_empty ms) ++ print (key name ∷ json_tokens (object shown))
     → tokens (print (key name ∷ json_tokens (object shown))) ≡ key name ∷ json_tokens (object shown) → depth (object shown) < max_depth → document longer ≡ Some (object (and_last ms name (object shown)))) where

@@ -17,11 +17,12 @@ use Rattle.mmdb_filter.specs.declared.counts.Outcome.TheVariants.{Found, Absent,
 use Rattle.mmdb_filter.specs.declared.filter.Added.{Added}
 use Rattle.mmdb_enrich.specs.Cells.{read_at}
 use Rattle.mmdb_enrich.specs.Fields.{AreValue, AreFields, HasUnreadField, IsMember}
-use Rattle.mmdb_enrich.specs.Members.{HasUnreadMember, PutsMember, comma_behind}
+use Rattle.mmdb_enrich.specs.Members.{HasUnreadMember, PutsMember}
+use Rattle.mmdb_objects.specs.Longer.{comma_behind}
 use Rattle.mmdb_enrich.specs.Working.{PutsMemberFor}
 use Rattle.mmdb_enrich.specs.Wanted.{MemberAt}
 use Rattle.mmdb_enrich.specs.declared.members.Field.{Field}
-use Rattle.mmdb_enrich.specs.declared.objects.Line.{Line}
+use Rattle.mmdb_objects.specs.declared.objects.Line.{Line}
 
 -- tokens that grew by what stands along a path
 pub grew_by_value : (path : List PathElement) (s : List ℕ) (offset : ℕ) (is_found : Bool) (old new : List Token) → WritesAlong path s (Some offset) is_found old new → (value : List Token) × AreValue path s offset value × (new ≡ old ++ value)

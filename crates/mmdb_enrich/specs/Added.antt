@@ -8,7 +8,8 @@ use Rattle.mmdb_reader.specs.declared.path.PathElement.{PathElement}
 use Rattle.mmdb_filter.specs.declared.rows.Rows.{Rows}
 use Rattle.mmdb_filter.specs.declared.counts.Outcome.{Outcome}
 use Rattle.mmdb_filter.specs.declared.counts.Outcome.TheVariants.{Found, Absent, Unreadable, Failed}
-use Rattle.mmdb_enrich.specs.Columns.{column_of, value_of, ReadsAddress}
+use Rattle.mmdb_enrich.specs.Columns.{column_of, value_of}
+use Rattle.mmdb_addresses.specs.Addresses.{ReadsAddress}
 use Rattle.mmdb_enrich.specs.Cells.{AreCells, blanks, are_read}
 
 -- the cells of a record at an offset, or empty ones where there is none

@@ -5,9 +5,9 @@ use Rattle.std.specs.declared.net.ip_addr.IpAddr.{IpAddr}
 use Rattle.mmdb_tree.specs.declared.group.FoundLeaf.{FoundLeaf}
 use Rattle.mmdb_reader.specs.File.{Database}
 use Rattle.mmdb_reader.specs.Many.{IsFoundFor}
-use Rattle.mmdb_enrich.specs.declared.address_text.AddressText.{AddressText}
+use Rattle.mmdb_addresses.specs.declared.address_text.AddressText.{AddressText}
 use Rattle.mmdb_enrich.specs.declared.ahead.Ahead.{Ahead}
-use Rattle.mmdb_enrich.specs.Spelling.{spelling}
+use Rattle.mmdb_addresses.specs.Spelling.{spelling}
 
 -- Each of the first texts spells the address at its index.
 abbrev pub AreSpelled : List AddressText → List IpAddr → ℕ → Type 0

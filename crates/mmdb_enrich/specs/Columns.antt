@@ -1,7 +1,5 @@
--- The columns of a row, and the address that one spells.
+-- The columns of a row.
 use Rattle.std.specs.Prelude.{◌≡◌, ℕ, zero, suc, ◌+◌, ◌-◌, List, [], ◌∷◌, length, take, drop, get_or, Option, Some, None, Bool, true, false, not, ◌&&◌, ◌==◌, nat_lt, if◌then◌else◌}
-use Rattle.std.specs.Net.Grammar.{IsIpText}
-use Rattle.std.specs.declared.net.ip_addr.IpAddr.{IpAddr}
 use Rattle.mmdb_filter.specs.Rows.{position_after}
 use Rattle.mmdb_filter.specs.declared.rows.Rows.{Rows}
 use Rattle.mmdb_filter.specs.declared.rows.Rows.TheVariants.{Lines, Csv}
@@ -37,8 +35,3 @@ unquoted cell =
 abbrev pub value_of : Rows → List ℕ → List ℕ
 value_of Lines cell = cell
 value_of (Csv delimiter) cell = unquoted cell
-
--- the address that a cell spells, or none where it spells none
-abbrev pub ReadsAddress : Option (List ℕ) → Option IpAddr → Type 0
-ReadsAddress cell (Some address) = (text : List ℕ) × (cell ≡ Some text) × IsIpText text address
-ReadsAddress cell None = (text : List ℕ) (address : IpAddr) → cell ≡ Some text → ¬ IsIpText text address

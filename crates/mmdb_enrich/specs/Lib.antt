@@ -2,7 +2,6 @@
 pub mod Columns
 pub mod Cells
 pub mod Added
-pub mod Objects
 pub mod Fields
 pub mod Members
 pub mod Wanted
@@ -10,10 +9,7 @@ pub mod KeptCells
 pub mod Kept
 pub mod Rows
 pub mod Longer
-pub mod Spelling
 pub mod Ahead
 pub mod Remembers
 -- What only contracts of private functions and proofs name.
 pub mod Working
-pub mod Scanned
-pub mod Octets

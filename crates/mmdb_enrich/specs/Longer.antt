@@ -7,22 +7,14 @@ use Rattle.json.specs.Token.{key}
 use Rattle.json.specs.Tree.{json_tokens, depth}
 use Rattle.mmdb_reader.specs.File.{Database, data_section}
 use Rattle.mmdb_reader.specs.Lookup.{Answers, outcome_at}
-use Rattle.mmdb_reader.specs.declared.path.PathElement.{PathElement}
 use Rattle.mmdb_filter.specs.Lines.{seen_of, is_long, row_with}
 use Rattle.mmdb_filter.specs.declared.counts.Outcome.TheVariants.{Found}
 use Rattle.mmdb_enrich.specs.Fields.{AreValue}
-use Rattle.mmdb_enrich.specs.Members.{comma_behind, AddsMember}
-use Rattle.mmdb_enrich.specs.Objects.{LeadsToAddress, is_empty}
+use Rattle.mmdb_enrich.specs.Members.{AddsMember}
+use Rattle.mmdb_objects.specs.Longer.{comma_behind, put_in, and_last}
+use Rattle.mmdb_objects.specs.declared.step.Step.{Step}
+use Rattle.mmdb_objects.specs.Objects.{LeadsToAddress, is_empty}
 use Rattle.mmdb_enrich.specs.declared.members.Field.{Field}
-
--- a text with bytes put in before so many of its last ones
-abbrev pub put_in : List ℕ → List ℕ → ℕ → List ℕ
-put_in text extra behind = take (length text - behind) text ++ (extra ++ drop (length text - behind) text)
-
--- members, and behind them one more
-abbrev pub and_last : Members → List ℕ → Json → Members
-and_last no_members name value = member name value no_members
-and_last (member k j rest) name value = member k j (and_last rest name value)
 
 -- for each field a member of its name: JSON that shows what stands along its path, or `null` where nothing does
 abbrev pub AreShown : List Field → List ℕ → ℕ → Members → Type 0
@@ -34,7 +26,7 @@ AreShown (field ∷ fields) s offset shown =
 -- A line is an object, in which the path leads to an address. What is added is the text of a member, whose value is
 -- an object of the fields of that address's record. The longer line is the object with that member behind its own,
 -- where the value nests less deep than a reader goes.
-pub record GainsMember (db : Database) (path : List PathElement) (name : List ℕ) (fields : List Field)
+pub record GainsMember (db : Database) (path : List Step) (name : List ℕ) (fields : List Field)
     (line extra longer : List ℕ) : Type 0 where
   pub members : Members
   pub was : document line ≡ Some (object members)
@@ -51,13 +43,13 @@ pub record GainsMember (db : Database) (path : List PathElement) (name : List �
 -- Where a member is added to a text, the text gains it.
 abbrev pub LongerTextIsJson : Type 0
 LongerTextIsJson =
-    (db : Database) (path : List PathElement) (name : List ℕ) (fields : List Field) (text : List ℕ) (goes_on : Bool)
+    (db : Database) (path : List Step) (name : List ℕ) (fields : List Field) (text : List ℕ) (goes_on : Bool)
     (extra : List ℕ) (behind : ℕ) → AddsMember db path name fields text goes_on extra behind Found
     → GainsMember db path name fields text extra (put_in text extra behind)
 
 -- The same of a row with its end, as a filter writes it.
 abbrev pub LongerRowIsJson : Type 0
 LongerRowIsJson =
-    (db : Database) (path : List PathElement) (name : List ℕ) (fields : List Field) (row extra : List ℕ) (behind : ℕ)
+    (db : Database) (path : List Step) (name : List ℕ) (fields : List Field) (row extra : List ℕ) (behind : ℕ)
     → AddsMember db path name fields (seen_of row) (is_long row) extra behind Found
     → GainsMember db path name fields row extra (row_with row extra behind)

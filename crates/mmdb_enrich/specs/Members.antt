@@ -4,19 +4,15 @@ use Rattle.std.specs.declared.net.ip_addr.IpAddr.{IpAddr}
 use Rattle.json.specs.Json.{Members}
 use Rattle.mmdb_reader.specs.File.{Database, data_section}
 use Rattle.mmdb_reader.specs.Lookup.{CanAsk, IsInvalidAt, Answers, outcome_at}
-use Rattle.mmdb_reader.specs.declared.path.PathElement.{PathElement}
 use Rattle.mmdb_filter.specs.declared.counts.Outcome.{Outcome}
 use Rattle.mmdb_filter.specs.declared.counts.Outcome.TheVariants.{Found, Absent, Unreadable, Malformed, Failed}
 use Rattle.mmdb_enrich.specs.Fields.{IsMember, HasUnreadField}
-use Rattle.mmdb_enrich.specs.Objects.{IsObject, LeadsToAddress, is_empty}
+use Rattle.mmdb_objects.specs.Longer.{comma_behind}
+use Rattle.mmdb_objects.specs.Objects.{IsObject, LeadsToAddress, is_empty}
 use Rattle.mmdb_enrich.specs.declared.members.Field.{Field}
-use Rattle.mmdb_enrich.specs.declared.objects.Line.{Line}
+use Rattle.mmdb_objects.specs.declared.objects.Line.{Line}
+use Rattle.mmdb_objects.specs.declared.step.Step.{Step}
 use Rattle.mmdb_filter.specs.declared.filter.Added.{Added}
-
--- a comma, where the object has a member before
-abbrev pub comma_behind : Bool → List ℕ
-comma_behind true = []
-comma_behind false = 44 ∷ []
 
 -- The lookup of the address fails, or a field of its record can't be read.
 abbrev pub HasUnreadMember : Database → List Field → IpAddr → Type 0
@@ -34,7 +30,7 @@ AddsMemberFor db name fields empty at address extra behind outcome =
     × (extra ≡ comma_behind empty ++ text) × (behind ≡ at) × (outcome ≡ Found)))
 
 -- Nothing is added to a line that is no object, or has no address.
-abbrev pub AddsMember : Database → List PathElement → List ℕ → List Field → List ℕ → Bool → List ℕ → ℕ → Outcome → Type 0
+abbrev pub AddsMember : Database → List Step → List ℕ → List Field → List ℕ → Bool → List ℕ → ℕ → Outcome → Type 0
 AddsMember db path name fields text goes_on extra behind outcome =
     ((extra ≡ []) × (outcome ≡ Malformed) × ((members : Members) (at : ℕ) → ¬ IsObject text goes_on members at))
     ⊎ (((extra ≡ []) × (outcome ≡ Unreadable)

@@ -1,5 +1,5 @@
 -- What contracts of private functions and proofs name.
-use Rattle.std.specs.Prelude.{◌≡◌, ℕ, List, ◌∷◌, ◌++◌, Option, Some, option_map, Bool, false, is_some, Result, Ok, Err, ◌≢◌}
+use Rattle.std.specs.Prelude.{◌≡◌, ℕ, List, ◌∷◌, ◌++◌, Option, Some, option_map, Bool, false, is_some, Result, Ok, Err}
 use Rattle.mmdb_format.specs.Unfolding.{Tree}
 use Rattle.mmdb_format.specs.declared.error.MaxMindDbError.{MaxMindDbError}
 use Rattle.mmdb_decode.specs.Errors.{Fails}
@@ -10,17 +10,13 @@ use Rattle.mmdb_filter.specs.declared.rows.Rows.{Rows}
 use Rattle.mmdb_enrich.specs.Columns.{delimiter_of}
 use Rattle.mmdb_enrich.specs.Cells.{ShowsCell, read_at, IsCell, AreCells, are_read}
 use Rattle.std.specs.declared.net.ip_addr.IpAddr.{IpAddr}
-use Rattle.json.specs.Json.{Json, object, Members}
-use Rattle.mmdb_enrich.specs.declared.objects.ReadLine.{ReadLine}
-use Rattle.mmdb_enrich.specs.declared.objects.ReadLine.TheVariants.{NoObject, NoAddress, Object}
-use Rattle.mmdb_enrich.specs.Objects.{IsObject, LeadsToAddress, is_empty}
 use Rattle.json.specs.Token.{Token}
 use Rattle.mmdb_reader.specs.File.{Database}
 use Rattle.mmdb_enrich.specs.declared.members.Field.{Field}
 use Rattle.mmdb_enrich.specs.Fields.{AreFields, member_tokens}
 use Rattle.mmdb_filter.specs.declared.counts.Outcome.{Outcome}
 use Rattle.mmdb_enrich.specs.Wanted.{MemberAt}
-use Rattle.mmdb_enrich.specs.declared.objects.Line.{Line}
+use Rattle.mmdb_objects.specs.declared.objects.Line.{Line}
 use Rattle.mmdb_filter.specs.declared.filter.Added.{Added}
 use Rattle.mmdb_enrich.specs.Members.{AddsMemberFor, PutsMember}
 use Rattle.std.specs.Global.{Vec}
@@ -53,21 +49,6 @@ abbrev pub PutsCells : Rows → List (List PathElement) → List ℕ → ℕ →
 PutsCells rows paths s offset is_read old new =
     (cells : List ℕ) × AreCells rows paths s offset cells
     × (new ≡ old ++ cells) × (is_read ≡ are_read paths s offset)
-
--- What a line is: an object in which the path leads to an address, an object in which it leads to none, or no object.
-abbrev pub ReadsLine : List ℕ → Bool → List PathElement → ReadLine → Type 0
-ReadsLine bytes goes_on path NoObject = (members : Members) (behind : ℕ) → ¬ IsObject bytes goes_on members behind
-ReadsLine bytes goes_on path NoAddress =
-    (members : Members) × (behind : ℕ) × IsObject bytes goes_on members behind × ((address : IpAddr) → ¬ LeadsToAddress path members address)
-ReadsLine bytes goes_on path (Object line) =
-    (members : Members) × IsObject bytes goes_on members line.behind × LeadsToAddress path members line.address × (line.is_empty ≡ is_empty members)
-
--- What a value is, from whose last brace on so many bytes stand.
-abbrev pub ReadsValue : Json → ℕ → List PathElement → ReadLine → Type 0
-ReadsValue j behind path NoObject = (members : Members) → j ≢ object members
-ReadsValue j behind path NoAddress = (members : Members) × (j ≡ object members) × ((address : IpAddr) → ¬ LeadsToAddress path members address)
-ReadsValue j behind path (Object line) =
-    (members : Members) × (j ≡ object members) × LeadsToAddress path members line.address × (line.is_empty ≡ is_empty members) × (line.behind ≡ behind)
 
 -- tokens grow by the fields of the record at an offset
 abbrev pub PutsFields : List Field → List ℕ → ℕ → List Token → List Token → Type 0

@@ -3,11 +3,10 @@ ghost use Rattle.std.specs.Prelude.{◌≡◌, ◌+◌, ◌<◌, ◌≤◌, IfSo
 ghost use Rattle.mmdb_reader.specs.File.{Database};
 ghost use Rattle.mmdb_reader.specs.Many.{IsFoundFor};
 ghost use Rattle.mmdb_enrich.specs.Ahead.{AreFound, AreSpelled, IsAhead};
-ghost use Rattle.mmdb_enrich.specs.Columns.{ReadsAddress};
+ghost use Rattle.mmdb_addresses.specs.Addresses.{ReadsAddress};
 
-use crate::address_text::AddressText;
-use crate::addresses::read_address;
 use crate::columns::cell_of;
+use mmdb_addresses::{AddressText, read_address};
 use mmdb_filter::{Rows, first_row};
 use mmdb_reader::{FoundLeaf, Reader};
 use std::convert::AsSlice;

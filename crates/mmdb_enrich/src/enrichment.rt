@@ -6,7 +6,8 @@ ghost use Rattle.mmdb_reader.specs.Lookup.{CanAsk, Answers, IsInvalidAt, outcome
 ghost use Rattle.mmdb_reader.specs.Many.{IsFoundFor};
 ghost use Rattle.mmdb_enrich.specs.Added.{AddsTo};
 ghost use Rattle.mmdb_enrich.specs.Ahead.{IsAhead};
-ghost use Rattle.mmdb_enrich.specs.Columns.{column_of, value_of, ReadsAddress};
+ghost use Rattle.mmdb_enrich.specs.Columns.{column_of, value_of};
+ghost use Rattle.mmdb_addresses.specs.Addresses.{ReadsAddress};
 ghost use Rattle.mmdb_enrich.specs.Cells.{blanks};
 ghost use Rattle.mmdb_enrich.specs.Rows.{paths_of, AreKeptFor};
 

@@ -5,10 +5,10 @@ ghost use Rattle.mmdb_enrich.specs.Members.{PutsMember};
 
 use crate::cache::{Cache, Kept};
 use crate::members::{Field, member_of};
-use crate::objects::{Line, ReadLine, read_line};
 use json::Scratch;
 use mmdb_filter::{Added, Additions, Outcome};
-use mmdb_reader::{LookupResult, PathElement, Reader};
+use mmdb_objects::{Line, ReadLine, Step, read_line};
+use mmdb_reader::{LookupResult, Reader};
 use std::alloc::{AllocError, Global};
 use std::convert::AsSlice;
 use std::io;
@@ -20,7 +20,7 @@ pub struct JsonEnrichment<'a, 'f, S: AsSlice<u8> + Drop> {
     /// Where addresses are looked up.
     pub reader: &'a Reader<S>,
     /// The path to the address in an object.
-    pub path: Vec<PathElement<'f>>,
+    pub path: Vec<Step<'f>>,
     /// The name of the member.
     pub name: &'f str,
     /// What the member has.

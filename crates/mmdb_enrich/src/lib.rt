@@ -1,8 +1,6 @@
 //! Fields of records behind rows that have addresses.
 #![tactic(auto)]
 
-mod address_text;
-mod addresses;
 mod ahead;
 mod cache;
 mod cells;
@@ -11,10 +9,7 @@ mod enrichment;
 mod json_enrichment;
 mod kept_cells;
 pub mod laws;
-mod lexemes;
 mod members;
-mod objects;
-mod one_pass;
 mod row_memory;
 
 pub use columns::delimiter_of;

@@ -3,6 +3,7 @@ use mmdb_arguments::{EnrichArguments, NoRequest};
 use mmdb_enrich::Field;
 use mmdb_filter::Rows;
 use mmdb_layout::{paths_of, wanted_path};
+use mmdb_objects::Step;
 use mmdb_reader::PathElement;
 use std::alloc::Global;
 
@@ -29,7 +30,7 @@ pub(crate) struct RowsTask<'a> {
 #[derive(Drop)]
 pub(crate) struct JsonTask<'a> {
     /// The path of the address in an object.
-    pub(crate) path: Vec<PathElement<'a>>,
+    pub(crate) path: Vec<Step<'a>>,
     /// The name of the member that is added.
     pub(crate) into: &'a str,
     pub(crate) fields: Vec<Field<'a>>,
@@ -95,26 +96,27 @@ fn fields_of<'a>(alloc: Global, texts: &[&'a str]) -> Result<Vec<Field<'a>>, NoR
     Ok(fields)
 }
 
-fn has_index_from_end(path: &[PathElement<'_>]) -> bool {
-    for step in path {
-        if let PathElement::IndexFromEnd(_) = step {
-            return true;
-        }
+// A step of the path of an address in an object: a key, or an index from the front.
+fn step_of<'a>(alloc: Global, step: &PathElement<'a>, path: &str) -> Result<Step<'a>, NoRequest> {
+    match step {
+        PathElement::Key(key) => Ok(Step::Key(*key)),
+        PathElement::Index(index) => Ok(Step::Index(*index)),
+        PathElement::IndexFromEnd(_) => Err(NoRequest::bad_argument(
+            alloc,
+            path,
+            "an index from the end, of which --json knows none",
+        )),
     }
-    false
 }
 
-// The path of an address in an object: keys, and indices from the front.
-fn address_path<'a>(alloc: Global, text: &'a str) -> Result<Vec<PathElement<'a>>, NoRequest> {
+// The path of an address in an object.
+fn address_path<'a>(alloc: Global, text: &'a str) -> Result<Vec<Step<'a>>, NoRequest> {
     let path = wanted_path(alloc, text)?;
-    if has_index_from_end(path.as_slice()) {
-        return Err(NoRequest::bad_argument(
-            alloc,
-            text,
-            "an index from the end, of which --json knows none",
-        ));
+    let mut steps = Vec::new(alloc);
+    for step in &path {
+        steps.push(step_of(alloc, step, text)?)?;
     }
-    Ok(path)
+    Ok(steps)
 }
 
 /// What the arguments of `enrich` ask for of lines of JSON, whose addresses are at a path. An `Err` where one is not what

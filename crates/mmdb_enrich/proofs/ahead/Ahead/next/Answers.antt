@@ -1,6 +1,6 @@
 use Rattle.std.proofs.Common.{rules, ◌≡◌, ◌<◌, [], slice_index_or, refl}
 use Rattle.std.specs.declared.net.ip_addr.IpAddr.TheVariants.{V4}
-use Rattle.mmdb_enrich.specs.Spelling.{spelling}
+use Rattle.mmdb_addresses.specs.Spelling.{spelling}
 use Rattle.mmdb_enrich.proofs.AheadLaws.{spelled_at}
 use Rattle.mmdb_enrich.proofs.ahead.Ahead.next.Goals as goal
 

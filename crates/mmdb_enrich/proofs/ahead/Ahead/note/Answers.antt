@@ -1,6 +1,6 @@
 use Rattle.std.proofs.Common.{rules, ◌<◌, length, subst, sym}
 use Rattle.std.specs.Net.Grammar.{IsIpText}
-use Rattle.mmdb_enrich.specs.Spelling.{spelling}
+use Rattle.mmdb_addresses.specs.Spelling.{spelling}
 use Rattle.mmdb_enrich.proofs.AheadLaws.{spelled_more}
 use Rattle.mmdb_enrich.proofs.ahead.Ahead.note.Goals as goal
 

@@ -1,5 +1,5 @@
 use Rattle.std.proofs.Common.{option_map, subst}
-use Rattle.mmdb_enrich.specs.Columns.{ReadsAddress}
+use Rattle.mmdb_addresses.specs.Addresses.{ReadsAddress}
 use Rattle.mmdb_enrich.specs.declared.ahead.Asked.{Asked}
 use Rattle.mmdb_enrich.proofs.enrichment.Enrichment.address_in.Goals as goal
 

@@ -1,7 +1,7 @@
 use Rattle.std.proofs.Common.{[], inl, inr, refl, sym, subst, append-nil}
 use Rattle.mmdb_enrich.specs.Members.{AddsMemberFor}
-use Rattle.mmdb_enrich.specs.Working.{ReadsLine}
-use Rattle.mmdb_enrich.specs.declared.objects.ReadLine.TheVariants.{NoAddress, Object}
+use Rattle.mmdb_objects.specs.Objects.{ReadsLine}
+use Rattle.mmdb_objects.specs.declared.objects.ReadLine.TheVariants.{NoAddress, Object}
 use Rattle.mmdb_enrich.proofs.json_enrichment.JsonEnrichmentAdditions.add.Goals as goal
 
 pub returns-in_ok-put_address-in-Object-clause-added : goal.returns-in_ok-put_address-in-Object-clause-added

@@ -1,6 +1,0 @@
--- The bytes of an address's text.
-use Rattle.std.specs.Prelude.{ℕ, List, take}
-use Rattle.mmdb_enrich.specs.declared.address_text.AddressText.{AddressText}
-
-abbrev pub spelling : AddressText → List ℕ
-spelling text = take text.length text.bytes

@@ -1,0 +1,13 @@
+pub mod ObjectLaws
+pub mod WordLaws
+pub mod StringLaws
+pub mod FrontLaws
+pub mod PlaceLaws
+pub mod ReadingBack
+pub mod ObjectTokens
+pub mod LongerLaws
+pub mod ScanLaws
+pub mod GrammarLaws
+pub mod FoundLaws
+pub mod VectorLaws
+pub mod RunEndLaws

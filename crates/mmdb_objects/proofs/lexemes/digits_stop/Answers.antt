@@ -1,0 +1,29 @@
+use Rattle.std.proofs.Common.{sym, ap, ◌∙◌, arith}
+use lib.Count.{count_trailing_zeros}
+use Rattle.std.specs.Char.{is_ascii_digit}
+use Rattle.mmdb_objects.specs.Scanned.{is_other}
+use Rattle.mmdb_filter.proofs.RunLaws.{run_through, run_stops}
+use Rattle.mmdb_objects.proofs.VectorLaws.{stop_within, twice_not}
+use Rattle.mmdb_objects.proofs.lexemes.digits_stop.Goals as goal
+
+pub returns-then-found-eq0-clause-at : goal.returns-then-found-eq0-clause-at
+returns-then-found-eq0-clause-at c =
+    let run = run_through is_other is_ascii_digit (λ x. twice_not (is_ascii_digit x)) c.args.text.now c.args.from 16 (omega arith) (omega (arith, c.others-found.ensures)) in
+    omega (arith, run, c.far_digits_end-then-found-eq0.ensures, c.stop_at-then-found-eq0.ensures)
+
+pub returns-clause-at : goal.returns-clause-at
+returns-clause-at c =
+    let found = c.others-found in
+    let run = run_stops is_other is_ascii_digit (λ x. twice_not (is_ascii_digit x)) c.args.text.now c.args.from 16 (omega arith) (omega arith) (omega (arith, found.ensures)) ∙ ap (count_trailing_zeros 64) (sym found.ensures) in
+    omega (arith, run, c.seen_at.ensures)
+
+pub seen_at-requires : goal.seen_at-requires
+seen_at-requires c =
+    let found = c.others-found in
+    omega (arith, stop_within is_other c.args.text.now c.args.from 16 (omega arith) (omega arith) (omega (arith, found.ensures)), ap (count_trailing_zeros 64) (sym found.ensures))
+
+pub returns-clause-bound : goal.returns-clause-bound
+returns-clause-bound c =
+    let found = c.others-found in
+    let within = stop_within is_other c.args.text.now c.args.from 16 (omega arith) (omega arith) (omega (arith, found.ensures)) in
+    omega (arith, within, ap (count_trailing_zeros 64) (sym found.ensures), c.seen_at.ensures)

@@ -1,0 +1,6 @@
+-- What has to be believed: what contracts of public items name.
+pub mod Objects
+pub mod Longer
+-- What only contracts of private functions and proofs name.
+pub mod Working
+pub mod Scanned

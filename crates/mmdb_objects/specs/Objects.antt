@@ -1,0 +1,53 @@
+-- Lines that are objects of JSON, and the address that one has.
+use Rattle.std.specs.Prelude.{◌≡◌, ◌<◌, ◌≤◌, ◌-◌, ℕ, List, [], ◌∷◌, Option, Some, None, option_and_then, Bool, true, false, length, slice_index}
+use Rattle.std.specs.Net.Grammar.{IsIpText}
+use Rattle.std.specs.Str.{IsUtf8}
+use Rattle.std.specs.declared.net.ip_addr.IpAddr.{IpAddr}
+use Rattle.json.specs.Find.{get, at, as_str}
+use Rattle.json.specs.Json.{Json, object, Members, no_members, member, document}
+use Rattle.json.specs.Word.{is_space}
+use Rattle.mmdb_objects.specs.declared.objects.Line.{Line}
+use Rattle.mmdb_objects.specs.declared.objects.ReadLine.{ReadLine}
+use Rattle.mmdb_objects.specs.declared.objects.ReadLine.TheVariants.{NoObject, NoAddress, Object}
+use Rattle.mmdb_objects.specs.declared.step.Step.{Step}
+use Rattle.mmdb_objects.specs.declared.step.Step.TheVariants.{Key, Index}
+
+-- one step into a value: by a key, or by an index from the front
+abbrev pub step_in : Step → Json → Option Json
+step_in (Key name) j = get name.now j
+step_in (Index n) j = at n j
+
+-- the text at the end of a path
+abbrev pub text_along : List Step → Json → Option (List ℕ)
+text_along [] j = as_str j
+text_along (step ∷ path) j = option_and_then (text_along path) (step_in step j)
+
+-- A text ends with a brace, behind which only white space stands: so many bytes from the brace on.
+pub record EndsWithBrace (text : List ℕ) (behind : ℕ) : Type 0 where
+  pub some : 0 < behind
+  pub within : behind ≤ length text
+  pub brace : slice_index text (length text - behind) ≡ 125
+  pub spaces : (i : ℕ) → length text - behind < i → i < length text → is_space (slice_index text i) ≡ true
+
+-- A line, of which such a text is seen, is this object, and so many bytes stand from its last brace on.
+pub record IsObject (text : List ℕ) (goes_on : Bool) (members : Members) (behind : ℕ) : Type 0 where
+  pub whole : goes_on ≡ false
+  pub utf8 : IsUtf8 text
+  pub value : document text ≡ Some (object members)
+  pub ends : EndsWithBrace text behind
+
+-- In the object a path leads to a text that spells this address.
+abbrev pub LeadsToAddress : List Step → Members → IpAddr → Type 0
+LeadsToAddress path members address = (spelled : List ℕ) × (text_along path (object members) ≡ Some spelled) × IsIpText spelled address
+
+abbrev pub is_empty : Members → Bool
+is_empty no_members = true
+is_empty (member _ _ _) = false
+
+-- What a line is: an object in which the path leads to an address, an object in which it leads to none, or no object.
+abbrev pub ReadsLine : List ℕ → Bool → List Step → ReadLine → Type 0
+ReadsLine bytes goes_on path NoObject = (members : Members) (behind : ℕ) → ¬ IsObject bytes goes_on members behind
+ReadsLine bytes goes_on path NoAddress =
+    (members : Members) × (behind : ℕ) × IsObject bytes goes_on members behind × ((address : IpAddr) → ¬ LeadsToAddress path members address)
+ReadsLine bytes goes_on path (Object line) =
+    (members : Members) × IsObject bytes goes_on members line.behind × LeadsToAddress path members line.address × (line.is_empty ≡ is_empty members)

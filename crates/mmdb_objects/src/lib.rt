@@ -1,0 +1,10 @@
+//! Lines that are objects of JSON, and the address that stands at a path in each.
+#![tactic(auto)]
+
+mod lexemes;
+mod objects;
+mod one_pass;
+mod step;
+
+pub use objects::{Line, ReadLine, read_line};
+pub use step::Step;

@@ -1,0 +1,167 @@
+//! Lines that are objects of JSON.
+ghost use Rattle.std.specs.Prelude.{◌≡◌, ◌≤◌, ℕ, true, false, IfOk, MatchOption, length, option_map, IfSome, Some};
+ghost use Rattle.json.specs.Find.{BeginsWith, Finds};
+ghost use Rattle.json.specs.Json.{Json, Members, object, document};
+ghost use Rattle.mmdb_objects.specs.Objects.{EndsWithBrace, ReadsLine, step_in as spec_step_in, text_along as spec_text_along};
+ghost use Rattle.mmdb_objects.specs.Working.{ReadsValue};
+ghost use Rattle.mmdb_addresses.specs.Addresses.{ReadsAddress};
+
+use crate::lexemes::is_space;
+use crate::one_pass::text_in_object;
+use crate::step::Step;
+use json::{Element, Error, Scratch, Tape};
+use mmdb_addresses::{address_of, read_address};
+use std::alloc::{AllocError, Global};
+use std::net::IpAddr;
+
+/// A line that is an object with an address.
+#[derive(Clone, Copy)]
+pub struct Line {
+    pub address: IpAddr,
+    /// How many bytes stand from the last brace on.
+    pub behind: usize,
+    /// Whether the object has no member.
+    pub is_empty: bool,
+}
+
+/// What a line is.
+#[derive(Clone, Copy)]
+pub enum ReadLine {
+    NoObject,
+    NoAddress,
+    Object(Line),
+}
+
+// How many bytes stand from the last brace on, where behind it only white space stands.
+fn last_brace(text: &[u8]) -> Option<usize>
+    ensures { MatchOption result ((behind : ℕ) → ¬ EndsWithBrace text.now behind)
+        (EndsWithBrace text.now) }
+{
+    let len = text.len();
+    for behind in 1..len + 1 {
+        let byte = text[len - behind];
+        if byte == b'}' {
+            return Some(behind);
+        }
+        if !is_space(byte) {
+            return None;
+        }
+    }
+    None
+}
+
+// The value one step on.
+fn step_in<'t, 'a>(value: &Element<'t, 'a>, step: &Step<'_>) -> Option<Element<'t, 'a>>
+    ensures { (j : Json) → BeginsWith value.now j → Finds result (spec_step_in step.now j) }
+{
+    match step {
+        Step::Key(name) => value.get(name),
+        Step::Index(index) => value.at(*index),
+    }
+}
+
+// The text at the end of a path.
+fn text_along<'a>(value: &Element<'_, 'a>, path: &[Step<'_>]) -> Option<&'a str>
+    ensures { (j : Json) → BeginsWith value.now j
+        → option_map (λ s. s.now) result ≡ spec_text_along path.now j }
+{
+    if path.is_empty() {
+        return value.as_str();
+    }
+    match step_in(value, &path[0]) {
+        Some(next) => text_along(&next, &path[1..]),
+        None => None,
+    }
+}
+
+// The address that a path leads to.
+fn address_along(value: &Element<'_, '_>, path: &[Step<'_>]) -> Option<IpAddr>
+    ensures { (j : Json) → BeginsWith value.now j
+        → ReadsAddress (spec_text_along path.now j) result }
+{
+    match text_along(value, path) {
+        Some(text) => match read_address(text.as_bytes()) {
+            Ok(address) => Some(address),
+            Err(_) => None,
+        },
+        None => None,
+    }
+}
+
+// What a value is of which so many bytes stand from the last brace on.
+fn line_of(value: &Element<'_, '_>, path: &[Step<'_>], behind: usize) -> ReadLine
+    ensures { (j : Json) → BeginsWith value.now j → ReadsValue j behind path.now result }
+{
+    let Some(mut members) = value.members() else {
+        return ReadLine::NoObject;
+    };
+    let is_empty = members.next().is_none();
+    match address_along(value, path) {
+        Some(address) => ReadLine::Object(Line {
+            address,
+            behind,
+            is_empty,
+        }),
+        None => ReadLine::NoAddress,
+    }
+}
+
+// What a text is of which so many bytes stand from the last brace on; none where one pass over it
+// does not say that.
+fn read_in_one_pass(text: &[u8], path: &[Step<'_>], behind: usize) -> Option<ReadLine>
+    ensures { IfSome result (λ line. (j : Json) × (document text.now ≡ Some j)
+        × ReadsValue j behind path.now line) }
+{
+    let found = text_in_object(text, path)?;
+    match address_of(found) {
+        Some(address) => Some(ReadLine::Object(Line {
+            address,
+            behind,
+            is_empty: false,
+        })),
+        None => Some(ReadLine::NoAddress),
+    }
+}
+
+// What a text is of which so many bytes stand from the last brace on.
+fn read_text(
+    alloc: Global,
+    text: &[u8],
+    path: &[Step<'_>],
+    behind: usize,
+    scratch: &mut Scratch,
+) -> Result<ReadLine, AllocError>
+    requires { EndsWithBrace text.now behind }
+    ensures { IfOk result (ReadsLine text.now false path.now) }
+{
+    let Ok(text) = str::from_utf8(text) else {
+        return Ok(ReadLine::NoObject);
+    };
+    if let Some(line) = read_in_one_pass(text.as_bytes(), path, behind) {
+        return Ok(line);
+    }
+    match Tape::parse(text, scratch, Vec::new(alloc)) {
+        Ok(tape) => Ok(line_of(&tape.root(), path, behind)),
+        Err(Error::Invalid) => Ok(ReadLine::NoObject),
+        Err(_) => Err(AllocError),
+    }
+}
+
+/// What a line is: an object in which a path leads to an address, or not.
+pub fn read_line(
+    alloc: Global,
+    text: &[u8],
+    goes_on: bool,
+    path: &[Step<'_>],
+    scratch: &mut Scratch,
+) -> Result<ReadLine, AllocError>
+    ensures { IfOk result (ReadsLine text.now goes_on path.now) }
+{
+    if goes_on {
+        return Ok(ReadLine::NoObject);
+    }
+    match last_brace(text) {
+        Some(behind) => read_text(alloc, text, path, behind, scratch),
+        None => Ok(ReadLine::NoObject),
+    }
+}
