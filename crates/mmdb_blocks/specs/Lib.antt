@@ -2,5 +2,6 @@
 pub mod Blocks
 pub mod Joining
 pub mod Networks
+pub mod Kinds
 -- What only contracts of private functions and proofs name.
 pub mod Working

@@ -5,9 +5,11 @@
 
 mod block;
 mod joiner;
+mod kind;
 pub mod laws;
 mod network;
 mod waiting;
 
 pub use block::Block;
 pub use joiner::{JoinError, Joiner};
+pub use kind::{Kind, Kinds};

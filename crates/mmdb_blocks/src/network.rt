@@ -1,5 +1,5 @@
 //! The blocks of networks.
-ghost use Rattle.std.specs.Prelude.{◌≡◌, ◌+◌, ◌-◌, take};
+ghost use Rattle.std.specs.Prelude.{◌≡◌, ◌+◌, ◌-◌, ◌≤◌, take};
 ghost use Rattle.mmdb_net.specs.Bits.{bits_of};
 ghost use Rattle.mmdb_net.specs.Network.{address_width, ip_of, prefix_of};
 ghost use Rattle.mmdb_blocks.specs.Blocks.{IsBlock};
@@ -39,6 +39,19 @@ fn of_ipv6(network: Ipv6Network) -> Block
 }
 
 impl Block {
+    /// The block of the addresses of so many bits, 32 or 128, of which so many are those of the first one.
+    #[inline(always)]
+    pub fn of_numbers(first: u128, width: usize, prefix: usize) -> Block
+        requires prefix { prefix ≤ width }
+        requires width { width ≤ 128 }
+        ensures { result ≡ record { first = first; prefix = 128 - width + prefix } }
+    {
+        Block {
+            first,
+            prefix: (128 - width + prefix) as u8,
+        }
+    }
+
     /// The block of a network's addresses. IPv4 addresses are numbers below 2^32, whose blocks have prefixes of 96
     /// and more.
     #[inline(always)]

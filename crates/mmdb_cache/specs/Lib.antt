@@ -1,2 +1,3 @@
 -- What has to be believed: what contracts of public items name.
 pub mod Cache
+pub mod Table

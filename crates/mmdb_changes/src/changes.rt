@@ -1,12 +1,11 @@
 //! What differs, written as the fewest networks: neighbours with the same two values are joined.
 use crate::counts::{ABSENT, Counts, Presence};
 use crate::differences::{Answers, Pairs, put_difference};
-use mmdb_blocks::{Block, Joiner};
+use mmdb_blocks::{Block, Joiner, Kind};
 use mmdb_console::ProgramError;
 use mmdb_diff::Stretch;
 use mmdb_equality::Shown;
 use mmdb_layout::{Found, Layout};
-use mmdb_lists::Kind;
 use mmdb_reader::IpNetwork;
 use std::alloc::{AllocError, Global};
 use std::io::Write;

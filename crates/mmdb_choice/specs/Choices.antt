@@ -2,10 +2,10 @@
 use Rattle.std.specs.Prelude.{◌<◌, ℕ, List, Some, Bool}
 use Rattle.std.specs.List.{All}
 use Rattle.std.specs.declared.convert.AsSlice.{Ghosts}
+use Rattle.mmdb_cache.specs.declared.table.Known.{Known}
 use Rattle.mmdb_reader.specs.Found.{section_asked, offset_found}
 use Rattle.mmdb_reader.specs.declared.lookup_result.LookupResult.{LookupResult}
 use Rattle.mmdb_choice.specs.Conditions.{SaysAllMetAt, HasUnreadAt}
-use Rattle.mmdb_choice.specs.declared.choice.Answer.{Answer}
 use Rattle.mmdb_choice.specs.declared.choice.Choice.{Choice}
 use Rattle.mmdb_choice.specs.declared.condition.Condition.{Condition}
 
@@ -22,12 +22,12 @@ abbrev pub no_record : ℕ
 no_record = 4294967295
 
 -- what is kept of a record of a data section is whether it meets all conditions
-abbrev pub IsKept : List Condition → List ℕ → Answer → Type 0
-IsKept conditions s answer = answer.offset < no_record → SaysAllMetAt conditions s (Some answer.offset) answer.is_chosen
+abbrev pub IsKept : List Condition → List ℕ → Known ℕ Bool → Type 0
+IsKept conditions s answer = answer.key < no_record → SaysAllMetAt conditions s (Some answer.key) answer.value
 
 -- all that a choice keeps is so kept of records of a data section
 abbrev pub IsOfSection : Choice → List ℕ → Type 0
-IsOfSection choice s = All (IsKept choice.conditions.now s) choice.kept.items
+IsOfSection choice s = All (IsKept choice.conditions.now s) choice.kept
 
 -- all that it keeps is of records of the database that was asked
 abbrev pub IsOf : {S : Type 0} {G : Ghosts S ℕ} → Choice → LookupResult S G → Type 0

@@ -1,13 +1,13 @@
 -- What contracts of private functions and proofs name.
 use Rattle.std.specs.Prelude.{◌≡◌, ℕ, List, Option, Some, None, Bool, true, false}
 use Rattle.std.specs.declared.convert.AsSlice.{Ghosts}
+use Rattle.mmdb_cache.specs.declared.table.Known.{Known}
 use Rattle.mmdb_format.specs.Contents.{text}
 use Rattle.mmdb_format.specs.Unfolding.{Tree, scalar, array, table}
 use Rattle.mmdb_reader.specs.Found.{section_asked, offset_found}
 use Rattle.mmdb_reader.specs.declared.lookup_result.LookupResult.{LookupResult}
 use Rattle.mmdb_choice.specs.declared.condition.Condition.{Condition}
-use Rattle.mmdb_choice.specs.Conditions.{SaysFoundAt, texts_of, SaysAllMetAt}
-use Rattle.mmdb_choice.specs.declared.choice.Answer.{Answer}
+use Rattle.mmdb_choice.specs.Conditions.{SaysFoundAt, texts_of}
 use Rattle.mmdb_choice.specs.declared.choice.Choice.{Choice}
 use Rattle.mmdb_choice.specs.Choices.{no_record, IsKept, IsOfSection}
 
@@ -27,13 +27,9 @@ abbrev pub SaysFound : {S : Type 0} {G : Ghosts S ℕ} → Condition → LookupR
 SaysFound condition found b = SaysFoundAt condition.path.items (texts_of condition) (section_asked found) (offset_found found) b
 
 -- an answer is of no record
-abbrev pub IsOfNone : Answer → Type 0
-IsOfNone answer = answer.offset ≡ no_record
-
--- a Bool that is kept for an offset says whether all conditions are met by the record there
-abbrev pub SaysKept : Choice → ℕ → Bool → Type 0
-SaysKept choice offset b = (s : List ℕ) → IsOfSection choice s → SaysAllMetAt choice.conditions.now s (Some offset) b
+abbrev pub IsOfNone : Known ℕ Bool → Type 0
+IsOfNone answer = answer.key ≡ no_record
 
 -- with one more answer a choice is of the data section that it was of, if the answer is
-abbrev pub Keeps : Choice → Answer → Choice → Type 0
+abbrev pub Keeps : Choice → Known ℕ Bool → Choice → Type 0
 Keeps old answer new = (s : List ℕ) → IsKept old.conditions.now s answer → IsOfSection old s → IsOfSection new s

@@ -1,11 +1,12 @@
 //! The choice of networks by their records.
-ghost use Rattle.std.specs.Prelude.{◌≡◌, ◌<◌, ℕ, List, Some, true, IfOk, IfErr, IfSome};
+ghost use Rattle.std.specs.Prelude.{◌≡◌, ◌<◌, ℕ, List, Some, IfOk, IfErr, IfSome};
 ghost use Rattle.std.specs.List.{All};
 ghost use Rattle.mmdb_format.specs.Error.{MemoryApart};
 ghost use Rattle.mmdb_choice.specs.Choices.{SaysChosen, HasUnread, IsOfSection, IsOf};
-ghost use Rattle.mmdb_choice.specs.Working.{IsOfNone, SaysKept, Keeps};
+ghost use Rattle.mmdb_choice.specs.Working.{IsOfNone, Keeps};
 
 use crate::condition::Condition;
+use mmdb_cache::{Known, Table};
 use mmdb_reader::{LookupResult, MaxMindDbError};
 use std::alloc::{AllocError, Global};
 use std::convert::AsSlice;
@@ -13,38 +14,16 @@ use std::convert::AsSlice;
 /// How many sets of answers are kept.
 const SETS: usize = 1 << 17;
 
-/// How many answers are in a set: they fill half of a line of the cache.
-const WAYS: usize = 4;
-
 /// The offset of no record.
 const NO_RECORD: u32 = u32::MAX;
 
-// Whether the record at an offset is chosen.
-#[derive(Clone, Copy)]
-struct Answer {
-    offset: u32,
-    is_chosen: bool,
-}
-
 /// The choice of networks whose record meets all conditions. Many networks share a record, so the last answers are
-/// kept, each in the set that its record's offset gives.
+/// kept by its offset.
 #[derive(Drop)]
 pub struct Choice<'a> {
     alloc: Global,
     conditions: &'a [Condition<'a>],
-    kept: Vec<Answer>,
-    /// Which answer of its set the next one that is kept takes the place of.
-    way: usize,
-}
-
-impl Answer {
-    // Whether the answer is of the record at an offset.
-    #[inline(always)]
-    fn is_of(&self, offset: u32) -> bool
-        ensures { result ≡ true → self.now.offset ≡ offset }
-    {
-        self.offset == offset
-    }
+    kept: Table<u32, bool, SETS>,
 }
 
 // The offset by which the answer for a record is kept, unless it is too large.
@@ -58,28 +37,17 @@ fn kept_offset(offset: Option<usize>) -> Option<u32>
     }
 }
 
-// The place of the first answer of an offset's set, which depends on all bits of the offset.
-#[inline(always)]
-fn place_of(offset: u32) -> usize
-    ensures { result < 524288 }
-{
-    let mixed = u64::from(offset).wrapping_mul(0x9E37_79B9_7F4A_7C15) >> 32;
-    mixed as usize % SETS * WAYS
-}
-
 // No answers.
-fn no_answers(alloc: Global) -> Result<Vec<Answer>, AllocError>
-    ensures { IfOk result (λ kept. All IsOfNone kept.items) }
+fn no_answers(alloc: Global) -> Result<Table<u32, bool, SETS>, AllocError>
+    ensures { IfOk result (All IsOfNone) }
 {
-    let none = Answer {
-        offset: NO_RECORD,
-        is_chosen: false,
-    };
-    let mut kept = Vec::with_capacity(alloc, SETS * WAYS)?;
-    for _ in 0..SETS * WAYS {
-        kept.push(none)?;
-    }
-    Ok(kept)
+    Table::new(
+        alloc,
+        Known {
+            key: NO_RECORD,
+            value: false,
+        },
+    )
 }
 
 impl<'a> Choice<'a> {
@@ -89,7 +57,7 @@ impl<'a> Choice<'a> {
         ensures of { IfOk result (λ choice. (s : List ℕ) → IsOfSection choice s) }
     {
         let kept = if conditions.is_empty() {
-            Vec::new(alloc)
+            Table::without_memory(alloc)
         } else {
             no_answers(alloc)?
         };
@@ -97,7 +65,6 @@ impl<'a> Choice<'a> {
             alloc,
             conditions,
             kept,
-            way: 0,
         })
     }
 
@@ -122,46 +89,15 @@ impl<'a> Choice<'a> {
     pub fn kept<S: AsSlice<u8> + Drop>(&self, found: &LookupResult<'_, S>) -> Option<bool>
         ensures { IsOf self.now found.now → IfSome result (SaysChosen self.now found.now) }
     {
-        self.kept_at(kept_offset(found.offset())?)
+        self.kept.get(kept_offset(found.offset())?)
     }
 
-    // Whether the answer at a place is of the record at an offset.
-    #[inline(always)]
-    fn is_at(&self, place: usize, offset: u32) -> bool {
-        match self.kept.get(place) {
-            Some(answer) => answer.is_of(offset),
-            None => false,
-        }
-    }
-
-    // The answer that is kept for an offset. All of its set are looked at, so that no branch waits for memory.
-    #[inline(always)]
-    fn kept_at(&self, offset: u32) -> Option<bool>
-        requires { offset < 4294967295 }
-        ensures { IfSome result (SaysKept self.now offset) }
-    {
-        let first = place_of(offset);
-        let second = usize::from(self.is_at(first + 1, offset));
-        let third = usize::from(self.is_at(first + 2, offset));
-        let fourth = usize::from(self.is_at(first + 3, offset));
-        let way = second + 2 * third + 3 * fourth;
-        let answer = self.kept.get(first + way % WAYS)?;
-        if answer.is_of(offset) {
-            return Some(answer.is_chosen);
-        }
-        None
-    }
-
-    // Keeps an answer.
-    fn keep(&mut self, answer: Answer)
-        ensures of { Keeps self.old answer self.new }
+    // Keeps the answer for the record at an offset.
+    fn keep(&mut self, offset: u32, is_chosen: bool)
+        ensures of { Keeps self.old (record { key = offset; value = is_chosen }) self.new }
         ensures conditions { self.new.conditions ≡ self.old.conditions }
     {
-        let place = place_of(answer.offset) + self.way % WAYS;
-        self.way = self.way.wrapping_add(1);
-        if let Some(kept) = self.kept.get_mut(place) {
-            *kept = answer;
-        }
+        self.kept.put(offset, is_chosen);
     }
 
     // Answers anew, and keeps the answer.
@@ -177,7 +113,7 @@ impl<'a> Choice<'a> {
     {
         let is_chosen = self.meets_all(found)?;
         if let Some(offset) = kept_offset(found.offset()) {
-            self.keep(Answer { offset, is_chosen });
+            self.keep(offset, is_chosen);
         }
         Ok(is_chosen)
     }

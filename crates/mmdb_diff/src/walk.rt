@@ -94,14 +94,11 @@ fn block_within(network: NumberedNetwork, range: Block) -> Block
       prefix = 128 - network.width + network.prefix;
     }) }
 {
-    let prefix = (128 - network.width + network.prefix) as u8;
-    if prefix < range.prefix {
+    let block = Block::of_numbers(network.first, network.width, network.prefix);
+    if block.prefix < range.prefix {
         range
     } else {
-        Block {
-            first: network.first,
-            prefix,
-        }
+        block
     }
 }
 

@@ -1,6 +1,6 @@
 //! What is shown of pairs of records.
 use crate::pairs::Offsets;
-use mmdb_cache::Cache;
+use mmdb_cache::{Cache, Key};
 use std::alloc::{AllocError, Global};
 
 /// The most bytes of what is shown of a record of a pair that is kept.
@@ -60,8 +60,8 @@ impl ShownPairs {
 
     // What is shown of a pair, if that is kept.
     fn shown_at(&self, offsets: Offsets) -> Option<&Shown> {
-        match self.kept.get(offsets.key()) {
-            Some(pair) if pair.offsets.are(offsets) => Some(&pair.shown),
+        match self.kept.get(offsets.number() as usize) {
+            Some(pair) if pair.offsets.is(offsets) => Some(&pair.shown),
             _ => None,
         }
     }
@@ -85,7 +85,7 @@ impl ShownPairs {
                 offsets,
                 shown: copy,
             };
-            self.kept.put(offsets.key(), pair, bytes);
+            self.kept.put(offsets.number() as usize, pair, bytes);
         }
     }
 }

@@ -1,12 +1,12 @@
 //! The rows of an export.
+use mmdb_blocks::{Block, Kind};
 use mmdb_cache::Cache;
 use mmdb_console::{ProgramError, put};
 use mmdb_layout::{Found, Layout};
-use mmdb_reader::{IpNetwork, MaxMindDbError, NumberedNetwork};
+use mmdb_reader::{IpNetwork, MaxMindDbError};
 use mmdb_texts::RecordTexts;
 use std::alloc::{AllocError, Global};
 use std::io::{self, Write};
-use std::net::{IpAddr, Ipv4Addr, Ipv6Addr};
 
 /// The most bytes of a row that is kept.
 const MOST_BYTES: usize = 4096;
@@ -50,15 +50,12 @@ fn join_row(
     line.extend_from_slice(after)
 }
 
-// The network of these numbers, which is that of the answer that gave them. Its bits are not masked again.
+// The network that was found. Its bits are not masked again.
 #[inline(always)]
-fn network_of(network: NumberedNetwork) -> Option<IpNetwork> {
-    let first = if network.width == 32 {
-        IpAddr::V4(Ipv4Addr::from_bits((network.first % (1 << 32)) as u32))
-    } else {
-        IpAddr::V6(Ipv6Addr::from_bits(network.first))
-    };
-    IpNetwork::new(first, network.prefix.min(255) as u8).ok()
+fn network_of(found: &Found<'_>) -> Option<IpNetwork> {
+    let network = found.numbered_network();
+    let block = Block::of_numbers(network.first, network.width, network.prefix);
+    Kind::of_width(network.width).network_of(block).ok()
 }
 
 // Writes a row with its network.
@@ -155,11 +152,10 @@ impl<'a> Rows<'a> {
     #[inline(always)]
     pub(crate) fn put_kept<O: Write>(
         &mut self,
-        offset: Option<usize>,
-        network: NumberedNetwork,
+        found: &Found<'_>,
         out: &mut O,
     ) -> io::Result<bool> {
-        let Some(offset) = offset else {
+        let Some(offset) = found.offset() else {
             return Ok(false);
         };
         let Some(row) = self.kept.get(offset) else {
@@ -169,7 +165,7 @@ impl<'a> Rows<'a> {
         if text.len() > MOST_JOINED {
             return Ok(false);
         }
-        let Some(network) = network_of(network) else {
+        let Some(network) = network_of(found) else {
             return Ok(false);
         };
         let (before, after) = text.split_at(self.layout.place_of_network().min(text.len()));

@@ -1,9 +1,10 @@
 //! What `export` is asked for.
 use crate::conditions::conditions_of;
 use mmdb_arguments::{ExportArguments, Format, NoRequest};
+use mmdb_blocks::{Kind, Kinds};
 use mmdb_choice::Condition;
 use mmdb_layout::{Layout, layout_of, range_of};
-use mmdb_lists::{Kind, Kinds, Syntax, is_set_name};
+use mmdb_lists::{Syntax, is_set_name};
 use mmdb_reader::IpNetwork;
 use std::alloc::Global;
 

@@ -1,11 +1,11 @@
 //! The chosen networks of a range, with what their records have or as the fewest blocks.
 use crate::rows::Rows;
-use mmdb_blocks::Block;
+use mmdb_blocks::{Block, Kind, Kinds};
 use mmdb_choice::Choice;
 use mmdb_console::{Console, ProgramError, Where};
 use mmdb_layout::{Database, Found, Networks};
-use mmdb_lists::{Kind, Kinds, List, ListError, Taken};
-use mmdb_reader::{IpNetwork, MaxMindDbError, NumberedNetwork, WithinOptions};
+use mmdb_lists::{List, ListError, Taken};
+use mmdb_reader::{IpNetwork, MaxMindDbError, WithinOptions};
 use mmdb_texts::RecordTexts;
 use std::alloc::{AllocError, Global};
 use std::io::{self, Write};
@@ -40,20 +40,17 @@ fn of_write(done: io::Result<bool>) -> Result<bool, ProgramError> {
     }
 }
 
-// The kind of a network.
+// The kind of a network that was found.
 #[inline(always)]
-fn kind_of(network: NumberedNetwork) -> Kind {
-    Kind::of_width(network.width)
+fn kind_of(found: &Found<'_>) -> Kind {
+    Kind::of_width(found.numbered_network().width)
 }
 
-// The block of a network.
+// The block of a network that was found.
 #[inline(always)]
-fn block_of(network: NumberedNetwork) -> Block {
-    let behind = network.width.saturating_sub(network.prefix);
-    Block {
-        first: network.first,
-        prefix: 128usize.saturating_sub(behind) as u8,
-    }
+fn block_of(found: &Found<'_>) -> Block {
+    let network = found.numbered_network();
+    Block::of_numbers(network.first, network.width, network.prefix)
 }
 
 impl Writing<'_> {
@@ -62,22 +59,21 @@ impl Writing<'_> {
     fn write<O: Write>(
         &mut self,
         found: &Found<'_>,
-        network: NumberedNetwork,
         texts: &mut Option<RecordTexts<'_>>,
         out: &mut O,
     ) -> Result<(), ProgramError> {
         match self {
             Writing::Rows(rows) => rows.write(found, texts, out),
-            Writing::List(list) => { of_list(list.push(kind_of(network), block_of(network), out)) },
+            Writing::List(list) => of_list(list.push(kind_of(found), block_of(found), out)),
         }
     }
 
     // Takes a chosen network into a list, where nothing is to be written before it.
     #[inline(always)]
-    fn take(&mut self, network: NumberedNetwork) -> Taken {
+    fn take(&mut self, found: &Found<'_>) -> Taken {
         match self {
             Writing::Rows(_) => Taken::Not,
-            Writing::List(list) => list.take(kind_of(network), block_of(network)),
+            Writing::List(list) => list.take(kind_of(found), block_of(found)),
         }
     }
 
@@ -89,11 +85,8 @@ impl Writing<'_> {
         kinds: Kinds,
         out: &mut O,
     ) -> io::Result<bool> {
-        let network = found.numbered_network();
         match self {
-            Writing::Rows(rows) if kinds.has(kind_of(network)) => {
-                rows.put_kept(found.offset(), network, out)
-            }
+            Writing::Rows(rows) if kinds.has(kind_of(found)) => rows.put_kept(found, out),
             _ => Ok(false),
         }
     }
@@ -202,14 +195,13 @@ impl<'a, 'r> Export<'a, 'r> {
         kept: Option<bool>,
         out: &mut O,
     ) -> Result<(), ProgramError> {
-        let network = found.numbered_network();
-        if !self.kinds.has(kind_of(network)) {
+        if !self.kinds.has(kind_of(found)) {
             return Ok(());
         }
         if kept != Some(true) && !self.chooses(found)? {
             return Ok(());
         }
-        self.writing.write(found, network, &mut self.texts, out)
+        self.writing.write(found, &mut self.texts, out)
     }
 
     // Reports a network that is not named and can't be read.
@@ -278,7 +270,7 @@ impl<'a, 'r> Export<'a, 'r> {
     #[inline(always)]
     fn take_chosen(&mut self, index: usize, kept: Option<bool>) -> Taken {
         match self.waiting.get(index) {
-            Some(found) if kept == Some(true) => self.writing.take(found.numbered_network()),
+            Some(found) if kept == Some(true) => self.writing.take(found),
             _ => Taken::Not,
         }
     }

@@ -1,7 +1,6 @@
 //! Lists of the fewest networks that have the addresses of those that are pushed.
-use crate::kind::{Kind, Kinds};
 use crate::syntax::Syntax;
-use mmdb_blocks::{Block, Joiner};
+use mmdb_blocks::{Block, Joiner, Kind, Kinds};
 use mmdb_net::{IpNetwork, IpNetworkError};
 use std::alloc::{AllocError, Global};
 use std::io::{self, Write};

@@ -1,5 +1,5 @@
 //! How a list of networks is written.
-use crate::kind::{Kind, Kinds};
+use mmdb_blocks::{Kind, Kinds};
 use mmdb_net::IpNetwork;
 use std::alloc::{AllocError, Global};
 

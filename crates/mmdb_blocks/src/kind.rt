@@ -1,8 +1,8 @@
 //! The two kinds of addresses, and blocks as networks of one.
 ghost use Rattle.std.specs.Prelude.{◌≡◌, ◌↔◌, IsTrue};
-ghost use Rattle.mmdb_lists.specs.Kinds.{IsWanted, kind_of};
+ghost use Rattle.mmdb_blocks.specs.Kinds.{IsWanted, kind_of};
 
-use mmdb_blocks::Block;
+use crate::block::Block;
 use mmdb_net::{IpNetwork, IpNetworkError};
 use std::net::{IpAddr, Ipv4Addr, Ipv6Addr};
 

@@ -1,9 +1,9 @@
 -- The kinds of addresses.
 use Rattle.std.specs.Prelude.{◌≡◌, ℕ, nat_eq, if◌then◌else◌}
-use Rattle.mmdb_lists.specs.declared.kind.Kind.{Kind}
-use Rattle.mmdb_lists.specs.declared.kind.Kind.TheVariants.{Ipv4, Ipv6}
-use Rattle.mmdb_lists.specs.declared.kind.Kinds.{Kinds}
-use Rattle.mmdb_lists.specs.declared.kind.Kinds.TheVariants.{Both, One}
+use Rattle.mmdb_blocks.specs.declared.kind.Kind.{Kind}
+use Rattle.mmdb_blocks.specs.declared.kind.Kind.TheVariants.{Ipv4, Ipv6}
+use Rattle.mmdb_blocks.specs.declared.kind.Kinds.{Kinds}
+use Rattle.mmdb_blocks.specs.declared.kind.Kinds.TheVariants.{Both, One}
 
 -- the kind of addresses of so many bits, of 32 or 128
 abbrev pub kind_of : ℕ → Kind

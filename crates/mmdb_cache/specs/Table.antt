@@ -1,0 +1,16 @@
+-- What a table keeps.
+use Rattle.std.specs.Prelude.{◌≡◌, ◌⊎◌, List}
+use Rattle.std.specs.List.{All, Contains}
+use Rattle.mmdb_cache.specs.declared.table.Known.{Known}
+
+-- what is kept at a place is this
+abbrev pub IsKnown : {K V : Type 0} → Known K V → Known K V → Type 0
+IsKnown known kept = kept ≡ known
+
+-- what is kept at a place was kept before, or is what is put
+abbrev pub IsKnownOr : {K V : Type 0} → Known K V → List (Known K V) → Known K V → Type 0
+IsKnownOr put before kept = Contains before kept ⊎ (kept ≡ put)
+
+-- all that is kept was kept before, or is what is put
+abbrev pub AreKnownOr : {K V : Type 0} → Known K V → List (Known K V) → List (Known K V) → Type 0
+AreKnownOr put before after = All (IsKnownOr put before) after

@@ -1,0 +1,126 @@
+//! Tables of what is known by short keys.
+ghost use Rattle.std.specs.Prelude.{◌≡◌, [], IfOk, IfSome, true};
+ghost use Rattle.std.specs.List.{All, Contains};
+ghost use Rattle.mmdb_cache.specs.Table.{IsKnown, AreKnownOr};
+
+use std::alloc::{AllocError, Global};
+use std::marker::Model;
+
+/// How much is kept in a set.
+const WAYS: usize = 4;
+
+/// What something is kept by.
+pub trait Key: Copy {
+    /// A number on whose lower bits the place depends.
+    fn number(self) -> u64;
+
+    /// Whether it is the same key.
+    fn is(self, other: Self) -> bool
+        ensures { result ≡ true → self ≡ other };
+}
+
+impl Key for u32 {
+    #[inline(always)]
+    fn number(self) -> u64 {
+        u64::from(self)
+    }
+
+    #[inline(always)]
+    fn is(self, other: u32) -> bool {
+        self == other
+    }
+}
+
+/// What is known by a key.
+#[derive(Clone, Copy)]
+pub struct Known<K: Key, V: Copy> {
+    pub key: K,
+    pub value: V,
+}
+
+/// What is known by the last keys, in so many sets of four: each stands in the set that its key gives. All memory is taken at
+/// once.
+#[derive(Drop)]
+pub struct Table<K: Key, V: Copy, const SETS: usize> {
+    kept: Vec<Known<K, V>>,
+    /// Which place of its set is taken next.
+    way: usize,
+}
+
+impl<K: Key, V: Copy, const SETS: usize> Model for Table<K, V, SETS> {
+    ghost use Rattle.std.specs.Prelude.{List};
+    ghost use Rattle.mmdb_cache.specs.declared.table.Known.{Known as SpecKnown};
+
+    ghost Value = { List (SpecKnown K V) };
+
+    ghost view = { λ t. t.kept.items };
+}
+
+// The first place of a key's set, which depends on all of the lower bits of its number.
+#[inline(always)]
+fn place_among(sets: usize, number: u64) -> usize {
+    let mixed = number.wrapping_mul(0x9E37_79B9_7F4A_7C15) >> 32;
+    let set = (mixed as usize).checked_rem(sets).unwrap_or(0);
+    set.wrapping_mul(WAYS)
+}
+
+impl<K: Key, V: Copy, const SETS: usize> Table<K, V, SETS> {
+    /// Without memory for anything.
+    pub fn without_memory(alloc: Global) -> Table<K, V, SETS>
+        ensures { result ≡ [] }
+    {
+        Table {
+            kept: Vec::new(alloc),
+            way: 0,
+        }
+    }
+
+    /// Each place has the same.
+    pub fn new(alloc: Global, known: Known<K, V>) -> Result<Table<K, V, SETS>, AllocError>
+        ensures { IfOk result (λ table. All (IsKnown known) table) }
+    {
+        let count = SETS.saturating_mul(WAYS);
+        let mut kept = Vec::with_capacity(alloc, count)?;
+        for _ in 0..count {
+            kept.push(known)?;
+        }
+        Ok(Table { kept, way: 0 })
+    }
+
+    // Whether a key's own stands at a place.
+    #[inline(always)]
+    fn is_at(&self, place: usize, key: K) -> bool {
+        match self.kept.get(place) {
+            Some(known) => known.key.is(key),
+            None => false,
+        }
+    }
+
+    /// What is known by a key, if it is kept. All of its set are looked at, so that no branch waits for memory.
+    #[inline(always)]
+    pub fn get(&self, key: K) -> Option<V>
+        ensures { IfSome result (λ value. Contains self.now (record { key = key; value = value })) }
+    {
+        let first = place_among(SETS, key.number());
+        let second = usize::from(self.is_at(first.wrapping_add(1), key));
+        let third = usize::from(self.is_at(first.wrapping_add(2), key));
+        let fourth = usize::from(self.is_at(first.wrapping_add(3), key));
+        let way = second + 2 * third + 3 * fourth;
+        let known = self.kept.get(first.wrapping_add(way % WAYS))?;
+        if known.key.is(key) {
+            return Some(known.value);
+        }
+        None
+    }
+
+    /// Keeps what is known by a key, in place of what stands at the next place of its set.
+    pub fn put(&mut self, key: K, value: V)
+        ensures { AreKnownOr (record { key = key; value = value }) self.old self.new }
+    {
+        let place = place_among(SETS, key.number()).wrapping_add(self.way % WAYS);
+        self.way = self.way.wrapping_add(1);
+        if let Some(kept) = self.kept.get_mut(place) {
+            *kept = Known { key, value };
+        }
+    }
+}

@@ -1,2 +1,0 @@
--- What has to be believed: what contracts of public items name.
-pub mod Kinds
