@@ -1,10 +1,12 @@
 //! The command `export`: the chosen networks of a range, with what their records have or as the fewest blocks.
 #![tactic(auto)]
 
+mod blocks;
+mod chosen;
 mod conditions;
 mod networks;
 mod rows;
+mod sink;
 mod task;
-mod writing;
 
 pub use networks::export;

@@ -1,30 +1,18 @@
 //! The chosen networks of a range, written out.
-use crate::rows::{MOST_OF_TEXTS, Rows};
+use crate::blocks::Blocks;
+use crate::chosen::{Export, networks_in};
+use crate::rows::Rows;
+use crate::sink::Sink;
 use crate::task::{ExportTask, Shape, export_task};
-use crate::writing::{Export, Writing, networks_in, of_list};
 use mmdb_arguments::ExportArguments;
 use mmdb_blocks::Kinds;
 use mmdb_choice::{Choice, Condition};
-use mmdb_console::{Console, DONE, FAILED, ProgramError, put};
-use mmdb_layout::{Database, Layout, Networks, open_database};
-use mmdb_lists::{List, Syntax};
+use mmdb_console::{Console, DONE, FAILED, ProgramError};
+use mmdb_layout::{Database, Networks, open_database};
 use mmdb_reader::MaxMindDbError;
-use mmdb_texts::RecordTexts;
 use std::alloc::{AllocError, Global};
 use std::io::Write;
 use std::rt::Files;
-
-// Writes the header, where the layout has one.
-fn put_header<O: Write>(
-    alloc: Global,
-    layout: &Layout<'_>,
-    out: &mut O,
-) -> Result<(), ProgramError> {
-    match layout.header(alloc)? {
-        Some(header) => put(header.as_slice(), out),
-        None => Ok(()),
-    }
-}
 
 // Reports how many networks could not be read, and answers the status.
 fn report_faults<O: Write, E: Write>(
@@ -41,9 +29,9 @@ fn report_faults<O: Write, E: Write>(
 
 // Reports a network that can't be read.
 #[inline(never)]
-fn report_unread<O: Write, E: Write>(
+fn report_unread<W: Sink, O: Write, E: Write>(
     error: MaxMindDbError,
-    export: &mut Export<'_, '_>,
+    export: &mut Export<'_, '_, W>,
     console: &mut Console<'_, O, E>,
 ) -> Result<(), ProgramError> {
     let reported = export.write_unread(&error, console);
@@ -52,9 +40,9 @@ fn report_unread<O: Write, E: Write>(
 }
 
 // Writes the chosen networks, and what stands behind them.
-fn export_all<'r, O: Write, E: Write>(
+fn export_all<'r, W: Sink, O: Write, E: Write>(
     networks: Networks<'r>,
-    export: &mut Export<'_, 'r>,
+    export: &mut Export<'_, 'r, W>,
     console: &mut Console<'_, O, E>,
 ) -> Result<(), ProgramError> {
     for item in networks {
@@ -64,55 +52,6 @@ fn export_all<'r, O: Write, E: Write>(
         }
     }
     export.finish(console)
-}
-
-// Begins rows.
-fn begin_rows<'a, O: Write>(
-    alloc: Global,
-    layout: &'a Layout<'a>,
-    out: &mut O,
-) -> Result<Writing<'a>, ProgramError> {
-    let rows = Rows::new(alloc, layout)?;
-    put_header(alloc, layout, out)?;
-    Ok(Writing::Rows(rows))
-}
-
-// Begins a list.
-fn begin_list<'a, O: Write>(
-    alloc: Global,
-    syntax: Syntax<'a>,
-    kinds: Kinds,
-    out: &mut O,
-) -> Result<Writing<'a>, ProgramError> {
-    let list = List::new(alloc, syntax, kinds)?;
-    of_list(list.begin(out))?;
-    Ok(Writing::List(list))
-}
-
-// Begins what is written.
-fn begin_writing<'a, O: Write>(
-    alloc: Global,
-    task: &'a ExportTask<'a>,
-    out: &mut O,
-) -> Result<Writing<'a>, ProgramError> {
-    match &task.shape {
-        Shape::Rows(layout) => begin_rows(alloc, layout, out),
-        Shape::List(syntax) => begin_list(alloc, *syntax, task.kinds, out),
-    }
-}
-
-// The texts of the records of a data section, where rows have whole ones.
-fn texts_of<'r>(
-    alloc: Global,
-    task: &ExportTask<'_>,
-    section: &'r [u8],
-) -> Option<RecordTexts<'r>> {
-    match &task.shape {
-        Shape::Rows(layout) if layout.has_records() => {
-            Some(RecordTexts::new(alloc, section, MOST_OF_TEXTS))
-        }
-        _ => None,
-    }
 }
 
 // The choice by these conditions. None where there are none, and all networks are chosen.
@@ -126,30 +65,10 @@ fn choice_of<'a>(
     Ok(Some(Choice::new(alloc, conditions)?))
 }
 
-// Begins an export of the records of a data section.
-fn begin<'a, 'r, O: Write>(
-    alloc: Global,
-    task: &'a ExportTask<'a>,
-    section: &'r [u8],
-    out: &mut O,
-) -> Result<Export<'a, 'r>, ProgramError> {
-    let choice = choice_of(alloc, task.conditions.as_slice())?;
-    match begin_writing(alloc, task, out) {
-        Ok(writing) => {
-            let texts = texts_of(alloc, task, section);
-            Ok(Export::new(alloc, choice, task.kinds, writing, texts)?)
-        }
-        Err(error) => {
-            drop(choice);
-            Err(error)
-        }
-    }
-}
-
 // Writes the chosen networks, reports how many could not be read, and answers the status.
-fn export_with<'a, 'r, O: Write, E: Write>(
+fn export_with<'a, 'r, W: Sink, O: Write, E: Write>(
     networks: Networks<'r>,
-    export: Export<'a, 'r>,
+    export: Export<'a, 'r, W>,
     console: &mut Console<'_, O, E>,
 ) -> Result<u8, ProgramError> {
     let mut export = export;
@@ -160,6 +79,51 @@ fn export_with<'a, 'r, O: Write, E: Write>(
     report_faults(faults, console)
 }
 
+// Writes the chosen networks to a sink, if it could be begun.
+fn export_to<'a, 'r, W: Sink, O: Write, E: Write>(
+    networks: Networks<'r>,
+    choice: Option<Choice<'a>>,
+    kinds: Kinds,
+    sink: Result<W, ProgramError>,
+    console: &mut Console<'_, O, E>,
+) -> Result<u8, ProgramError> {
+    match sink {
+        Ok(sink) => match Export::new(console.alloc, choice, kinds, sink) {
+            Ok(export) => export_with(networks, export, console),
+            Err(error) => {
+                drop(networks);
+                Err(ProgramError::from(error))
+            }
+        },
+        Err(error) => {
+            drop(networks);
+            drop(choice);
+            Err(error)
+        }
+    }
+}
+
+// Writes the networks that are chosen, as rows or as a list.
+fn export_chosen<'a, 'r, O: Write, E: Write>(
+    networks: Networks<'r>,
+    choice: Option<Choice<'a>>,
+    section: &'r [u8],
+    task: &'a ExportTask<'a>,
+    console: &mut Console<'_, O, E>,
+) -> Result<u8, ProgramError> {
+    let (alloc, kinds) = (console.alloc, task.kinds);
+    match &task.shape {
+        Shape::Rows(layout) => {
+            let rows = Rows::begin(alloc, layout, section, console.out);
+            export_to(networks, choice, kinds, rows, console)
+        }
+        Shape::List(syntax) => {
+            let blocks = Blocks::begin(alloc, *syntax, kinds, console.out);
+            export_to(networks, choice, kinds, blocks, console)
+        }
+    }
+}
+
 // Writes the chosen networks of a database, reports each that can't be read, and answers the status.
 fn export_database<'a, O: Write, E: Write>(
     database: &Database,
@@ -167,11 +131,11 @@ fn export_database<'a, O: Write, E: Write>(
     console: &mut Console<'_, O, E>,
 ) -> Result<u8, ProgramError> {
     let networks = networks_in(console.alloc, database, task.range)?;
-    match begin(console.alloc, task, database.data_section(), console.out) {
-        Ok(export) => export_with(networks, export, console),
+    match choice_of(console.alloc, task.conditions.as_slice()) {
+        Ok(choice) => export_chosen(networks, choice, database.data_section(), task, console),
         Err(error) => {
             drop(networks);
-            Err(error)
+            Err(ProgramError::from(error))
         }
     }
 }

@@ -1,12 +1,13 @@
 //! The rows of an export.
-use mmdb_blocks::{Block, Kind};
+use crate::blocks::block_of;
+use crate::sink::{Sink, kind_of};
 use mmdb_cache::Cache;
 use mmdb_console::{ProgramError, put};
 use mmdb_layout::{Found, Layout};
 use mmdb_reader::{IpNetwork, MaxMindDbError};
 use mmdb_texts::RecordTexts;
 use std::alloc::{AllocError, Global};
-use std::io::{self, Write};
+use std::io::Write;
 
 /// The most bytes of a row that is kept.
 const MOST_BYTES: usize = 4096;
@@ -14,7 +15,7 @@ const MOST_BYTES: usize = 4096;
 /// The most bytes of all that an export keeps, and of the texts of records among them.
 const MOST_KEPT: usize = 8 << 20;
 
-pub(crate) const MOST_OF_TEXTS: usize = 4 << 20;
+const MOST_OF_TEXTS: usize = 4 << 20;
 
 /// The most bytes of a row that is put together with its network, since three puts of some bytes each take longer than
 /// their copy and one put. A longer row is put in three parts.
@@ -25,9 +26,11 @@ const NETWORK_BYTES: usize = 64;
 
 /// The rows of an export. Many networks share a record, so the last rows are kept.
 #[derive(Drop)]
-pub(crate) struct Rows<'a> {
+pub(crate) struct Rows<'a, 'r> {
     alloc: Global,
     layout: &'a Layout<'a>,
+    /// The texts of the records of the database, where rows have whole ones.
+    texts: Option<RecordTexts<'r>>,
     /// Rows with an empty network, by the offsets of their records.
     kept: Cache<Vec<u8>>,
     /// The last row that was made, with an empty network, and where its record stands, if it is of one.
@@ -53,9 +56,7 @@ fn join_row(
 // The network that was found. Its bits are not masked again.
 #[inline(always)]
 fn network_of(found: &Found<'_>) -> Option<IpNetwork> {
-    let network = found.numbered_network();
-    let block = Block::of_numbers(network.first, network.width, network.prefix);
-    Kind::of_width(network.width).network_of(block).ok()
+    kind_of(found).network_of(block_of(found)).ok()
 }
 
 // Writes a row with its network.
@@ -79,39 +80,61 @@ fn write_row<O: Write>(
     Ok(())
 }
 
-impl<'a> Rows<'a> {
-    /// Of no record yet. Rows are kept in what is left of the bytes that an export keeps by the texts of records.
-    pub(crate) fn new(alloc: Global, layout: &'a Layout<'a>) -> Result<Rows<'a>, AllocError> {
-        let most = if layout.has_records() {
-            MOST_KEPT - MOST_OF_TEXTS
-        } else {
-            MOST_KEPT
-        };
+// Writes the header, where the layout has one.
+fn put_header<O: Write>(
+    alloc: Global,
+    layout: &Layout<'_>,
+    out: &mut O,
+) -> Result<(), ProgramError> {
+    match layout.header(alloc)? {
+        Some(header) => put(header.as_slice(), out),
+        None => Ok(()),
+    }
+}
+
+// The texts of the records of a data section, where rows have whole ones.
+fn texts_of<'r>(alloc: Global, layout: &Layout<'_>, section: &'r [u8]) -> Option<RecordTexts<'r>> {
+    if layout.has_records() {
+        Some(RecordTexts::new(alloc, section, MOST_OF_TEXTS))
+    } else {
+        None
+    }
+}
+
+// How many bytes are kept of rows: what the texts of records leave.
+fn most_of_rows(layout: &Layout<'_>) -> usize {
+    if layout.has_records() {
+        MOST_KEPT - MOST_OF_TEXTS
+    } else {
+        MOST_KEPT
+    }
+}
+
+impl<'a, 'r> Rows<'a, 'r> {
+    /// The rows of the records of a data section, none yet. A header is written where the layout has one.
+    pub(crate) fn begin<O: Write>(
+        alloc: Global,
+        layout: &'a Layout<'a>,
+        section: &'r [u8],
+        out: &mut O,
+    ) -> Result<Rows<'a, 'r>, ProgramError> {
+        let line = Vec::with_capacity(alloc, MOST_JOINED + NETWORK_BYTES)?;
+        put_header(alloc, layout, out)?;
         Ok(Rows {
             alloc,
             layout,
-            kept: Cache::new(alloc, most),
+            texts: texts_of(alloc, layout, section),
+            kept: Cache::new(alloc, most_of_rows(layout)),
             last: Vec::new(alloc),
             last_offset: None,
-            line: Vec::with_capacity(alloc, MOST_JOINED + NETWORK_BYTES)?,
+            line,
         })
     }
 
-    /// Lets go of all rows that are kept.
-    pub(crate) fn clear(&mut self) {
-        self.kept.clear();
-        self.last = Vec::new(self.alloc);
-        self.last_offset = None;
-    }
-
     // Makes the last row anew, that of an answer.
-    fn make_last(
-        &mut self,
-        found: &Found<'_>,
-        texts: &mut Option<RecordTexts<'_>>,
-    ) -> Result<(), MaxMindDbError> {
+    fn make_last(&mut self, found: &Found<'_>) -> Result<(), MaxMindDbError> {
         self.last_offset = None;
-        match texts {
+        match &mut self.texts {
             Some(texts) => self
                 .layout
                 .put_row(self.alloc, found, texts, &mut self.last)?,
@@ -137,44 +160,28 @@ impl<'a> Rows<'a> {
 
     // Makes the row of an answer.
     #[inline(never)]
-    fn make(
-        &mut self,
-        found: &Found<'_>,
-        texts: &mut Option<RecordTexts<'_>>,
-    ) -> Result<(), MaxMindDbError> {
-        self.make_last(found, texts)?;
+    fn make(&mut self, found: &Found<'_>) -> Result<(), MaxMindDbError> {
+        self.make_last(found)?;
         self.keep_last();
         Ok(())
     }
 
-    /// Puts the row of an answer with its network, where it is kept, short, and there is memory for it. Whether it was. Most
-    /// rows go this way, which has no error to make but that of the writer.
+    // Puts the row of a network together, where it is kept, short, and there is memory for it. Whether it was.
     #[inline(always)]
-    pub(crate) fn put_kept<O: Write>(
-        &mut self,
-        found: &Found<'_>,
-        out: &mut O,
-    ) -> io::Result<bool> {
-        let Some(offset) = found.offset() else {
-            return Ok(false);
+    fn join_kept(&mut self, found: &Found<'_>) -> bool {
+        let (Some(offset), Some(network)) = (found.offset(), network_of(found)) else {
+            return false;
         };
         let Some(row) = self.kept.get(offset) else {
-            return Ok(false);
+            return false;
         };
         let text = row.as_slice();
         if text.len() > MOST_JOINED {
-            return Ok(false);
+            return false;
         }
-        let Some(network) = network_of(found) else {
-            return Ok(false);
-        };
         let (before, after) = text.split_at(self.layout.place_of_network().min(text.len()));
         self.line.clear();
-        if join_row(before, network, after, &mut self.line).is_err() {
-            return Ok(false);
-        }
-        out.write_all(self.line.as_slice())?;
-        Ok(true)
+        join_row(before, network, after, &mut self.line).is_ok()
     }
 
     // Writes the last row, with a network.
@@ -186,15 +193,19 @@ impl<'a> Rows<'a> {
         let at = self.layout.place_of_network();
         write_row(self.last.as_slice(), at, network, &mut self.line, out)
     }
+}
 
-    /// Writes the row of an answer, by the texts of the records of its database, if they are there. An `Err` of memory
-    /// comes before anything is written.
-    pub(crate) fn write<O: Write>(
-        &mut self,
-        found: &Found<'_>,
-        texts: &mut Option<RecordTexts<'_>>,
-        out: &mut O,
-    ) -> Result<(), ProgramError> {
+impl Sink for Rows<'_, '_> {
+    #[inline(always)]
+    fn take<O: Write>(&mut self, found: &Found<'_>, out: &mut O) -> Result<bool, ProgramError> {
+        if !self.join_kept(found) {
+            return Ok(false);
+        }
+        put(self.line.as_slice(), out)?;
+        Ok(true)
+    }
+
+    fn put<O: Write>(&mut self, found: &Found<'_>, out: &mut O) -> Result<(), ProgramError> {
         let network = found.network()?;
         let offset = found.offset();
         if let Some(offset) = offset {
@@ -204,8 +215,24 @@ impl<'a> Rows<'a> {
             }
         }
         if offset.is_none() || self.last_offset != offset {
-            self.make(found, texts)?;
+            self.make(found)?;
         }
         self.write_last(network, out)
+    }
+
+    #[cold]
+    #[inline(never)]
+    fn let_go(&mut self) -> bool {
+        self.kept.clear();
+        self.last = Vec::new(self.alloc);
+        self.last_offset = None;
+        if let Some(texts) = &mut self.texts {
+            texts.clear();
+        }
+        true
+    }
+
+    fn finish<O: Write>(&mut self, _out: &mut O) -> Result<(), ProgramError> {
+        Ok(())
     }
 }

@@ -1,129 +1,23 @@
 //! The chosen networks of a range, with what their records have or as the fewest blocks.
-use crate::rows::Rows;
-use mmdb_blocks::{Block, Kind, Kinds};
+use crate::sink::{Sink, kind_of};
+use mmdb_blocks::Kinds;
 use mmdb_choice::Choice;
 use mmdb_console::{Console, ProgramError, Where};
 use mmdb_layout::{Database, Found, Networks};
-use mmdb_lists::{List, ListError, Taken};
 use mmdb_reader::{IpNetwork, MaxMindDbError, WithinOptions};
-use mmdb_texts::RecordTexts;
 use std::alloc::{AllocError, Global};
-use std::io::{self, Write};
+use std::io::Write;
 
 /// How many networks are looked at together.
 const MOST_WAITING: usize = 64;
 
-/// What networks are written as.
-#[derive(Drop)]
-pub(crate) enum Writing<'a> {
-    Rows(Rows<'a>),
-    List(List<'a>),
-}
-
-/// What a list answered, as the program reports it.
-#[inline(always)]
-pub(crate) fn of_list(done: Result<(), ListError>) -> Result<(), ProgramError> {
-    match done {
-        Ok(()) => Ok(()),
-        Err(ListError::Write(error)) => Err(ProgramError::Write(error)),
-        Err(ListError::OutOfOrder) => Err(ProgramError::OutOfOrder),
-        Err(ListError::Memory) => Err(ProgramError::Memory),
-    }
-}
-
-// What a writer answered, as the program reports it.
-#[inline(always)]
-fn of_write(done: io::Result<bool>) -> Result<bool, ProgramError> {
-    match done {
-        Ok(is_put) => Ok(is_put),
-        Err(error) => Err(ProgramError::Write(error)),
-    }
-}
-
-// The kind of a network that was found.
-#[inline(always)]
-fn kind_of(found: &Found<'_>) -> Kind {
-    Kind::of_width(found.numbered_network().width)
-}
-
-// The block of a network that was found.
-#[inline(always)]
-fn block_of(found: &Found<'_>) -> Block {
-    let network = found.numbered_network();
-    Block::of_numbers(network.first, network.width, network.prefix)
-}
-
-impl Writing<'_> {
-    // Writes the network of an answer.
-    #[inline(always)]
-    fn write<O: Write>(
-        &mut self,
-        found: &Found<'_>,
-        texts: &mut Option<RecordTexts<'_>>,
-        out: &mut O,
-    ) -> Result<(), ProgramError> {
-        match self {
-            Writing::Rows(rows) => rows.write(found, texts, out),
-            Writing::List(list) => of_list(list.push(kind_of(found), block_of(found), out)),
-        }
-    }
-
-    // Takes a chosen network into a list, where nothing is to be written before it.
-    #[inline(always)]
-    fn take(&mut self, found: &Found<'_>) -> Taken {
-        match self {
-            Writing::Rows(_) => Taken::Not,
-            Writing::List(list) => list.take(kind_of(found), block_of(found)),
-        }
-    }
-
-    // Puts the row of a chosen network, where it is kept and short. Whether it was.
-    #[inline(always)]
-    fn put_kept<O: Write>(
-        &mut self,
-        found: &Found<'_>,
-        kinds: Kinds,
-        out: &mut O,
-    ) -> io::Result<bool> {
-        match self {
-            Writing::Rows(rows) if kinds.has(kind_of(found)) => rows.put_kept(found, out),
-            _ => Ok(false),
-        }
-    }
-
-    // Lets go of all that is kept of rows. Whether something is.
-    #[cold]
-    #[inline(never)]
-    fn let_go(&mut self, texts: &mut Option<RecordTexts<'_>>) -> bool {
-        let Writing::Rows(rows) = self else {
-            return false;
-        };
-        rows.clear();
-        if let Some(texts) = texts {
-            texts.clear();
-        }
-        true
-    }
-
-    // Writes what a list has for it.
-    #[inline(never)]
-    fn write_settled<O: Write>(&mut self, out: &mut O) -> Result<(), ProgramError> {
-        match self {
-            Writing::Rows(_) => Ok(()),
-            Writing::List(list) => of_list(list.write_settled(out)),
-        }
-    }
-}
-
 /// An export of the chosen networks.
 #[derive(Drop)]
-pub(crate) struct Export<'a, 'r> {
+pub(crate) struct Export<'a, 'r, W: Sink> {
     /// Which networks are chosen. None: all.
     choice: Option<Choice<'a>>,
     kinds: Kinds,
-    writing: Writing<'a>,
-    /// The texts of whole records, where rows have them and there was memory.
-    texts: Option<RecordTexts<'r>>,
+    sink: W,
     /// What was found in the last networks. What is kept of their records is looked for side by side, since each look
     /// waits for memory.
     waiting: Vec<Found<'r>>,
@@ -133,20 +27,18 @@ pub(crate) struct Export<'a, 'r> {
     pub(crate) faults: u64,
 }
 
-impl<'a, 'r> Export<'a, 'r> {
+impl<'a, 'r, W: Sink> Export<'a, 'r, W> {
     /// Of no network yet.
     pub(crate) fn new(
         alloc: Global,
         choice: Option<Choice<'a>>,
         kinds: Kinds,
-        writing: Writing<'a>,
-        texts: Option<RecordTexts<'r>>,
-    ) -> Result<Export<'a, 'r>, AllocError> {
+        sink: W,
+    ) -> Result<Export<'a, 'r, W>, AllocError> {
         Ok(Export {
             choice,
             kinds,
-            writing,
-            texts,
+            sink,
             waiting: Vec::with_capacity(alloc, MOST_WAITING)?,
             last: None,
             faults: 0,
@@ -171,7 +63,7 @@ impl<'a, 'r> Export<'a, 'r> {
     ) -> Result<(), ProgramError> {
         self.faults = self.faults.saturating_add(1);
         match console.report_behind(place.name(console.alloc), error) {
-            Err(problem) if problem.is_memory() && self.writing.let_go(&mut self.texts) => {
+            Err(problem) if problem.is_memory() && self.sink.let_go() => {
                 drop(problem);
                 console.report_behind(place.name(console.alloc), error)
             }
@@ -195,13 +87,10 @@ impl<'a, 'r> Export<'a, 'r> {
         kept: Option<bool>,
         out: &mut O,
     ) -> Result<(), ProgramError> {
-        if !self.kinds.has(kind_of(found)) {
-            return Ok(());
-        }
         if kept != Some(true) && !self.chooses(found)? {
             return Ok(());
         }
-        self.writing.write(found, &mut self.texts, out)
+        self.sink.put(found, out)
     }
 
     // Reports a network that is not named and can't be read.
@@ -223,7 +112,7 @@ impl<'a, 'r> Export<'a, 'r> {
         out: &mut O,
     ) -> Result<(), ProgramError> {
         match self.write_chosen(found, kept, out) {
-            Err(error) if error.is_memory() && self.writing.let_go(&mut self.texts) => {
+            Err(error) if error.is_memory() && self.sink.let_go() => {
                 drop(error);
                 self.write_chosen(found, kept, out)
             }
@@ -265,27 +154,18 @@ impl<'a, 'r> Export<'a, 'r> {
         all
     }
 
-    // Takes a network that waits into a list, where it is known to be chosen and nothing is to be written before it. Most
-    // chosen networks of a list go this way, which has no error to make.
+    // Takes a network that waits, where it is known to be chosen and all that it needs is at hand. Whether that was done, or
+    // it is of a kind that is not wanted. Most go this way, which has no large error to make.
     #[inline(always)]
-    fn take_chosen(&mut self, index: usize, kept: Option<bool>) -> Taken {
-        match self.waiting.get(index) {
-            Some(found) if kept == Some(true) => self.writing.take(found),
-            _ => Taken::Not,
-        }
-    }
-
-    // Puts the row of a network that waits, where the network is known to be chosen and the row is kept. Whether it was.
-    // Most rows go this way, which has no large error to hand on.
-    #[inline(always)]
-    fn put_kept<O: Write>(
+    fn take_waiting<O: Write>(
         &mut self,
         index: usize,
         kept: Option<bool>,
         out: &mut O,
-    ) -> io::Result<bool> {
+    ) -> Result<bool, ProgramError> {
         match self.waiting.get(index) {
-            Some(found) if kept == Some(true) => self.writing.put_kept(found, self.kinds, out),
+            Some(found) if !self.kinds.has(kind_of(found)) => Ok(true),
+            Some(found) if kept == Some(true) => self.sink.take(found, out),
             _ => Ok(false),
         }
     }
@@ -313,13 +193,8 @@ impl<'a, 'r> Export<'a, 'r> {
             if *kept == Some(false) {
                 continue;
             }
-            if of_write(self.put_kept(index, *kept, console.out))? {
-                continue;
-            }
-            match self.take_chosen(index, *kept) {
-                Taken::Whole => {}
-                Taken::Settled => self.writing.write_settled(console.out)?,
-                Taken::Not => self.write_waiting_at(index, *kept, console)?,
+            if !self.take_waiting(index, *kept, console.out)? {
+                self.write_waiting_at(index, *kept, console)?;
             }
         }
         if let Some(found) = self.waiting.last() {
@@ -360,10 +235,7 @@ impl<'a, 'r> Export<'a, 'r> {
         console: &mut Console<'_, O, E>,
     ) -> Result<(), ProgramError> {
         self.write_waiting(console)?;
-        match &mut self.writing {
-            Writing::Rows(_) => Ok(()),
-            Writing::List(list) => of_list(list.finish(console.out)),
-        }
+        self.sink.finish(console.out)
     }
 }
 
