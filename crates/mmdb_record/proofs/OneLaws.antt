@@ -1,7 +1,7 @@
 -- At most one value stands at an offset.
-use Rattle.std.proofs.Common.{◌≡◌, ◌↔◌, ℕ, ℤ, ◌<◌, List, Option, Some, None, refl, sym, ap, ◌∙◌, inl, inr}
+use Rattle.std.proofs.Common.{◌≡◌, ◌↔◌, ℕ, ℤ, List, Option, Some, sym, ap, ◌∙◌, inl, inr}
 use Rattle.mmdb_format.specs.Contents.{Scalar, scalar_payload}
-use Rattle.mmdb_format.specs.Unfolding.{Tree, scalar, pointer, Unfolds, without_pointers}
+use Rattle.mmdb_format.specs.Unfolding.{scalar, pointer, without_pointers}
 use Rattle.mmdb_format.proofs.UnfoldingLaws.{one_tree_unfolds}
 use Rattle.mmdb_decode.specs.Arrays.{list_at}
 use Rattle.mmdb_decode.specs.Maps.{Fields, text_map_at}
