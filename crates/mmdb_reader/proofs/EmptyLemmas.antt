@@ -1,15 +1,15 @@
 -- What stands at an offset or behind one pointer there, as a function and as the format says it.
 use Rattle.std.specs.Option.{IfSome}
-use Rattle.std.proofs.Common.{◌≡◌, ◌≢◌, ◌⊎◌, ℕ, ◌+◌, ◌<◌, List, Option, Some, None, true, false, nat_eq, nat_lt, refl, sym, ◌∙◌, arith, inl, inr, subst}
+use Rattle.std.proofs.Common.{◌≡◌, ◌≢◌, ℕ, List, Some, None, false, nat_eq, nat_lt, refl, arith, inl, inr, subst}
 use Rattle.std.proofs.lemmas.Bool.Decides.{nat_tests}
 use Rattle.mmdb_format.specs.declared.header.Header.{Header}
 use Rattle.mmdb_format.specs.declared.header.Pointer.{Pointer}
 use Rattle.mmdb_format.specs.declared.header.Direct.{Direct}
-use Rattle.mmdb_format.specs.Header.{◌>>=◌, header_at}
+use Rattle.mmdb_format.specs.Header.{header_at}
 use Rattle.mmdb_format.specs.Pointer.{pointer_at, PointsTo, direct_at, behind, most_levels}
 use Rattle.mmdb_decode.proofs.Options.{if_bind, if_cond, if_is}
 use Rattle.mmdb_record.proofs.ContainerLaws.{pointer_body}
-use Rattle.mmdb_reader.specs.Empty.{HasValueHeader, LeadsToHeader}
+use Rattle.mmdb_reader.specs.Empty.{LeadsToHeader}
 
 points_to : (s : List ℕ) (p : ℕ) (header : Header) (to : Pointer) → header_at s p ≡ Some header → header.kind ≡ 1 → pointer_at s header.body header.size ≡ Some to → PointsTo s p to.target to.next
 points_to s p header to h k a =

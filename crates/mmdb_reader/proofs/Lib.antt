@@ -25,4 +25,5 @@ pub mod WholeLemmas
 pub mod AliasedLookups
 pub mod PathLemmas
 pub mod PartLemmas
+pub mod WayLemmas
 pub mod MetadataNames

@@ -24,7 +24,7 @@ use Rattle.mmdb_reader.specs.declared.path.PathElement.{PathElement}
 use Rattle.mmdb_reader.specs.declared.path.PathElement.TheVariants.{Key, Index, IndexFromEnd}
 
 -- what options hold
-bind_some : {A B : Type 0} (o : Option A) (f : A → Option B) (y : B) → (o >>= f) ≡ Some y → (x : A) × (o ≡ Some x) × (f x ≡ Some y)
+pub bind_some : {A B : Type 0} (o : Option A) (f : A → Option B) (y : B) → (o >>= f) ≡ Some y → (x : A) × (o ≡ Some x) × (f x ≡ Some y)
 bind_some None f y h = absurd (cc)
 bind_some (Some x) f y h = (x, refl, h)
 
@@ -32,7 +32,7 @@ cond_some : {A : Type 0} (b : Bool) (o : Option A) (x : A) → cond b o None ≡
 cond_some true o x h = (refl, h)
 cond_some false o x h = absurd (cc)
 
-same_some : {A : Type 0} (x y : A) → Some x ≡ Some y → x ≡ y
+pub same_some : {A : Type 0} (x y : A) → Some x ≡ Some y → x ≡ y
 same_some x y h = cc
 
 same_held : {A : Type 0} (o : Option A) (x y : A) → o ≡ Some x → o ≡ Some y → x ≡ y
@@ -45,14 +45,14 @@ false_true : {P : Type 0} (b : Bool) → b ≡ false → b ≡ true → P
 false_true b h k = let e : false ≡ true = sym h ∙ k in absurd (cc)
 
 -- a reading after a reading
-record Follows {A B : Type 0} (f : Meaning A) (g : A → Meaning B) (s : List ℕ) (p d : ℕ) (r : Reading B) : Type 0 where
+pub record Follows {A B : Type 0} (f : Meaning A) (g : A → Meaning B) (s : List ℕ) (p d : ℕ) (r : Reading B) : Type 0 where
   pub first : Reading A
   pub second : Reading B
   pub one : f s p d ≡ Some first
   pub two : g first.value s first.next d ≡ Some second
   pub same : plus first second ≡ r
 
-follows : {A B : Type 0} (f : Meaning A) (g : A → Meaning B) (s : List ℕ) (p d : ℕ) (r : Reading B) → followed f g s p d ≡ Some r → Follows f g s p d r
+pub follows : {A B : Type 0} (f : Meaning A) (g : A → Meaning B) (s : List ℕ) (p d : ℕ) (r : Reading B) → followed f g s p d ≡ Some r → Follows f g s p d r
 follows f g s p d r h =
     let x = bind_some (f s p d) _ r h in
     let y = bind_some (g x.0.value s x.0.next d) _ r x.2 in
@@ -291,7 +291,7 @@ key_of s p d q k key x a h =
     let r : key_reading y.0 (end_of at.0 (at.0.header.body + at.0.header.size)) ≡ x = same_some _ x y.2 in
     (c.0 ∙ ap (λ (z : Reading (List ℕ)). named z.value key) r, ap (λ (z : Reading (List ℕ)). z.next) (sym r) ∙ (ap (end_of at.0) (sym c.1) ∙ b.next))
 
-abbrev with_key : List ℕ → ℕ → List ℕ → Meaning Bool
+abbrev pub with_key : List ℕ → ℕ → List ℕ → Meaning Bool
 with_key key n k = if named k key then given true else followed skip_at (λ _. to_key key n)
 
 module _ (s : List ℕ) (d : ℕ) (key : List ℕ) where

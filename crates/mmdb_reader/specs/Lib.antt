@@ -16,6 +16,7 @@ pub mod Decoding
 pub mod Selecting
 pub mod PathText
 pub mod Parts
+pub mod Ways
 pub mod Alias
 pub mod Options
 pub mod Empty

@@ -1,5 +1,5 @@
 -- What contracts of private functions and proofs name.
-use Rattle.std.specs.Prelude.{◌≡◌, ℕ, Bool, List, ◌++◌, take, Option, Some, None, ◌+◌, ◌*◌, ◌<◌, ◌≤◌, length, ◌-◌, ◌⊎◌, ◌^◌, zero, suc, [], ◌∷◌, false, if◌then◌else◌, ◌↔◌, Result, IfSome, IfOk, IfErr, Ok, Err}
+use Rattle.std.specs.Prelude.{◌≡◌, ℕ, Bool, List, ◌++◌, take, Option, Some, None, ◌+◌, ◌*◌, ◌<◌, ◌≤◌, length, ◌-◌, ◌⊎◌, ◌^◌, zero, suc, [], ◌∷◌, false, if◌then◌else◌, Result, IfSome, IfErr, Ok, Err}
 use Rattle.std.specs.declared.net.ip_addr.IpAddr.{IpAddr}
 use Rattle.mmdb_net.specs.Bits.{IsPrefix, bits_of}
 use Rattle.mmdb_tree.specs.declared.record.TreeRecord.{TreeRecord}
@@ -7,9 +7,8 @@ use Rattle.mmdb_tree.specs.declared.record.TreeRecord.TheVariants.{Data, Empty, 
 use Rattle.mmdb_reader.specs.File.{Database, tree_of, IsMarkerAt, width}
 use Rattle.mmdb_tree.specs.Tree.{walk, step}
 use Rattle.mmdb_reader.specs.Leaves.{IsLeaf}
-use Rattle.mmdb_reader.specs.Lookup.{address_bits, CanAsk, Answers, IsInvalidAt, outcome_at}
-use Rattle.mmdb_reader.specs.Shown.{block_in, is_shown_as_ipv4}
-use Rattle.mmdb_reader.specs.Many.{LookupsLeft}
+use Rattle.mmdb_reader.specs.Lookup.{address_bits, CanAsk}
+use Rattle.mmdb_reader.specs.Shown.{block_in}
 use Rattle.mmdb_decode.specs.Errors.{answer}
 use Rattle.mmdb_reader.specs.declared.options.WithinOptions.{WithinOptions}
 use Rattle.mmdb_reader.specs.declared.positions.Position.{Position}
@@ -18,14 +17,10 @@ use Rattle.mmdb_reader.specs.Positions.{bits_to, listed_of_stack, IsPlaced, IsSt
 use Rattle.mmdb_net.specs.Network.{ip_of}
 use Rattle.mmdb_net.specs.declared.network.IpNetwork.{IpNetwork}
 use Rattle.mmdb_reader.specs.Ranges.{positions_for}
-use Rattle.std.specs.Iterator.{YieldsFirstBy}
-use Rattle.std.specs.declared.convert.AsSlice.{Ghosts}
-use Rattle.mmdb_format.specs.Error.{OfDatabase, OfInput, kind_of, FailsAs}
+use Rattle.mmdb_format.specs.Error.{OfDatabase, kind_of}
 use Rattle.mmdb_format.specs.declared.error.MaxMindDbError.{MaxMindDbError}
-use Rattle.mmdb_reader.specs.declared.lookup_result.LookupResult.{LookupResult}
 use Rattle.mmdb_reader.specs.declared.reader.Leaf.{Leaf}
 use Rattle.mmdb_reader.specs.Numbered.{numbered_block}
-use Rattle.mmdb_reader.specs.Found.{database_asked, leaf_of, offset_found, shown_as_ipv4}
 use Rattle.mmdb_tree.specs.declared.walked.Walked.{Walked}
 use Rattle.mmdb_tree.specs.Walked.{HoldsOffsetsOf, IsVerdict}
 use Rattle.mmdb_reader.specs.Stops.{walked_tree, walk_cost}

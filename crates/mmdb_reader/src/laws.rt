@@ -9,6 +9,7 @@ ghost use Rattle.mmdb_reader.specs.Laws.{LeavesAreDisjoint, EachAddressHasOneLea
 ghost use Rattle.mmdb_reader.specs.Agreement.{ItemsAgree};
 ghost use Rattle.mmdb_reader.specs.WholeLaws.{FewPositionsWait, FewStopsAreTaken, StopsAreExact, OffsetsAreExact, LookupsSucceed, AnsweredOffsetsAreWalked, WholeFilesAnswer, GoesOnAsIpv4, AliasesEndAsIpv4};
 ghost use Rattle.mmdb_reader.specs.Parts.{PathSelects, PathLeadsNowhere};
+ghost use Rattle.mmdb_reader.specs.Ways.{SelectingIsLeading, OneWayLeads, AnswersAreReadAlong};
 ghost use Rattle.mmdb_reader.specs.Selecting.{IsSameStep};
 ghost use Rattle.mmdb_reader.specs.declared.path.PathElement.{PathElement as SpecPathElement};
 ghost use Rattle.mmdb_reader.specs.ListingLaws.{RangeWalkLists, ListingsAreUnique, WholeWalkListsAll, ListedAgrees};
@@ -18,6 +19,7 @@ use crate::options::WithinOptions;
 use crate::path::PathElement;
 pub use mmdb_format::laws::{errors_hold_their_causes, scalar_clones_are_same};
 pub use mmdb_net::laws::{network_clones_are_same, networks_equal_where_same};
+use mmdb_record::decode::Decode;
 
 /// Leaves are disjoint blocks, and each full address begins with exactly one.
 pub fn leaves_partition()
@@ -115,6 +117,19 @@ pub fn aliases_lead_to_ipv4()
 pub fn path_selects()
     ensures part { PathSelects }
     ensures nowhere { PathLeadsNowhere }
+{}
+
+/// Where a path leads, in the words of the format, is where it is found to lead, with the same costs: to one
+/// offset, whatever stands behind it, or nowhere.
+pub fn path_is_what_leads()
+    ensures same { SelectingIsLeading }
+    ensures one { OneWayLeads }
+{}
+
+/// What is read along a path from the start is what is read at the offset that the path leads to, or nothing
+/// where it leads nowhere, exactly where both together are within the limits.
+pub fn path_is_read_along<'de, T: Decode<'de>>()
+    ensures { AnswersAreReadAlong T.meaning }
 {}
 
 /// Steps of a path are equal exactly where they are of one kind and have the same index or spelling.

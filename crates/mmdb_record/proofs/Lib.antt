@@ -5,6 +5,7 @@ pub mod ContainerLaws
 pub mod ListLaws
 pub mod TextMapLaws
 pub mod RecordStandingLaws
+pub mod OneLaws
 pub mod ContainerTrees
 pub mod TableLaws
 pub mod FieldNameLaws

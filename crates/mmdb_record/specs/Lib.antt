@@ -7,3 +7,4 @@ pub mod Memos
 pub mod Limits
 pub mod Shapes
 pub mod TypedReads
+pub mod OneStands

@@ -8,6 +8,7 @@ ghost use Rattle.mmdb_decode.specs.Reading.{mapped};
 ghost use Rattle.mmdb_decode.specs.Scalars.{u16_at, u32_at, u64_at, u128_at, i32_at, bool_at, double_at, float_at, text_at, byte_string_at};
 ghost use Rattle.mmdb_decode.specs.SmallNumbers.{small_at};
 ghost use Rattle.mmdb_record.specs.Limits.{AnswerIsWithinLimits, OneReading};
+ghost use Rattle.mmdb_record.specs.OneStands.{OneScalarStands, OneIntegerStands, OneListStands, OneTextMapStands, OneRecordStands};
 ghost use Rattle.mmdb_record.specs.Shapes.{decoding, IsShape, IsScalarShape, IsSmallShape, IsOwnedShape, IsContainerShape};
 ghost use Rattle.mmdb_record.specs.TypedReads.{ScalarsUnfold, ReadsLists, ListsUnfold, ReadsTextMaps, TextMapsUnfold, LastPairStays, KeysAscend, ReadsRecords, ReadsWholeRecords, ReadsTables, KnownNamesStandOnce, FieldNamesStandOnce};
 ghost use Rattle.mmdb_record.specs.Tables.{fields_of, no_parts};
@@ -32,6 +33,13 @@ pub fn answer_is_within_limits<'de, T: Decode<'de>>()
 /// are read as equal data, or both fail.
 pub fn same_offset_same_result<'de, T: Decode<'de>>()
     ensures { OneReading T.meaning }
+{}
+
+/// In the words of the format too: at one offset at most one scalar stands, and at most one integer of any
+/// type, with one end and one cost.
+pub fn one_scalar_stands()
+    ensures scalars { OneScalarStands }
+    ensures integers { OneIntegerStands }
 {}
 
 /// Scalars, and texts and byte strings that are lent, say themselves and are read as the one type of the
@@ -97,16 +105,19 @@ pub fn scalars_unfold<'de, T: Decode<'de>>()
 {}
 
 /// What is read as a list is the array that stands there, directly or behind one pointer: its elements in
-/// turn.
+/// turn. At most one stands at an offset, with one end and one cost.
 pub fn list_is_what_stands<'de, T: Decode<'de>>()
     ensures read { ReadsLists T.meaning }
+    ensures one { OneListStands T.meaning }
     ensures unfolds { ListsUnfold T.meaning }
 {}
 
 /// What is read as a map with keys of text is the map that stands there, directly or behind one pointer:
-/// its pairs in turn, of which the last one with a key gives its value. Its keys ascend.
+/// its pairs in turn, of which the last one with a key gives its value. Its keys ascend. At most one stands at
+/// an offset, with one end and one cost.
 pub fn text_map_is_what_stands<'de, T: Decode<'de>>()
     ensures read { ReadsTextMaps T.meaning }
+    ensures one { OneTextMapStands T.meaning }
     ensures unfolds { TextMapsUnfold T.meaning }
     ensures last { LastPairStays T.Datum }
     ensures ascend { KeysAscend T.Datum }
@@ -114,17 +125,20 @@ pub fn text_map_is_what_stands<'de, T: Decode<'de>>()
 
 /// What is read as a record is the map that stands there, directly or behind one pointer: its fields in
 /// turn. A name of which the record says whether it has stood, and that is an error then, stands at most
-/// once.
+/// once. At most one record stands at an offset, with one end and one cost.
 pub fn record_is_what_stands<'de, R: Record<'de>>()
     ensures read { ReadsRecords R.fields R.none }
+    ensures one { OneRecordStands R.fields R.none }
     ensures whole { ReadsWholeRecords R.fields R.none R.whole }
     ensures known_names { KnownNamesStandOnce R.fields R.none }
 {}
 
 /// What is read as a record that a table describes is the map that stands there, directly or behind one
-/// pointer: its fields in turn, by the rows of the table. The name of each row stands at most once.
+/// pointer: its fields in turn, by the rows of the table. The name of each row stands at most once. At most
+/// one such record stands at an offset, with one end and one cost.
 pub fn table_is_what_stands<'de, R: Fields<'de>>()
     ensures read { ReadsTables R.table }
+    ensures one { OneRecordStands (fields_of R.table) (no_parts R.table) }
     ensures known_names { KnownNamesStandOnce (fields_of R.table) (no_parts R.table) }
     ensures field_names { FieldNamesStandOnce R.table }
 {}

@@ -13,8 +13,8 @@ pub use mmdb_check::laws::{no_place_is_met_again, order_is_free};
 use mmdb_record::decode::Decode;
 pub use mmdb_record::laws::{
     answer_is_within_limits, how_containers_are_read, how_owned_bytes_are_read,
-    how_scalars_are_read, how_small_numbers_are_read, list_is_what_stands, one_tree_unfolds,
-    owned_bytes_equal_where_same, record_is_what_stands, same_offset_same_result,
+    how_scalars_are_read, how_small_numbers_are_read, list_is_what_stands, one_scalar_stands,
+    one_tree_unfolds, owned_bytes_equal_where_same, record_is_what_stands, same_offset_same_result,
     scalar_is_what_stands, scalars_equal_where_same, scalars_unfold, skipping_is_passing,
     small_number_is_what_stands, table_is_what_stands, text_map_is_what_stands, values_bounded,
 };

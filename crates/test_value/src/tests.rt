@@ -7,6 +7,7 @@ mod equalities;
 mod errors;
 mod limits;
 mod memory;
+mod offsets;
 mod own_types;
 mod steps;
 mod typed;

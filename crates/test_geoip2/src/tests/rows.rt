@@ -131,6 +131,16 @@ const CITIES: &[(&[u8], &str)] = &[
     (b"\xE1\x44city\xE1\x4Ageoname_id\xA1\x07", "decoding error at offset 18: expected u32, got type 5"),
     (b"\xE1\x46traits\xE1\x4Ais_anycast\xA1\x01", "decoding error at offset 20: expected bool, got type 5"),
     (b"\xE1\x46postal\xE1\x44code\x42\xFF\xFE", "invalid database at offset 17: invalid UTF-8 in string"),
+    (b"\xE1\x44city\xE1\x45names\x41x", "decoding error at offset 13: expected map, got type 2"),
+    (b"\xE1\x48location\xE1\x48latitude\xA1\x07", "decoding error at offset 20: expected double, got type 5"),
+    (b"\xE1\x4Csubdivisions\xE0", "decoding error at offset 14: expected array, got type 7"),
+    (b"\xE1\x44city\xE1\x42z", "invalid database at offset 7: string length exceeds buffer"),
+    // What stands behind an unknown name is skipped: a value of an unknown type, too many values.
+    (b"\xE1\x41z\x00\x05", "invalid database at offset 3: unknown data type: 12"),
+    (
+        b"\xE1\x41z\x1E\x04\xFE\xE3",
+        "resource limit exceeded at offset 3: exceeded maximum number of data structure values",
+    ),
 ];
 
 /// Enterprises.
@@ -151,6 +161,8 @@ const ENTERPRISES: &[(&[u8], &str)] = &[
 const DOMAINS: &[(&[u8], &str)] = &[
     (b"\xE2\x46domain\x41x\x46domain\x41y", "decoding error at offset 17: duplicate field `domain`"),
     (b"\xE1\x46domain\x81x", "decoding error at offset 8: expected string, got type 4"),
+    (b"\xE1\x46domain\x20\x0A\x41\xFF", "invalid database at offset 10: invalid UTF-8 in string"),
+    (b"\xE1\x46domain\x20\x0A\x81x", "decoding error at offset 8: expected string, got type 4"),
 ];
 
 /// The rows of one record.
@@ -201,6 +213,19 @@ const LONG_DOMAINS: &[Long] = &[
     (b"\xE1\x46domain\x5F\x1E\xFE\xE4", b"a", 2_097_153, "resource limit exceeded at offset 8: exceeded maximum size of data structure string and bytes values"),
 ];
 
+/// Unknown fields, whose values are so many arrays within each other: at most 128 are skipped.
+#[rattlefmt::skip]
+const NESTED: &[Long] = &[
+    (b"\xE1\x41z", b"\x01\x04", 127, "invalid database at offset 257: unexpected end of buffer"),
+    (b"\xE1\x41z", b"\x01\x04", 128, "invalid database at offset 259: unexpected end of buffer"),
+    (
+        b"\xE1\x41z",
+        b"\x01\x04",
+        129,
+        "invalid database at offset 259: exceeded maximum data structure depth; database is likely corrupt",
+    ),
+];
+
 /// Records, and the rows that are reported of each.
 const AT_LIMITS: &[(Kind, &[Long])] = &[
     (Kind::Country, CHARGED),
@@ -209,6 +234,7 @@ const AT_LIMITS: &[(Kind, &[Long])] = &[
     (Kind::City, SUBDIVISIONS),
     (Kind::Enterprise, SUBDIVISIONS),
     (Kind::Domain, LONG_DOMAINS),
+    (Kind::Domain, NESTED),
 ];
 
 // What is reported of a row's section.

@@ -12,12 +12,14 @@ const USAGE: &str =
 
 const FOUND: [&str; 3] = ["lookup", "here.mmdb", "200.0.0.1"];
 
+const ABSENT: [&str; 3] = ["lookup", "here.mmdb", "1.1.1.1"];
+
 /// Words that the program runs.
 #[rattlefmt::skip]
 const RUN: &[(&[&str], u8, &str, &str)] = &[
     (&[], 0, USAGE, ""),
     (&FOUND, 0, "128.0.0.0/1 0\n", ""),
-    (&["lookup", "here.mmdb", "1.1.1.1"], 0, "0.0.0.0/1 -\n", ""),
+    (&ABSENT, 0, "0.0.0.0/1 -\n", ""),
     (
         &["lookup", "here.mmdb", "::1"],
         1,
@@ -180,9 +182,14 @@ fn damaged_files(rt: HostRuntime) {
     }
 }
 
+/// Words that the program runs over a file on the disk, and what it writes.
+const ON_DISK: [(&[&str], &str); 2] = [(&FOUND, "128.0.0.0/1 0\n"), (&ABSENT, "0.0.0.0/1 -\n")];
+
 #[test]
 fn files_through_the_program(rt: HostRuntime) {
     fs::write(&rt, "here.mmdb", BASE_FILE).expect(&rt, "a file");
-    assert_done(&rt, rt.alloc(), &rt, &FOUND, (0, "128.0.0.0/1 0\n", ""));
+    for (texts, text) in ON_DISK {
+        assert_done(&rt, rt.alloc(), &rt, texts, (0, text, ""));
+    }
     fs::remove_file(&rt, "here.mmdb").expect(&rt, "no file");
 }

@@ -116,6 +116,24 @@ const ROWS: &[Row] = &[
         &[(b"resource limit exceeded at offset 3: exceeded maximum size of data structure string and bytes values", 1)],
     ),
     (
+        "a key that is too long, which is charged in full",
+        &[(b"\xE1\x5F\x1E\xFE\xE4", 1), (b"a", 2_097_153), (b"\x41x", 1)],
+        Wanted::Map,
+        &[(b"resource limit exceeded at offset 1: exceeded maximum size of data structure string and bytes values", 1)],
+    ),
+    (
+        "a name that is too long by one byte, its first 32 free",
+        &[(b"\xE1\x5F\x1E\xFF\x04", 1), (b"a", 2_097_185), (b"\x41x", 1)],
+        Wanted::Probe,
+        &[(b"resource limit exceeded at offset 1: exceeded maximum size of data structure string and bytes values", 1)],
+    ),
+    (
+        "an unknown field of 129 arrays, which is skipped",
+        &[(b"\xE1\x41z", 1), (b"\x01\x04", 129), (b"\x00\x07", 1)],
+        Wanted::Probe,
+        &[(b"invalid database at offset 259: exceeded maximum data structure depth; database is likely corrupt", 1)],
+    ),
+    (
         "a pointer to the first place that two bytes reach",
         &[(b"\x28\x00\x00", 1), (b"\x00", 2_045), (b"\x41x", 1)],
         Wanted::Value,

@@ -3,10 +3,11 @@ use crate::lone::Lone;
 use mmdb_value::laws::{
     answer_is_whole_value, answer_is_within_limits, any_value_is_exact, how_containers_are_read,
     how_owned_bytes_are_read, how_scalars_are_read, how_small_numbers_are_read,
-    list_is_what_stands, one_tree_unfolds, one_value_stands, owned_bytes_equal_where_same,
-    record_is_what_stands, same_offset_same_result, scalar_is_what_stands,
-    scalars_equal_where_same, scalars_unfold, skipping_is_passing, small_number_is_what_stands,
-    text_map_is_what_stands, value_is_what_stands, values_bounded, values_equal_where_same,
+    list_is_what_stands, one_scalar_stands, one_tree_unfolds, one_value_stands,
+    owned_bytes_equal_where_same, record_is_what_stands, same_offset_same_result,
+    scalar_is_what_stands, scalars_equal_where_same, scalars_unfold, skipping_is_passing,
+    small_number_is_what_stands, text_map_is_what_stands, value_is_what_stands, values_bounded,
+    values_equal_where_same,
 };
 use mmdb_value::{DecodeResult, Decoder, Entries, Items, Kind, Value, empty_container};
 use mmdb_vectors::answer::{OK, reported};
@@ -138,6 +139,7 @@ fn laws_are_called() {
     how_owned_bytes_are_read();
     how_containers_are_read::<u16>();
     one_tree_unfolds();
+    one_scalar_stands();
     scalar_is_what_stands();
     scalars_unfold::<u16>();
     small_number_is_what_stands();

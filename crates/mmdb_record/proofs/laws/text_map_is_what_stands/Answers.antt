@@ -1,5 +1,6 @@
 use Rattle.mmdb_record.proofs.ContainerTrees.{text_maps_unfold}
 use Rattle.mmdb_record.proofs.TextMapLaws.{reads_text_maps, last_pair_stays, keys_ascend}
+use Rattle.mmdb_record.proofs.OneLaws.{one_text_map_stands}
 use Rattle.mmdb_record.proofs.laws.text_map_is_what_stands.Goals as goal
 
 pub returns-clause-read : goal.returns-clause-read
@@ -13,3 +14,6 @@ returns-clause-last g c = last_pair_stays
 
 pub returns-clause-ascend : goal.returns-clause-ascend
 returns-clause-ascend g c = keys_ascend
+
+pub returns-clause-one : goal.returns-clause-one
+returns-clause-one g c = one_text_map_stands g.T.Decode.meaning

@@ -8,7 +8,12 @@ use mmdb_vectors::failures::Failures;
 use mmdb_vectors::section::section_of;
 use std::alloc::Global;
 
-const TOO_DEEP: &str = "exceeded maximum data structure depth; database is likely corrupt";
+/// Too many levels: behind a pointer to a value that is known, and in the last array.
+const KNOWN_TOO_DEEP: &str =
+    "invalid database at offset 0: exceeded maximum data structure depth; database is likely corrupt";
+
+const LAST_TOO_DEEP: &str =
+    "invalid database at offset 198: exceeded maximum data structure depth; database is likely corrupt";
 
 const FAILED: &str = "invalid input: this check has already failed";
 
@@ -49,20 +54,31 @@ fn first_values(rt: HostRuntime) -> Result<(), Failures> {
     failures.verdict()
 }
 
-/// So many arrays within each other around a bool, and what the check says.
+/// So many arrays within each other, what stands in the last one, and what the check says.
 #[rattlefmt::skip]
-const LEVELS: [(usize, &str); 2] = [
-    (128, OK),
-    (129, "invalid database at offset 256: exceeded maximum data structure depth; database is likely corrupt"),
+const LEVELS: [(usize, &[u8], &str); 4] = [
+    (128, b"\x00\x07", OK),
+    (
+        129,
+        b"\x00\x07",
+        "invalid database at offset 256: exceeded maximum data structure depth; database is likely corrupt",
+    ),
+    // A pointer to the bool behind it is a level too.
+    (127, b"\x21\x00\x00\x07", OK),
+    (
+        128,
+        b"\x21\x02\x00\x07",
+        "invalid database at offset 256: exceeded maximum data structure depth; database is likely corrupt",
+    ),
 ];
 
 #[test]
 fn levels_at_the_limit(rt: HostRuntime) -> Result<(), Failures> {
     let (alloc, mut failures) = (rt.alloc(), Failures::new(rt.alloc()));
-    for (arrays, text) in LEVELS {
-        let section = section_of(alloc, &[(b"\x01\x04", arrays), (b"\x00\x07", 1)]);
+    for (arrays, last, text) in LEVELS {
+        let section = section_of(alloc, &[(b"\x01\x04", arrays), (last, 1)]);
         failures.expect_text(
-            &arrays,
+            &(arrays, last),
             reported(alloc, verify(alloc, section.as_slice())),
             text,
         );
@@ -91,8 +107,7 @@ fn work_at_the_limit(rt: HostRuntime) -> Result<(), Failures> {
     failures.verdict()
 }
 
-// Notes what checks of places of a section, one after the other, say otherwise: of a place the whole text is
-// given, or else its ending.
+// Notes what checks of places of a section, one after the other, say otherwise.
 fn expect_checks(failures: &mut Failures, alloc: Global, section: &[u8], places: &[(usize, &str)]) {
     let Ok(mut checked) = Checked::new(alloc, section) else {
         failures.expect(&places, false);
@@ -100,11 +115,7 @@ fn expect_checks(failures: &mut Failures, alloc: Global, section: &[u8], places:
     };
     for (place, text) in places {
         let verdict = reported(alloc, check_value(alloc, &mut checked, *place));
-        if *text == TOO_DEEP {
-            failures.expect_ending(&(*place, places), verdict, text);
-        } else {
-            failures.expect_text(&(*place, places), verdict, text);
-        }
+        failures.expect_text(&(*place, places), verdict, text);
     }
 }
 
@@ -118,9 +129,9 @@ fn exact_checks(rt: HostRuntime) -> Result<(), Failures> {
         expect_checks(&mut failures, alloc, good.as_slice(), &rows);
     }
     let rejected = deep(alloc, 28);
-    let rows = [(0, OK), (202, TOO_DEEP)];
+    let rows = [(0, OK), (202, KNOWN_TOO_DEEP)];
     expect_checks(&mut failures, alloc, rejected.as_slice(), &rows);
-    let rows = [(202, TOO_DEEP), (0, FAILED)];
+    let rows = [(202, LAST_TOO_DEEP), (0, FAILED)];
     expect_checks(&mut failures, alloc, rejected.as_slice(), &rows);
     failures.verdict()
 }

@@ -48,6 +48,30 @@ const ARRAYS: &[(&[u8], usize, &[PathElement<'static>], Wanted, &str)] = &[
     ),
 ];
 
+/// So many arrays within each other before the value that a path leads to, and the answer. The first array is at 3
+/// in the data, which begin at 22 in the file.
+#[rattlefmt::skip]
+const PASSED: &[(usize, &str)] = &[
+    (128, "Some(7)"),
+    (129, "invalid database at offset 281: exceeded maximum data structure depth; database is likely corrupt"),
+];
+
+#[test]
+fn values_that_are_passed(rt: HostRuntime) -> Result<(), Failures> {
+    let (alloc, mut failures) = (rt.alloc(), Failures::new(rt.alloc()));
+    for (arrays, text) in PASSED {
+        let parts: [(&[u8], usize); 3] = [
+            (b"\xE2\x41a", 1),
+            (b"\x01\x04", *arrays),
+            (b"\x00\x07\x41k\xA1\x07", 1),
+        ];
+        let data = section_of(alloc, &parts);
+        let reported = reported_at(alloc, data.as_slice(), &[Key("k")], Wanted::U16);
+        failures.expect_text(arrays, reported, text);
+    }
+    failures.verdict()
+}
+
 #[test]
 fn values_on_the_way_and_at_its_end(rt: HostRuntime) -> Result<(), Failures> {
     let (alloc, mut failures) = (rt.alloc(), Failures::new(rt.alloc()));

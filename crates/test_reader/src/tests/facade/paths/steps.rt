@@ -1,6 +1,8 @@
 //! Steps of paths: how they are made, printed and compared.
 use maxminddb::PathElement::{Index, IndexFromEnd, Key};
-use maxminddb::laws::{path_selects, steps_equal_where_same};
+use maxminddb::laws::{
+    path_is_read_along, path_is_what_leads, path_selects, steps_equal_where_same,
+};
 use maxminddb::{PathElement, path, render_path};
 use mmdb_vectors::answer::reported;
 use mmdb_vectors::equality::equality;
@@ -105,5 +107,7 @@ fn equal_steps(rt: HostRuntime) -> Result<(), Failures> {
 #[test]
 fn laws_are_called() {
     path_selects();
+    path_is_what_leads();
+    path_is_read_along::<u16>();
     steps_equal_where_same();
 }
