@@ -60,6 +60,9 @@ const ROWS: &[(&[u8], &[PathElement<'static>], Wanted, &str)] = &[
         Wanted::U16,
         "invalid database at offset 25: pointer points to another pointer",
     ),
+    // what stands behind the value that a path leads to is not looked at: no key, and a value of no type
+    (b"\xE2\x41a\xA1\x07\xFF", &[Key("a")], Wanted::U16, "Some(7)"),
+    (b"\x02\x04\xA1\x07\x00\x05", &[Index(0)], Wanted::U16, "Some(7)"),
     // elements that are missing: none of them is passed where the index is out of range
     (b"\x02\x04", &[Index(2)], Wanted::U16, "None"),
     (b"\x02\x04", &[IndexFromEnd(2)], Wanted::U16, "None"),
