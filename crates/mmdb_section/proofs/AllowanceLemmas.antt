@@ -14,22 +14,22 @@ use Rattle.mmdb_section.proofs.CostLemmas.{own_fits}
 
 -- ---- which tree is at a start
 
-tree_at : List Tile → ℕ → Tree
+pub tree_at : List Tile → ℕ → Tree
 tree_at [] q = scalar (boolean false)
 tree_at (t ∷ ts) q = cond (eqb q t.start) t.tree (tree_at ts q)
 
 -- a start is that of a value, whose tree that is
-record Found (tiles : List Tile) (q : ℕ) (tree : Tree) : Type 0 where
-  tile : Tile
-  is : IsTile tile tiles
-  at : tile.start ≡ q
-  same : tree ≡ tile.tree
+pub record Found (tiles : List Tile) (q : ℕ) (tree : Tree) : Type 0 where
+  pub tile : Tile
+  pub is : IsTile tile tiles
+  pub at : tile.start ≡ q
+  pub same : tree ≡ tile.tree
 
 found_by : (t : Tile) (ts : List Tile) (q : ℕ) (b : Bool) → eqb q t.start ≡ b → (is_start ts q ≡ true → Found ts q (tree_at ts q)) → (b || is_start ts q) ≡ true → Found (t ∷ ts) q (cond b t.tree (tree_at ts q))
 found_by t ts q true e more h = record { tile = t; is = inl refl; at = sym (starts_same q t.start e); same = refl }
 found_by t ts q false e more h = let w = more h in record { tile = w.tile; is = inr w.is; at = w.at; same = w.same }
 
-tile_at : (tiles : List Tile) (q : ℕ) → is_start tiles q ≡ true → Found tiles q (tree_at tiles q)
+pub tile_at : (tiles : List Tile) (q : ℕ) → is_start tiles q ≡ true → Found tiles q (tree_at tiles q)
 unfolding tree_at
 tile_at [] q h = absurd (false≢true h)
 tile_at (t ∷ ts) q h = found_by t ts q (eqb q t.start) refl (tile_at ts q) h
@@ -93,7 +93,7 @@ module _ (set : ℕ → Bool) (trees : ℕ → Tree) where
 -- ---- a section
 
 module _ (tiles : List Tile) (bytes : List ℕ) (section : AreTiles tiles bytes) where
-  unfolds_here : (t : Tile) → IsTile t tiles → Unfolds bytes t.start t.tree t.end
+  pub unfolds_here : (t : Tile) → IsTile t tiles → Unfolds bytes t.start t.tree t.end
   unfolds_here t is = subst (λ (xs : List ℕ). Unfolds xs t.start t.tree t.end) (append-nil bytes) ((laid_tile (IsLaid tiles bytes) t tiles section.each is).unfolds [])
 
   all_tiles : (P : Tile → Type 0) → ((t : Tile) → IsTile t tiles → P t) → (ts : List Tile) → ((t : Tile) → IsTile t ts → IsTile t tiles) → AllByRecursion P ts

@@ -24,15 +24,15 @@ laid_tile P t [] all is = absurd is
 laid_tile P t (u ∷ us) all (inl same) = subst P (sym same) all.0
 laid_tile P t (u ∷ us) all (inr more) = laid_tile P t us all.1 more
 
-and_first : (a b : Bool) → (a && b) ≡ true → a ≡ true
+pub and_first : (a b : Bool) → (a && b) ≡ true → a ≡ true
 and_first true b h = refl
 and_first false b h = h
 
-and_second : (a b : Bool) → (a && b) ≡ true → b ≡ true
+pub and_second : (a b : Bool) → (a && b) ≡ true → b ≡ true
 and_second true b h = h
 and_second false b h = absurd (false≢true h)
 
-or_true : (a b : Bool) → b ≡ true → (a || b) ≡ true
+pub or_true : (a b : Bool) → b ≡ true → (a || b) ≡ true
 or_true true b h = refl
 or_true false b h = h
 
@@ -40,7 +40,7 @@ pub or_cases : (a b : Bool) → (a || b) ≡ true → (a ≡ true) ⊎ (b ≡ tr
 or_cases true b h = inl refl
 or_cases false b h = inr h
 
-same_start : (q p : ℕ) → q ≡ p → eqb q p ≡ true
+pub same_start : (q p : ℕ) → q ≡ p → eqb q p ≡ true
 same_start q p h = grind (arith, nat_tests)
 
 pub starts_same : (q p : ℕ) → eqb q p ≡ true → q ≡ p

@@ -1,4 +1,5 @@
 -- What has to be believed: what contracts of public items name.
+pub mod Encoding
 pub mod Sections
 pub mod Laws
 -- What only contracts of private functions and proofs name.

@@ -1,10 +1,9 @@
 -- What contracts of private functions and proofs name.
+pub use Rattle.mmdb_section.specs.Encoding.{Appends, Stands, IsHeader, IsScalar, IsText}
 use Rattle.std.specs.Prelude.{◌≡◌, ℕ, ◌+◌, ◌*◌, ◌≤◌, List, ◌++◌, length, true, false, Some, slice_get}
 use Rattle.mmdb_format.specs.Header.{big_endian, bytes_at, size_at, sized_header, header_at}
 use Rattle.mmdb_format.specs.Pointer.{pointer_at}
-use Rattle.std.specs.Str.{is_utf8}
-use Rattle.mmdb_format.specs.Contents.{Scalar, text}
-use Rattle.mmdb_format.specs.Unfolding.{Tree, scalar, array, table, Trees, Pairs, Unfolds, AllUnfold, PairsUnfold, levels, trees_all_levels, pairs_all_levels, has_texts, trees_texts, pairs_texts, without_pointers, trees_without, pairs_without}
+use Rattle.mmdb_format.specs.Unfolding.{Tree, array, table, Trees, Pairs, Unfolds, AllUnfold, PairsUnfold, levels, trees_all_levels, pairs_all_levels, has_texts, trees_texts, pairs_texts, without_pointers, trees_without, pairs_without}
 use Rattle.mmdb_check.specs.Checking.{trees_lead_to, pairs_lead_to}
 use Rattle.mmdb_section.specs.declared.value.Part.{Part}
 use Rattle.mmdb_section.specs.declared.value.Value.{Value}
@@ -14,17 +13,7 @@ use Rattle.mmdb_section.specs.Sections.{Tile, IsClosed, is_start, is_pointer, Ar
 abbrev pub Grows : List ℕ → List ℕ → Type 0
 Grows old new = (more : List ℕ) × (new ≡ old ++ more)
 
--- bytes of which something holds were put behind others
-pub record Appends (P : List ℕ → Type 0) (old new : List ℕ) : Type 0 where
-  pub more : List ℕ
-  pub grown : new ≡ old ++ more
-  pub is : P more
-
 -- ---- bytes, wherever they stand
-
--- It holds of the section, the offset of these bytes and the offset after them, whatever stands before and behind them.
-abbrev pub Stands : (List ℕ → ℕ → ℕ → Type 0) → List ℕ → Type 0
-Stands P bytes = (before behind : List ℕ) → P (before ++ (bytes ++ behind)) (length before) (length before + length bytes)
 
 -- they are the control byte of this type with these low bits, and the byte of an extended type
 abbrev pub IsControl : ℕ → ℕ → List ℕ → Type 0
@@ -33,10 +22,6 @@ IsControl kind low bytes = Stands (λ s p q. header_at s p ≡ sized_header s q 
 -- they are this size, behind a control byte with these low bits
 abbrev pub IsSize : ℕ → ℕ → List ℕ → Type 0
 IsSize low size bytes = Stands (λ s p q. size_at s p low ≡ Some (size, q)) bytes
-
--- they are a header of this type and size
-abbrev pub IsHeader : ℕ → ℕ → List ℕ → Type 0
-IsHeader kind size bytes = Stands (λ s p q. header_at s p ≡ Some (record { kind = kind; size = size; body = q })) bytes
 
 -- they are a pointer to this offset
 pub record IsPointer (target : ℕ) (bytes : List ℕ) : Type 0 where
@@ -54,14 +39,6 @@ IsSized kind content bytes = Stands (SizedAt kind content) bytes
 -- they are so of a content that is the same number as these bytes, and no longer
 abbrev pub IsInteger : ℕ → List ℕ → List ℕ → Type 0
 IsInteger kind wide bytes = (content : List ℕ) × IsSized kind content bytes × (big_endian content ≡ big_endian wide) × (length content ≤ length wide)
-
--- they are a value that holds no others
-abbrev pub IsScalar : Scalar → List ℕ → Type 0
-IsScalar c bytes = Stands (λ s p q. Unfolds s p (scalar c) q) bytes
-
--- they are a text, which is UTF-8
-abbrev pub IsText : List ℕ → List ℕ → Type 0
-IsText x bytes = IsScalar (text x) bytes × (is_utf8 x ≡ true)
 
 -- Behind the bytes of a section, at any distance, and in them, they are a value whose pointers lead into the section.
 pub record IsWritten (tiles : List Tile) (section : List ℕ) (v : Tree) (bytes : List ℕ) : Type 0 where

@@ -1,12 +1,13 @@
 //! Headers of values.
 ghost use Rattle.std.specs.Prelude.{◌≡◌, ◌≤◌, ◌<◌, OnOk};
 ghost use Rattle.mmdb_section.specs.Sections.{most_size};
-ghost use Rattle.mmdb_section.specs.Working.{Appends, IsHeader, IsControl, IsSize};
+ghost use Rattle.mmdb_section.specs.Encoding.{Appends, IsHeader};
+ghost use Rattle.mmdb_section.specs.Working.{IsControl, IsSize};
 
 use std::alloc::AllocError;
 
 /// The greatest size that a header can have.
-pub(crate) const MOST_SIZE: usize = 16_843_036;
+pub const MOST_SIZE: usize = 16_843_036;
 
 // The five bits of a control byte that say a size, or how many bytes say it.
 fn low_bits(size: usize) -> u8
@@ -67,9 +68,10 @@ fn push_size(out: &mut Vec<u8>, low: u8, size: usize) -> Result<(), AllocError>
     }
 }
 
-// The header of a value that is no pointer ("Data Field Format" of the MaxMind DB File Format Specification 2.0): a control
-// byte, the byte of an extended type, and up to three bytes of a larger size.
-pub(crate) fn push_header(out: &mut Vec<u8>, kind: u16, size: usize) -> Result<(), AllocError>
+/// Appends the header of a value that is no pointer ("Data Field Format" of the MaxMind DB File Format Specification 2.0): a
+/// control byte, the byte of an extended type, and up to three bytes of a larger size. An array's size is how many values come
+/// behind it, a map's how many pairs.
+pub fn push_header(out: &mut Vec<u8>, kind: u16, size: usize) -> Result<(), AllocError>
     requires no_pointer { 1 < kind }
     requires kind { kind < 16 }
     requires size { size ≤ most_size }

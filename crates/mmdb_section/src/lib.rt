@@ -10,5 +10,7 @@ mod section;
 mod value;
 mod write;
 
+pub use header::{MOST_SIZE, push_header};
+pub use scalar::{push_number, push_text};
 pub use section::{Section, SectionError};
 pub use value::{Number, Part, Value};

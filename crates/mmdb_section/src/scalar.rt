@@ -3,7 +3,8 @@ ghost use Rattle.std.specs.Prelude.{◌≡◌, ◌≤◌, ◌<◌, length, OnOk}
 ghost use Rattle.mmdb_format.specs.Header.{big_endian};
 ghost use Rattle.mmdb_format.specs.Contents.{bytes as bytes_scalar};
 ghost use Rattle.mmdb_section.specs.Sections.{most_size, scalar_of};
-ghost use Rattle.mmdb_section.specs.Working.{Appends, IsScalar, IsText, IsSized, IsInteger};
+ghost use Rattle.mmdb_section.specs.Encoding.{Appends, IsScalar, IsText};
+ghost use Rattle.mmdb_section.specs.Working.{IsSized, IsInteger};
 
 use crate::header::push_header;
 use crate::value::Number;
@@ -42,8 +43,8 @@ fn push_integer(out: &mut Vec<u8>, kind: u16, bytes: &[u8]) -> Result<(), AllocE
     push_sized(out, kind, significant(bytes))
 }
 
-// A number, or a truth value, whose size is the value.
-pub(crate) fn push_number(out: &mut Vec<u8>, number: Number) -> Result<(), AllocError>
+/// Appends a number, or a truth value, whose size is the value.
+pub fn push_number(out: &mut Vec<u8>, number: Number) -> Result<(), AllocError>
     ensures { OnOk result (Appends (IsScalar (scalar_of number)) out.old.items out.new.items) }
 {
     match number {
@@ -58,8 +59,8 @@ pub(crate) fn push_number(out: &mut Vec<u8>, number: Number) -> Result<(), Alloc
     }
 }
 
-// A text.
-pub(crate) fn push_text(out: &mut Vec<u8>, text: &str) -> Result<(), AllocError>
+/// Appends a text.
+pub fn push_text(out: &mut Vec<u8>, text: &str) -> Result<(), AllocError>
     requires { length text.now ≤ most_size }
     ensures { OnOk result (Appends (IsText text.now) out.old.items out.new.items) }
 {

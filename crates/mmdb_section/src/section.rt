@@ -3,9 +3,10 @@ ghost use Rattle.std.specs.Prelude.{◌≡◌, [], ℕ, List, ◌∷◌, ◌++�
 ghost use Rattle.mmdb_section.specs.Sections.{Tile, SectionView, IsSection, IsValue, IsTooLarge, Holds};
 ghost use Rattle.mmdb_section.specs.Working.{StandAt};
 ghost use Rattle.mmdb_format.specs.Unfolding.{Tree};
+ghost use Rattle.mmdb_section.specs.declared.value.Part.TheVariants.{At};
 
 use crate::header::MOST_SIZE;
-use crate::value::{Part, Value};
+use crate::value::Value;
 use crate::write::push_value;
 use std::alloc::{AllocError, AllocFailed, Global};
 use std::collections::HashMap;
@@ -124,11 +125,11 @@ impl Section {
         Ok(())
     }
 
-    /// Adds a value, unless it stands in the section, and answers the part that stands for it. An error changes nothing.
-    pub fn add(&mut self, alloc: Global, value: Value<'_>) -> Result<Part, SectionError>
-        ensures value { IfOk result (λ part. (tiles : List Tile) (v : Tree)
+    /// Adds a value, unless it stands in the section, and answers the offset at which it begins. An error changes nothing.
+    pub fn add(&mut self, alloc: Global, value: Value<'_>) -> Result<u32, SectionError>
+        ensures value { IfOk result (λ offset. (tiles : List Tile) (v : Tree)
             → IsSection tiles self.old → IsValue tiles value.entry v
-            → Holds tiles v self.new part) }
+            → Holds tiles v self.new (At offset)) }
         ensures kept { OnErr result (self.new ≡ self.old) }
         ensures too_large { IfErr result (λ e. e ≡ SectionError.TooLarge
             → IsTooLarge self.old value.entry) }
@@ -143,14 +144,14 @@ impl Section {
         push_value(&mut added, value)?;
         let hash = hash_of(&added);
         if let Some(earlier) = self.find(hash, &added) {
-            return Ok(Part::At(earlier));
+            return Ok(earlier);
         }
         let index = self.starts.len();
         let earlier = self.last.insert(hash, index)?;
         self.earlier.truncate(index);
         self.earlier.push(earlier)?;
         self.put(start, &added)?;
-        Ok(Part::At(start))
+        Ok(start)
     }
 
     /// The bytes of the section.

@@ -198,8 +198,8 @@ fn parts_of(
 ) -> Result<Vec<Part>, SectionError> {
     let mut parts = Vec::new(alloc);
     for value in values {
-        let part = section.add(alloc, *value)?;
-        parts.push(part)?;
+        let offset = section.add(alloc, *value)?;
+        parts.push(Part::At(offset))?;
     }
     Ok(parts)
 }
@@ -230,7 +230,7 @@ const SIZES: &[(usize, &[u8])] = &[
 ];
 
 // Adds so many bytes.
-fn add_zeros(alloc: Global, section: &mut Section, len: usize) -> Result<Part, SectionError> {
+fn add_zeros(alloc: Global, section: &mut Section, len: usize) -> Result<u32, SectionError> {
     let zeros = zeros(alloc, len)?;
     section.add(alloc, Value::Bytes(&zeros))
 }
@@ -279,9 +279,9 @@ fn has_pointer(
     let mut section = Section::new(alloc);
     add_zeros(alloc, &mut section, len)?;
     let text = section.add(alloc, Value::Text("en"))?;
-    section.add(alloc, Value::Array(&[text]))?;
+    section.add(alloc, Value::Array(&[Part::At(text)]))?;
     let start = len.saturating_add(header);
-    Ok(Some(text) == u32::try_from(start).ok().map(Part::At) && section.bytes().ends_with(pointer))
+    Ok(Some(text) == u32::try_from(start).ok() && section.bytes().ends_with(pointer))
 }
 
 #[test]

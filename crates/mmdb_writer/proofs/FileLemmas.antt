@@ -1,0 +1,221 @@
+-- The file that was written has the tree and the section, and each of its lookups finds what the rows say.
+use Rattle.std.proofs.Common.{◌≡◌, ℕ, zero, suc, ◌-◌, ◌*◌, ◌/◌, ◌^◌, ◌<◌, eqb, Bool, true, false, cond, List, [], ◌∷◌, ◌++◌, length, map, take, drop, Option, Some, None, refl, ap, sym, ◌∙◌, subst, arith, append_assoc, length-append}
+use Rattle.std.specs.List.{AllByRecursion, slice_get}
+use Rattle.std.specs.declared.net.ip_addr.IpAddr.{IpAddr}
+use Rattle.std.specs.declared.net.ip_addr.IpAddr.TheVariants as Ip
+use Rattle.std.proofs.lemmas.List.{take_all}
+use Rattle.std.proofs.Math.Seq.{take-append_seam, drop-append_seam}
+use Rattle.mmdb_net.specs.Bits.{bits_of, zero_bits, number_of}
+use Rattle.mmdb_net.specs.Address.{address_width, bits_of_address}
+use Rattle.mmdb_net.proofs.BitLaws.{length-bits_of, bits_of-split, bits_of-zero}
+use Rattle.mmdb_net.proofs.AddressLaws.{length-bits_of_address}
+use Rattle.mmdb_tree.specs.Tree.{walk, search_tree, node_bytes}
+use Rattle.mmdb_tree.proofs.HighBits.{number-below}
+use Rattle.mmdb_tree.specs.Records.{record_of}
+use Rattle.mmdb_tree.specs.declared.record.TreeRecord.{TreeRecord}
+use Rattle.mmdb_format.specs.Unfolding.{Tree}
+use Rattle.mmdb_nodes.specs.declared.tree.SearchTree.{SearchTree}
+use Rattle.mmdb_nodes.specs.declared.entry.Entry.{Entry}
+use Rattle.mmdb_nodes.specs.declared.entry.IpVersion.{IpVersion}
+use Rattle.mmdb_nodes.specs.declared.entry.IpVersion.TheVariants.{V4, V6}
+use Rattle.mmdb_nodes.specs.Entries.{width, block_of}
+use Rattle.mmdb_blocks.specs.Blocks.{IsBlock}
+use Rattle.mmdb_nodes.specs.Trees.{bits_in, tree_in, leaf_of, LeadsByPrefix, IsSizeFor, numbers_of}
+use Rattle.mmdb_section.specs.Sections.{Tile, AreTiles, IsPart}
+use Rattle.mmdb_section.specs.declared.value.Part.TheVariants.{At}
+use Rattle.mmdb_value.specs.declared.any_value.Value.{Value}
+use Rattle.mmdb_value.specs.Values.{value_tree}
+use Rattle.mmdb_value.specs.Standing.{WholeValue}
+use Rattle.mmdb_reader.specs.Metadata.{MetadataDatum}
+use Rattle.mmdb_reader.specs.File.{Database, tree_of, tree_len, data_start, data_length, data_section, has_ipv6, before_ipv4}
+use Rattle.mmdb_reader.specs.Lookup.{CanAsk, Answers, address_bits, outcome_of, outcome_at, for_lookup}
+use Rattle.mmdb_reader.proofs.LawLemmas.{each_address_is_answered}
+use Rattle.mmdb_reader.proofs.NumberLemmas.{take-bits-number}
+use Rattle.mmdb_writer.specs.declared.options.Options.{Options}
+use Rattle.mmdb_writer.specs.declared.row.Row.{Row}
+use Rattle.mmdb_writer.specs.Limits.{CanBeRead}
+use Rattle.mmdb_writer.specs.Rows.{wide_bits, Says}
+use Rattle.mmdb_writer.specs.Written.{version_number, asked as asked_metadata, IsRead, LookupsAgree, IsAsked, IsWritten}
+use Rattle.mmdb_writer.specs.Working.{IsCertified, BeginsWith, AreEntriesOf, AllBegin, IsEntryOf}
+use Rattle.mmdb_writer.proofs.ReadLemmas.{part_is_read}
+use Rattle.mmdb_writer.proofs.RowLemmas.{GivesRow, zip_left, gives_given, gives_row}
+
+-- ---- values at offsets
+
+record Begins (tiles : List Tile) (values : List Value) (place offset : ℕ) : Type 0 where
+  value : Value
+  at : slice_get values place ≡ Some value
+  begins : IsPart tiles (At offset) (value_tree value)
+  readable : CanBeRead (value_tree value)
+
+begins_at : (tiles : List Tile) (values : List Value) (offsets : List ℕ) (i offset : ℕ) → AllBegin tiles (map value_tree values) offsets → AllByRecursion (λ v. CanBeRead (value_tree v)) values → slice_get offsets i ≡ Some offset → Begins tiles values i offset
+begins_at tiles [] [] i offset all can at = absurd (cc)
+begins_at tiles [] (o ∷ os) i offset all can at = absurd all
+begins_at tiles (v ∷ vs) [] i offset all can at = absurd all
+begins_at tiles (v ∷ vs) (o ∷ os) zero offset all can at = let same : o ≡ offset = cc in record { value = v; at = refl; begins = subst (λ (n : ℕ). IsPart tiles (At n) (value_tree v)) same all.0; readable = can.0 }
+begins_at tiles (v ∷ vs) (o ∷ os) (suc i) offset all can at =
+    let rest = begins_at tiles vs os i offset all.1 can.1 at in
+    record { value = rest.value; at = rest.at; begins = rest.begins; readable = rest.readable }
+
+-- ---- addresses as numbers
+
+own_number : IpAddr → ℕ
+own_number address = number_of (address_width address) (bits_of_address address)
+
+own_bits : (address : IpAddr) → bits_of (address_width address) (own_number address) ≡ bits_of_address address
+unfolding own_number
+own_bits address =
+    let len = length-bits_of_address address in
+    let n : ℕ = number_of (address_width address) (bits_of_address address) in
+    let long : length (bits_of (address_width address) n) ≡ length (bits_of_address address) = length-bits_of (address_width address) n ∙ sym len in
+    sym (take_all (length (bits_of_address address)) (bits_of (address_width address) n) (omega arith)) ∙ take-bits-number (address_width address) (bits_of_address address) (omega arith)
+
+own_below : (address : IpAddr) → own_number address < 2 ^ address_width address
+unfolding own_number
+own_below address = number-below (address_width address) (bits_of_address address)
+
+-- a number of 32 bits, written with 128
+widened : (n : ℕ) → n < 2 ^ 32 → zero_bits 96 ++ bits_of 32 n ≡ bits_of 128 n
+widened n small =
+    let none : n / 2 ^ 32 ≡ 0 = omega (arith, small) in
+    sym (bits_of-split 96 32 128 n refl ∙ ap (λ (k : ℕ). bits_of 96 k ++ bits_of 32 n) none ∙ ap (λ (xs : List Bool). xs ++ bits_of 32 n) (bits_of-zero 96))
+
+-- an address that may be asked for as a number of the tree
+record IsNumberOf (db : Database) (version : IpVersion) (address : IpAddr) (n : ℕ) : Type 0 where
+  fits : n < 2 ^ width version
+  bits : address_bits db address ≡ bits_of (width version) n
+  wide : wide_bits address ≡ bits_of 128 n
+
+ipv6_only : (db : Database) (version : IpVersion) → db.metadata.ip_version ≡ version_number version → db.metadata.ip_version ≡ 6 → version ≡ V6
+ipv6_only db V4 is six = let e : ◌≡◌ {A = ℕ} 4 6 = sym is ∙ six in absurd (omega arith)
+ipv6_only db V6 is six = refl
+
+number_in : (db : Database) (version : IpVersion) → db.metadata.ip_version ≡ version_number version → (address : IpAddr) → CanAsk db address → IsNumberOf db version address (own_number address)
+unfolding zero_bits
+number_in db V4 is (Ip.V4 a) can =
+    let below : own_number (Ip.V4 a) < 2 ^ 32 = own_below (Ip.V4 a) in
+    let four : has_ipv6 db ≡ false = ap (λ (n : ℕ). eqb n 6) is in
+    let none : before_ipv4 db ≡ [] = ap (λ (b : Bool). zero_bits (cond b 96 0)) four in
+    record {
+      fits = below;
+      bits = ap (λ (xs : List Bool). xs ++ bits_of_address (Ip.V4 a)) none ∙ sym (own_bits (Ip.V4 a));
+      wide = ap (λ (xs : List Bool). zero_bits 96 ++ xs) (sym (own_bits (Ip.V4 a))) ∙ widened (own_number (Ip.V4 a)) below;
+    }
+number_in db V6 is (Ip.V4 a) can =
+    let below : own_number (Ip.V4 a) < 2 ^ 32 = own_below (Ip.V4 a) in
+    let six : has_ipv6 db ≡ true = ap (λ (n : ℕ). eqb n 6) is in
+    let zeros : before_ipv4 db ≡ zero_bits 96 = ap (λ (b : Bool). zero_bits (cond b 96 0)) six in
+    let wide : zero_bits 96 ++ bits_of_address (Ip.V4 a) ≡ bits_of 128 (own_number (Ip.V4 a)) = ap (λ (xs : List Bool). zero_bits 96 ++ xs) (sym (own_bits (Ip.V4 a))) ∙ widened (own_number (Ip.V4 a)) below in
+    record {
+      fits = omega arith;
+      bits = ap (λ (xs : List Bool). xs ++ bits_of_address (Ip.V4 a)) zeros ∙ wide;
+      wide = wide;
+    }
+number_in db V4 is (Ip.V6 a) can = let e : ◌≡◌ {A = ℕ} 4 6 = sym is ∙ can in absurd (omega arith)
+number_in db V6 is (Ip.V6 a) can = record { fits = own_below (Ip.V6 a); bits = sym (own_bits (Ip.V6 a)); wide = sym (own_bits (Ip.V6 a)) }
+
+-- ---- the parts of the file
+
+for_leaf : (found : Option ℕ) → for_lookup (leaf_of found) ≡ outcome_at found
+for_leaf None = refl
+for_leaf (Some offset) = refl
+
+module _ (file : List ℕ) (options : Options) (tree : SearchTree) (section : List ℕ) (certified : IsCertified file options tree (length section)) (begins : BeginsWith tree.bytes.items section file)
+    (len : length tree.bytes.items ≡ tree.node_count * node_bytes (bits_in tree.record_size)) where
+  abbrev db : Database
+  db = certified.db
+
+  abbrev behind : List ℕ
+  behind = begins.separator ++ (section ++ begins.behind)
+
+  count_is : db.metadata.node_count ≡ tree.node_count
+  count_is = ap (λ (m : MetadataDatum). m.node_count) certified.metadata
+
+  size_is : db.metadata.record_size ≡ bits_in tree.record_size
+  size_is = ap (λ (m : MetadataDatum). m.record_size) certified.metadata
+
+  bytes_are : db.bytes ≡ tree.bytes.items ++ behind
+  bytes_are = certified.database.bytes ∙ begins.whole
+
+  tree_is : tree_of db ≡ tree_in tree behind
+  tree_is =
+      ap (λ (b : List ℕ). search_tree b db.metadata.node_count db.metadata.record_size) bytes_are
+      ∙ ap (λ (n : ℕ). search_tree (tree.bytes.items ++ behind) n db.metadata.record_size) count_is
+      ∙ ap (λ (n : ℕ). search_tree (tree.bytes.items ++ behind) tree.node_count n) size_is
+
+  tree_len_is : tree_len db ≡ length tree.bytes.items
+  tree_len_is = ap (λ (n : ℕ). n * node_bytes db.metadata.record_size) count_is ∙ ap (λ (n : ℕ). tree.node_count * node_bytes n) size_is ∙ sym len
+
+  start_is : data_start db ≡ length (tree.bytes.items ++ begins.separator)
+  start_is = let a = tree_len_is in let b = begins.len in let c = length-append tree.bytes.items begins.separator in omega arith
+
+  section_is : data_section db ≡ section
+  section_is =
+      let room = certified.database.room in
+      let size : db.marker - data_start db ≡ length section = certified.section_len in
+      let whole : db.bytes ≡ (tree.bytes.items ++ begins.separator) ++ (section ++ begins.behind) = bytes_are ∙ sym (append_assoc tree.bytes.items begins.separator (section ++ begins.behind)) in
+      ap (λ (n : ℕ). take n (drop (data_start db) db.bytes)) size
+      ∙ ap (λ (n : ℕ). take (length section) (drop n db.bytes)) start_is
+      ∙ ap (λ (b : List ℕ). take (length section) (drop (length (tree.bytes.items ++ begins.separator)) b)) whole
+      ∙ ap (take (length section)) (drop-append_seam (tree.bytes.items ++ begins.separator) (section ++ begins.behind))
+      ∙ take-append_seam section begins.behind
+
+  version_is : db.metadata.ip_version ≡ version_number options.ip_version
+  version_is = ap (λ (m : MetadataDatum). m.ip_version) certified.metadata
+
+  -- where the tree leads, the lookup leads
+  outcome_is : (found : Option ℕ) (n : ℕ) (address : IpAddr) → address_bits db address ≡ bits_of (width options.ip_version) n
+      → record_of tree.node_count (length section) (walk (tree_in tree behind) (bits_of (width options.ip_version) n)) ≡ leaf_of found → outcome_of db (walk (tree_of db) (address_bits db address)) ≡ outcome_at found
+  unfolding outcome_of
+  outcome_is found n address bits leads =
+      let number : walk (tree_of db) (address_bits db address) ≡ walk (tree_in tree behind) (bits_of (width options.ip_version) n) =
+      ap (λ t. walk t (address_bits db address)) tree_is ∙ ap (walk (tree_in tree behind)) bits in
+      let same : record_of db.metadata.node_count (data_length db) (walk (tree_of db) (address_bits db address)) ≡ leaf_of found =
+      ap (λ (k : ℕ). record_of k (data_length db) (walk (tree_of db) (address_bits db address))) count_is
+      ∙ ap (λ (k : ℕ). record_of tree.node_count k (walk (tree_of db) (address_bits db address))) certified.section_len
+      ∙ ap (record_of tree.node_count (length section)) number ∙ leads in
+      ap for_lookup same ∙ for_leaf found
+
+  module _ (values : List Value) (rows : List Row) (can : AllByRecursion (λ v. CanBeRead (value_tree v)) values) (tiles : List Tile) (laid : AreTiles tiles section) (offsets : List ℕ)
+      (all : AllBegin tiles (map value_tree values) offsets) (entries : List Entry) (of : AreEntriesOf options.ip_version (length section) offsets rows entries)
+      (leads : LeadsByPrefix options.ip_version (length section) entries tree) where
+    says_read : (bits : List Bool) (found : Option ℕ) → GivesRow rows offsets bits found → (v : Option Tree) × Says values rows bits v × IsRead db found v
+    says_read bits None none = (None, none, refl)
+    says_read bits (Some offset) h =
+        let row = h.0 in
+        let b = begins_at tiles values offsets row.value offset all can h.2 in
+        let read : WholeValue true (data_section db) offset (value_tree b.value) = subst (λ (s : List ℕ). WholeValue true s offset (value_tree b.value)) (sym section_is) (part_is_read tiles section laid offset (value_tree b.value) b.begins b.readable) in
+        (Some (value_tree b.value), (row, h.1, b.value, b.at, refl), (value_tree b.value, refl, read))
+
+    blocks_are : (j : ℕ) (e : Entry) → slice_get of.given j ≡ Some e → IsBlock (block_of e)
+    blocks_are j e at = let r = zip_left (IsEntryOf offsets) rows of.given of.of_rows j e at in r.2.block
+
+    pub lookups_agree : LookupsAgree db values rows
+    lookups_agree address asked =
+        let n : ℕ = own_number address in
+        let number = number_in db options.ip_version version_is address asked in
+        let fits : n < 2 ^ 128 = below_widest options.ip_version n number.fits in
+        let led = leads behind n number.fits in
+        let found = led.0 in
+        let given = gives_given of.given entries n of.stable blocks_are found led.1 in
+        let row = subst (λ (bits : List Bool). GivesRow rows offsets bits found) (sym number.wide) (gives_row rows offsets of.given of.of_rows n fits found given) in
+        let answer = each_address_is_answered db address asked in
+        let answers : Answers db address answer.0 (outcome_at found) = subst (λ (r : TreeRecord). Answers db address answer.0 r) (outcome_is found n address number.bits led.2) answer.1 in
+        let said = says_read (wide_bits address) found row in
+        (answer.0, found, said.0, answers, said.1, said.2)
+      where
+        below_widest : (version : IpVersion) (n : ℕ) → n < 2 ^ width version → n < 2 ^ 128
+        below_widest V4 n h = omega arith
+        below_widest V6 n h = h
+
+    asked_is : IsSizeFor options.record_size (numbers_of tree.node_count (length section)) tree.record_size → IsAsked options db
+    asked_is serves = record {
+      metadata = certified.metadata ∙ ap (λ (n : ℕ). asked_metadata options n (bits_in tree.record_size)) (sym count_is) ∙ ap (asked_metadata options db.metadata.node_count) (sym size_is);
+      size = tree.record_size;
+      size_is = size_is;
+      serves = subst (λ (k : ℕ). IsSizeFor options.record_size (numbers_of db.metadata.node_count k) tree.record_size) (sym certified.section_len)
+          (subst (λ (k : ℕ). IsSizeFor options.record_size (numbers_of k (length section)) tree.record_size) (sym count_is) serves);
+    }
+
+    pub is_written : IsSizeFor options.record_size (numbers_of tree.node_count (length section)) tree.record_size → IsWritten values rows options file
+    is_written serves = record { db = db; database = certified.database; asked = asked_is serves; whole = certified.whole; lookups = lookups_agree }

@@ -1,0 +1,5 @@
+pub mod SectionLemmas
+pub mod ReadLemmas
+pub mod LastLemmas
+pub mod RowLemmas
+pub mod FileLemmas

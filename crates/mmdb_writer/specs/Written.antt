@@ -1,0 +1,62 @@
+-- What was written: a whole file that says of each address what the rows say.
+use Rattle.std.specs.Prelude.{◌≡◌, ℕ, List, Bool, map, Option, Some, None, true, string_bytes}
+use Rattle.std.specs.declared.net.ip_addr.IpAddr.{IpAddr}
+use Rattle.mmdb_format.specs.Unfolding.{Tree}
+use Rattle.mmdb_value.specs.Standing.{WholeValue}
+use Rattle.mmdb_value.specs.declared.any_value.Value.{Value}
+use Rattle.mmdb_reader.specs.Metadata.{MetadataDatum}
+use Rattle.mmdb_reader.specs.File.{Database, data_section, data_length}
+use Rattle.mmdb_reader.specs.Lookup.{CanAsk, Answers, outcome_at}
+use Rattle.mmdb_reader.specs.Source.{IsDatabaseOf}
+use Rattle.mmdb_reader.specs.Whole.{IsWhole}
+use Rattle.mmdb_nodes.specs.declared.entry.IpVersion.{IpVersion}
+use Rattle.mmdb_nodes.specs.declared.entry.IpVersion.TheVariants.{V4, V6}
+use Rattle.mmdb_nodes.specs.declared.size.RecordSize.{RecordSize}
+use Rattle.mmdb_nodes.specs.Trees.{bits_in, numbers_of, IsSizeFor}
+use Rattle.mmdb_writer.specs.declared.options.Options.{Options}
+use Rattle.mmdb_writer.specs.declared.row.Row.{Row}
+use Rattle.mmdb_writer.specs.Rows.{wide_bits, Says}
+
+-- how metadata name a version of IP ("Database Metadata")
+abbrev pub version_number : IpVersion → ℕ
+version_number V4 = 4
+version_number V6 = 6
+
+-- The metadata that options ask for, of a tree with so many nodes and records of that size.
+abbrev pub asked : Options → ℕ → ℕ → MetadataDatum
+asked options node_count record_size = record {
+  binary_format_major_version = 2;
+  binary_format_minor_version = 0;
+  build_epoch = options.build_epoch;
+  database_type = string_bytes options.database_type;
+  description = map (λ e. (string_bytes e.0, string_bytes e.1)) options.description.entries;
+  ip_version = version_number options.ip_version;
+  languages = map string_bytes options.languages.items;
+  node_count = node_count;
+  record_size = record_size;
+}
+
+-- The database has the metadata that were asked for, with records of the size that was asked for, or of the least that serves.
+pub record IsAsked (options : Options) (db : Database) : Type 0 where
+  pub metadata : db.metadata ≡ asked options db.metadata.node_count db.metadata.record_size
+  pub size : RecordSize
+  pub size_is : db.metadata.record_size ≡ bits_in size
+  pub serves : IsSizeFor options.record_size (numbers_of db.metadata.node_count (data_length db)) size
+
+-- an offset of the data section is read as this value; no offset is no value
+abbrev pub IsRead : Database → Option ℕ → Option Tree → Type 0
+IsRead db None v = v ≡ None
+IsRead db (Some offset) v = (t : Tree) × (v ≡ Some t) × WholeValue true (data_section db) offset t
+
+-- Each lookup that may be asked succeeds, and finds the value that the rows say of the address, or none where they say none.
+abbrev pub LookupsAgree : Database → List Value → List Row → Type 0
+LookupsAgree db values rows = (address : IpAddr) → CanAsk db address →
+    (leaf : List Bool) × (found : Option ℕ) × (v : Option Tree) × Answers db address leaf (outcome_at found) × Says values rows (wide_bits address) v × IsRead db found v
+
+-- The file is a database with these metadata, whole, and agrees with the rows.
+pub record IsWritten (values : List Value) (rows : List Row) (options : Options) (file : List ℕ) : Type 0 where
+  pub db : Database
+  pub database : IsDatabaseOf file db
+  pub asked : IsAsked options db
+  pub whole : IsWhole db
+  pub lookups : LookupsAgree db values rows

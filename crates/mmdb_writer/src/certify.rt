@@ -1,0 +1,73 @@
+//! Reads back what was written.
+ghost use Rattle.std.specs.Prelude.{◌≡◌, OnOk, IsTrue};
+ghost use Rattle.mmdb_nodes.specs.Trees.{bits_in};
+ghost use Rattle.mmdb_reader.specs.Metadata.{metadata_datum};
+ghost use Rattle.mmdb_writer.specs.Written.{asked};
+ghost use Rattle.mmdb_writer.specs.Working.{IsCertified};
+
+use crate::error::WriteError;
+use crate::options::Options;
+use mmdb_format::error::MaxMindDbError;
+use mmdb_nodes::SearchTree;
+use mmdb_reader::{Metadata, Reader};
+use std::alloc::Global;
+
+impl From<MaxMindDbError> for WriteError {
+    fn from(error: MaxMindDbError) -> WriteError {
+        match error {
+            MaxMindDbError::Memory => WriteError::Memory,
+            _ => WriteError::NotAsMeant,
+        }
+    }
+}
+
+// Whether the metadata say what was asked for, and what the tree has.
+fn say_what_was_asked(metadata: &Metadata, options: &Options, tree: &SearchTree) -> bool
+    ensures { let datum = asked options.now tree.now.node_count (bits_in tree.now.record_size) in
+        IsTrue result → metadata_datum metadata.now ≡ datum }
+{
+    if metadata.binary_format_major_version != 2 {
+        return false;
+    }
+    if metadata.binary_format_minor_version != 0 {
+        return false;
+    }
+    if metadata.build_epoch != options.build_epoch {
+        return false;
+    }
+    if metadata.database_type != options.database_type {
+        return false;
+    }
+    if metadata.description != options.description {
+        return false;
+    }
+    if metadata.ip_version != options.version_number() {
+        return false;
+    }
+    if metadata.languages != options.languages {
+        return false;
+    }
+    if metadata.node_count != tree.node_count {
+        return false;
+    }
+    metadata.record_size == tree.record_size.bits()
+}
+
+// Whether the file is read as a database with these metadata and so many bytes of data, and is whole.
+pub(crate) fn certify(
+    alloc: Global,
+    file: &[u8],
+    options: &Options,
+    tree: &SearchTree,
+    data_len: usize,
+) -> Result<(), WriteError>
+    ensures { OnOk result (IsCertified file.now options.now tree.now data_len) }
+{
+    let reader = Reader::from_source(alloc, file)?;
+    let is_as_asked = say_what_was_asked(reader.metadata(), options, tree);
+    if !is_as_asked || reader.data_section().len() != data_len {
+        return Err(WriteError::NotAsMeant);
+    }
+    reader.verify(alloc)?;
+    Ok(())
+}

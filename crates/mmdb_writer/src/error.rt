@@ -1,0 +1,62 @@
+//! Why no file is written.
+ghost use Rattle.std.specs.Prelude.{◌≡◌};
+
+use crate::limits::ValueError;
+use mmdb_nodes::TreeError;
+use mmdb_section::SectionError;
+use std::alloc::{AllocError, AllocFailed};
+
+/// Why no file is written.
+#[derive(Clone, Copy, Debug, PartialEq, Eq)]
+pub enum WriteError {
+    /// Out of memory.
+    Memory,
+    /// Nodes and values have more bytes or numbers than records and pointers can have.
+    TooLarge,
+    /// No reading gives back the value of this index.
+    Value { index: usize, error: ValueError },
+    /// The row of this index has a network of IPv6, which a database of IPv4 alone does not have.
+    Ipv6Row(usize),
+    /// The row of this index has a value that is not among the values.
+    NoValue(usize),
+    /// The file that was made is not read back as it was meant. No rows and values are known that do so.
+    NotAsMeant,
+}
+
+impl From<AllocError> for WriteError {
+    ghost use Rattle.mmdb_writer.specs.declared.error.WriteError.TheVariants.{Memory};
+
+    ghost from_gives = { λ _ e. e ≡ Memory };
+
+    fn from(_error: AllocError) -> WriteError {
+        WriteError::Memory
+    }
+}
+
+impl<T: Drop> From<AllocFailed<T>> for WriteError {
+    ghost use Rattle.mmdb_writer.specs.declared.error.WriteError.TheVariants.{Memory};
+
+    ghost from_gives = { λ _ e. e ≡ Memory };
+
+    fn from(_error: AllocFailed<T>) -> WriteError {
+        WriteError::Memory
+    }
+}
+
+impl From<SectionError> for WriteError {
+    fn from(error: SectionError) -> WriteError {
+        match error {
+            SectionError::Memory => WriteError::Memory,
+            SectionError::TooLarge => WriteError::TooLarge,
+        }
+    }
+}
+
+impl From<TreeError> for WriteError {
+    fn from(error: TreeError) -> WriteError {
+        match error {
+            TreeError::Memory => WriteError::Memory,
+            TreeError::TooLarge => WriteError::TooLarge,
+        }
+    }
+}

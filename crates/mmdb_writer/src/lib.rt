@@ -1,0 +1,19 @@
+//! Writes MaxMind DB files: of networks with values, the bytes of a file that says of each address what the networks say.
+#![tactic(auto)]
+
+mod certify;
+mod entries;
+mod error;
+mod limits;
+mod metadata;
+mod options;
+mod row;
+mod values;
+mod write;
+
+pub use error::WriteError;
+pub use limits::ValueError;
+pub use mmdb_nodes::{IpVersion, RecordSize};
+pub use options::Options;
+pub use row::Row;
+pub use write::write_database;

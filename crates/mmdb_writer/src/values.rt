@@ -1,0 +1,75 @@
+//! Values that are put into a data section.
+ghost use Rattle.std.specs.Prelude.{◌≡◌, List, map, length, IfOk};
+ghost use Rattle.mmdb_section.specs.Sections.{Tile, IsSection};
+ghost use Rattle.mmdb_section.specs.declared.value.Part.TheVariants.{At};
+ghost use Rattle.mmdb_value.specs.Values.{value_tree};
+ghost use Rattle.mmdb_writer.specs.Working.{Puts, PutsAll};
+
+use mmdb_section::{Number, Part, Section, SectionError, Value as SectionValue};
+use mmdb_value::Value;
+use std::alloc::Global;
+
+// Adds a value, its parts first, and answers the part that stands for it.
+fn add_part(alloc: Global, section: &mut Section, value: &Value<'_>) -> Result<Part, SectionError>
+    ensures { IfOk result (λ part. Puts (value_tree value.now) section.old section.new part) }
+{
+    match value {
+        Value::String(text) => Ok(Part::At(section.add(alloc, SectionValue::Text(*text))?)),
+        Value::Bytes(bytes) => Ok(Part::At(section.add(alloc, SectionValue::Bytes(*bytes))?)),
+        Value::Bool(truth) => Ok(Part::Number(Number::Bool(*truth))),
+        Value::I32(integer) => Ok(Part::Number(Number::I32(*integer))),
+        Value::U16(integer) => Ok(Part::Number(Number::U16(*integer))),
+        Value::U32(integer) => Ok(Part::Number(Number::U32(*integer))),
+        Value::U64(integer) => Ok(Part::Number(Number::U64(*integer))),
+        Value::U128(integer) => Ok(Part::Number(Number::U128(*integer))),
+        Value::Double(double) => Ok(Part::Number(Number::Double(*double))),
+        Value::Float(float) => Ok(Part::Number(Number::Float(*float))),
+        Value::Array(values) => {
+            let mut parts = Vec::new(alloc);
+            for value in values {
+                let part = add_part(alloc, section, value)?;
+                parts.push(part)?;
+            }
+            let offset = section.add(alloc, SectionValue::Array(&parts))?;
+            Ok(Part::At(offset))
+        }
+        Value::Map(pairs) => {
+            let mut parts = Vec::new(alloc);
+            for pair in pairs {
+                let key = section.add(alloc, SectionValue::Text(pair.0))?;
+                let part = add_part(alloc, section, &pair.1)?;
+                parts.push((Part::At(key), part))?;
+            }
+            let offset = section.add(alloc, SectionValue::Map(&parts))?;
+            Ok(Part::At(offset))
+        }
+    }
+}
+
+// Adds a value, and answers the offset at which it begins.
+fn add_value(alloc: Global, section: &mut Section, value: &Value<'_>) -> Result<u32, SectionError>
+    ensures { IfOk result
+        (λ offset. Puts (value_tree value.now) section.old section.new (At offset)) }
+{
+    match add_part(alloc, section, value)? {
+        Part::At(offset) => Ok(offset),
+        Part::Number(number) => section.add(alloc, SectionValue::Number(number)),
+    }
+}
+
+// Adds values, and answers the offsets at which they begin.
+pub(crate) fn add_values(
+    alloc: Global,
+    section: &mut Section,
+    values: &[Value<'_>],
+) -> Result<Vec<u32>, SectionError>
+    ensures { IfOk result (λ offsets. PutsAll (map value_tree values.now) section.old section.new
+        offsets.items) }
+{
+    let mut offsets = Vec::new(alloc);
+    for value in values {
+        let offset = add_value(alloc, section, value)?;
+        offsets.push(offset)?;
+    }
+    Ok(offsets)
+}
