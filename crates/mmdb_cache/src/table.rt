@@ -65,6 +65,8 @@ fn place_among(sets: usize, number: u64) -> usize {
 }
 
 impl<K: Key, V: Copy, const SETS: usize> Table<K, V, SETS> {
+    ghost use Rattle.mmdb_cache.specs.declared.table.Known.{Known as SpecKnown};
+
     /// Without memory for anything.
     pub fn without_memory(alloc: Global) -> Table<K, V, SETS>
         ensures { result ≡ [] }
@@ -87,13 +89,14 @@ impl<K: Key, V: Copy, const SETS: usize> Table<K, V, SETS> {
         Ok(Table { kept, way: 0 })
     }
 
-    // Whether a key's own stands at a place.
+    // The set that a key gives.
     #[inline(always)]
-    fn is_at(&self, place: usize, key: K) -> bool {
-        match self.kept.get(place) {
-            Some(known) => known.key.is(key),
-            None => false,
-        }
+    fn set_of(&self, key: K) -> Option<&[Known<K, V>]>
+        ensures { IfSome result (λ set. (known : SpecKnown K V) → Contains set.now known
+            → Contains self.now known) }
+    {
+        let first = place_among(SETS, key.number());
+        self.kept.get(first..first.wrapping_add(WAYS))
     }
 
     /// What is known by a key, if it is kept. All of its set are looked at, so that no branch waits for memory.
@@ -101,16 +104,31 @@ impl<K: Key, V: Copy, const SETS: usize> Table<K, V, SETS> {
     pub fn get(&self, key: K) -> Option<V>
         ensures { IfSome result (λ value. Contains self.now (record { key = key; value = value })) }
     {
-        let first = place_among(SETS, key.number());
-        let second = usize::from(self.is_at(first.wrapping_add(1), key));
-        let third = usize::from(self.is_at(first.wrapping_add(2), key));
-        let fourth = usize::from(self.is_at(first.wrapping_add(3), key));
-        let way = second + 2 * third + 3 * fourth;
-        let known = self.kept.get(first.wrapping_add(way % WAYS))?;
+        let set = self.set_of(key)?;
+        let [_, second, third, fourth] = set else {
+            return None;
+        };
+        let way = usize::from(second.key.is(key))
+            + 2 * usize::from(third.key.is(key))
+            + 3 * usize::from(fourth.key.is(key));
+        let known = set.get(way % WAYS)?;
         if known.key.is(key) {
             return Some(known.value);
         }
         None
+    }
+
+    /// Whether something is known by a key, and kept.
+    #[inline(always)]
+    pub fn has(&self, key: K) -> bool
+        ensures { result ≡ true → (value : V) × Contains self.now (record { key = key; value = value }) }
+    {
+        match self.set_of(key) {
+            Some([first, second, third, fourth]) => {
+                first.key.is(key) | second.key.is(key) | third.key.is(key) | fourth.key.is(key)
+            }
+            _ => false,
+        }
     }
 
     /// Keeps what is known by a key, in place of what stands at the next place of its set.

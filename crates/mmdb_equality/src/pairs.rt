@@ -103,7 +103,7 @@ impl KnownPairs {
     #[inline(always)]
     pub fn keeps_same(&self, offsets: Option<Offsets>) -> bool {
         match offsets {
-            Some(offsets) => self.same.get(offsets).is_some(),
+            Some(offsets) => self.same.has(offsets),
             None => false,
         }
     }
@@ -112,7 +112,7 @@ impl KnownPairs {
     #[inline(always)]
     pub fn were_last_same(&self, offsets: Option<Offsets>) -> bool {
         match offsets {
-            Some(offsets) => self.last.get(offsets).is_some(),
+            Some(offsets) => self.last.has(offsets),
             None => false,
         }
     }
@@ -126,9 +126,9 @@ impl KnownPairs {
 
     /// Whether two records are shown the same, if that is kept.
     pub fn kept(&self, offsets: Offsets) -> Option<bool> {
-        if self.same.get(offsets).is_some() {
+        if self.same.has(offsets) {
             Some(true)
-        } else if self.different.get(offsets).is_some() {
+        } else if self.different.has(offsets) {
             Some(false)
         } else {
             None

@@ -155,7 +155,7 @@ fn kept_of(alloc: Global, count: u32) -> Result<Option<u32>, AllocError> {
     let mut kept = 0u32;
     for key in 0..count {
         match table.get(key) {
-            Some(is_even) if is_even != (key % 2 == 0) => return Ok(None),
+            Some(is_even) if is_even != (key % 2 == 0) || !table.has(key) => return Ok(None),
             Some(_) => kept = kept.saturating_add(1),
             None => {}
         }
@@ -169,7 +169,7 @@ fn tables_keep_the_last(rt: HostRuntime) {
     let kept = kept_of(rt.alloc(), 100);
     assert!(rt; matches!(kept, Ok(Some(1..=8))), "{kept:?}");
     let empty: Table<u32, bool, 2> = Table::without_memory(rt.alloc());
-    assert!(rt; empty.get(1).is_none());
+    assert!(rt; empty.get(1).is_none() && !empty.has(1));
 }
 
 #[test]
