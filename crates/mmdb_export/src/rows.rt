@@ -201,8 +201,10 @@ impl Sink for Rows<'_, '_> {
         if !self.join_kept(found) {
             return Ok(false);
         }
-        put(self.line.as_slice(), out)?;
-        Ok(true)
+        match out.write_all(self.line.as_slice()) {
+            Ok(()) => Ok(true),
+            Err(error) => Err(ProgramError::Write(error)),
+        }
     }
 
     fn put<O: Write>(&mut self, found: &Found<'_>, out: &mut O) -> Result<(), ProgramError> {
