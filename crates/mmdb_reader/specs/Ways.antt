@@ -45,8 +45,8 @@ pub data StepLeads (s : List ℕ) (p d : ℕ) : PathElement → Option ℕ → �
   to_element_from_end : {i n q c : ℕ} {array : Entered} → ContainerStands 11 s p d array → n + suc i ≡ array.count → ArePassed s array.body n c q → StepLeads s p d (IndexFromEnd i) (Some q) (array.count + c) 0
   before_elements : {i : ℕ} {array : Entered} → ContainerStands 11 s p d array → array.count ≤ i → StepLeads s p d (IndexFromEnd i) None array.count 0
 
--- A path from p leads to an offset, or nowhere, which the first step decides that leads to nothing. The costs
--- are those of all its steps, each of which is below the same levels.
+-- A path from p leads to an offset, step by step, each below the same levels; or nowhere, where one of its steps
+-- leads to nothing. The costs of the steps add up.
 pub data PathLeads (s : List ℕ) (d : ℕ) : List PathElement → ℕ → Option ℕ → ℕ → ℕ → Type 0 where
   is_there : {p : ℕ} → PathLeads s d [] p (Some p) 0 0
   goes_on : {p q c b m n : ℕ} {step : PathElement} {path : List PathElement} {to : Option ℕ} → StepLeads s p d step (Some q) c b → PathLeads s d path q to m n → PathLeads s d (step ∷ path) p to (c + m) (b + n)
