@@ -2,6 +2,7 @@
 ghost use Rattle.std.specs.Prelude.{◌≡◌};
 
 use crate::limits::ValueError;
+use crate::row::RowError;
 use mmdb_nodes::TreeError;
 use mmdb_section::SectionError;
 use std::alloc::{AllocError, AllocFailed};
@@ -15,10 +16,8 @@ pub enum WriteError {
     TooLarge,
     /// No reading gives back the value of this index.
     Value { index: usize, error: ValueError },
-    /// The row of this index has a network of IPv6, which a database of IPv4 alone does not have.
-    Ipv6Row(usize),
-    /// The row of this index has a value that is not among the values.
-    NoValue(usize),
+    /// The row of this index cannot be written.
+    Row { index: usize, error: RowError },
     /// The file that was made is not read back as it was meant. No rows and values are known that do so.
     NotAsMeant,
 }
@@ -44,6 +43,10 @@ impl<T: Drop> From<AllocFailed<T>> for WriteError {
 }
 
 impl From<SectionError> for WriteError {
+    ghost use Rattle.mmdb_writer.specs.Working.{IsGeneral};
+
+    ghost from_gives = { λ _ e. IsGeneral e };
+
     fn from(error: SectionError) -> WriteError {
         match error {
             SectionError::Memory => WriteError::Memory,
@@ -53,6 +56,10 @@ impl From<SectionError> for WriteError {
 }
 
 impl From<TreeError> for WriteError {
+    ghost use Rattle.mmdb_writer.specs.Working.{IsGeneral};
+
+    ghost from_gives = { λ _ e. IsGeneral e };
+
     fn from(error: TreeError) -> WriteError {
         match error {
             TreeError::Memory => WriteError::Memory,

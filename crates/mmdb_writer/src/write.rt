@@ -1,5 +1,6 @@
 //! The writer.
-ghost use Rattle.std.specs.Prelude.{IfOk};
+ghost use Rattle.std.specs.Prelude.{IfOk, IfErr};
+ghost use Rattle.mmdb_writer.specs.Errors.{IsErrorOf};
 ghost use Rattle.mmdb_writer.specs.Written.{IsWritten};
 ghost use Rattle.mmdb_writer.specs.Working.{BeginsWith};
 
@@ -12,7 +13,7 @@ use crate::options::Options;
 use crate::row::Row;
 use crate::values::add_values;
 use mmdb_nodes::{SearchTree, search_tree};
-use mmdb_section::Section;
+use mmdb_section::{Section, SectionError};
 use mmdb_tree::SEPARATOR;
 use mmdb_value::Value;
 use std::alloc::Global;
@@ -26,7 +27,7 @@ fn file_of(
     options: &Options,
     tree: &SearchTree,
     section: &[u8],
-) -> Result<Vec<u8>, WriteError>
+) -> Result<Vec<u8>, SectionError>
     ensures { IfOk result (λ file. BeginsWith tree.now.bytes.items section.now file.items) }
 {
     let separator = [0; SEPARATOR];
@@ -50,6 +51,7 @@ pub fn write_database(
 ) -> Result<Vec<u8>, WriteError>
     ensures written { IfOk result
         (λ file. IsWritten values.now rows.now options.now file.items) }
+    ensures explained { IfErr result (IsErrorOf values.now rows.now options.now.ip_version) }
 {
     check_values(values)?;
     let mut section = Section::new(alloc);
@@ -59,6 +61,10 @@ pub fn write_database(
     let entries = ordered_entries(alloc, version, data_len, &offsets, rows)?;
     let tree = search_tree(alloc, version, &entries, data_len, options.record_size)?;
     let file = file_of(alloc, options, &tree, section.bytes())?;
-    certify(alloc, &file, options, &tree, data_len)?;
-    Ok(file)
+    let is_certified = certify(alloc, &file, options, &tree, data_len)?;
+    if is_certified {
+        Ok(file)
+    } else {
+        Err(WriteError::NotAsMeant)
+    }
 }

@@ -3,7 +3,9 @@ use mmdb_net::IpNetwork;
 use mmdb_reader::Reader;
 use mmdb_value::Value;
 use mmdb_vectors::hoard::Hoard;
-use mmdb_writer::{IpVersion, Options, RecordSize, Row, ValueError, WriteError, write_database};
+use mmdb_writer::{
+    IpVersion, Options, RecordSize, Row, RowError, ValueError, WriteError, write_database,
+};
 use std::alloc::{AllocError, Global};
 use std::collections::BTreeMap;
 use std::net::IpAddr;
@@ -121,13 +123,14 @@ fn values(alloc: Global) -> Result<Vec<Value<'static>>, AllocError> {
         ("numbers", Value::Array(numbers)),
         ("bytes", Value::Bytes(&[0, 1])),
     ]?;
-    vec![in alloc;
+    let values = vec![in alloc;
         Value::String("a"),
         Value::Map(record),
         Value::U32(7),
         Value::Array(Vec::new(alloc)),
         Value::String(""),
-    ]
+    ]?;
+    Ok(values)
 }
 
 fn options(
@@ -228,4 +231,153 @@ fn calls_succeed(rt: HostRuntime) {
         let missed = missed(rt.alloc(), case);
         assert!(rt; missed == Ok(None), "{}: {missed:?}", case.name);
     }
+}
+
+/// The search tree of one network, `128.0.0.0/1`, whose value begins the data section: node 0 leads the bit 0 to no data,
+/// number 1, and the bit 1 to number 1 + 16.
+const NODES: &[(RecordSize, &[u8])] = &[
+    (RecordSize::Bits24, &[0, 0, 1, 0, 0, 17]),
+    (RecordSize::Bits28, &[0, 0, 1, 0, 0, 0, 17]),
+    (RecordSize::Bits32, &[0, 0, 0, 1, 0, 0, 0, 17]),
+];
+
+/// What stands behind the nodes in a file of the value `a` alone: the separator, the value, the marker, and the metadata as far
+/// as they do not depend on the size of records.
+const BEHIND_NODES: &[u8] = b"\0\0\0\0\0\0\0\0\0\0\0\0\0\0\0\0\x41a\xAB\xCD\xEFMaxMind.com\xE9\
+\x5Bbinary_format_major_version\xA1\x02\x5Bbinary_format_minor_version\xA0\
+\x4Bbuild_epoch\x02\x02\x01\x02\x4Ddatabase_type\x44Test\x4Bdescription\xE1\x42en\x44Rows\
+\x4Aip_version\xA1\x04\x49languages\x01\x04\x42en\x4Anode_count\xC1\x01\x4Brecord_size\xA1";
+
+// Whether a file of one value has these bytes.
+fn has_bytes(alloc: Global, size: RecordSize, nodes: &[u8]) -> Result<bool, WriteError> {
+    let values = vec![in alloc; Value::String("a")]?;
+    let rows = rows_of(alloc, &[("128.0.0.0/1", 0)])?;
+    let options = options(alloc, IpVersion::V4, Some(size))?;
+    let file = write_database(alloc, &values, &rows, &options)?;
+    let Some(behind) = file.as_slice().strip_prefix(nodes) else {
+        return Ok(false);
+    };
+    Ok(behind.strip_prefix(BEHIND_NODES) == Some(&[size.bits() as u8]))
+}
+
+#[test]
+fn bytes_of_files(rt: HostRuntime) {
+    for (size, nodes) in NODES {
+        let holds = has_bytes(rt.alloc(), *size, nodes);
+        assert!(rt; holds == Ok(true), "{size:?}: {holds:?}");
+    }
+}
+
+/// Networks that are not written, and why.
+const REJECTED: &[(IpVersion, &[(&str, usize)], WriteError)] = &[
+    (
+        IpVersion::V4,
+        &[("10.0.0.0/8", 0), ("2001:db8::/32", 1)],
+        WriteError::Row {
+            index: 1,
+            error: RowError::Ipv6,
+        },
+    ),
+    (
+        IpVersion::V6,
+        &[("10.0.0.0/8", 5)],
+        WriteError::Row {
+            index: 0,
+            error: RowError::NoValue,
+        },
+    ),
+];
+
+#[test]
+fn rejected_rows(rt: HostRuntime) {
+    for (version, rows, error) in REJECTED {
+        let file = file_of(rt.alloc(), *version, None, rows);
+        assert!(rt; file.err() == Some(*error), "{error:?}");
+    }
+}
+
+// An array in an array, and so on, with so many of them.
+fn nested(alloc: Global, levels: usize) -> Result<Value<'static>, AllocError> {
+    let mut value = Value::U16(0);
+    for _ in 0..levels {
+        value = Value::Array(vec![in alloc; value]?);
+    }
+    Ok(value)
+}
+
+// An array of so many truth values.
+fn wide(alloc: Global, len: usize) -> Result<Value<'static>, AllocError> {
+    let mut values = Vec::new(alloc);
+    for _ in 0..len {
+        values.push(Value::Bool(true))?;
+    }
+    Ok(Value::Array(values))
+}
+
+// The error of a file of one value, if it is not written.
+fn error_of(alloc: Global, value: Value<'_>) -> Result<Option<WriteError>, WriteError> {
+    let values = vec![in alloc; value]?;
+    let rows = rows_of(alloc, &[("::/0", 0)])?;
+    let options = options(alloc, IpVersion::V6, None)?;
+    Ok(write_database(alloc, &values, &rows, &options).err())
+}
+
+#[test]
+fn values_at_the_limits(rt: HostRuntime) {
+    let alloc = rt.alloc();
+    let bytes = vec![in alloc; 0; 2_097_153].expect(&rt, "memory");
+    let error = |error| Some(WriteError::Value { index: 0, error });
+    let rows = vec![in alloc;
+        (nested(alloc, 64), None),
+        (nested(alloc, 65), error(ValueError::TooDeep)),
+        (wide(alloc, 65_535), None),
+        (wide(alloc, 65_536), error(ValueError::TooManyValues)),
+        (Ok(Value::Bytes(&bytes[1..])), None),
+        (Ok(Value::Bytes(&bytes)), error(ValueError::TooManyBytes)),
+    ]
+    .expect(&rt, "memory");
+    for (value, wanted) in rows {
+        let met = value
+            .map_err(WriteError::from)
+            .and_then(|value| error_of(alloc, value));
+        assert!(rt; met == Ok(wanted), "{wanted:?}: {met:?}");
+    }
+}
+
+/// Where budgets begin, by how many bytes they differ, and how many there are: a reader's table takes 320 KiB.
+const FIRST: usize = 65_536;
+
+const PIECE: usize = 65_536;
+
+const PIECES: usize = 32;
+
+// How many budgets of memory are too small for a file, and with how many it is written.
+fn budgets(alloc: Global) -> (u32, u32) {
+    let (mut rejected, mut accepted) = (0u32, 0u32);
+    for piece in 0..PIECES {
+        let hoard = Hoard::around(alloc, FIRST + piece * PIECE);
+        let file = file_of(alloc, IpVersion::V6, None, &[("10.0.0.0/8", 1)]);
+        drop(hoard);
+        match file {
+            Ok(_) => accepted = accepted.saturating_add(1),
+            Err(WriteError::Memory) => rejected = rejected.saturating_add(1),
+            Err(_) => return (0, 0),
+        }
+    }
+    (rejected, accepted)
+}
+
+#[test]
+fn growths_fail_in_turn(rt: HostRuntime) {
+    let alloc = rt.alloc();
+    let (rejected, accepted) = budgets(alloc);
+    assert!(rt; rejected > 0 && accepted > 0, "{rejected}: {accepted}");
+    let large = Hoard::of_large_blocks(alloc);
+    for turn in 0..200usize {
+        let small = Hoard::of_all_but(alloc, turn * 32);
+        let file = file_of(alloc, IpVersion::V6, None, &[("10.0.0.0/8", 1)]);
+        drop(small);
+        assert!(rt; file.err() == Some(WriteError::Memory), "{turn}");
+    }
+    drop(large);
 }
