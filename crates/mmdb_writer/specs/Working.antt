@@ -121,18 +121,20 @@ pub record BeginsWith (tree section file : List ℕ) : Type 0 where
 
 -- ---- errors
 
--- the error is of no value and no row
+-- the error is of no option, value or row
 abbrev pub IsGeneral : WriteError → Type 0
 IsGeneral errors.Memory = ⊤
 IsGeneral errors.TooLarge = ⊤
 IsGeneral errors.NotAsMeant = ⊤
+IsGeneral (errors.Options error) = ⊥
 IsGeneral (errors.Value index error) = ⊥
 IsGeneral (errors.Row index error) = ⊥
 
--- an error of a row says what is wrong with it, and none is of a value
+-- an error of a row says what is wrong with it, and none is of an option or a value
 abbrev pub IsRowError : IpVersion → ℕ → List Row → WriteError → Type 0
 IsRowError version count rows errors.Memory = ⊤
 IsRowError version count rows errors.TooLarge = ⊤
 IsRowError version count rows errors.NotAsMeant = ⊤
+IsRowError version count rows (errors.Options error) = ⊥
 IsRowError version count rows (errors.Value index error) = ⊥
 IsRowError version count rows (errors.Row index error) = (row : Row) × (slice_get rows index ≡ Some row) × IsWrongRow version count row error

@@ -2,6 +2,7 @@
 ghost use Rattle.std.specs.Prelude.{◌≡◌};
 
 use crate::limits::ValueError;
+use crate::options::OptionsError;
 use crate::row::RowError;
 use mmdb_nodes::TreeError;
 use mmdb_section::SectionError;
@@ -14,11 +15,13 @@ pub enum WriteError {
     Memory,
     /// Nodes and values have more bytes or numbers than records and pointers can have.
     TooLarge,
+    /// The options ask for metadata that are not accepted.
+    Options(OptionsError),
     /// No reading gives back the value of this index.
     Value { index: usize, error: ValueError },
     /// The row of this index cannot be written.
     Row { index: usize, error: RowError },
-    /// The file that was made is not read back as it was meant. No rows and values are known that do so.
+    /// The file that was made is not read back as it was meant: its metadata pass a reader's limits.
     NotAsMeant,
 }
 
@@ -39,6 +42,16 @@ impl<T: Drop> From<AllocFailed<T>> for WriteError {
 
     fn from(_error: AllocFailed<T>) -> WriteError {
         WriteError::Memory
+    }
+}
+
+impl From<OptionsError> for WriteError {
+    ghost use Rattle.mmdb_writer.specs.declared.error.WriteError.TheVariants.{Options};
+
+    ghost from_gives = { λ error e. e ≡ Options error };
+
+    fn from(error: OptionsError) -> WriteError {
+        WriteError::Options(error)
     }
 }
 

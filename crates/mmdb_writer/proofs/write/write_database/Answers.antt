@@ -7,11 +7,11 @@ use Rattle.mmdb_writer.proofs.FileLemmas.{is_written}
 use Rattle.std.proofs.lemmas.List.{length-map}
 use Rattle.mmdb_format.specs.Unfolding.{Tree}
 use Rattle.mmdb_section.specs.Sections.{Tile}
-use Rattle.mmdb_nodes.specs.declared.entry.IpVersion.{IpVersion}
 use Rattle.mmdb_value.specs.declared.any_value.Value.{Value}
 use Rattle.mmdb_value.specs.Values.{value_tree}
 use Rattle.mmdb_writer.specs.declared.error.WriteError.{WriteError}
 use Rattle.mmdb_writer.specs.declared.error.WriteError.TheVariants as errors
+use Rattle.mmdb_writer.specs.declared.options.Options.{Options}
 use Rattle.mmdb_writer.specs.declared.row.Row.{Row}
 use Rattle.mmdb_writer.specs.Errors.{IsErrorOf, IsWrongRow}
 use Rattle.mmdb_writer.specs.Working.{AllBegin, IsRowError}
@@ -45,18 +45,19 @@ as_many tiles [] (o ∷ os) h = absurd h
 as_many tiles (v ∷ vs) [] h = absurd h
 as_many tiles (v ∷ vs) (o ∷ os) h = ap suc (as_many tiles vs os h.1)
 
-row_error : (values : List Value) (rows : List Row) (version : IpVersion) (count : ℕ) (e : WriteError) → count ≡ length values → IsRowError version count rows e → IsErrorOf values rows version e
-row_error values rows version count errors.Memory same h = h
-row_error values rows version count errors.TooLarge same h = h
-row_error values rows version count errors.NotAsMeant same h = h
-row_error values rows version count (errors.Value index error) same h = absurd h
-row_error values rows version count (errors.Row index error) same h = (h.0, h.1, subst (λ (n : ℕ). IsWrongRow version n h.0 error) same h.2)
+row_error : (values : List Value) (rows : List Row) (options : Options) (count : ℕ) (e : WriteError) → count ≡ length values → IsRowError options.ip_version count rows e → IsErrorOf values rows options e
+row_error values rows options count (errors.Options error) same h = absurd h
+row_error values rows options count errors.Memory same h = h
+row_error values rows options count errors.TooLarge same h = h
+row_error values rows options count errors.NotAsMeant same h = h
+row_error values rows options count (errors.Value index error) same h = absurd h
+row_error values rows options count (errors.Row index error) same h = (h.0, h.1, subst (λ (n : ℕ). IsWrongRow options.ip_version n h.0 error) same h.2)
 
 pub returns-in_err-entries-clause-explained : goal.returns-in_err-entries-clause-explained
 returns-in_err-entries-clause-explained c =
     let empty : IsSection [] c.new-section.result = record { are = record { chain = sym (ap length c.new-section.ensures.bytes); each = tt }; starts = c.new-section.ensures.starts } in
     let held = c.in_ok-offsets.ensures [] empty in
     let len : length c.deref.result.now ≡ length c.args.values.now = ap length c.deref.ensures.value ∙ as_many held.more (map value_tree c.args.values.now) c.in_ok-offsets.offsets.items held.all ∙ length-map c.args.values.now value_tree in
-    let explained : IsErrorOf c.args.values.now c.args.rows.now c.args.options.now.ip_version c.in_err-entries.field-0.0 =
-    row_error c.args.values.now c.args.rows.now c.args.options.now.ip_version (length c.deref.result.now) c.in_err-entries.field-0.0 len c.in_err-entries.ensures.err in
+    let explained : IsErrorOf c.args.values.now c.args.rows.now c.args.options.now c.in_err-entries.field-0.0 =
+    row_error c.args.values.now c.args.rows.now c.args.options.now (length c.deref.result.now) c.in_err-entries.field-0.0 len c.in_err-entries.ensures.err in
     search rules
