@@ -4,7 +4,8 @@ use mmdb_reader::Reader;
 use mmdb_value::Value;
 use mmdb_vectors::hoard::Hoard;
 use mmdb_writer::{
-    IpVersion, Options, RecordSize, Row, RowError, ValueError, WriteError, write_database,
+    IpVersion, Options, OptionsError, RecordSize, Row, RowError, ValueError, WriteError,
+    write_database,
 };
 use std::alloc::{AllocError, Global};
 use std::collections::BTreeMap;
@@ -186,6 +187,28 @@ fn file_of(
     )
 }
 
+// A value as a text, or that there is none.
+fn text_of(alloc: Global, value: Option<&Value<'_>>) -> Result<String, AllocError> {
+    match value {
+        Some(value) => format!(in alloc; "{value:?}"),
+        None => String::from_str(alloc, "none"),
+    }
+}
+
+// What a lookup of the address finds, as a text.
+fn found_at(alloc: Global, reader: &Reader<&[u8]>, address: &str) -> Result<String, AllocError> {
+    let Ok(address) = address.parse::<IpAddr>() else {
+        return String::from_str(alloc, "no address");
+    };
+    let Ok(found) = reader.lookup(address) else {
+        return String::from_str(alloc, "no answer");
+    };
+    match found.decode::<Value<'_>>(alloc) {
+        Ok(value) => text_of(alloc, value.as_ref()),
+        Err(_) => String::from_str(alloc, "no value"),
+    }
+}
+
 // Whether a lookup of the address finds the value of that index, or none.
 fn finds(
     alloc: Global,
@@ -193,21 +216,12 @@ fn finds(
     values: &[Value<'_>],
     address: &str,
     index: Option<usize>,
-) -> bool {
-    let Ok(address) = address.parse::<IpAddr>() else {
-        return false;
+) -> Result<bool, AllocError> {
+    let wanted = match index {
+        Some(index) => values.get(index),
+        None => None,
     };
-    let Ok(found) = reader.lookup(address) else {
-        return false;
-    };
-    let Ok(value) = found.decode::<Value<'_>>(alloc) else {
-        return false;
-    };
-    match (value, index.map(|index| values.get(index))) {
-        (Some(value), Some(Some(wanted))) => value == *wanted,
-        (None, None) => true,
-        _ => false,
-    }
+    Ok(found_at(alloc, reader, address)? == text_of(alloc, wanted)?)
 }
 
 // The first address of a case that is not found as it should be.
@@ -218,7 +232,7 @@ fn missed(alloc: Global, case: &Case) -> Result<Option<&'static str>, WriteError
         return Ok(Some("the file"));
     };
     for (address, index) in case.addresses {
-        if !finds(alloc, &reader, &values, address, *index) {
+        if !finds(alloc, &reader, &values, address, *index)? {
             return Ok(Some(*address));
         }
     }
@@ -322,25 +336,85 @@ fn error_of(alloc: Global, value: Value<'_>) -> Result<Option<WriteError>, Write
     Ok(write_database(alloc, &values, &rows, &options).err())
 }
 
+// So many zeros.
+fn zeros(alloc: Global, len: usize) -> Result<Vec<u8>, AllocError> {
+    vec![in alloc; 0; len]
+}
+
+/// Arrays in one another, an array of truth values, or a string of bytes.
+#[derive(Clone, Copy, Debug)]
+enum Shape {
+    Nested,
+    Wide,
+    Bytes,
+}
+
+/// Values of so many arrays, truth values or bytes, and why they are not written.
+const LIMITS: &[(Shape, usize, Option<ValueError>)] = &[
+    (Shape::Nested, 64, None),
+    (Shape::Nested, 65, Some(ValueError::TooDeep)),
+    (Shape::Wide, 65_535, None),
+    (Shape::Wide, 65_536, Some(ValueError::TooManyValues)),
+    (Shape::Bytes, 2_097_152, None),
+    (Shape::Bytes, 2_097_153, Some(ValueError::TooManyBytes)),
+];
+
+// The error of a file of a value of that shape, if it is not written.
+fn error_of_shape(
+    alloc: Global,
+    shape: Shape,
+    count: usize,
+) -> Result<Option<WriteError>, WriteError> {
+    match shape {
+        Shape::Nested => error_of(alloc, nested(alloc, count)?),
+        Shape::Wide => error_of(alloc, wide(alloc, count)?),
+        Shape::Bytes => {
+            let bytes = zeros(alloc, count)?;
+            error_of(alloc, Value::Bytes(&bytes))
+        }
+    }
+}
+
 #[test]
 fn values_at_the_limits(rt: HostRuntime) {
-    let alloc = rt.alloc();
-    let bytes = vec![in alloc; 0; 2_097_153].expect(&rt, "memory");
-    let error = |error| Some(WriteError::Value { index: 0, error });
-    let rows = vec![in alloc;
-        (nested(alloc, 64), None),
-        (nested(alloc, 65), error(ValueError::TooDeep)),
-        (wide(alloc, 65_535), None),
-        (wide(alloc, 65_536), error(ValueError::TooManyValues)),
-        (Ok(Value::Bytes(&bytes[1..])), None),
-        (Ok(Value::Bytes(&bytes)), error(ValueError::TooManyBytes)),
-    ]
-    .expect(&rt, "memory");
-    for (value, wanted) in rows {
-        let met = value
-            .map_err(WriteError::from)
-            .and_then(|value| error_of(alloc, value));
-        assert!(rt; met == Ok(wanted), "{wanted:?}: {met:?}");
+    for (shape, count, error) in LIMITS {
+        let met = error_of_shape(rt.alloc(), *shape, *count);
+        let wanted = error.map(|error| WriteError::Value { index: 0, error });
+        assert!(rt; met == Ok(wanted), "{shape:?} {count}: {met:?}");
+    }
+}
+
+/// Metadata that are not accepted: the type, the description and the time.
+const UNACCEPTED: &[(&str, Option<&str>, u64, OptionsError)] = &[
+    ("", Some("en"), 0, OptionsError::NoType),
+    ("Test", None, 0, OptionsError::NoDescription),
+    ("Test", Some("en"), 1 << 63, OptionsError::TooLate),
+];
+
+// The error of a file with such metadata, if it is not written.
+fn error_of_metadata(
+    alloc: Global,
+    database_type: &str,
+    language: Option<&str>,
+    build_epoch: u64,
+) -> Result<Option<WriteError>, WriteError> {
+    let mut options = options(alloc, IpVersion::V4, None)?;
+    options.database_type = String::from_str(alloc, database_type)?;
+    options.build_epoch = build_epoch;
+    if language.is_none() {
+        options.description = BTreeMap::new(alloc);
+    }
+    Ok(write_database(alloc, &[], &[], &options).err())
+}
+
+#[test]
+fn metadata_that_are_not_accepted(rt: HostRuntime) {
+    for (database_type, language, build_epoch, error) in UNACCEPTED {
+        let met = error_of_metadata(rt.alloc(), *database_type, *language, *build_epoch);
+        assert!(rt;
+            met == Ok(Some(WriteError::Options(*error))),
+            "{error:?}: {met:?}"
+        );
     }
 }
 
@@ -367,17 +441,26 @@ fn budgets(alloc: Global) -> (u32, u32) {
     (rejected, accepted)
 }
 
-#[test]
-fn growths_fail_in_turn(rt: HostRuntime) {
-    let alloc = rt.alloc();
-    let (rejected, accepted) = budgets(alloc);
-    assert!(rt; rejected > 0 && accepted > 0, "{rejected}: {accepted}");
+// How many of the first budgets, in steps of 32 bytes, are too small for a file.
+fn small_budgets(alloc: Global) -> u32 {
     let large = Hoard::of_large_blocks(alloc);
+    let mut rejected = 0u32;
     for turn in 0..200usize {
         let small = Hoard::of_all_but(alloc, turn * 32);
         let file = file_of(alloc, IpVersion::V6, None, &[("10.0.0.0/8", 1)]);
         drop(small);
-        assert!(rt; file.err() == Some(WriteError::Memory), "{turn}");
+        if file.err() == Some(WriteError::Memory) {
+            rejected = rejected.saturating_add(1);
+        }
     }
     drop(large);
+    rejected
+}
+
+#[test]
+fn growths_fail_in_turn(rt: HostRuntime) {
+    let (rejected, accepted) = budgets(rt.alloc());
+    assert!(rt; rejected > 0 && accepted > 0, "{rejected}: {accepted}");
+    let small = small_budgets(rt.alloc());
+    assert!(rt; small == 200, "{small}");
 }
