@@ -1,5 +1,5 @@
 -- What contracts of private functions and proofs name.
-use Rattle.std.specs.Prelude.{◌≡◌, ◌≤◌, ◌<◌, ◌+◌, ◌==◌, ◌&&◌, Bool, ℕ, true, List, [], ◌∷◌, ◌++◌, length, take, Some, slice_get}
+use Rattle.std.specs.Prelude.{◌≡◌, ◌≤◌, ◌<◌, ◌+◌, ◌==◌, ◌&&◌, Bool, ℕ, true, List, [], ◌∷◌, ◌++◌, length, take, Some, slice_get, ⊤}
 use Rattle.mmdb_format.specs.Unfolding.{Tree, is_keyed, value_count, payload, levels}
 use Rattle.mmdb_section.specs.declared.value.Part.{Part}
 use Rattle.mmdb_section.specs.declared.value.Part.TheVariants.{At}
@@ -27,6 +27,7 @@ use Rattle.mmdb_writer.specs.declared.limits.ValueError.{ValueError}
 use Rattle.mmdb_writer.specs.declared.limits.ValueError.TheVariants.{TooManyValues, TooManyBytes, TooDeep}
 use Rattle.mmdb_writer.specs.declared.row.Row.{Row}
 use Rattle.mmdb_writer.specs.Limits.{Exceeds}
+use Rattle.mmdb_writer.specs.Errors.{IsWrongRow}
 use Rattle.mmdb_writer.specs.Written.{asked}
 
 -- what reading back tells: a whole database with these metadata, and so many bytes of data
@@ -117,3 +118,23 @@ pub record BeginsWith (tree section file : List ℕ) : Type 0 where
   pub len : length separator ≡ 16
   pub behind : List ℕ
   pub whole : file ≡ tree ++ (separator ++ (section ++ behind))
+
+-- ---- errors
+
+-- the error is of no option, value or row
+abbrev pub IsGeneral : WriteError → Type 0
+IsGeneral errors.Memory = ⊤
+IsGeneral errors.TooLarge = ⊤
+IsGeneral errors.NotAsMeant = ⊤
+IsGeneral (errors.Options error) = ⊥
+IsGeneral (errors.Value index error) = ⊥
+IsGeneral (errors.Row index error) = ⊥
+
+-- an error of a row says what is wrong with it, and none is of an option or a value
+abbrev pub IsRowError : IpVersion → ℕ → List Row → WriteError → Type 0
+IsRowError version count rows errors.Memory = ⊤
+IsRowError version count rows errors.TooLarge = ⊤
+IsRowError version count rows errors.NotAsMeant = ⊤
+IsRowError version count rows (errors.Options error) = ⊥
+IsRowError version count rows (errors.Value index error) = ⊥
+IsRowError version count rows (errors.Row index error) = (row : Row) × (slice_get rows index ≡ Some row) × IsWrongRow version count row error

@@ -1,5 +1,5 @@
 //! Reads back what was written.
-ghost use Rattle.std.specs.Prelude.{◌≡◌, OnOk, IsTrue};
+ghost use Rattle.std.specs.Prelude.{◌≡◌, IfOk, IsTrue};
 ghost use Rattle.mmdb_nodes.specs.Trees.{bits_in};
 ghost use Rattle.mmdb_reader.specs.Metadata.{metadata_datum};
 ghost use Rattle.mmdb_writer.specs.Written.{asked};
@@ -13,6 +13,10 @@ use mmdb_reader::{Metadata, Reader};
 use std::alloc::Global;
 
 impl From<MaxMindDbError> for WriteError {
+    ghost use Rattle.mmdb_writer.specs.Working.{IsGeneral};
+
+    ghost from_gives = { λ _ e. IsGeneral e };
+
     fn from(error: MaxMindDbError) -> WriteError {
         match error {
             MaxMindDbError::Memory => WriteError::Memory,
@@ -60,14 +64,15 @@ pub(crate) fn certify(
     options: &Options,
     tree: &SearchTree,
     data_len: usize,
-) -> Result<(), WriteError>
-    ensures { OnOk result (IsCertified file.now options.now tree.now data_len) }
+) -> Result<bool, MaxMindDbError>
+    ensures { IfOk result (λ is_certified. IsTrue is_certified
+        → IsCertified file.now options.now tree.now data_len) }
 {
     let reader = Reader::from_source(alloc, file)?;
     let is_as_asked = say_what_was_asked(reader.metadata(), options, tree);
     if !is_as_asked || reader.data_section().len() != data_len {
-        return Err(WriteError::NotAsMeant);
+        return Ok(false);
     }
     reader.verify(alloc)?;
-    Ok(())
+    Ok(true)
 }

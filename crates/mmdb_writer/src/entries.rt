@@ -1,29 +1,26 @@
 //! The entries of rows.
-ghost use Rattle.std.specs.Prelude.{IfOk};
+ghost use Rattle.std.specs.Prelude.{IfOk, IfErr, length};
 ghost use Rattle.std.specs.List.{AllZip};
-ghost use Rattle.mmdb_writer.specs.Working.{IsEntryOf, AreEntriesOf};
+ghost use Rattle.mmdb_writer.specs.Errors.{IsWrongRow};
+ghost use Rattle.mmdb_writer.specs.Working.{IsEntryOf, AreEntriesOf, IsRowError};
 
 use crate::error::WriteError;
-use crate::row::Row;
+use crate::row::{Row, RowError};
 use mmdb_blocks::Block;
 use mmdb_net::IpNetwork;
 use mmdb_nodes::{Entry, IpVersion, all_fit, are_ordered};
 use std::alloc::Global;
 
-// The entry of a row, which stands at an index.
-fn entry_of(
-    version: IpVersion,
-    offsets: &[u32],
-    index: usize,
-    row: &Row,
-) -> Result<Entry, WriteError>
-    ensures { IfOk result (IsEntryOf offsets.now row.now) }
+// The entry of a row.
+fn entry_of(version: IpVersion, offsets: &[u32], row: &Row) -> Result<Entry, RowError>
+    ensures ok { IfOk result (IsEntryOf offsets.now row.now) }
+    ensures err { IfErr result (IsWrongRow version (length offsets.now) row.now) }
 {
     let Some(offset) = offsets.get(row.value) else {
-        return Err(WriteError::NoValue(index));
+        return Err(RowError::NoValue);
     };
-    if matches!((version, row.network), (IpVersion::V4, IpNetwork::V6(_))) {
-        return Err(WriteError::Ipv6Row(index));
+    if let (IpVersion::V4, IpNetwork::V6(_)) = (version, row.network) {
+        return Err(RowError::Ipv6);
     }
     Ok(Entry::new(Block::of_network(row.network), *offset))
 }
@@ -35,12 +32,15 @@ fn entries_of_rows(
     offsets: &[u32],
     rows: &[Row],
 ) -> Result<Vec<Entry>, WriteError>
-    ensures { IfOk result (λ entries. AllZip (IsEntryOf offsets.now) rows.now entries.items) }
+    ensures ok { IfOk result (λ entries. AllZip (IsEntryOf offsets.now) rows.now entries.items) }
+    ensures err { IfErr result (IsRowError version (length offsets.now) rows.now) }
 {
     let mut entries = Vec::with_capacity(alloc, rows.len())?;
-    for row in rows {
-        let entry = entry_of(version, offsets, entries.len(), row)?;
-        entries.push(entry)?;
+    for index in 0..rows.len() {
+        match entry_of(version, offsets, &rows[index]) {
+            Ok(entry) => entries.push(entry)?,
+            Err(error) => return Err(WriteError::Row { index, error }),
+        }
     }
     Ok(entries)
 }
@@ -53,8 +53,9 @@ pub(crate) fn ordered_entries(
     offsets: &[u32],
     rows: &[Row],
 ) -> Result<Vec<Entry>, WriteError>
-    ensures { IfOk result
+    ensures ok { IfOk result
         (λ entries. AreEntriesOf version data_len offsets.now rows.now entries.items) }
+    ensures err { IfErr result (IsRowError version (length offsets.now) rows.now) }
 {
     let mut entries = entries_of_rows(alloc, version, offsets, rows)?;
     if !are_ordered(&entries) {

@@ -2,6 +2,8 @@
 ghost use Rattle.std.specs.Prelude.{◌≡◌};
 
 use crate::limits::ValueError;
+use crate::options::OptionsError;
+use crate::row::RowError;
 use mmdb_nodes::TreeError;
 use mmdb_section::SectionError;
 use std::alloc::{AllocError, AllocFailed};
@@ -13,13 +15,13 @@ pub enum WriteError {
     Memory,
     /// Nodes and values have more bytes or numbers than records and pointers can have.
     TooLarge,
+    /// The options ask for metadata that are not accepted.
+    Options(OptionsError),
     /// No reading gives back the value of this index.
     Value { index: usize, error: ValueError },
-    /// The row of this index has a network of IPv6, which a database of IPv4 alone does not have.
-    Ipv6Row(usize),
-    /// The row of this index has a value that is not among the values.
-    NoValue(usize),
-    /// The file that was made is not read back as it was meant. No rows and values are known that do so.
+    /// The row of this index cannot be written.
+    Row { index: usize, error: RowError },
+    /// The file that was made is not read back as it was meant: its metadata pass a reader's limits.
     NotAsMeant,
 }
 
@@ -43,7 +45,21 @@ impl<T: Drop> From<AllocFailed<T>> for WriteError {
     }
 }
 
+impl From<OptionsError> for WriteError {
+    ghost use Rattle.mmdb_writer.specs.declared.error.WriteError.TheVariants.{Options};
+
+    ghost from_gives = { λ error e. e ≡ Options error };
+
+    fn from(error: OptionsError) -> WriteError {
+        WriteError::Options(error)
+    }
+}
+
 impl From<SectionError> for WriteError {
+    ghost use Rattle.mmdb_writer.specs.Working.{IsGeneral};
+
+    ghost from_gives = { λ _ e. IsGeneral e };
+
     fn from(error: SectionError) -> WriteError {
         match error {
             SectionError::Memory => WriteError::Memory,
@@ -53,6 +69,10 @@ impl From<SectionError> for WriteError {
 }
 
 impl From<TreeError> for WriteError {
+    ghost use Rattle.mmdb_writer.specs.Working.{IsGeneral};
+
+    ghost from_gives = { λ _ e. IsGeneral e };
+
     fn from(error: TreeError) -> WriteError {
         match error {
             TreeError::Memory => WriteError::Memory,

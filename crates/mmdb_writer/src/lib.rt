@@ -14,6 +14,6 @@ mod write;
 pub use error::WriteError;
 pub use limits::ValueError;
 pub use mmdb_nodes::{IpVersion, RecordSize};
-pub use options::Options;
-pub use row::Row;
+pub use options::{Options, OptionsError};
+pub use row::{Row, RowError};
 pub use write::write_database;

@@ -1,40 +1,39 @@
 //! The metadata of a file, as bytes.
 ghost use Rattle.std.specs.Prelude.{◌≡◌, ◌<◌};
 
-use crate::error::WriteError;
 use crate::options::Options;
 use mmdb_format::kind::{ARRAY, MAP};
 use mmdb_nodes::{IpVersion, SearchTree};
-use mmdb_section::{MOST_SIZE, Number, push_header, push_number, push_text};
+use mmdb_section::{MOST_SIZE, Number, SectionError, push_header, push_number, push_text};
 use std::alloc::Global;
 
 // A header of a type and size.
-fn push_sized_header(out: &mut Vec<u8>, kind: u16, size: usize) -> Result<(), WriteError>
+fn push_sized_header(out: &mut Vec<u8>, kind: u16, size: usize) -> Result<(), SectionError>
     requires no_pointer { 1 < kind }
     requires kind { kind < 16 }
 {
     if size > MOST_SIZE {
-        return Err(WriteError::TooLarge);
+        return Err(SectionError::TooLarge);
     }
     Ok(push_header(out, kind, size)?)
 }
 
 // A text.
-fn push_sized_text(out: &mut Vec<u8>, text: &str) -> Result<(), WriteError> {
+fn push_sized_text(out: &mut Vec<u8>, text: &str) -> Result<(), SectionError> {
     if text.len() > MOST_SIZE {
-        return Err(WriteError::TooLarge);
+        return Err(SectionError::TooLarge);
     }
     Ok(push_text(out, text)?)
 }
 
 // A key and a number.
-fn push_number_field(out: &mut Vec<u8>, name: &str, number: Number) -> Result<(), WriteError> {
+fn push_number_field(out: &mut Vec<u8>, name: &str, number: Number) -> Result<(), SectionError> {
     push_sized_text(out, name)?;
     Ok(push_number(out, number)?)
 }
 
 // The texts that describe the database, by language.
-fn push_description(out: &mut Vec<u8>, options: &Options) -> Result<(), WriteError> {
+fn push_description(out: &mut Vec<u8>, options: &Options) -> Result<(), SectionError> {
     push_sized_text(out, "description")?;
     push_sized_header(out, MAP, options.description.len())?;
     for (language, text) in &options.description {
@@ -45,7 +44,7 @@ fn push_description(out: &mut Vec<u8>, options: &Options) -> Result<(), WriteErr
 }
 
 // The codes of languages.
-fn push_languages(out: &mut Vec<u8>, options: &Options) -> Result<(), WriteError> {
+fn push_languages(out: &mut Vec<u8>, options: &Options) -> Result<(), SectionError> {
     push_sized_text(out, "languages")?;
     push_sized_header(out, ARRAY, options.languages.len())?;
     for language in &options.languages {
@@ -73,7 +72,7 @@ pub(crate) fn metadata_bytes(
     alloc: Global,
     options: &Options,
     tree: &SearchTree,
-) -> Result<Vec<u8>, WriteError> {
+) -> Result<Vec<u8>, SectionError> {
     let mut out = Vec::new(alloc);
     push_sized_header(&mut out, MAP, 9)?;
     push_number_field(&mut out, "binary_format_major_version", Number::U16(2))?;

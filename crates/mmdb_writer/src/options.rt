@@ -1,6 +1,19 @@
 //! What a file says of itself.
+ghost use Rattle.std.specs.Prelude.{IfErr};
+
 use mmdb_nodes::{IpVersion, RecordSize};
 use std::collections::BTreeMap;
+
+/// Why metadata are not written.
+#[derive(Clone, Copy, Debug, PartialEq, Eq)]
+pub enum OptionsError {
+    /// The database has no type.
+    NoType,
+    /// Nothing describes the database.
+    NoDescription,
+    /// It is built later than a signed number of seconds can hold.
+    TooLate,
+}
 
 /// What the metadata of a file are to say ("Database Metadata" of the MaxMind DB File Format Specification 2.0).
 #[derive(Debug, PartialEq, Eq, Drop)]
@@ -17,4 +30,24 @@ pub struct Options {
     pub ip_version: IpVersion,
     /// How many bits a record of a node has, or none for the least that serves.
     pub record_size: Option<RecordSize>,
+}
+
+impl Options {
+    ghost use Rattle.mmdb_writer.specs.Errors.{IsWrongOption};
+
+    // Whether a reader accepts such metadata, and a verification.
+    pub(crate) fn check(&self) -> Result<(), OptionsError>
+        ensures { IfErr result (IsWrongOption self.now) }
+    {
+        if self.database_type.is_empty() {
+            return Err(OptionsError::NoType);
+        }
+        if self.description.is_empty() {
+            return Err(OptionsError::NoDescription);
+        }
+        if self.build_epoch >= 1 << 63 {
+            return Err(OptionsError::TooLate);
+        }
+        Ok(())
+    }
 }

@@ -1,6 +1,15 @@
 //! Rows: networks with values.
 use mmdb_net::IpNetwork;
 
+/// Why a row is not written.
+#[derive(Clone, Copy, Debug, PartialEq, Eq)]
+pub enum RowError {
+    /// Its network is one of IPv6, which a database of IPv4 alone does not have.
+    Ipv6,
+    /// Its value is not among the values.
+    NoValue,
+}
+
 /// A network, and which of the values its addresses have: the index of one.
 #[derive(Clone, Copy, Debug, PartialEq, Eq)]
 pub struct Row {

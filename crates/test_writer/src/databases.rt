@@ -3,7 +3,10 @@ use mmdb_net::IpNetwork;
 use mmdb_reader::Reader;
 use mmdb_value::Value;
 use mmdb_vectors::hoard::Hoard;
-use mmdb_writer::{IpVersion, Options, RecordSize, Row, ValueError, WriteError, write_database};
+use mmdb_writer::{
+    IpVersion, Options, OptionsError, RecordSize, Row, RowError, ValueError, WriteError,
+    write_database,
+};
 use std::alloc::{AllocError, Global};
 use std::collections::BTreeMap;
 use std::net::IpAddr;
@@ -121,13 +124,14 @@ fn values(alloc: Global) -> Result<Vec<Value<'static>>, AllocError> {
         ("numbers", Value::Array(numbers)),
         ("bytes", Value::Bytes(&[0, 1])),
     ]?;
-    vec![in alloc;
+    let values = vec![in alloc;
         Value::String("a"),
         Value::Map(record),
         Value::U32(7),
         Value::Array(Vec::new(alloc)),
         Value::String(""),
-    ]
+    ]?;
+    Ok(values)
 }
 
 fn options(
@@ -183,6 +187,28 @@ fn file_of(
     )
 }
 
+// A value as a text, or that there is none.
+fn text_of(alloc: Global, value: Option<&Value<'_>>) -> Result<String, AllocError> {
+    match value {
+        Some(value) => format!(in alloc; "{value:?}"),
+        None => String::from_str(alloc, "none"),
+    }
+}
+
+// What a lookup of the address finds, as a text.
+fn found_at(alloc: Global, reader: &Reader<&[u8]>, address: &str) -> Result<String, AllocError> {
+    let Ok(address) = address.parse::<IpAddr>() else {
+        return String::from_str(alloc, "no address");
+    };
+    let Ok(found) = reader.lookup(address) else {
+        return String::from_str(alloc, "no answer");
+    };
+    match found.decode::<Value<'_>>(alloc) {
+        Ok(value) => text_of(alloc, value.as_ref()),
+        Err(_) => String::from_str(alloc, "no value"),
+    }
+}
+
 // Whether a lookup of the address finds the value of that index, or none.
 fn finds(
     alloc: Global,
@@ -190,21 +216,12 @@ fn finds(
     values: &[Value<'_>],
     address: &str,
     index: Option<usize>,
-) -> bool {
-    let Ok(address) = address.parse::<IpAddr>() else {
-        return false;
+) -> Result<bool, AllocError> {
+    let wanted = match index {
+        Some(index) => values.get(index),
+        None => None,
     };
-    let Ok(found) = reader.lookup(address) else {
-        return false;
-    };
-    let Ok(value) = found.decode::<Value<'_>>(alloc) else {
-        return false;
-    };
-    match (value, index.map(|index| values.get(index))) {
-        (Some(value), Some(Some(wanted))) => value == *wanted,
-        (None, None) => true,
-        _ => false,
-    }
+    Ok(found_at(alloc, reader, address)? == text_of(alloc, wanted)?)
 }
 
 // The first address of a case that is not found as it should be.
@@ -215,7 +232,7 @@ fn missed(alloc: Global, case: &Case) -> Result<Option<&'static str>, WriteError
         return Ok(Some("the file"));
     };
     for (address, index) in case.addresses {
-        if !finds(alloc, &reader, &values, address, *index) {
+        if !finds(alloc, &reader, &values, address, *index)? {
             return Ok(Some(*address));
         }
     }
@@ -228,4 +245,222 @@ fn calls_succeed(rt: HostRuntime) {
         let missed = missed(rt.alloc(), case);
         assert!(rt; missed == Ok(None), "{}: {missed:?}", case.name);
     }
+}
+
+/// The search tree of one network, `128.0.0.0/1`, whose value begins the data section: node 0 leads the bit 0 to no data,
+/// number 1, and the bit 1 to number 1 + 16.
+const NODES: &[(RecordSize, &[u8])] = &[
+    (RecordSize::Bits24, &[0, 0, 1, 0, 0, 17]),
+    (RecordSize::Bits28, &[0, 0, 1, 0, 0, 0, 17]),
+    (RecordSize::Bits32, &[0, 0, 0, 1, 0, 0, 0, 17]),
+];
+
+/// What stands behind the nodes in a file of the value `a` alone: the separator, the value, the marker, and the metadata as far
+/// as they do not depend on the size of records.
+const BEHIND_NODES: &[u8] = b"\0\0\0\0\0\0\0\0\0\0\0\0\0\0\0\0\x41a\xAB\xCD\xEFMaxMind.com\xE9\
+\x5Bbinary_format_major_version\xA1\x02\x5Bbinary_format_minor_version\xA0\
+\x4Bbuild_epoch\x02\x02\x01\x02\x4Ddatabase_type\x44Test\x4Bdescription\xE1\x42en\x44Rows\
+\x4Aip_version\xA1\x04\x49languages\x01\x04\x42en\x4Anode_count\xC1\x01\x4Brecord_size\xA1";
+
+// Whether a file of one value has these bytes.
+fn has_bytes(alloc: Global, size: RecordSize, nodes: &[u8]) -> Result<bool, WriteError> {
+    let values = vec![in alloc; Value::String("a")]?;
+    let rows = rows_of(alloc, &[("128.0.0.0/1", 0)])?;
+    let options = options(alloc, IpVersion::V4, Some(size))?;
+    let file = write_database(alloc, &values, &rows, &options)?;
+    let Some(behind) = file.as_slice().strip_prefix(nodes) else {
+        return Ok(false);
+    };
+    Ok(behind.strip_prefix(BEHIND_NODES) == Some(&[size.bits() as u8]))
+}
+
+#[test]
+fn bytes_of_files(rt: HostRuntime) {
+    for (size, nodes) in NODES {
+        let holds = has_bytes(rt.alloc(), *size, nodes);
+        assert!(rt; holds == Ok(true), "{size:?}: {holds:?}");
+    }
+}
+
+/// Networks that are not written, and why.
+const REJECTED: &[(IpVersion, &[(&str, usize)], WriteError)] = &[
+    (
+        IpVersion::V4,
+        &[("10.0.0.0/8", 0), ("2001:db8::/32", 1)],
+        WriteError::Row {
+            index: 1,
+            error: RowError::Ipv6,
+        },
+    ),
+    (
+        IpVersion::V6,
+        &[("10.0.0.0/8", 5)],
+        WriteError::Row {
+            index: 0,
+            error: RowError::NoValue,
+        },
+    ),
+];
+
+#[test]
+fn rejected_rows(rt: HostRuntime) {
+    for (version, rows, error) in REJECTED {
+        let file = file_of(rt.alloc(), *version, None, rows);
+        assert!(rt; file.err() == Some(*error), "{error:?}");
+    }
+}
+
+// An array in an array, and so on, with so many of them.
+fn nested(alloc: Global, levels: usize) -> Result<Value<'static>, AllocError> {
+    let mut value = Value::U16(0);
+    for _ in 0..levels {
+        value = Value::Array(vec![in alloc; value]?);
+    }
+    Ok(value)
+}
+
+// An array of so many truth values.
+fn wide(alloc: Global, len: usize) -> Result<Value<'static>, AllocError> {
+    let mut values = Vec::new(alloc);
+    for _ in 0..len {
+        values.push(Value::Bool(true))?;
+    }
+    Ok(Value::Array(values))
+}
+
+// The error of a file of one value, if it is not written.
+fn error_of(alloc: Global, value: Value<'_>) -> Result<Option<WriteError>, WriteError> {
+    let values = vec![in alloc; value]?;
+    let rows = rows_of(alloc, &[("::/0", 0)])?;
+    let options = options(alloc, IpVersion::V6, None)?;
+    Ok(write_database(alloc, &values, &rows, &options).err())
+}
+
+// So many zeros.
+fn zeros(alloc: Global, len: usize) -> Result<Vec<u8>, AllocError> {
+    vec![in alloc; 0; len]
+}
+
+/// Arrays in one another, an array of truth values, or a string of bytes.
+#[derive(Clone, Copy, Debug)]
+enum Shape {
+    Nested,
+    Wide,
+    Bytes,
+}
+
+/// Values of so many arrays, truth values or bytes, and why they are not written.
+const LIMITS: &[(Shape, usize, Option<ValueError>)] = &[
+    (Shape::Nested, 64, None),
+    (Shape::Nested, 65, Some(ValueError::TooDeep)),
+    (Shape::Wide, 65_535, None),
+    (Shape::Wide, 65_536, Some(ValueError::TooManyValues)),
+    (Shape::Bytes, 2_097_152, None),
+    (Shape::Bytes, 2_097_153, Some(ValueError::TooManyBytes)),
+];
+
+// The error of a file of a value of that shape, if it is not written.
+fn error_of_shape(
+    alloc: Global,
+    shape: Shape,
+    count: usize,
+) -> Result<Option<WriteError>, WriteError> {
+    match shape {
+        Shape::Nested => error_of(alloc, nested(alloc, count)?),
+        Shape::Wide => error_of(alloc, wide(alloc, count)?),
+        Shape::Bytes => {
+            let bytes = zeros(alloc, count)?;
+            error_of(alloc, Value::Bytes(&bytes))
+        }
+    }
+}
+
+#[test]
+fn values_at_the_limits(rt: HostRuntime) {
+    for (shape, count, error) in LIMITS {
+        let met = error_of_shape(rt.alloc(), *shape, *count);
+        let wanted = error.map(|error| WriteError::Value { index: 0, error });
+        assert!(rt; met == Ok(wanted), "{shape:?} {count}: {met:?}");
+    }
+}
+
+/// Metadata that are not accepted: the type, the description and the time.
+const UNACCEPTED: &[(&str, Option<&str>, u64, OptionsError)] = &[
+    ("", Some("en"), 0, OptionsError::NoType),
+    ("Test", None, 0, OptionsError::NoDescription),
+    ("Test", Some("en"), 1 << 63, OptionsError::TooLate),
+];
+
+// The error of a file with such metadata, if it is not written.
+fn error_of_metadata(
+    alloc: Global,
+    database_type: &str,
+    language: Option<&str>,
+    build_epoch: u64,
+) -> Result<Option<WriteError>, WriteError> {
+    let mut options = options(alloc, IpVersion::V4, None)?;
+    options.database_type = String::from_str(alloc, database_type)?;
+    options.build_epoch = build_epoch;
+    if language.is_none() {
+        options.description = BTreeMap::new(alloc);
+    }
+    Ok(write_database(alloc, &[], &[], &options).err())
+}
+
+#[test]
+fn metadata_that_are_not_accepted(rt: HostRuntime) {
+    for (database_type, language, build_epoch, error) in UNACCEPTED {
+        let met = error_of_metadata(rt.alloc(), *database_type, *language, *build_epoch);
+        assert!(rt;
+            met == Ok(Some(WriteError::Options(*error))),
+            "{error:?}: {met:?}"
+        );
+    }
+}
+
+/// Where budgets begin, by how many bytes they differ, and how many there are: a reader's table takes 320 KiB.
+const FIRST: usize = 65_536;
+
+const PIECE: usize = 65_536;
+
+const PIECES: usize = 32;
+
+// How many budgets of memory are too small for a file, and with how many it is written.
+fn budgets(alloc: Global) -> (u32, u32) {
+    let (mut rejected, mut accepted) = (0u32, 0u32);
+    for piece in 0..PIECES {
+        let hoard = Hoard::around(alloc, FIRST + piece * PIECE);
+        let file = file_of(alloc, IpVersion::V6, None, &[("10.0.0.0/8", 1)]);
+        drop(hoard);
+        match file {
+            Ok(_) => accepted = accepted.saturating_add(1),
+            Err(WriteError::Memory) => rejected = rejected.saturating_add(1),
+            Err(_) => return (0, 0),
+        }
+    }
+    (rejected, accepted)
+}
+
+// How many of the first budgets, in steps of 32 bytes, are too small for a file.
+fn small_budgets(alloc: Global) -> u32 {
+    let large = Hoard::of_large_blocks(alloc);
+    let mut rejected = 0u32;
+    for turn in 0..200usize {
+        let small = Hoard::of_all_but(alloc, turn * 32);
+        let file = file_of(alloc, IpVersion::V6, None, &[("10.0.0.0/8", 1)]);
+        drop(small);
+        if file.err() == Some(WriteError::Memory) {
+            rejected = rejected.saturating_add(1);
+        }
+    }
+    drop(large);
+    rejected
+}
+
+#[test]
+fn growths_fail_in_turn(rt: HostRuntime) {
+    let (rejected, accepted) = budgets(rt.alloc());
+    assert!(rt; rejected > 0 && accepted > 0, "{rejected}: {accepted}");
+    let small = small_budgets(rt.alloc());
+    assert!(rt; small == 200, "{small}");
 }

@@ -43,12 +43,12 @@ tied e f = neither (nat_cmp e.first f.first) (nat_cmp f.first e.first) (eqb e.fi
 abbrev key_of : Entry → ℕ × ℕ
 key_of e = (e.first, e.prefix)
 
-pub returns-then-all_fit : goal.returns-then-all_fit
-returns-then-all_fit c = record {
+pub returns-then-all_fit-clause-ok : goal.returns-then-all_fit-clause-ok
+returns-then-all_fit-clause-ok c = record {
   ordered = subst IsOrdered c.deref-2.ensures.value (c.if-are_ordered.ensures.0 refl);
   fit = subst (AllByRecursion (IsEntry c.args.version c.args.data_len)) c.deref-then-are_ordered.ensures.value (c.if-all_fit.ensures.0 refl);
   given = c.in_ok-entries.entries.items;
-  of_rows = c.in_ok-entries.ensures;
+  of_rows = c.in_ok-entries.ensures.ok;
   stable = λ e. elim c.if-not-are_ordered.branch [
     | then-not-are_ordered+in_ok-sort_by_key w ↦
         let stable = w.in_ok-sort_by_key.ensures.stable key_of (answers_always _ _ _ (λ f a r f' k. search rules)) in
