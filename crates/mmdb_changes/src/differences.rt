@@ -300,15 +300,27 @@ impl<'r> Pairs<'r> {
         }
     }
 
-    // Whether the same is shown. What differs is kept, since it is written next.
-    fn is_shown_same(&mut self, alloc: Global, answers: Answers<'_, '_>, shown: &Shown) -> bool {
+    // Whether the same is shown. What differs is shown next.
+    fn is_shown_same(&mut self, answers: Answers<'_, '_>, shown: Shown) -> bool {
         if shown.old == shown.new {
             return true;
         }
         if let Some(offsets) = answers.offsets() {
-            self.shown.keep(alloc, offsets, shown);
+            self.shown.note_last(offsets, shown);
         }
         false
+    }
+
+    // Compares what was found for a network in both databases, of which each value is read.
+    fn compare_values(
+        &mut self,
+        alloc: Global,
+        layout: &Layout<'_>,
+        answers: Answers<'_, '_>,
+    ) -> Result<bool, Unreadable> {
+        let is_same = are_same(alloc, layout, answers);
+        self.note(&is_same, answers);
+        is_same
     }
 
     // Compares what was found for a network in both databases.
@@ -319,17 +331,10 @@ impl<'r> Pairs<'r> {
         layout: &Layout<'_>,
         answers: Answers<'_, '_>,
     ) -> Result<bool, Unreadable> {
+        self.shown.forget_last();
         match self.laid_out(alloc, answers) {
-            Some(shown) => {
-                let is_same = self.is_shown_same(alloc, answers, &shown);
-                drop(shown);
-                Ok(is_same)
-            }
-            None => {
-                let is_same = are_same(alloc, layout, answers);
-                self.note(&is_same, answers);
-                is_same
-            }
+            Some(shown) => Ok(self.is_shown_same(answers, shown)),
+            None => self.compare_values(alloc, layout, answers),
         }
     }
 
@@ -414,8 +419,24 @@ impl<'r> Pairs<'r> {
         Ok(is_same)
     }
 
+    // Whether a network is shown the same in both databases, of which each value is read.
+    #[cold]
+    #[inline(never)]
+    fn is_same_by_values(
+        &mut self,
+        alloc: Global,
+        layout: &Layout<'_>,
+        answers: Answers<'_, '_>,
+    ) -> Result<bool, Unreadable> {
+        let is_same = self.compare_values(alloc, layout, answers)?;
+        if let Some(offsets) = answers.offsets() {
+            self.kept.keep(offsets, is_same);
+        }
+        Ok(is_same)
+    }
+
     /// Whether a network is shown the same in both databases. Where there is no memory, all that is kept as text is let go,
-    /// and it is tried once more.
+    /// and it is tried once more, with the memory of two values alone.
     pub(crate) fn is_same(
         &mut self,
         alloc: Global,
@@ -426,7 +447,7 @@ impl<'r> Pairs<'r> {
             Err(unreadable) if unreadable.is_memory() => {
                 drop(unreadable);
                 self.let_go();
-                self.try_same(alloc, layout, answers)
+                self.is_same_by_values(alloc, layout, answers)
             }
             done => done,
         }
@@ -475,8 +496,8 @@ impl<'r> Pairs<'r> {
         }
     }
 
-    /// What is shown of two answers, which may be kept. Where there is no memory, all that is kept as text is let go, and it
-    /// is tried once more.
+    /// What is shown of two answers, which may be kept. Where there is no memory, all that is kept as text is let go, and
+    /// each value is read.
     pub(crate) fn shown_by(
         &mut self,
         alloc: Global,
@@ -486,7 +507,7 @@ impl<'r> Pairs<'r> {
         match self.try_shown(alloc, layout, answers) {
             Err(MaxMindDbError::Memory) => {
                 self.let_go();
-                self.try_shown(alloc, layout, answers)
+                shown_by_values(alloc, layout, answers)
             }
             done => done,
         }

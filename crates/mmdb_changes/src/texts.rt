@@ -1,10 +1,10 @@
 //! The records of two databases as JSON, laid out without trees of them.
-ghost use Rattle.std.specs.Prelude.{◌≡◌, [], IfSome};
+ghost use Rattle.std.specs.Prelude.{◌≡◌, ℕ, [], Some, IfSome};
 ghost use Rattle.mmdb_texts.specs.RecordText.{AppendsRecord};
 
 use mmdb_diff::Side;
 use mmdb_equality::Shown;
-use mmdb_texts::RecordTexts;
+use mmdb_texts::{RecordText, RecordTexts};
 use std::alloc::Global;
 
 /// What is shown where there is no record.
@@ -17,22 +17,43 @@ pub(crate) struct BothTexts<'r> {
     new: RecordTexts<'r>,
 }
 
-// The text of the record at an offset, where it can be laid out so.
-fn record_text(alloc: Global, offset: usize, texts: &mut RecordTexts<'_>) -> Option<Vec<u8>>
-    ensures record { IfSome result (λ text. AppendsRecord texts.old offset [] text.items) }
+// The record at an offset, if there is one, where it can be laid out so.
+fn lay_out<'r>(offset: Option<usize>, texts: &mut RecordTexts<'r>) -> Option<Option<RecordText<'r>>>
+    ensures laid_out { IfSome result (λ found. IfSome found (λ text. (at : ℕ) × (offset ≡ Some at)
+        × AppendsRecord texts.old at [] text)) }
+    ensures section { texts.new ≡ texts.old }
+{
+    match offset {
+        Some(offset) => Some(Some(texts.lay_out(offset)?)),
+        None => Some(None),
+    }
+}
+
+// The text of a record that was laid out. It takes no more memory than its length.
+fn record_text<'r>(
+    alloc: Global,
+    laid_out: RecordText<'r>,
+    texts: &mut RecordTexts<'r>,
+) -> Option<Vec<u8>>
+    ensures text { IfSome result (λ text. text.items ≡ laid_out.entry) }
     ensures section { texts.new ≡ texts.old }
 {
     let mut text = Vec::new(alloc);
-    if texts.put(offset, &mut text) {
+    if texts.append(laid_out, &mut text) {
+        text.shrink_to_fit();
         return Some(text);
     }
     None
 }
 
-// The text of the record at an offset, if there is one and it can be laid out so, or that of no record.
-fn text_of(alloc: Global, offset: Option<usize>, texts: &mut RecordTexts<'_>) -> Option<Vec<u8>> {
-    match offset {
-        Some(offset) => record_text(alloc, offset, texts),
+// What is shown of a record that was laid out, or of no record.
+fn text_of<'r>(
+    alloc: Global,
+    laid_out: Option<RecordText<'r>>,
+    texts: &mut RecordTexts<'r>,
+) -> Option<Vec<u8>> {
+    match laid_out {
+        Some(laid_out) => record_text(alloc, laid_out, texts),
         None => NO_RECORD.to_vec(alloc).ok(),
     }
 }
@@ -85,6 +106,8 @@ impl<'r> BothTexts<'r> {
         if is_suspected(old, &self.old) || is_suspected(new, &self.new) {
             return None;
         }
+        let old = lay_out(old, &mut self.old)?;
+        let new = lay_out(new, &mut self.new)?;
         Some(Shown {
             old: text_of(alloc, old, &mut self.old)?,
             new: text_of(alloc, new, &mut self.new)?,

@@ -24,6 +24,8 @@ struct ShownPair {
 #[derive(Drop)]
 pub struct ShownPairs {
     kept: Cache<ShownPair>,
+    /// The pair that was compared last, where it differs: it is mostly shown next.
+    last: Option<ShownPair>,
 }
 
 impl Shown {
@@ -50,12 +52,33 @@ impl ShownPairs {
     pub fn new(alloc: Global, most: usize) -> ShownPairs {
         ShownPairs {
             kept: Cache::new(alloc, most),
+            last: None,
         }
     }
 
     /// Lets go of all that is kept.
     pub fn clear(&mut self) {
         self.kept.clear();
+        self.last = None;
+    }
+
+    /// Keeps what is shown of the pair that was compared last, of any length.
+    pub fn note_last(&mut self, offsets: Offsets, shown: Shown) {
+        self.last = Some(ShownPair { offsets, shown });
+    }
+
+    /// Lets go of what is shown of the pair that was compared last.
+    pub fn forget_last(&mut self) {
+        self.last = None;
+    }
+
+    // Takes what is shown of a pair, if it was compared last.
+    fn take_last(&mut self, offsets: Offsets) -> Option<Shown> {
+        let last = self.last.take()?;
+        if !last.offsets.are(offsets) {
+            return None;
+        }
+        Some(last.shown)
     }
 
     // What is shown of a pair, if that is kept.
@@ -66,8 +89,13 @@ impl ShownPairs {
         }
     }
 
-    /// A copy of what is shown of a pair, if that is kept. An `Err` is of memory.
-    pub fn kept(&self, alloc: Global, offsets: Offsets) -> Result<Option<Shown>, AllocError> {
+    /// What is shown of a pair, if that is kept: what was compared last is handed out, of another one a copy. An `Err` is of
+    /// memory.
+    pub fn kept(&mut self, alloc: Global, offsets: Offsets) -> Result<Option<Shown>, AllocError> {
+        if let Some(shown) = self.take_last(offsets) {
+            self.keep(alloc, offsets, &shown);
+            return Ok(Some(shown));
+        }
         match self.shown_at(offsets) {
             Some(shown) => Ok(Some(shown.copy(alloc)?)),
             None => Ok(None),

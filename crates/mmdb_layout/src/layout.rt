@@ -194,19 +194,13 @@ fn begin_object(out: &mut Writer) -> Result<(), AllocError> {
 }
 
 // Puts the row of the record at an offset as a line with an object, with an empty network, in place of another row. Whether
-// it could be laid out so.
-fn put_record_row(
-    offset: usize,
-    texts: &mut RecordTexts<'_>,
-    row: &mut Vec<u8>,
-) -> Result<bool, AllocError> {
+// it could be laid out so, and there was memory.
+fn put_record_row(offset: usize, texts: &mut RecordTexts<'_>, row: &mut Vec<u8>) -> bool {
     row.clear();
-    row.extend_from_slice(b"{\"network\":\"\",\"record\":")?;
-    if !texts.put(offset, row) {
-        return Ok(false);
-    }
-    row.extend_from_slice(b"}\n")?;
-    Ok(true)
+    row.extend_from_slice(b"{\"network\":\"\",\"record\":")
+        .is_ok()
+        && texts.put(offset, row)
+        && row.extend_from_slice(b"}\n").is_ok()
 }
 
 // Adds a record that is read step by step, so that what can't be read is said at once.
@@ -300,7 +294,7 @@ impl Layout<'_> {
             *row = self.row(alloc, found)?;
             return Ok(());
         };
-        if !texts.is_suspected(offset) && put_record_row(offset, texts, row)? {
+        if !texts.is_suspected(offset) && put_record_row(offset, texts, row) {
             return Ok(());
         }
         *row = Vec::new(alloc);

@@ -9,6 +9,7 @@ ghost use Rattle.mmdb_texts.specs.Drafts.{AreWithin, Grows, IsBehind, filled, sh
 use crate::strings::{MOST_APART, is_plain, put_bytes, put_plain, put_string};
 use std::alloc::{AllocError, Global};
 use std::marker::Model;
+use std::mem;
 
 /// So many bytes of texts with escapes and of byte strings are laid out at once. More of them are put in when all of a
 /// record was read: to lay them out takes far longer than to read them, which is in vain where the record can't be read.
@@ -262,11 +263,23 @@ impl<'r> Draft<'r> {
         )
     }
 
-    /// Appends the whole text. Whether there was memory for it; if not, nothing is appended.
+    // Whether it is the text itself, which has so large a room that this is not kept for another one.
+    fn is_large_and_whole(&self) -> bool
+        ensures { result ≡ true → self.now.holes ≡ [] }
+    {
+        self.holes.is_empty() && self.text.capacity() > MOST_ROOM
+    }
+
+    /// Appends the whole text. Whether there was memory for it; if not, nothing is appended. A large text that nothing
+    /// stands before is handed over.
     pub(crate) fn append_to(&mut self, out: &mut Vec<u8>) -> bool
         ensures put { result ≡ true → out.new.items ≡ out.old.items ++ shown self.old }
         ensures left { result ≡ false → out.new.items ≡ out.old.items }
     {
+        if out.is_empty() && self.is_large_and_whole() {
+            mem::swap(&mut self.text, out);
+            return true;
+        }
         let before = out.len();
         if self.put_all(out).is_ok() {
             return true;

@@ -9,4 +9,4 @@ mod record_texts;
 mod scalars;
 mod strings;
 
-pub use record_texts::RecordTexts;
+pub use record_texts::{RecordText, RecordTexts};

@@ -1,5 +1,5 @@
 //! The texts of records.
-ghost use Rattle.std.specs.Prelude.{◌≡◌, ◌<◌, ◌≤◌, ◌^◌, ℕ, Some, IfSome, [], length, drop, true, false};
+ghost use Rattle.std.specs.Prelude.{◌≡◌, ◌<◌, ◌≤◌, ◌^◌, ◌++◌, ℕ, Some, IfSome, [], length, drop, true, false};
 ghost use Rattle.mmdb_format.specs.Header.{header_at as spec_header_at};
 ghost use Rattle.mmdb_texts.specs.Working.{AppendsText, AppendsOwnName, ChargesKept, ChargesBytes};
 ghost use Rattle.mmdb_texts.specs.Drafts.{Drafted, Grows, shown};
@@ -31,9 +31,12 @@ const MOST_COPIES: usize = 2;
 
 /// After the first record that was laid out in vain twice as many are thought to be such, after each further one twice as many
 /// as before, and at most so many.
-const FEWEST_SUSPECTED: u8 = 2;
+const FEWEST_SUSPECTED: usize = 2;
 
-const MOST_SUSPECTED: u8 = 64;
+const MOST_SUSPECTED: usize = 64;
+
+/// As many at least as it had so many bytes laid out in vain: such a record takes as long as many small ones.
+const BYTES_OF_SUSPECTED: usize = 128;
 
 /// What is kept of the names of members takes this part of all that is kept: one of so many.
 const PART_OF_NAMES: usize = 8;
@@ -53,10 +56,27 @@ pub struct RecordTexts<'r> {
     rooms: Rooms,
     /// So many bytes of the record that is laid out are kept.
     copied: usize,
+    /// So many bytes of the record that was met last were laid out in vain.
+    in_vain: usize,
     /// So many records that come next are thought to be such, by the last ones that were met.
-    suspected: u8,
-    /// How many were after the last one that was laid out in vain.
-    span: u8,
+    suspected: usize,
+    /// How many were after the last one that was laid out in vain, by how often that was so.
+    span: usize,
+}
+
+/// The text of a record, which was laid out by `RecordTexts` and is appended by it.
+#[derive(Drop)]
+pub struct RecordText<'r> {
+    draft: Draft<'r>,
+}
+
+impl<'r> Model for RecordText<'r> {
+    ghost use Rattle.std.specs.Prelude.{ℕ, List};
+    ghost use Rattle.mmdb_texts.specs.Drafts.{shown};
+
+    ghost Value = { List ℕ };
+
+    ghost view = { λ t. shown t.draft };
 }
 
 impl<'r> Model for RecordTexts<'r> {
@@ -185,6 +205,7 @@ impl<'r> RecordTexts<'r> {
             unreadable: Cache::new(alloc, most_of_names),
             rooms: Rooms::new(alloc),
             copied: 0,
+            in_vain: 0,
             suspected: 0,
             span: FEWEST_SUSPECTED,
         }
@@ -519,11 +540,10 @@ impl<'r> RecordTexts<'r> {
         }
     }
 
-    // Lays out the record at an offset as a draft, and appends it. Whether it can be read, and there was memory.
-    fn put_by(&mut self, offset: usize, draft: &mut Draft<'r>, out: &mut Vec<u8>) -> bool
+    // Lays out the record at an offset as a draft. Whether it can be read, and there was memory.
+    fn lay_out_as(&mut self, offset: usize, draft: &mut Draft<'r>) -> bool
         requires { shown draft.old ≡ [] }
-        ensures put { result ≡ true → AppendsRecord self.old offset out.old.items out.new.items }
-        ensures left { result ≡ false → out.new.items ≡ out.old.items }
+        ensures laid_out { result ≡ true → AppendsRecord self.old offset [] (shown draft.new) }
         ensures section { self.new ≡ self.old }
     {
         let most_levels = usize::from(MAX_LEVELS);
@@ -533,22 +553,59 @@ impl<'r> RecordTexts<'r> {
             levels: most_levels,
         };
         let Some(_) = self.put_value(offset, most_levels, &mut budget, draft) else {
+            self.in_vain = draft.reached().bytes;
             return false;
         };
-        draft.append_to(out)
+        true
     }
 
-    /// Appends the compact text of the record at an offset. False where it is left: each record that can't be read as a
-    /// value within the limits, and where memory is short. Nothing is appended then.
+    // Begins a draft of a record, in the rooms that there are.
+    fn new_draft(&mut self) -> Draft<'r>
+        ensures draft { result ≡ record { text = []; holes = [] } }
+        ensures section { self.new ≡ self.old }
+    {
+        self.copied = 0;
+        self.in_vain = 0;
+        Draft::new(
+            self.alloc,
+            mem::replace(&mut self.rooms, Rooms::new(self.alloc)),
+        )
+    }
+
+    /// Lays out the text of the record at an offset, in which strings that are put in last are not written yet. None where
+    /// the record is left: each that can't be read as a value within the limits, and where memory is short.
+    pub fn lay_out(&mut self, offset: usize) -> Option<RecordText<'r>>
+        ensures record { IfSome result (λ text. AppendsRecord self.old offset [] text) }
+        ensures section { self.new ≡ self.old }
+    {
+        let mut draft = self.new_draft();
+        if self.lay_out_as(offset, &mut draft) {
+            return Some(RecordText { draft });
+        }
+        self.rooms = draft.into_rooms();
+        None
+    }
+
+    /// Appends the text of a record that was laid out. Whether there was memory for it; if not, nothing is appended.
+    pub fn append(&mut self, text: RecordText<'r>, out: &mut Vec<u8>) -> bool
+        ensures put { result ≡ true → out.new.items ≡ out.old.items ++ text.entry }
+        ensures left { result ≡ false → out.new.items ≡ out.old.items }
+        ensures section { self.new ≡ self.old }
+    {
+        let mut draft = text.draft;
+        let is_put = draft.append_to(out);
+        self.rooms = draft.into_rooms();
+        is_put
+    }
+
+    /// Appends the compact text of the record at an offset. False where it is left, as by `lay_out`; nothing is appended then.
     pub fn put(&mut self, offset: usize, out: &mut Vec<u8>) -> bool
         ensures put { result ≡ true → AppendsRecord self.old offset out.old.items out.new.items }
         ensures left { result ≡ false → out.new.items ≡ out.old.items }
         ensures section { self.new ≡ self.old }
     {
-        self.copied = 0;
-        let rooms = mem::replace(&mut self.rooms, Rooms::new(self.alloc));
-        let mut draft = Draft::new(self.alloc, rooms);
-        let is_put = self.put_by(offset, &mut draft, out);
+        let mut draft = self.new_draft();
+        let is_put = self.lay_out_as(offset, &mut draft) && draft.append_to(out);
         self.rooms = draft.into_rooms();
         is_put
     }
@@ -570,7 +627,9 @@ impl<'r> RecordTexts<'r> {
         if self.suspected == 0 {
             self.span = self.span.saturating_mul(2).min(MOST_SUSPECTED);
         }
-        self.suspected = self.span;
+        let by_bytes = self.in_vain / BYTES_OF_SUSPECTED;
+        self.in_vain = 0;
+        self.suspected = self.suspected.max(self.span).max(by_bytes);
     }
 
     /// Notes that a record which was suspected can be read.

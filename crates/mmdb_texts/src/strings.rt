@@ -16,8 +16,11 @@ use std::mem;
 /// A string of a longer text is not written apart, nor one behind less than this.
 pub(crate) const MOST_APART: usize = 1024;
 
-/// A shorter text is escaped by runs of bytes that are not, a longer one by the kit's writer, many bytes at a time.
+/// A longer text is looked at as a whole.
 const SHORT: usize = 64;
+
+/// A shorter text is escaped by runs of bytes that are not, a longer one by the kit's writer, many bytes at a time.
+const FEW: usize = 24;
 
 // Whether a byte is not escaped in a string.
 #[inline(always)]
@@ -183,7 +186,7 @@ pub(crate) fn put_string(
     ensures put { OnOk result (out.new.items ≡ out.old.items ++ quoted text.now) }
     ensures behind { IsBehind out.old.items out.new.items }
 {
-    if text.len() < SHORT {
+    if text.len() < FEW {
         return put_short(text.as_bytes(), out);
     }
     if text.len() > MOST_APART || out.len() <= MOST_APART {
