@@ -75,7 +75,7 @@ impl ShownPairs {
     // Takes what is shown of a pair, if it was compared last.
     fn take_last(&mut self, offsets: Offsets) -> Option<Shown> {
         let last = self.last.take()?;
-        if !last.offsets.are(offsets) {
+        if !last.offsets.is(offsets) {
             return None;
         }
         Some(last.shown)
