@@ -58,6 +58,13 @@ fn text_of<'r>(
     }
 }
 
+// Lets go of a record that was laid out in vain, if it is one.
+fn leave<'r>(laid_out: Option<RecordText<'r>>, texts: &mut RecordTexts<'r>) {
+    if let Some(laid_out) = laid_out {
+        texts.leave(laid_out);
+    }
+}
+
 // Whether the record at an offset is thought to be one that can't be read, if there is one.
 fn is_suspected(offset: Option<usize>, texts: &RecordTexts<'_>) -> bool {
     match offset {
@@ -107,7 +114,10 @@ impl<'r> BothTexts<'r> {
             return None;
         }
         let old = lay_out(old, &mut self.old)?;
-        let new = lay_out(new, &mut self.new)?;
+        let Some(new) = lay_out(new, &mut self.new) else {
+            leave(old, &mut self.old);
+            return None;
+        };
         Some(Shown {
             old: text_of(alloc, old, &mut self.old)?,
             new: text_of(alloc, new, &mut self.new)?,

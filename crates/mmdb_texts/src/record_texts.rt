@@ -616,6 +616,21 @@ impl<'r> RecordTexts<'r> {
         self.suspected > 0 || self.unreadable.get(offset).is_some()
     }
 
+    // Notes that so many bytes were laid out in vain.
+    fn note_in_vain(&mut self, bytes: usize)
+        ensures { self.new ≡ self.old }
+    {
+        self.suspected = self.suspected.max(bytes / BYTES_OF_SUSPECTED);
+    }
+
+    /// Lets go of a text that was laid out in vain, since another record that it belongs to can't be read.
+    pub fn leave(&mut self, text: RecordText<'r>)
+        ensures { self.new ≡ self.old }
+    {
+        self.note_in_vain(text.draft.reached().bytes);
+        self.rooms = text.draft.into_rooms();
+    }
+
     /// Notes that the record at an offset can't be read.
     pub fn note_unreadable(&mut self, offset: usize)
         ensures { self.new ≡ self.old }
@@ -627,9 +642,9 @@ impl<'r> RecordTexts<'r> {
         if self.suspected == 0 {
             self.span = self.span.saturating_mul(2).min(MOST_SUSPECTED);
         }
-        let by_bytes = self.in_vain / BYTES_OF_SUSPECTED;
+        self.suspected = self.suspected.max(self.span);
+        self.note_in_vain(self.in_vain);
         self.in_vain = 0;
-        self.suspected = self.suspected.max(self.span).max(by_bytes);
     }
 
     /// Notes that a record which was suspected can be read.
