@@ -48,10 +48,11 @@ fn file_of(
 /// the least that serves; `verify` accepts it; and each lookup that may be asked succeeds and finds what the rows say, which
 /// `decode::<Value>` gives back. The file is read back before it is handed out: what is not proved of it is tested then.
 ///
-/// Metadata without a type or a description, or later than a signed number of seconds can hold, are rejected; so is a value that
-/// no reading gives back, by its index, and a row whose network is one of IPv6 in a database of IPv4, or whose value is not there.
-/// Else it fails for memory; as `TooLarge`, where nodes, values or metadata have more bytes or numbers than the format can say;
-/// and as `NotAsMeant`, where the file is not read back as it was meant, as with metadata that pass a reader's limits.
+/// Metadata without a type or a description, or later than a signed number of seconds can hold, are rejected; so is a value
+/// that no reading gives back, by its index, and a row whose network is one of IPv6 in a database of IPv4, or whose value is
+/// not there. Else it fails for memory; as `TooLarge`, where nodes, values or metadata have more bytes or numbers than the
+/// format can say; and as `NotAsMeant`, where the file is not read back as it was meant, as with metadata that pass a reader's
+/// limits.
 pub fn write_database(
     alloc: Global,
     values: &[Value<'_>],
