@@ -1,10 +1,9 @@
 //! Maps that were read and to which pointers lead. Many records share them.
-use mmdb_cache::{Key, Known, Table};
 use mmdb_decode::decoder::Decoder;
 use std::alloc::{AllocError, Global};
 
-/// How many sets of maps are kept.
-const SETS: usize = 2048;
+/// How many maps are kept.
+const PLACES: usize = 8192;
 
 /// More bytes than the header of a map has.
 const HEADER_BYTES: usize = 8;
@@ -17,68 +16,68 @@ pub(crate) struct SharedMap {
     pub(crate) pairs: usize,
 }
 
-impl Key for SharedMap {
-    #[inline(always)]
-    fn number(self) -> u64 {
-        self.old as u64 ^ (self.new as u64).rotate_left(32)
-    }
-
-    #[inline(always)]
-    fn is(self, other: SharedMap) -> bool {
-        self == other
-    }
-}
-
-// How deep containers were allowed to be in a map that was read, and what it cost.
+// A map that was read, how deep containers were allowed to be in it, and what it cost.
 #[derive(Clone, Copy)]
-struct Reading {
+struct KnownMap {
+    map: SharedMap,
     depth: usize,
     cost: usize,
 }
 
 // It is no map: none has so many pairs.
-const NO_MAP: Known<SharedMap, Reading> = Known {
-    key: SharedMap {
+const NO_MAP: KnownMap = KnownMap {
+    map: SharedMap {
         old: 0,
         new: 0,
         pairs: usize::MAX,
     },
-    value: Reading { depth: 0, cost: 0 },
+    depth: 0,
+    cost: 0,
 };
 
-/// The maps that were read last.
+/// The maps that were read last, each at the place that its first keys give.
 #[derive(Drop)]
 pub struct KnownMaps {
-    kept: Table<SharedMap, Reading, SETS>,
+    kept: Vec<KnownMap>,
+}
+
+// The place of a map.
+#[inline(always)]
+fn place_of(map: SharedMap) -> usize {
+    (map.old ^ map.new.rotate_left(7)) % PLACES
 }
 
 impl KnownMaps {
     /// Without memory for one.
     pub(crate) fn none(alloc: Global) -> KnownMaps {
         KnownMaps {
-            kept: Table::without_memory(alloc),
+            kept: Vec::new(alloc),
         }
     }
 
     /// None yet. An `Err` is of memory.
     pub fn new(alloc: Global) -> Result<KnownMaps, AllocError> {
-        Ok(KnownMaps {
-            kept: Table::new(alloc, NO_MAP)?,
-        })
+        let mut kept = Vec::with_capacity(alloc, PLACES)?;
+        for _ in 0..PLACES {
+            kept.push(NO_MAP)?;
+        }
+        Ok(KnownMaps { kept })
     }
 
     /// What a map cost, if it is kept and was read where containers were allowed to be as deep, or less deep.
     #[inline(always)]
     pub(crate) fn cost_of(&self, map: SharedMap, depth: usize) -> Option<usize> {
-        match self.kept.get(map) {
-            Some(reading) if reading.depth <= depth => Some(reading.cost),
+        match self.kept.get(place_of(map)) {
+            Some(known) if known.map == map && known.depth <= depth => Some(known.cost),
             _ => None,
         }
     }
 
     /// Keeps a map that was read, in place of another one.
     pub(crate) fn keep(&mut self, map: SharedMap, depth: usize, cost: usize) {
-        self.kept.put(map, Reading { depth, cost });
+        if let Some(known) = self.kept.get_mut(place_of(map)) {
+            *known = KnownMap { map, depth, cost };
+        }
     }
 }
 

@@ -1,5 +1,4 @@
 //! Pairs of records that were compared.
-use mmdb_cache::{Key, Known, Table};
 use std::alloc::{AllocError, Global};
 
 /// How many sets of pairs are kept that are shown the same, how many of those of them that came last, and how many of
@@ -26,13 +25,22 @@ const NO_RECORDS: Offsets = Offsets {
     new: NO_RECORD,
 };
 
+// The last four pairs of a set, the last one first.
+type Set = [Offsets; 4];
+
+// Pairs of records, in so many sets.
+#[derive(Drop)]
+struct Table<const SETS: usize> {
+    sets: Vec<Set>,
+}
+
 /// The pairs of records that were compared last. Many networks share a pair.
 #[derive(Drop)]
 pub struct KnownPairs {
-    same: Table<Offsets, (), SETS_OF_SAME>,
+    same: Table<SETS_OF_SAME>,
     /// Some of the same, in a table that the first cache holds.
-    last: Table<Offsets, (), SETS_OF_LAST>,
-    different: Table<Offsets, (), SETS_OF_DIFFERENT>,
+    last: Table<SETS_OF_LAST>,
+    different: Table<SETS_OF_DIFFERENT>,
 }
 
 // The offset by which a record is kept, unless it is too large.
@@ -63,39 +71,64 @@ impl Offsets {
         }
         Some((self.old as usize, self.new as usize))
     }
-}
 
-impl Key for Offsets {
-    // It is another one for each pair.
+    /// The pair as one number, which is another one for each.
     #[inline(always)]
-    fn number(self) -> u64 {
-        u64::from(self.old) ^ u64::from(self.new).rotate_left(32)
+    pub(crate) fn key(&self) -> usize {
+        (u64::from(self.old) ^ u64::from(self.new).rotate_left(32)) as usize
     }
 
+    /// Whether these are the same two.
     #[inline(always)]
-    fn is(self, other: Offsets) -> bool {
-        (self.old == other.old) & (self.new == other.new)
+    pub(crate) fn are(&self, others: Offsets) -> bool {
+        (self.old == others.old) & (self.new == others.new)
     }
 }
 
-// No pairs yet.
-fn no_pairs<const SETS: usize>(alloc: Global) -> Result<Table<Offsets, (), SETS>, AllocError> {
-    Table::new(
-        alloc,
-        Known {
-            key: NO_RECORDS,
-            value: (),
-        },
-    )
+// The place of a pair's set among so many: it depends on all bits of both offsets.
+#[inline(always)]
+fn place_among(sets: usize, offsets: Offsets) -> usize {
+    let mixed = (offsets.key() as u64).wrapping_mul(0x9E37_79B9_7F4A_7C15) >> 32;
+    (mixed as usize).checked_rem(sets).unwrap_or(0)
+}
+
+impl<const SETS: usize> Table<SETS> {
+    // No pairs yet.
+    fn new(alloc: Global) -> Result<Table<SETS>, AllocError> {
+        let mut sets = Vec::with_capacity(alloc, SETS)?;
+        for _ in 0..SETS {
+            sets.push([NO_RECORDS; 4])?;
+        }
+        Ok(Table { sets })
+    }
+
+    // Whether a pair is kept. All of its set are looked at, so that no branch waits for memory.
+    #[inline(always)]
+    fn has(&self, offsets: Offsets) -> bool {
+        match self.sets.get(place_among(SETS, offsets)) {
+            Some([first, second, third, fourth]) => {
+                first.are(offsets) | second.are(offsets) | third.are(offsets) | fourth.are(offsets)
+            }
+            None => false,
+        }
+    }
+
+    // Keeps a pair in place of the oldest one of its set.
+    fn keep(&mut self, offsets: Offsets) {
+        if let Some(set) = self.sets.get_mut(place_among(SETS, offsets)) {
+            let [first, second, third, _] = *set;
+            *set = [offsets, first, second, third];
+        }
+    }
 }
 
 impl KnownPairs {
     /// No pairs yet. An `Err` is of memory.
     pub fn new(alloc: Global) -> Result<KnownPairs, AllocError> {
         Ok(KnownPairs {
-            same: no_pairs(alloc)?,
-            last: no_pairs(alloc)?,
-            different: no_pairs(alloc)?,
+            same: Table::new(alloc)?,
+            last: Table::new(alloc)?,
+            different: Table::new(alloc)?,
         })
     }
 
@@ -120,7 +153,7 @@ impl KnownPairs {
     /// Says of two records that are kept so that they came last.
     pub fn keep_last(&mut self, offsets: Option<Offsets>) {
         if let Some(offsets) = offsets {
-            self.last.put(offsets, ());
+            self.last.keep(offsets);
         }
     }
 
@@ -138,9 +171,9 @@ impl KnownPairs {
     /// Keeps whether two records are shown the same.
     pub fn keep(&mut self, offsets: Offsets, is_same: bool) {
         if is_same {
-            self.same.put(offsets, ());
+            self.same.keep(offsets);
         } else {
-            self.different.put(offsets, ());
+            self.different.keep(offsets);
         }
     }
 }

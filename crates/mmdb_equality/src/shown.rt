@@ -1,6 +1,6 @@
 //! What is shown of pairs of records.
 use crate::pairs::Offsets;
-use mmdb_cache::{Cache, Key};
+use mmdb_cache::Cache;
 use std::alloc::{AllocError, Global};
 
 /// The most bytes of what is shown of a record of a pair that is kept.
@@ -75,7 +75,7 @@ impl ShownPairs {
     // Takes what is shown of a pair, if it was compared last.
     fn take_last(&mut self, offsets: Offsets) -> Option<Shown> {
         let last = self.last.take()?;
-        if !last.offsets.is(offsets) {
+        if !last.offsets.are(offsets) {
             return None;
         }
         Some(last.shown)
@@ -83,8 +83,8 @@ impl ShownPairs {
 
     // What is shown of a pair, if that is kept.
     fn shown_at(&self, offsets: Offsets) -> Option<&Shown> {
-        match self.kept.get(offsets.number() as usize) {
-            Some(pair) if pair.offsets.is(offsets) => Some(&pair.shown),
+        match self.kept.get(offsets.key()) {
+            Some(pair) if pair.offsets.are(offsets) => Some(&pair.shown),
             _ => None,
         }
     }
@@ -113,7 +113,7 @@ impl ShownPairs {
                 offsets,
                 shown: copy,
             };
-            self.kept.put(offsets.number() as usize, pair, bytes);
+            self.kept.put(offsets.key(), pair, bytes);
         }
     }
 }
