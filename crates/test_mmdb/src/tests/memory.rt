@@ -138,7 +138,8 @@ const BUDGETS: usize = 25;
 // Adds a text of the letter, or of a control character by it, and an array of pointers to the text. Where the array stands.
 fn push_record(records: &Records, letter: u8, data: &mut Vec<u8>) -> Result<usize, AllocError> {
     let text = data.len();
-    let [high, low] = (records.text_bytes.saturating_sub(285) as u16).to_be_bytes();
+    let size = records.text_bytes.saturating_sub(285) % 65_536;
+    let [high, low] = (size as u16).to_be_bytes();
     data.extend_from_slice(&[0x5E, high, low])?;
     let byte = if records.are_controls {
         letter % 31 + 1
