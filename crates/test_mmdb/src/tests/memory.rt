@@ -92,10 +92,40 @@ fn runs_without_memory(rt: HostRuntime) {
     }
 }
 
-/// How many networks the large files have, each with a record of its own, and how many bytes the text of a record has.
+/// How many networks the large files have, each with a record of its own.
 const NETWORKS: usize = 64;
 
-const TEXT_BYTES: usize = 1900;
+/// What the records of a large file are: arrays of so many pointers to a text of so many bytes, which may be control
+/// characters.
+struct Records {
+    pointers: u8,
+    text_bytes: usize,
+    are_controls: bool,
+}
+
+/// Short texts, texts that are larger than what is kept, and ones that are put in last.
+const LARGE_RECORDS: &[Records] = &[
+    Records {
+        pointers: 2,
+        text_bytes: 1900,
+        are_controls: false,
+    },
+    Records {
+        pointers: 40,
+        text_bytes: 1900,
+        are_controls: false,
+    },
+    Records {
+        pointers: 2,
+        text_bytes: 1900,
+        are_controls: true,
+    },
+    Records {
+        pointers: 60,
+        text_bytes: 300,
+        are_controls: true,
+    },
+];
 
 /// Where budgets of an export and of a `diff` begin, by how many bytes they differ, and how many there are. A `diff` has a
 /// table of its own from its beginning on.
@@ -105,25 +135,35 @@ const DIFFS: (usize, usize) = (4_194_304, 196_608);
 
 const BUDGETS: usize = 25;
 
-// Adds a text of the letter, and an array of two pointers to it. Where the array stands.
-fn push_record(letter: u8, data: &mut Vec<u8>) -> Result<usize, AllocError> {
+// Adds a text of the letter, or of a control character by it, and an array of pointers to the text. Where the array stands.
+fn push_record(records: &Records, letter: u8, data: &mut Vec<u8>) -> Result<usize, AllocError> {
     let text = data.len();
-    let [high, low] = ((TEXT_BYTES - 285) as u16).to_be_bytes();
+    let size = records.text_bytes.saturating_sub(285) % 65_536;
+    let [high, low] = (size as u16).to_be_bytes();
     data.extend_from_slice(&[0x5E, high, low])?;
-    for place in 0..TEXT_BYTES {
-        data.push(if place % 97 == 0 { b'-' } else { letter })?;
+    let byte = if records.are_controls {
+        letter % 31 + 1
+    } else {
+        letter
+    };
+    for place in 0..records.text_bytes {
+        data.push(if place % 97 == 0 { b'-' } else { byte })?;
     }
-    let record = data.len();
+    let array = data.len();
     let [_, _, _, _, a, b, c, d] = (text as u64).to_be_bytes();
-    data.extend_from_slice(&[0x02, 0x04])?;
-    for _ in 0..2 {
+    if records.pointers < 29 {
+        data.extend_from_slice(&[records.pointers, 0x04])?;
+    } else {
+        data.extend_from_slice(&[29, 0x04, records.pointers - 29])?;
+    }
+    for _ in 0..records.pointers {
         data.extend_from_slice(&[0x38, a, b, c, d])?;
     }
-    Ok(record)
+    Ok(array)
 }
 
-// A file of a tree that is full, whose records are texts from a letter on.
-fn large_file(alloc: Global, first: u8) -> Result<Vec<u8>, AllocError> {
+// A file of a tree that is full, whose records are of texts from a letter on.
+fn large_file(alloc: Global, records: &Records, first: u8) -> Result<Vec<u8>, AllocError> {
     let mut data = Vec::new(alloc);
     let mut nodes = Vec::new(alloc);
     for node in 0..31u32 {
@@ -131,8 +171,8 @@ fn large_file(alloc: Global, first: u8) -> Result<Vec<u8>, AllocError> {
     }
     for network in 0..NETWORKS / 2 {
         let letter = first.wrapping_add((network % 20) as u8);
-        let left = push_record(letter, &mut data)?;
-        let right = push_record(letter.wrapping_add(1), &mut data)?;
+        let left = push_record(records, letter, &mut data)?;
+        let right = push_record(records, letter.wrapping_add(1), &mut data)?;
         nodes.push((
             (left & 0xff_ffff) as u32 + 63 + 16,
             (right & 0xff_ffff) as u32 + 63 + 16,
@@ -219,18 +259,18 @@ fn assert_large(
     );
 }
 
+// Asserts it of an export and a `diff` of files with such records.
+fn assert_records(rt: &impl Abort, alloc: Global, records: &Records) {
+    let old = large_file(alloc, records, b'A').expect(rt, "a file");
+    let new = large_file(alloc, records, b'a').expect(rt, "a file");
+    let files = two_files(old.as_slice(), new.as_slice());
+    assert_large(rt, alloc, &files, &["export", "here.mmdb"], EXPORTS);
+    assert_large(rt, alloc, &files, &["diff", "here.mmdb", "new.mmdb"], DIFFS);
+}
+
 #[test]
 fn whole_records_in_little_memory(rt: HostRuntime) {
-    let alloc = rt.alloc();
-    let old = large_file(alloc, b'A').expect(&rt, "a file");
-    let new = large_file(alloc, b'a').expect(&rt, "a file");
-    let files = two_files(old.as_slice(), new.as_slice());
-    assert_large(&rt, alloc, &files, &["export", "here.mmdb"], EXPORTS);
-    assert_large(
-        &rt,
-        alloc,
-        &files,
-        &["diff", "here.mmdb", "new.mmdb"],
-        DIFFS,
-    );
+    for records in LARGE_RECORDS {
+        assert_records(&rt, rt.alloc(), records);
+    }
 }
