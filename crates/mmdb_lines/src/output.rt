@@ -1,8 +1,8 @@
 //! Standard output, as rows are written to it.
 use mmdb_console::ProgramError;
-use std::io::{self, Write};
+use std::io::{self, ErrorKind, Write};
 
-/// An output that knows whether its last write failed. A filter of rows reports the error of a read or of a write alike.
+/// An output that knows whether it failed. A filter of rows reports the error of a read or of a write alike.
 #[derive(Drop)]
 pub(crate) struct Output<'o, O: Write> {
     out: &'o mut O,
@@ -27,11 +27,22 @@ impl<'o, O: Write> Output<'o, O> {
     }
 }
 
+// Whether a filter ends at what a write answered. It goes on after an interrupted one.
+#[inline(always)]
+fn is_failure(written: &io::Result<usize>) -> bool {
+    match written {
+        Ok(count) => *count == 0,
+        Err(error) => error.kind() != ErrorKind::Interrupted,
+    }
+}
+
 impl<'o, O: Write> Write for Output<'o, O> {
     #[inline(always)]
     fn write(&mut self, bytes: &[u8]) -> io::Result<usize> {
         let written = self.out.write(bytes);
-        self.has_failed = !matches!(&written, Ok(1..));
+        if is_failure(&written) {
+            self.has_failed = true;
+        }
         written
     }
 

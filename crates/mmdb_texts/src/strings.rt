@@ -211,7 +211,7 @@ pub(crate) fn put_bytes(
     ensures behind { IsBehind out.old.items out.new.items }
 {
     let text = STANDARD.encode(alloc, bytes)?;
-    if text.len() <= MOST_APART && is_plain(text.as_bytes()) {
+    if is_plain(text.as_bytes()) {
         return put_plain(text.as_bytes(), out);
     }
     put_string(alloc, text.as_str(), room, out)
