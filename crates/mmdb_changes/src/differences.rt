@@ -9,7 +9,7 @@ use mmdb_found::found_json;
 use mmdb_json::compact;
 use mmdb_layout::{Database, Fields, Found, Layout, line_of_cells, line_of_names, write_values};
 use mmdb_reader::{IpNetwork, MaxMindDbError};
-use mmdb_value::Explained;
+use mmdb_value::Value;
 use std::alloc::{AllocError, Global};
 use std::io::Write;
 
@@ -110,12 +110,12 @@ fn text_in(
     }
 }
 
-// The whole record of a network in one of the databases, read step by step: most that are read so can't be read.
+// The whole record of a network in one of the databases.
 fn record_in<'r>(
     alloc: Global,
     side: Side,
     found: &Found<'r>,
-) -> Result<Option<Explained<'r>>, Unreadable> {
+) -> Result<Option<Value<'r>>, Unreadable> {
     match found.decode_path(alloc, &[]) {
         Ok(record) => Ok(record),
         Err(error) => Err(Unreadable { side, error }),
@@ -126,12 +126,12 @@ fn record_in<'r>(
 fn text_of(
     alloc: Global,
     side: Side,
-    record: &Option<Explained<'_>>,
+    record: &Option<Value<'_>>,
 ) -> Result<Option<Vec<u8>>, Unreadable> {
     let Some(record) = record else {
         return Ok(None);
     };
-    match compact(alloc, &record.value) {
+    match compact(alloc, record) {
         Ok(text) => Ok(Some(text)),
         Err(_) => Err(Unreadable {
             side,
@@ -145,8 +145,8 @@ fn text_of(
 #[inline(never)]
 fn have_same_text(
     alloc: Global,
-    old: &Option<Explained<'_>>,
-    new: &Option<Explained<'_>>,
+    old: &Option<Value<'_>>,
+    new: &Option<Value<'_>>,
 ) -> Result<bool, Unreadable> {
     let old_text = text_of(alloc, Side::Old, old)?;
     let new_text = text_of(alloc, Side::New, new)?;
@@ -154,9 +154,9 @@ fn have_same_text(
 }
 
 // Whether two records are equal, or there is none.
-fn are_equal<'r>(old: &Option<Explained<'r>>, new: &Option<Explained<'r>>) -> bool {
+fn are_equal<'r>(old: &Option<Value<'r>>, new: &Option<Value<'r>>) -> bool {
     match (old, new) {
-        (Some(old), Some(new)) => old.value == new.value,
+        (Some(old), Some(new)) => *old == *new,
         (None, None) => true,
         _ => false,
     }
@@ -165,7 +165,7 @@ fn are_equal<'r>(old: &Option<Explained<'r>>, new: &Option<Explained<'r>>) -> bo
 // Whether a record of the old database is shown as what was found in the new one.
 fn is_shown_as<'r>(
     alloc: Global,
-    old: &Option<Explained<'r>>,
+    old: &Option<Value<'r>>,
     new: &Found<'r>,
 ) -> Result<bool, Unreadable> {
     let new = record_in(alloc, Side::New, new)?;

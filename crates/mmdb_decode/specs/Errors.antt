@@ -36,6 +36,11 @@ abbrev pub Reads : {X A : Type 0} → (X → A) → Bool → Option (A × State)
 Reads view free read old new (Ok x) = read ≡ Some (view x, new)
 Reads view free read old new (Err e) = GivenUp old new × Fails free e read
 
+-- the same of a read that keeps aside why it fails
+abbrev pub Tries : {X A : Type 0} → (X → A) → Bool → Option (A × State) → State → State → Result X Failed → Type 0
+Tries view free read old new (Ok x) = read ≡ Some (view x, new)
+Tries view free read old new (Err e) = GivenUp old new × Declines free e read
+
 -- A meaning gives this value where a decoder stands, and the decoder behind it. The flag says whether the
 -- reading begins a budget where none has begun.
 abbrev pub IsRead : {A : Type 0} → Bool → Meaning A → State → A → State → Type 0
@@ -59,6 +64,10 @@ TakesUnderBudget view read old new r = Takes view (decoded true read old) old ne
 abbrev pub ReadsValue : {X A : Type 0} → (X → A) → Bool → Meaning A → State → State →
     Result X MaxMindDbError → Type 0
 ReadsValue view free read old new r = Reads view free (decoded false read old) old new r
+
+-- the same of a read that keeps aside why it fails
+abbrev pub TriesValue : {X A : Type 0} → (X → A) → Bool → Meaning A → State → State → Result X Failed → Type 0
+TriesValue view free read old new r = Tries view free (decoded false read old) old new r
 
 -- the same of a read that begins a budget where none has begun
 abbrev pub ReadsUnderBudget : {X A : Type 0} → (X → A) → Bool → Meaning A → State → State →

@@ -13,7 +13,6 @@ mod selecting;
 mod skipping;
 mod stepping;
 mod try_reads;
-mod try_steps;
 
 use crate::budget::{Charges, begun};
 use crate::failed::Step;
@@ -115,8 +114,8 @@ impl<'de> Decoder<'de> {
         header_at(self.section, self.offset)
     }
 
-    // Begins a budget.
-    fn start(&mut self)
+    /// Begins a budget, where none has begun.
+    pub fn begin_budget(&mut self)
         ensures begun { self.new ≡ record self.old { budget = spec_begun true self.old.budget } }
         ensures within { Within self.new.budget }
     {

@@ -45,6 +45,12 @@ pub(crate) enum Step {
     Repeated,
     /// A list, which has more elements than are allowed.
     List,
+    /// The key of a map of any type.
+    Key,
+    /// The header of a value of any type, or what stands behind it.
+    Value,
+    /// The parts of a container, which are too many.
+    Parts,
 }
 
 impl<T: Drop> From<AllocFailed<T>> for Failed {

@@ -5,10 +5,10 @@ use json::{Token, Writer};
 use mmdb_arguments::NoRequest;
 use mmdb_filter::put_csv_cell;
 use mmdb_found::write_found;
-use mmdb_json::{compact, write_value as write_json};
+use mmdb_json::compact;
 use mmdb_reader::{MaxMindDbError, PathElement};
 use mmdb_texts::RecordTexts;
-use mmdb_value::{Explained, Value};
+use mmdb_value::Value;
 use std::alloc::{AllocError, Global};
 
 /// The name of a row's network.
@@ -203,33 +203,6 @@ fn put_record_row(offset: usize, texts: &mut RecordTexts<'_>, row: &mut Vec<u8>)
         && row.extend_from_slice(b"}\n").is_ok()
 }
 
-// Adds a record that is read step by step, so that what can't be read is said at once.
-fn write_explained(
-    alloc: Global,
-    found: &Found<'_>,
-    out: &mut Writer,
-) -> Result<(), MaxMindDbError> {
-    let record: Option<Explained<'_>> = found.decode_path(alloc, &[])?;
-    let written = match &record {
-        Some(record) => write_json(alloc, &record.value, out),
-        None => out.token(Token::Null),
-    };
-    drop(record);
-    Ok(written?)
-}
-
-// The row of a record as a line with an object, with an empty network; the record is read step by step.
-fn explained_row(alloc: Global, found: &Found<'_>) -> Result<Vec<u8>, MaxMindDbError> {
-    let mut out = Writer::new(Vec::with_capacity(alloc, 256)?);
-    begin_object(&mut out)?;
-    out.token(Token::Key("record"))?;
-    write_explained(alloc, found, &mut out)?;
-    out.token(Token::EndObject)?;
-    let mut row = out.into_inner();
-    row.push(b'\n')?;
-    Ok(row)
-}
-
 impl Layout<'_> {
     // Adds the record, or the values that are wanted of it.
     fn write_record(
@@ -282,7 +255,7 @@ impl Layout<'_> {
 
     /// Puts that row in place of another one; of whole records by the texts of the records of the same database. Those
     /// copy what pointers lead to, where `row` reads and lays out each value again. What they leave, or suspect not to be
-    /// readable, is read step by step.
+    /// readable, is put as `row` does.
     pub fn put_row(
         &self,
         alloc: Global,
@@ -298,10 +271,10 @@ impl Layout<'_> {
             return Ok(());
         }
         *row = Vec::new(alloc);
-        match explained_row(alloc, found) {
-            Ok(explained) => {
+        match self.object(alloc, found) {
+            Ok(object) => {
                 texts.note_readable();
-                *row = explained;
+                *row = object;
                 Ok(())
             }
             Err(MaxMindDbError::Memory) => Err(MaxMindDbError::Memory),

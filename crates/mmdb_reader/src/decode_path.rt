@@ -12,7 +12,6 @@ use crate::offsets::counted_from_start;
 use crate::path::PathElement;
 use mmdb_decode::decoder::Decoder;
 use mmdb_decode::laws::values_bounded;
-use mmdb_decode::steps::Steps;
 use mmdb_format::error::{DecodeResult, MaxMindDbError};
 use mmdb_record::decode::Decode;
 use std::alloc::Global;

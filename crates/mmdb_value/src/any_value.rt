@@ -1,23 +1,19 @@
 //! Any value, read whole.
 ghost use Rattle.std.specs.Prelude.{◌≡◌, ◌<◌, ◌^◌, true, false, map, option_map};
-ghost use Rattle.std.specs.Result.{result_ok};
+ghost use Rattle.mmdb_format.specs.Contents.{text as spec_text};
 ghost use Rattle.mmdb_format.specs.Unfolding.{Tree, scalar as scalar_tree};
 ghost use Rattle.mmdb_format.specs.Views.{content_view};
+ghost use Rattle.mmdb_decode.specs.Errors.{TriesValue, ReadsValue};
 ghost use Rattle.mmdb_decode.specs.State.{Within};
-ghost use Rattle.mmdb_decode.specs.Errors.{ReadsValue};
 ghost use Rattle.mmdb_value.specs.AnyValue.{value_at, key_at as spec_key_at, scalar_of, if_scalar_text, array_of, table_of};
 ghost use Rattle.mmdb_value.specs.Values.{value_tree};
 
-use crate::quick::value_here;
-use crate::shared::{self, Source};
+use crate::read::{Source, value_here};
 use mmdb_decode::decoder::Decoder;
-use mmdb_decode::detours::{again, go_to};
 use mmdb_decode::direct::text_of;
 use mmdb_decode::failed::Failed;
-use mmdb_decode::steps::Steps;
 use mmdb_format::content::{Content, Double, Float};
-use mmdb_format::decode_error_kind::DecodeErrorKind;
-use mmdb_format::error::{DecodeResult, MaxMindDbError};
+use mmdb_format::error::DecodeResult;
 use mmdb_format::header::Header;
 use mmdb_record::decode::Decode;
 use std::alloc::Global;
@@ -45,13 +41,14 @@ pub enum Value<'de> {
 /// Texts are tested for UTF-8.
 pub(crate) struct Tested;
 
+// The value of a content, if that is no text of other bytes than UTF-8.
 #[inline(always)]
-pub(crate) fn of_content<'de>(content: Content<'de>) -> Result<Value<'de>, DecodeErrorKind>
-    ensures { option_map value_tree (result_ok result)
+fn of_content<'de>(content: Content<'de>) -> Option<Value<'de>>
+    ensures { option_map value_tree result
         ≡ option_map scalar_tree (if_scalar_text true (content_view content.entry)) }
 {
-    Ok(match content {
-        Content::Text(bytes) => Value::String(text_of(bytes)?),
+    Some(match content {
+        Content::Text(bytes) => Value::String(text_of(bytes).ok()?),
         Content::Bytes(bytes) => Value::Bytes(bytes),
         Content::Bool(b) => Value::Bool(b),
         Content::I32(n) => Value::I32(n),
@@ -64,42 +61,45 @@ pub(crate) fn of_content<'de>(content: Content<'de>) -> Result<Value<'de>, Decod
     })
 }
 
-// A value that holds no others.
-fn scalar_at<'de>(alloc: Global, d: &mut Decoder<'de>, header: Header) -> DecodeResult<Value<'de>>
-    requires { header.size < 2 ^ 25 }
-    ensures { ReadsValue value_tree false (scalar_of true header) d.old d.new result }
-{
-    let content = d.read_content(alloc, header)?;
-    match of_content(content) {
-        Ok(value) => Ok(value),
-        Err(fault) => Err(fault.to_error(alloc, d.offset())),
-    }
-}
-
 // A map's key.
-fn key_at<'de>(alloc: Global, d: &mut Decoder<'de>) -> DecodeResult<&'de str>
-    ensures { ReadsValue (λ x. x.now) false (spec_key_at true) d.old d.new result }
+#[inline(always)]
+fn key_at<'de>(d: &mut Decoder<'de>) -> Result<&'de str, Failed>
+    ensures { TriesValue (λ x. x.now) false (spec_key_at true) d.old d.new result }
 {
-    let bytes = d.read_key(alloc)?;
+    let bytes = d.try_key()?;
     match text_of(bytes) {
         Ok(text) => Ok(text),
-        Err(fault) => Err(fault.to_error(alloc, d.offset())),
+        Err(_) => Err(d.fail_text()),
     }
 }
 
-// Any value, by quick steps. Where they fail it is read again from where it began, to say why: twice the time, then.
-fn read_value<'de>(alloc: Global, d: &mut Decoder<'de>) -> DecodeResult<Value<'de>>
-    requires { Within d.old.budget }
-    ensures { ReadsValue value_tree false (value_at true) d.old d.new result }
+// The text behind a header.
+#[inline(always)]
+fn text_at<'de>(d: &mut Decoder<'de>, header: Header) -> Result<&'de str, Failed>
+    requires size { header.size < 2 ^ 25 }
+    requires kind { header.kind ≡ 2 }
+    ensures { TriesValue (λ x. scalar_tree (spec_text x.now)) false (scalar_of true header)
+        d.old d.new result }
 {
-    let mut here = again(d);
-    match value_here(alloc, &mut here) {
-        Ok(value) => {
-            go_to(d, &here);
-            Ok(value)
-        }
-        Err(Failed::OutOfMemory) => Err(MaxMindDbError::Memory),
-        Err(Failed::Unreadable) => shared::value_at::<Tested, Decoder<'de>>(alloc, d),
+    let Content::Text(bytes) = d.try_content(header)? else {
+        unreachable!();
+    };
+    match text_of(bytes) {
+        Ok(text) => Ok(text),
+        Err(_) => Err(d.fail_text()),
+    }
+}
+
+// A value that holds no others.
+#[inline(always)]
+fn scalar_at<'de>(d: &mut Decoder<'de>, header: Header) -> Result<Value<'de>, Failed>
+    requires { header.size < 2 ^ 25 }
+    ensures { TriesValue value_tree false (scalar_of true header) d.old d.new result }
+{
+    let content = d.try_content(header)?;
+    match of_content(content) {
+        Some(value) => Ok(value),
+        None => Err(d.fail_text()),
     }
 }
 
@@ -114,25 +114,52 @@ impl<'de> Source<Tested> for Decoder<'de> {
 
     ghost text_bytes = { λ x. x.now };
 
-    fn scalar(&mut self, alloc: Global, header: Header) -> DecodeResult<Value<'de>> {
-        scalar_at(alloc, self, header)
+    #[inline(always)]
+    fn key(&mut self) -> Result<&'de str, Failed> {
+        key_at(self)
     }
 
-    fn key(&mut self, alloc: Global) -> DecodeResult<&'de str> {
-        key_at(alloc, self)
+    #[inline(always)]
+    fn text(&mut self, header: Header) -> Result<&'de str, Failed> {
+        text_at(self, header)
     }
 
+    #[inline(always)]
+    fn scalar(&mut self, header: Header) -> Result<Value<'de>, Failed> {
+        scalar_at(self, header)
+    }
+
+    #[inline(always)]
+    fn of_text(text: &'de str) -> Value<'de>
+        ensures { value_tree result ≡ scalar_tree (spec_text text.now) }
+    {
+        Value::String(text)
+    }
+
+    #[inline(always)]
     fn array(all: Vec<Value<'de>>) -> Value<'de>
         ensures { value_tree result ≡ array_of (map value_tree all.entry.items) }
     {
         Value::Array(all)
     }
 
+    #[inline(always)]
     fn table(all: Vec<(&'de str, Value<'de>)>) -> Value<'de>
         ensures { value_tree result
             ≡ table_of (map (λ x. (x.0.now, value_tree x.1)) all.entry.items) }
     {
         Value::Map(all)
+    }
+}
+
+// Any value, under a budget. The decoder stays where it failed, and says why.
+fn read_value<'de>(alloc: Global, d: &mut Decoder<'de>) -> DecodeResult<Value<'de>>
+    requires { Within d.old.budget }
+    ensures { ReadsValue value_tree false (value_at true) d.old d.new result }
+{
+    match value_here::<Tested, Decoder<'de>>(alloc, d) {
+        Ok(value) => Ok(value),
+        Err(failed) => Err(d.error_of(alloc, failed)),
     }
 }
 

@@ -3,17 +3,14 @@
 #![tactic(auto)]
 
 pub mod any_value;
-pub mod explained;
 
 /// Decoding from the beginning of a section, and the check of its first value.
 pub mod fuzzing;
 pub mod laws;
-mod quick;
 pub mod raw_value;
-pub mod shared;
+mod read;
 
 pub use any_value::Value;
-pub use explained::Explained;
 pub use mmdb_check::checked::{Checked, check_value};
 pub use mmdb_decode::decoder::Decoder;
 pub use mmdb_decode::items::{Entries, Items};

@@ -1,14 +1,16 @@
 //! Any value, read whole, its texts as bytes.
 ghost use Rattle.std.specs.Prelude.{◌≡◌, ◌<◌, ◌^◌, true, false, map};
+ghost use Rattle.mmdb_format.specs.Contents.{text as spec_text};
 ghost use Rattle.mmdb_format.specs.Unfolding.{Tree, scalar as scalar_tree};
 ghost use Rattle.mmdb_format.specs.Views.{content_view};
-ghost use Rattle.mmdb_decode.specs.Errors.{ReadsValue};
+ghost use Rattle.mmdb_decode.specs.Errors.{TriesValue, ReadsValue};
+ghost use Rattle.mmdb_decode.specs.State.{Within};
 ghost use Rattle.mmdb_value.specs.AnyValue.{value_at, key_at as spec_key_at, scalar_of, array_of, table_of};
 ghost use Rattle.mmdb_value.specs.RawValues.{raw_tree};
 
-use crate::shared::{self, Source};
+use crate::read::{Source, value_here};
 use mmdb_decode::decoder::Decoder;
-use mmdb_decode::steps::Steps;
+use mmdb_decode::failed::Failed;
 use mmdb_format::content::{Content, Double, Float};
 use mmdb_format::error::DecodeResult;
 use mmdb_format::header::Header;
@@ -52,25 +54,34 @@ fn of_content<'de>(content: Content<'de>) -> RawValue<'de>
     }
 }
 
-// A value that holds no others.
-fn scalar_at<'de>(
-    alloc: Global,
-    d: &mut Decoder<'de>,
-    header: Header,
-) -> DecodeResult<RawValue<'de>>
-    requires { header.size < 2 ^ 25 }
-    ensures { ReadsValue raw_tree false (scalar_of false header) d.old d.new result }
+// A map's key.
+fn key_at<'de>(d: &mut Decoder<'de>) -> Result<&'de [u8], Failed>
+    ensures { TriesValue (λ x. x.now) false (spec_key_at false) d.old d.new result }
 {
-    let content = d.read_content(alloc, header)?;
-    Ok(of_content(content))
+    let bytes = d.try_key()?;
+    Ok(bytes)
 }
 
-// A map's key.
-fn key_at<'de>(alloc: Global, d: &mut Decoder<'de>) -> DecodeResult<&'de [u8]>
-    ensures { ReadsValue (λ x. x.now) false (spec_key_at false) d.old d.new result }
+// The text behind a header.
+fn text_at<'de>(d: &mut Decoder<'de>, header: Header) -> Result<&'de [u8], Failed>
+    requires size { header.size < 2 ^ 25 }
+    requires kind { header.kind ≡ 2 }
+    ensures { TriesValue (λ x. scalar_tree (spec_text x.now)) false (scalar_of false header)
+        d.old d.new result }
 {
-    let bytes = d.read_key(alloc)?;
+    let Content::Text(bytes) = d.try_content(header)? else {
+        unreachable!();
+    };
     Ok(bytes)
+}
+
+// A value that holds no others.
+fn scalar_at<'de>(d: &mut Decoder<'de>, header: Header) -> Result<RawValue<'de>, Failed>
+    requires { header.size < 2 ^ 25 }
+    ensures { TriesValue raw_tree false (scalar_of false header) d.old d.new result }
+{
+    let content = d.try_content(header)?;
+    Ok(of_content(content))
 }
 
 impl<'de> Source<Untested> for Decoder<'de> {
@@ -84,12 +95,22 @@ impl<'de> Source<Untested> for Decoder<'de> {
 
     ghost text_bytes = { λ x. x.now };
 
-    fn scalar(&mut self, alloc: Global, header: Header) -> DecodeResult<RawValue<'de>> {
-        scalar_at(alloc, self, header)
+    fn key(&mut self) -> Result<&'de [u8], Failed> {
+        key_at(self)
     }
 
-    fn key(&mut self, alloc: Global) -> DecodeResult<&'de [u8]> {
-        key_at(alloc, self)
+    fn text(&mut self, header: Header) -> Result<&'de [u8], Failed> {
+        text_at(self, header)
+    }
+
+    fn scalar(&mut self, header: Header) -> Result<RawValue<'de>, Failed> {
+        scalar_at(self, header)
+    }
+
+    fn of_text(text: &'de [u8]) -> RawValue<'de>
+        ensures { raw_tree result ≡ scalar_tree (spec_text text.now) }
+    {
+        RawValue::String(text)
     }
 
     fn array(all: Vec<RawValue<'de>>) -> RawValue<'de>
@@ -99,9 +120,21 @@ impl<'de> Source<Untested> for Decoder<'de> {
     }
 
     fn table(all: Vec<(&'de [u8], RawValue<'de>)>) -> RawValue<'de>
-        ensures { raw_tree result ≡ table_of (map (λ x. (x.0.now, raw_tree x.1)) all.entry.items) }
+        ensures { raw_tree result
+            ≡ table_of (map (λ x. (x.0.now, raw_tree x.1)) all.entry.items) }
     {
         RawValue::Map(all)
+    }
+}
+
+// Any value, under a budget. The decoder stays where it failed, and says why.
+fn read_value<'de>(alloc: Global, d: &mut Decoder<'de>) -> DecodeResult<RawValue<'de>>
+    requires { Within d.old.budget }
+    ensures { ReadsValue raw_tree false (value_at false) d.old d.new result }
+{
+    match value_here::<Untested, Decoder<'de>>(alloc, d) {
+        Ok(value) => Ok(value),
+        Err(failed) => Err(d.error_of(alloc, failed)),
     }
 }
 
@@ -118,6 +151,6 @@ impl<'de> Decode<'de> for RawValue<'de> {
 
     fn decode(alloc: Global, d: &mut Decoder<'de>) -> DecodeResult<RawValue<'de>> {
         d.begin_budget();
-        shared::value_at::<Untested, Decoder<'de>>(alloc, d)
+        read_value(alloc, d)
     }
 }

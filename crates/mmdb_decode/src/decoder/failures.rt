@@ -12,7 +12,7 @@ use crate::failed::{Failed, Step};
 use crate::names::duplicate_field;
 use mmdb_format::decode_error_kind::DecodeErrorKind;
 use mmdb_format::error::MaxMindDbError;
-use mmdb_format::kind::{ARRAY, DOUBLE, MAP, U16, U32};
+use mmdb_format::kind::{ARRAY, DOUBLE, MAP, POINTER, U16, U32};
 use mmdb_format::message::{Message, Text};
 use std::alloc::Global;
 
@@ -44,6 +44,14 @@ impl<'de> Decoder<'de> {
         ensures same { self.new ≡ self.old }
     {
         self.fail(Step::List)
+    }
+
+    /// Fails at a text that was read, whose bytes are not UTF-8.
+    pub fn fail_text(&mut self) -> Failed
+        ensures unreadable { result ≡ Unreadable }
+        ensures same { self.new ≡ self.old }
+    {
+        self.fail(Step::Encoding)
     }
 
     /// The error of a reading that failed.
@@ -96,7 +104,20 @@ impl<'de> Decoder<'de> {
             Step::Range => Some(DecodeErrorKind::OutOfRange),
             Step::Encoding => Some(DecodeErrorKind::InvalidUtf8),
             Step::Nested => Some(DecodeErrorKind::TooDeep),
+            Step::Key => here.take_key(0).err(),
+            Step::Value => self.fault_of_value(),
+            Step::Parts => Some(DecodeErrorKind::TooManyValues),
             Step::Repeated | Step::List => None,
+        }
+    }
+
+    // What is wrong with the value at the offset, whose type is any.
+    fn fault_of_value(&self) -> Option<DecodeErrorKind> {
+        let mut here = self.again();
+        match self.header_here() {
+            Ok(header) if header.kind == POINTER => here.follow(header).err(),
+            Ok(header) => here.take_content(header).err(),
+            Err(fault) => Some(fault),
         }
     }
 

@@ -23,7 +23,7 @@ impl<'de> Decoder<'de> {
     pub fn skip_value(&mut self, alloc: Global) -> DecodeResult<()>
         ensures { ReadsUnderBudget (λ x. tt) true skip_at self.old self.new result }
     {
-        self.start();
+        self.begin_budget();
         if let Err(fault) = self.pass(MAX_NESTED) {
             return Err(fault.to_error(alloc, self.offset));
         }

@@ -1,17 +1,18 @@
-//! Single steps over pointers, into containers and over contents.
-ghost use Rattle.std.specs.Prelude.{◌≡◌, ◌<◌, ◌^◌, true, OnOk, OnErr, None};
+//! Single steps over pointers, into containers and over contents, of a reader of any value.
+ghost use Rattle.std.specs.Prelude.{◌≡◌, ◌<◌, ◌^◌, Some, None, OnOk, OnErr};
 ghost use Rattle.mmdb_format.specs.Views.{content_view};
 ghost use Rattle.mmdb_decode.specs.Levels.{content_of, entered_pointer, entered_parts};
-ghost use Rattle.mmdb_decode.specs.Errors.{Takes, TakesValue, ReadsValue};
+ghost use Rattle.mmdb_decode.specs.Maps.{raw_key_at};
+ghost use Rattle.mmdb_decode.specs.Errors.{Takes, TakesValue};
 
 use super::Decoder;
+use super::try_reads::step_of;
 use crate::budget::{spent, spent_bytes};
+use crate::failed::{Failed, Step};
 use crate::steps::Steps;
 use mmdb_format::content::{Content, content_at, content_end};
 use mmdb_format::decode_error_kind::DecodeErrorKind;
-use mmdb_format::error::DecodeResult;
 use mmdb_format::header::{Header, MAX_LEVELS, pointer_at};
-use std::alloc::Global;
 
 impl<'de> Decoder<'de> {
     // What stands behind the header at the offset.
@@ -24,18 +25,6 @@ impl<'de> Decoder<'de> {
         self.budget = spent_bytes(self.budget, content.payload())?;
         self.offset = content_end(header);
         Ok(content)
-    }
-
-    /// Reads what stands behind the header at the offset, which is that of a value that holds no others.
-    /// A text is not tested for UTF-8.
-    pub fn read_content(&mut self, alloc: Global, header: Header) -> DecodeResult<Content<'de>>
-        requires { header.size < 2 ^ 25 }
-        ensures { ReadsValue content_view true (content_of header) self.old self.new result }
-    {
-        match self.take_content(header) {
-            Ok(content) => Ok(content),
-            Err(fault) => Err(fault.to_error(alloc, self.offset)),
-        }
     }
 
     // Goes to a pointer's target.
@@ -69,41 +58,66 @@ impl<'de> Decoder<'de> {
         self.levels += 1;
         Ok(())
     }
+
+    /// What stands behind the header at the offset, which is that of a value that holds no others. A text is not tested
+    /// for UTF-8.
+    #[inline(always)]
+    pub fn try_content(&mut self, header: Header) -> Result<Content<'de>, Failed>
+        requires { header.size < 2 ^ 25 }
+        ensures { TakesValue content_view (content_of header) self.old self.new result }
+    {
+        match self.take_content(header) {
+            Ok(content) => Ok(content),
+            Err(_) => Err(self.fail(Step::Value)),
+        }
+    }
+
+    /// The key at the offset, charged in full and not tested for UTF-8.
+    #[inline(always)]
+    pub fn try_key(&mut self) -> Result<&'de [u8], Failed>
+        ensures { TakesValue (λ x. x.now) raw_key_at self.old self.new result }
+    {
+        match self.take_key(0) {
+            Ok(key) => Ok(key),
+            Err(_) => Err(self.fail(Step::Key)),
+        }
+    }
 }
 
 impl<'de> Steps for Decoder<'de> {
     ghost state = { λ d. d };
 
-    fn begin_budget(&mut self) {
-        self.start();
-    }
-
-    fn header(&self, alloc: Global) -> DecodeResult<Header> {
+    #[inline(always)]
+    fn try_header(&mut self) -> Result<Header, Failed> {
         match self.header_here() {
             Ok(header) => Ok(header),
-            Err(fault) => Err(fault.to_error(alloc, self.offset)),
+            Err(_) => Err(self.fail(Step::Value)),
         }
     }
 
-    fn enter_pointer(&mut self, alloc: Global, header: Header) -> DecodeResult<usize> {
+    #[inline(always)]
+    fn try_follow(&mut self, header: Header) -> Result<usize, Failed> {
         match self.follow(header) {
             Ok(next) => Ok(next),
-            Err(fault) => Err(fault.to_error(alloc, self.offset)),
+            Err(fault) => Err(self.fail(step_of(Step::Value, fault))),
         }
     }
 
-    fn enter_parts(&mut self, alloc: Global, header: Header, count: usize) -> DecodeResult<()> {
-        if let Err(fault) = self.descend(header, count) {
-            return Err(fault.to_error(alloc, self.offset));
+    #[inline(always)]
+    fn try_descend(&mut self, header: Header, count: usize) -> Result<(), Failed> {
+        match self.descend(header, count) {
+            Ok(()) => Ok(()),
+            Err(fault) => Err(self.fail(step_of(Step::Parts, fault))),
         }
-        Ok(())
     }
 
-    fn leave_level(&mut self) {
+    #[inline(always)]
+    fn rise(&mut self) {
         self.levels -= 1;
     }
 
-    fn leave_pointer(&mut self, next: usize) {
+    #[inline(always)]
+    fn rise_to(&mut self, next: usize) {
         self.offset = next;
         self.levels -= 1;
     }

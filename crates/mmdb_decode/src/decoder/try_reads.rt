@@ -189,7 +189,7 @@ impl<'de> Decoder<'de> {
     pub fn try_skip(&mut self) -> Result<(), Failed>
         ensures { TakesUnderBudget (λ x. tt) skip_at self.old self.new result }
     {
-        self.start();
+        self.begin_budget();
         match self.pass(MAX_NESTED) {
             Ok(()) => Ok(()),
             Err(fault) => Err(self.fail(step_of(Step::Skip, fault))),
@@ -227,7 +227,7 @@ impl<'de> Decoder<'de> {
 }
 
 // The step that fails for a fault: one that is found behind the offset where the step began is reported by itself.
-fn step_of(step: Step, fault: DecodeErrorKind) -> Step {
+pub(super) fn step_of(step: Step, fault: DecodeErrorKind) -> Step {
     match fault {
         DecodeErrorKind::InvalidUtf8 => Step::Encoding,
         DecodeErrorKind::TooDeep => Step::Nested,

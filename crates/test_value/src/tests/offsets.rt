@@ -2,7 +2,7 @@
 //!
 //! It is that of the value asked for where its header, its size or its type is wrong, behind a pointer too. Where the
 //! bytes of a text, or the size of an array, are read and then found wrong, it is the offset after them.
-use mmdb_decode::steps::Steps;
+use mmdb_decode::failed::Failed;
 use mmdb_value::{DecodeResult, Decoder, MaxMindDbError, empty_container};
 use mmdb_vectors::answer::reported;
 use mmdb_vectors::failures::Failures;
@@ -190,15 +190,29 @@ fn enter_array(alloc: Global, call: Call, d: &mut Decoder<'_>) -> Result<(), Max
     Ok(())
 }
 
-// A single step from the header at the offset, under a budget.
+// A single step from the header at the offset.
+fn taken(call: Call, d: &mut Decoder<'_>) -> Result<(), Failed> {
+    let header = d.try_header()?;
+    match call {
+        Call::Pointer if header.size < 32 => {
+            let _ = d.try_follow(header)?;
+            Ok(())
+        }
+        Call::Parts => d.try_descend(header, 65_536),
+        Call::Content => {
+            let _ = d.try_content(header)?;
+            Ok(())
+        }
+        _ => Ok(()),
+    }
+}
+
+// The same under a budget, and why it fails.
 fn step(alloc: Global, call: Call, d: &mut Decoder<'_>) -> Result<(), MaxMindDbError> {
     d.begin_budget();
-    let header = d.header(alloc)?;
-    match call {
-        Call::Pointer if header.size < 32 => done(d.enter_pointer(alloc, header)),
-        Call::Parts => d.enter_parts(alloc, header, 65_536),
-        Call::Content => done(d.read_content(alloc, header)),
-        _ => Ok(()),
+    match taken(call, d) {
+        Ok(()) => Ok(()),
+        Err(failed) => Err(d.error_of(alloc, failed)),
     }
 }
 

@@ -3,7 +3,7 @@ use Rattle.mmdb_decode.proofs.SkipLaws.{skip_read, skip_rejected}
 use Rattle.mmdb_decode.proofs.decoder.Decoder.skip_value.Goals as goal
 
 pub returns-in-Err : goal.returns-in-Err
-returns-in-Err c = skip_rejected skip_at c.args.self.now c.start.new.self c.pass.new.self c.start.ensures.begun c.in-Err.ensures.1 c.in-Err.ensures.0
+returns-in-Err c = skip_rejected skip_at c.args.self.now c.begin_budget.new.self c.pass.new.self c.begin_budget.ensures.begun c.in-Err.ensures.1 c.in-Err.ensures.0
 
 pub returns : goal.returns
-returns c = skip_read skip_at c.args.self.now c.start.new.self c.pass.new.self c.start.ensures.begun c.in_default.ensures
+returns c = skip_read skip_at c.args.self.now c.begin_budget.new.self c.pass.new.self c.begin_budget.ensures.begun c.in_default.ensures
