@@ -1,5 +1,6 @@
 //! Readers from the bytes of a file.
-ghost use Rattle.std.specs.Prelude.{◌≡◌, ◌⊎◌, IfOk, IfErr, IfSome};
+ghost use Rattle.std.specs.Prelude.{◌≡◌, ◌≤◌, ◌<◌, ◌⊎◌, ◌++◌, length, take, IfOk, IfErr, IfSome, IfNone};
+ghost use Rattle.std.specs.Io.KnownBytes.{Consumes};
 ghost use Rattle.mmdb_format.specs.Error.{OfIo, OfMemory, kind_of, MemoryApart};
 ghost use Rattle.mmdb_reader.specs.Source.{IsDatabaseOf, IsNoDatabase};
 
@@ -13,22 +14,96 @@ use std::io::{self, Read};
 use std::path::AsPath;
 use std::rt::Files;
 
-// All bytes that are left in a file, for which memory is taken at once where it is known how many there
-// are.
-fn read_whole<R: Read>(
+/// How many bytes of a file are read at once, as long as they are those of another one.
+const CHUNK: usize = 1 << 17;
+
+// The error of a call on a file.
+fn error_of(error: io::Error) -> MaxMindDbError
+    ensures { (kind_of result ≡ OfIo) ⊎ (kind_of result ≡ OfMemory) }
+{
+    if error.kind() == io::ErrorKind::OutOfMemory {
+        return MaxMindDbError::Memory;
+    }
+    MaxMindDbError::Io(error)
+}
+
+// Some bytes, and behind them those that are left in a file.
+fn read_behind<R: Read>(
     alloc: Global,
     file: &mut R,
+    front: &[u8],
+    chunk: &[u8],
     expected: usize,
 ) -> Result<Vec<u8>, MaxMindDbError>
-    ensures whole { IfOk result
-        (λ bytes. IfSome (R.remaining file.old) (λ left. bytes.items ≡ left)) }
+    ensures whole { IfOk result (λ bytes. IfSome (R.remaining file.old)
+        (λ left. bytes.items ≡ front.now ++ chunk.now ++ left)) }
     ensures kinds { IfErr result (λ e. (kind_of e ≡ OfIo) ⊎ (kind_of e ≡ OfMemory)) }
 {
-    let mut bytes = Vec::with_capacity(alloc, expected.saturating_add(1))?;
+    let known = front.len().saturating_add(chunk.len());
+    let mut bytes = Vec::with_capacity(alloc, expected.max(known).saturating_add(1))?;
+    bytes.extend_from_slice(front)?;
+    bytes.extend_from_slice(chunk)?;
     match file.read_to_end(&mut bytes) {
         Ok(_) => Ok(bytes),
-        Err(error) if error.kind() == io::ErrorKind::OutOfMemory => Err(MaxMindDbError::Memory),
-        Err(error) => Err(MaxMindDbError::Io(error)),
+        Err(error) => Err(error_of(error)),
+    }
+}
+
+// Reads in a file as long as its bytes are those of another one. It says how many were, and how many other ones the chunk
+// then has; or none where all bytes of both are the same.
+fn pass_same<R: Read>(
+    file: &mut R,
+    other: &[u8],
+    chunk: &mut [u8],
+) -> io::Result<Option<(usize, usize)>>
+    requires { 0 < length chunk.old }
+    ensures same { IfOk result (λ passed. IfNone passed
+        (IfSome (R.remaining file.old) (λ all. all ≡ other.now))) }
+    ensures other { IfOk result (λ passed. IfSome passed (λ at. Consumes (R.remaining file.old)
+        (R.remaining file.new) (take at.0 other.now ++ take at.1 chunk.new))) }
+    ensures within { IfOk result (λ passed. IfSome passed
+        (λ at. (at.0 ≤ length other.now) × (at.1 ≤ length chunk.new))) }
+{
+    let mut passed = 0usize;
+    for _ in 0..u64::MAX {
+        let count = match file.read(chunk) {
+            Ok(count) => count,
+            Err(error) if error.kind() == io::ErrorKind::Interrupted => continue,
+            Err(error) => return Err(error),
+        };
+        let left = &other[passed..];
+        if count == 0 && left.is_empty() {
+            return Ok(None);
+        }
+        if count == 0 || !left.starts_with(&chunk[..count]) {
+            return Ok(Some((passed, count)));
+        }
+        passed += count;
+    }
+    Err(io::Error::from(io::ErrorKind::TimedOut))
+}
+
+// All bytes that are left in a file, if they are not those of another one.
+fn read_unless_same<R: Read>(
+    alloc: Global,
+    file: &mut R,
+    other: &[u8],
+    expected: usize,
+) -> Result<Option<Vec<u8>>, MaxMindDbError>
+    ensures same { IfOk result (λ bytes. IfNone bytes
+        (IfSome (R.remaining file.old) (λ left. left ≡ other.now))) }
+    ensures whole { IfOk result (λ bytes. IfSome bytes
+        (λ bytes. IfSome (R.remaining file.old) (λ left. bytes.items ≡ left))) }
+    ensures kinds { IfErr result (λ e. (kind_of e ≡ OfIo) ⊎ (kind_of e ≡ OfMemory)) }
+{
+    let mut chunk = Vec::from_elem(alloc, 0, CHUNK)?;
+    match pass_same(file, other, &mut chunk) {
+        Ok(Some((same, count))) => {
+            let (front, behind) = (&other[..same], &chunk[..count]);
+            Ok(Some(read_behind(alloc, file, front, behind, expected)?))
+        }
+        Ok(None) => Ok(None),
+        Err(error) => Err(error_of(error)),
     }
 }
 
@@ -75,6 +150,33 @@ impl Reader<Vec<u8>> {
     {
         let mut file = File::open(rt, path)?;
         let expected = expected_len(&file);
-        Reader::from_source(alloc, read_whole(alloc, &mut file, expected)?)
+        Reader::from_source(alloc, read_behind(alloc, &mut file, &[], &[], expected)?)
+    }
+
+    /// A reader of the file at a path, or none where its bytes are those of another reader. Of the bytes that are the same no
+    /// second copy is made before one differs.
+    ///
+    /// Fails as `open_readfile` does.
+    pub fn open_unless_same<R: Files, P: AsPath + Drop>(
+        rt: &R,
+        alloc: Global,
+        path: P,
+        other: &Reader<Vec<u8>>,
+    ) -> Result<Option<Reader<Vec<u8>>>, MaxMindDbError>
+        ensures same { IfOk result (λ opened. IfNone opened ((file : R.File)
+            × IfSome (R.File.remaining file) (λ left. left ≡ other.now.bytes))) }
+        ensures accepted { IfOk result (λ opened. IfSome opened
+            (λ reader. IsDatabaseOf reader.bytes reader)) }
+        ensures of_file { IfOk result (λ opened. IfSome opened (λ reader. (file : R.File)
+            × IfSome (R.File.remaining file) (λ left. reader.bytes ≡ left))) }
+        ensures rejected { IfErr result (λ e. (kind_of e ≡ OfIo) ⊎ MemoryApart e ((file : R.File)
+            × IfSome (R.File.remaining file) IsNoDatabase)) }
+    {
+        let mut file = File::open(rt, path)?;
+        let expected = expected_len(&file);
+        match read_unless_same(alloc, &mut file, other.bytes(), expected)? {
+            Some(bytes) => Ok(Some(Reader::from_source(alloc, bytes)?)),
+            None => Ok(None),
+        }
     }
 }

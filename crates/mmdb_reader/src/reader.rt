@@ -107,6 +107,13 @@ impl<S: AsSlice<u8> + Drop> Reader<S> {
         &self.metadata
     }
 
+    // All bytes of the file.
+    pub(crate) fn bytes(&self) -> &[u8]
+        ensures { result.now ≡ self.now.bytes }
+    {
+        self.source.as_slice()
+    }
+
     // Where the data section begins.
     pub(crate) fn data_start(&self) -> usize
         ensures { result ≡ data_start self.now }

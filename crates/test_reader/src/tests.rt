@@ -9,4 +9,5 @@ mod many;
 mod metadata;
 mod sizes;
 mod table;
+mod unless_same;
 mod verify;
