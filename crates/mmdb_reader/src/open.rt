@@ -84,6 +84,31 @@ fn pass_same<R: Read>(
 }
 
 // All bytes that are left in a file, if they are not those of another one.
+fn read_other<R: Read>(
+    alloc: Global,
+    file: &mut R,
+    other: &[u8],
+    chunk: &mut [u8],
+    expected: usize,
+) -> Result<Option<Vec<u8>>, MaxMindDbError>
+    requires { 0 < length chunk.old }
+    ensures same { IfOk result (λ bytes. IfNone bytes
+        (IfSome (R.remaining file.old) (λ left. left ≡ other.now))) }
+    ensures whole { IfOk result (λ bytes. IfSome bytes
+        (λ bytes. IfSome (R.remaining file.old) (λ left. bytes.items ≡ left))) }
+    ensures kinds { IfErr result (λ e. (kind_of e ≡ OfIo) ⊎ (kind_of e ≡ OfMemory)) }
+{
+    match pass_same(file, other, chunk) {
+        Ok(Some((same, count))) => {
+            let (front, behind) = (&other[..same], &chunk[..count]);
+            Ok(Some(read_behind(alloc, file, front, behind, expected)?))
+        }
+        Ok(None) => Ok(None),
+        Err(error) => Err(error_of(error)),
+    }
+}
+
+// The same, with memory for what is read at once.
 fn read_unless_same<R: Read>(
     alloc: Global,
     file: &mut R,
@@ -97,14 +122,9 @@ fn read_unless_same<R: Read>(
     ensures kinds { IfErr result (λ e. (kind_of e ≡ OfIo) ⊎ (kind_of e ≡ OfMemory)) }
 {
     let mut chunk = Vec::from_elem(alloc, 0, CHUNK)?;
-    match pass_same(file, other, &mut chunk) {
-        Ok(Some((same, count))) => {
-            let (front, behind) = (&other[..same], &chunk[..count]);
-            Ok(Some(read_behind(alloc, file, front, behind, expected)?))
-        }
-        Ok(None) => Ok(None),
-        Err(error) => Err(error_of(error)),
-    }
+    let bytes = read_other(alloc, file, other, &mut chunk, expected);
+    drop(chunk);
+    bytes
 }
 
 // How many bytes a file says that it has, or 0 where it does not say.
@@ -174,7 +194,9 @@ impl Reader<Vec<u8>> {
     {
         let mut file = File::open(rt, path)?;
         let expected = expected_len(&file);
-        match read_unless_same(alloc, &mut file, other.bytes(), expected)? {
+        let bytes = read_unless_same(alloc, &mut file, other.bytes(), expected);
+        drop(file);
+        match bytes? {
             Some(bytes) => Ok(Some(Reader::from_source(alloc, bytes)?)),
             None => Ok(None),
         }
