@@ -2,17 +2,14 @@
 //! read side by side, and what is kept of pairs of records.
 #![tactic(auto)]
 
-mod allowance;
+mod contents;
 mod equality;
 mod files;
-mod known_maps;
 mod pairs;
-mod readable;
+mod place;
 mod shown;
 
-pub use equality::are_seen_equal;
+pub use equality::SideBySide;
 pub use files::{read_file, read_other};
-pub use known_maps::KnownMaps;
 pub use pairs::{KnownPairs, Offsets};
-pub use readable::RecordReader;
 pub use shown::{Shown, ShownPairs};
