@@ -1,4 +1,7 @@
 //! The values of networks in two databases, compared by how they are shown.
+ghost use Rattle.std.specs.Prelude.{◌≡◌, true};
+ghost use Rattle.mmdb_changes.specs.Seen.{HaveOneValueAt, AreSeenSame, AreKeptAsSeen};
+
 use crate::texts::BothTexts;
 use json::{Token, Writer};
 use mmdb_console::{ProgramError, put};
@@ -345,7 +348,11 @@ impl<'r> Pairs<'r> {
 
     // Whether whole records are shown and those at two offsets are seen to be equal.
     #[inline(always)]
-    fn are_equal(&mut self, layout: &Layout<'_>, old: Option<usize>, new: Option<usize>) -> bool {
+    fn are_equal(&mut self, layout: &Layout<'_>, old: Option<usize>, new: Option<usize>) -> bool
+        ensures same { result ≡ true → HaveOneValueAt self.old.records old new }
+        ensures records { self.new.records ≡ self.old.records }
+        ensures kept { self.new.kept ≡ self.old.kept }
+    {
         match (layout.has_records(), old, new) {
             (true, Some(old), Some(new)) => self.records.have_equal(old, new),
             _ => false,
@@ -354,7 +361,11 @@ impl<'r> Pairs<'r> {
 
     /// Whether the records at two offsets are seen to be shown the same, before they are looked up: they were compared, or
     /// are equal whole records. Of others `is_same` says it.
-    pub(crate) fn is_seen_same(&mut self, layout: &Layout<'_>, offsets: Offsets) -> bool {
+    pub(crate) fn is_seen_same(&mut self, layout: &Layout<'_>, offsets: Offsets) -> bool
+        ensures same { result ≡ true → AreSeenSame self.old.records self.old.kept offsets }
+        ensures kept { AreKeptAsSeen self.old.records self.old.kept self.new.kept }
+        ensures records { self.new.records ≡ self.old.records }
+    {
         if let Some(is_same) = self.kept.kept(offsets) {
             return is_same;
         }
