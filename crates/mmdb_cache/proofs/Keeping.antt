@@ -5,6 +5,8 @@ use Rattle.std.proofs.Math.ListN.{set}
 use Rattle.std.proofs.lemmas.List.Elements.{All-contains, All-contains_itself, All-set, All-append}
 use Rattle.std.proofs.lemmas.List.Sums.{sum_by-le}
 use Rattle.mmdb_cache.specs.declared.cache.Entry.{Entry}
+use Rattle.mmdb_cache.specs.declared.table.Known.{Known}
+use Rattle.mmdb_cache.specs.Table.{IsKnownOr, AreKnownOr}
 use Rattle.mmdb_cache.specs.Cache.{IsNone, IsOfBefore, AreOfBefore, IsOfBeforeOr, AreOfBeforeOr, bytes_at, IsBounded}
 
 one_of_before : {V : Type 0} (before : List (Option (Entry V))) (kept : Option (Entry V)) → Contains before kept → IsOfBefore before kept
@@ -73,3 +75,10 @@ bounded_anew before places left most bounded empty none =
     let none_taken = sum_none places none in
     let all = bounded.sum in
     record { sum = omega (arith, nothing, none_taken, all) }
+
+-- what a table keeps
+pub known_itself : {K V : Type 0} (put : Known K V) (kept : List (Known K V)) → AreKnownOr put kept kept
+known_itself put kept k d within = inl (All-contains_itself kept k d within)
+
+pub known_set : {K V : Type 0} (put known : Known K V) (before now : List (Known K V)) (at : ℕ) → IsKnownOr put before known → AreKnownOr put before now → AreKnownOr put before (set now at known)
+known_set put known before now at one all = All-set (IsKnownOr put before) now at known one all

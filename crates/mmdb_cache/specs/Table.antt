@@ -14,3 +14,7 @@ IsKnownOr put before kept = Contains before kept ⊎ (kept ≡ put)
 -- all that is kept was kept before, or is what is put
 abbrev pub AreKnownOr : {K V : Type 0} → Known K V → List (Known K V) → List (Known K V) → Type 0
 AreKnownOr put before after = All (IsKnownOr put before) after
+
+-- something is known by a key, and kept
+abbrev pub HasKey : {K V : Type 0} → K → List (Known K V) → Type 0
+HasKey {V = V} key kept = (value : V) × Contains kept (record { key = key; value = value })

@@ -1,7 +1,7 @@
 //! Tables of what is known by short keys.
 ghost use Rattle.std.specs.Prelude.{◌≡◌, [], IfOk, IfSome, true};
 ghost use Rattle.std.specs.List.{All, Contains};
-ghost use Rattle.mmdb_cache.specs.Table.{IsKnown, AreKnownOr};
+ghost use Rattle.mmdb_cache.specs.Table.{IsKnown, AreKnownOr, HasKey};
 
 use std::alloc::{AllocError, Global};
 use std::marker::Model;
@@ -42,9 +42,8 @@ pub struct Known<K: Key, V: Copy> {
 /// once.
 #[derive(Drop)]
 pub struct Table<K: Key, V: Copy, const SETS: usize> {
+    /// Of each set what was put last stands first.
     kept: Vec<Known<K, V>>,
-    /// Which place of its set is taken next.
-    way: usize,
 }
 
 impl<K: Key, V: Copy, const SETS: usize> Model for Table<K, V, SETS> {
@@ -64,6 +63,26 @@ fn place_among(sets: usize, number: u64) -> usize {
     set.wrapping_mul(WAYS)
 }
 
+// Puts what is known at the first place of a set. What stands there moves on by one place, up to the place of the same key,
+// or out of the set.
+#[inline(always)]
+fn put_from<K: Key, V: Copy>(kept: &mut [Known<K, V>], first: usize, put: Known<K, V>)
+    ensures { AreKnownOr put kept.old kept.new }
+{
+    let mut moved = put;
+    for place in first..first.wrapping_add(WAYS) {
+        if place >= kept.len() {
+            return;
+        }
+        let before = kept[place];
+        kept[place] = moved;
+        if before.key.is(put.key) {
+            return;
+        }
+        moved = before;
+    }
+}
+
 impl<K: Key, V: Copy, const SETS: usize> Table<K, V, SETS> {
     ghost use Rattle.mmdb_cache.specs.declared.table.Known.{Known as SpecKnown};
 
@@ -73,7 +92,6 @@ impl<K: Key, V: Copy, const SETS: usize> Table<K, V, SETS> {
     {
         Table {
             kept: Vec::new(alloc),
-            way: 0,
         }
     }
 
@@ -86,7 +104,7 @@ impl<K: Key, V: Copy, const SETS: usize> Table<K, V, SETS> {
         for _ in 0..count {
             kept.push(known)?;
         }
-        Ok(Table { kept, way: 0 })
+        Ok(Table { kept })
     }
 
     // The set that a key gives.
@@ -109,9 +127,9 @@ impl<K: Key, V: Copy, const SETS: usize> Table<K, V, SETS> {
             return None;
         };
         let way = usize::from(second.key.is(key))
-            + 2 * usize::from(third.key.is(key))
-            + 3 * usize::from(fourth.key.is(key));
-        let known = set.get(way % WAYS)?;
+            .max(2 * usize::from(third.key.is(key)))
+            .max(3 * usize::from(fourth.key.is(key)));
+        let known = set.get(way)?;
         if known.key.is(key) {
             return Some(known.value);
         }
@@ -121,7 +139,7 @@ impl<K: Key, V: Copy, const SETS: usize> Table<K, V, SETS> {
     /// Whether something is known by a key, and kept.
     #[inline(always)]
     pub fn has(&self, key: K) -> bool
-        ensures { result ≡ true → (value : V) × Contains self.now (record { key = key; value = value }) }
+        ensures { result ≡ true → HasKey key self.now }
     {
         match self.set_of(key) {
             Some([first, second, third, fourth]) => {
@@ -131,14 +149,11 @@ impl<K: Key, V: Copy, const SETS: usize> Table<K, V, SETS> {
         }
     }
 
-    /// Keeps what is known by a key, in place of what stands at the next place of its set.
+    /// Keeps what is known by a key, in place of what was, or of what was put first of its set.
     pub fn put(&mut self, key: K, value: V)
         ensures { AreKnownOr (record { key = key; value = value }) self.old self.new }
     {
-        let place = place_among(SETS, key.number()).wrapping_add(self.way % WAYS);
-        self.way = self.way.wrapping_add(1);
-        if let Some(kept) = self.kept.get_mut(place) {
-            *kept = Known { key, value };
-        }
+        let first = place_among(SETS, key.number());
+        put_from(self.kept.as_mut_slice(), first, Known { key, value });
     }
 }

@@ -221,10 +221,7 @@ fn compare_stretch<'r, O: Write, E: Write>(
     console: &mut Console<'_, O, E>,
 ) -> Result<(), ProgramError> {
     if let Some(offsets) = offsets {
-        if so_far
-            .pairs
-            .is_seen_same(console.alloc, &task.layout, offsets)
-        {
+        if so_far.pairs.is_seen_same(&task.layout, offsets) {
             return Ok(());
         }
     }
@@ -309,22 +306,6 @@ fn take_unread<'r, O: Write, E: Write>(
     }
 }
 
-// Takes the next part of two databases, or reports why it can't be read behind those before it. It stays out of the way of
-// the stretches that both have, which are most.
-#[inline(never)]
-fn take_part<'r, O: Write, E: Write>(
-    task: &DiffTask<'_>,
-    comparison: &mut Comparison<'r, Vec<u8>>,
-    part: Part,
-    so_far: &mut SoFar<'_, 'r>,
-    console: &mut Console<'_, O, E>,
-) -> Result<(), ProgramError> {
-    match part {
-        Part::Stretch(stretch) => take_stretch(task, comparison, stretch, so_far, console),
-        Part::Unread(side) => take_unread(task, comparison, side, so_far, console),
-    }
-}
-
 // Compares two databases, and writes what differs.
 #[inline(never)]
 fn compare_all<'r, O: Write, E: Write>(
@@ -334,14 +315,13 @@ fn compare_all<'r, O: Write, E: Write>(
     console: &mut Console<'_, O, E>,
 ) -> Result<(), ProgramError> {
     for _ in 0..u64::MAX {
-        if let Some(stretch) = comparison.next_shared() {
-            take_stretch(task, comparison, stretch, so_far, console)?;
-            continue;
+        match comparison.next_part() {
+            Some(Part::Stretch(stretch)) => {
+                take_stretch(task, comparison, stretch, so_far, console)?;
+            }
+            Some(Part::Unread(side)) => take_unread(task, comparison, side, so_far, console)?,
+            None => break,
         }
-        let Some(part) = comparison.next_part() else {
-            break;
-        };
-        take_part(task, comparison, part, so_far, console)?;
     }
     compare_waiting(task, comparison, so_far, console)?;
     let pairs = &mut so_far.pairs;

@@ -1,10 +1,12 @@
 //! The values of networks in two databases, compared by how they are shown.
-use crate::record::{Sections, are_seen_equal};
+ghost use Rattle.std.specs.Prelude.{◌≡◌, true};
+ghost use Rattle.mmdb_changes.specs.Seen.{HaveOneValueAt, AreSeenSame, AreKeptAsSeen};
+
 use crate::texts::BothTexts;
 use json::{Token, Writer};
 use mmdb_console::{ProgramError, put};
 use mmdb_diff::Side;
-use mmdb_equality::{KnownMaps, KnownPairs, Offsets, Shown, ShownPairs};
+use mmdb_equality::{KnownPairs, Offsets, Shown, ShownPairs, SideBySide};
 use mmdb_found::found_json;
 use mmdb_json::compact;
 use mmdb_layout::{Database, Fields, Found, Layout, line_of_cells, line_of_names, write_values};
@@ -22,9 +24,8 @@ const MOST_OF_TEXTS: usize = 3 << 20;
 #[derive(Drop)]
 pub(crate) struct Pairs<'r> {
     pub(crate) kept: KnownPairs,
-    /// Maps that are equal in the two databases.
-    maps: KnownMaps,
-    sections: Sections<'r>,
+    /// The records of both, read side by side.
+    records: SideBySide<'r>,
     /// What is shown of pairs that differ.
     shown: ShownPairs,
     /// The texts of whole records, where those are shown.
@@ -272,11 +273,7 @@ impl<'r> Pairs<'r> {
     ) -> Result<Pairs<'r>, AllocError> {
         Ok(Pairs {
             kept: KnownPairs::new(alloc)?,
-            maps: KnownMaps::new(alloc)?,
-            sections: Sections {
-                old: old.data_section(),
-                new: new.data_section(),
-            },
+            records: SideBySide::new(alloc, old.data_section(), new.data_section())?,
             shown: ShownPairs::new(alloc, MOST_OF_SHOWN),
             texts: texts_of(alloc, layout, old, new),
         })
@@ -349,51 +346,33 @@ impl<'r> Pairs<'r> {
         }
     }
 
-    // Whether whole records are shown and both are seen to be equal.
-    fn are_equal_records(
-        &mut self,
-        alloc: Global,
-        layout: &Layout<'_>,
-        answers: Answers<'_, '_>,
-    ) -> bool {
-        match (layout, answers.old, answers.new) {
-            (Layout::Records, Some(old), Some(new)) => {
-                are_seen_equal(alloc, &mut self.maps, old, new)
-            }
+    // Whether whole records are shown and those at two offsets are seen to be equal.
+    #[inline(always)]
+    fn are_equal(&mut self, layout: &Layout<'_>, old: Option<usize>, new: Option<usize>) -> bool
+        ensures same { result ≡ true → HaveOneValueAt self.old.records old new }
+        ensures records { self.new.records ≡ self.old.records }
+        ensures kept { self.new.kept ≡ self.old.kept }
+    {
+        match (layout.has_records(), old, new) {
+            (true, Some(old), Some(new)) => self.records.have_equal(old, new),
             _ => false,
         }
     }
 
-    // Compares what was found at offsets that are too large to be kept, so that `is_seen_same` didn't see it.
-    #[cold]
-    #[inline(never)]
-    fn compare_far(
-        &mut self,
-        alloc: Global,
-        layout: &Layout<'_>,
-        answers: Answers<'_, '_>,
-    ) -> Result<bool, Unreadable> {
-        if self.are_equal_records(alloc, layout, answers) {
-            return Ok(true);
-        }
-        self.compare(alloc, layout, answers)
-    }
-
     /// Whether the records at two offsets are seen to be shown the same, before they are looked up: they were compared, or
     /// are equal whole records. Of others `is_same` says it.
-    pub(crate) fn is_seen_same(
-        &mut self,
-        alloc: Global,
-        layout: &Layout<'_>,
-        offsets: Offsets,
-    ) -> bool {
+    pub(crate) fn is_seen_same(&mut self, layout: &Layout<'_>, offsets: Offsets) -> bool
+        ensures same { result ≡ true → AreSeenSame self.old.records self.old.kept offsets }
+        ensures kept { AreKeptAsSeen self.old.records self.old.kept self.new.kept }
+        ensures records { self.new.records ≡ self.old.records }
+    {
         if let Some(is_same) = self.kept.kept(offsets) {
             return is_same;
         }
-        let (true, Some((old, new))) = (layout.has_records(), offsets.both()) else {
+        let Some((old, new)) = offsets.both() else {
             return false;
         };
-        if !self.sections.have_equal(alloc, &mut self.maps, old, new) {
+        if !self.are_equal(layout, Some(old), Some(new)) {
             return false;
         }
         self.kept.keep(offsets, true);
@@ -409,7 +388,11 @@ impl<'r> Pairs<'r> {
         answers: Answers<'_, '_>,
     ) -> Result<bool, Unreadable> {
         let Some(offsets) = answers.offsets() else {
-            return self.compare_far(alloc, layout, answers);
+            let (old, new) = (offset_of(answers.old), offset_of(answers.new));
+            if self.are_equal(layout, old, new) {
+                return Ok(true);
+            }
+            return self.compare(alloc, layout, answers);
         };
         if let Some(is_same) = self.kept.kept(offsets) {
             return Ok(is_same);

@@ -5,7 +5,6 @@ mod changes;
 mod comparison;
 mod counts;
 mod differences;
-mod record;
 mod same;
 mod texts;
 mod two_databases;

@@ -1,5 +1,5 @@
 //! Two files with the same bytes: nothing differs where all that they have can be read.
-use mmdb_equality::RecordReader;
+use mmdb_equality::SideBySide;
 use mmdb_layout::{Database, Fields, Found, Layout};
 use mmdb_reader::{IpNetwork, MaxMindDbError, PathElement, WithinOptions};
 use mmdb_value::Value;
@@ -37,11 +37,11 @@ fn can_read_values(alloc: Global, fields: &Fields<'_>, found: &Found<'_>) -> boo
 }
 
 // Whether the records at those of 64 offsets whose bits are 1 are seen to be readable.
-fn can_read_some(reader: &mut RecordReader, section: &[u8], first: usize, bits: u64) -> bool {
+fn can_read_some(records: &mut SideBySide<'_>, first: usize, bits: u64) -> bool {
     let mut left = bits;
     for _ in 0..bits.count_ones() {
         let offset = first.saturating_add(left.trailing_zeros() as usize);
-        if !reader.can_read(section, offset) {
+        if !records.have_equal(offset, offset) {
             return false;
         }
         left &= left.wrapping_sub(1);
@@ -49,13 +49,13 @@ fn can_read_some(reader: &mut RecordReader, section: &[u8], first: usize, bits: 
     true
 }
 
-// Whether the records at the offsets whose bits are 1 are seen to be readable.
+// Whether the records at the offsets whose bits are 1 are seen to be readable: each is equal to itself.
 fn can_read_all(alloc: Global, section: &[u8], met: &[u64]) -> bool {
-    let Ok(mut reader) = RecordReader::new(alloc) else {
+    let Ok(mut records) = SideBySide::new(alloc, section, section) else {
         return false;
     };
     for (index, bits) in met.iter().enumerate() {
-        if !can_read_some(&mut reader, section, index.saturating_mul(64), *bits) {
+        if !can_read_some(&mut records, index.saturating_mul(64), *bits) {
             return false;
         }
     }

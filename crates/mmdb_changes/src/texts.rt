@@ -1,6 +1,7 @@
 //! The records of two databases as JSON, laid out without trees of them.
 ghost use Rattle.std.specs.Prelude.{◌≡◌, ℕ, [], Some, IfSome};
 ghost use Rattle.mmdb_texts.specs.RecordText.{AppendsRecord};
+ghost use Rattle.mmdb_changes.specs.Shown.{IsLaidOut, text_or_null, IsShown};
 
 use mmdb_diff::Side;
 use mmdb_equality::Shown;
@@ -19,8 +20,7 @@ pub(crate) struct BothTexts<'r> {
 
 // The record at an offset, if there is one, where it can be laid out so.
 fn lay_out<'r>(offset: Option<usize>, texts: &mut RecordTexts<'r>) -> Option<Option<RecordText<'r>>>
-    ensures laid_out { IfSome result (λ found. IfSome found (λ text. (at : ℕ) × (offset ≡ Some at)
-        × AppendsRecord texts.old at [] text)) }
+    ensures laid_out { IfSome result (IsLaidOut texts.old offset) }
     ensures section { texts.new ≡ texts.old }
 {
     match offset {
@@ -51,7 +51,10 @@ fn text_of<'r>(
     alloc: Global,
     laid_out: Option<RecordText<'r>>,
     texts: &mut RecordTexts<'r>,
-) -> Option<Vec<u8>> {
+) -> Option<Vec<u8>>
+    ensures text { IfSome result (λ text. text.items ≡ text_or_null laid_out.entry) }
+    ensures section { texts.new ≡ texts.old }
+{
     match laid_out {
         Some(laid_out) => record_text(alloc, laid_out, texts),
         None => NO_RECORD.to_vec(alloc).ok(),
@@ -59,7 +62,9 @@ fn text_of<'r>(
 }
 
 // Lets go of a record that was laid out in vain, if it is one.
-fn leave<'r>(laid_out: Option<RecordText<'r>>, texts: &mut RecordTexts<'r>) {
+fn leave<'r>(laid_out: Option<RecordText<'r>>, texts: &mut RecordTexts<'r>)
+    ensures { texts.new ≡ texts.old }
+{
     if let Some(laid_out) = laid_out {
         texts.leave(laid_out);
     }
@@ -109,7 +114,12 @@ impl<'r> BothTexts<'r> {
         alloc: Global,
         old: Option<usize>,
         new: Option<usize>,
-    ) -> Option<Shown> {
+    ) -> Option<Shown>
+        ensures old { IfSome result (λ shown. IsShown self.entry.now.old old shown.old.items) }
+        ensures new { IfSome result (λ shown. IsShown self.entry.now.new new shown.new.items) }
+        ensures sections { (self.exit.now.old ≡ self.entry.now.old)
+            × (self.exit.now.new ≡ self.entry.now.new) }
+    {
         if is_suspected(old, &self.old) || is_suspected(new, &self.new) {
             return None;
         }

@@ -1,5 +1,5 @@
 -- Laws of parts.
-use Rattle.std.proofs.Common.{◌≡◌, ℕ, ◌+◌, ◌≤◌, inl, inr, Bool, true, false, ◌||◌, Option, Some, None, refl, ap, arith, sym, subst, ◌∙◌, if◌then◌else◌}
+use Rattle.std.proofs.Common.{◌≡◌, ℕ, ◌+◌, ◌≤◌, inl, inr, Bool, true, ◌||◌, Option, Some, refl, ap, arith, sym, subst, ◌∙◌, if◌then◌else◌}
 use Rattle.std.proofs.lemmas.Bool.{cases_lt}
 use Rattle.mmdb_blocks.specs.declared.block.Block.{Block}
 use Rattle.mmdb_blocks.specs.Blocks.{end, IsBlock}
@@ -11,9 +11,9 @@ use Rattle.mmdb_diff.specs.declared.comparison.Stretch.{Stretch}
 use Rattle.mmdb_diff.specs.Coming.{Coming, Comparing, coming, coming_from, answer_at}
 use Rattle.mmdb_diff.specs.Coming.Answer.{Record, Nothing}
 use Rattle.mmdb_diff.specs.Parts.{start_of, IsAnswered, IsPast, IsNextStretch, IsNextUnread}
-use Rattle.mmdb_diff.specs.Working.{Standing, left_of, IsMet, IsMetIn, IsGone, AreGone, IsSkippedAt, IsComparedAt, IsComparing, IsBehindUnread, IsReached, comparing, is_old, is_new}
+use Rattle.mmdb_diff.specs.Working.{Standing, left_of, IsMet, IsMetIn, IsMetOn, IsGone, AreGone, IsSkippedAt, IsComparedAt, IsComparing, IsDone, IsReached, comparing, behind_of}
 use Rattle.mmdb_diff.proofs.ComingLaws.{once_more, same_answer}
-use Rattle.mmdb_diff.proofs.WalkLaws.{from_stays}
+use Rattle.mmdb_diff.proofs.WalkLaws.{from_stays, behind_is}
 
 -- what a walk says of an address is what was to come
 said : (before : Coming) (s : Standing) (from at address : ℕ) → from ≤ at → at ≤ address → coming_from at (left_of s) ≡ coming_from at before → answer_at address before ≡ answer_at address (left_of s)
@@ -27,7 +27,7 @@ left_on before s at to le left = sym (once_more at to (left_of s) le) ∙ ap (co
 gone_left : (before : Coming) (at : ℕ) (s t : Standing) → IsGone at s t → coming_from at (left_of s) ≡ coming_from at before → coming_from at (left_of t) ≡ coming_from at before
 gone_left before at s t gone left = from_stays at t gone.«from» ∙ gone.left ∙ left
 
-pub reached_gone : (before : Comparing) (at : ℕ) (old new old_after new_after : Standing) → IsReached before (comparing (Some at) None old new) → AreGone at old new old_after new_after → IsReached before (comparing (Some at) None old_after new_after)
+pub reached_gone : (before : Comparing) (at : ℕ) (old new old_after new_after : Standing) → IsReached before (comparing (Some at) old new) → AreGone at old new old_after new_after → IsReached before (comparing (Some at) old_after new_after)
 reached_gone before at old new old_after new_after r gone = record {
   behind = r.behind;
   skipped = r.skipped;
@@ -36,7 +36,7 @@ reached_gone before at old new old_after new_after r gone = record {
 }
 
 -- where addresses are skipped
-pub reached_skipped : (before : Comparing) (at last : ℕ) (next : Option ℕ) (old new : Standing) → IsReached before (comparing (Some at) None old new) → IsSkippedAt old new at last → start_of next ≡ last + 1 → IsReached before (comparing next None old new)
+pub reached_skipped : (before : Comparing) (at last : ℕ) (next : Option ℕ) (old new : Standing) → IsReached before (comparing (Some at) old new) → IsSkippedAt old new at last → start_of next ≡ last + 1 → IsReached before (comparing next old new)
 reached_skipped before at last next old new r skipped e = record {
   behind = omega (arith, r.behind, skipped.within, e);
   skipped = λ address from to. elim (cases_lt address at) [
@@ -55,7 +55,7 @@ answered before s from at block has given le begins left h same address inn =
     said before s from at address le (omega (arith, begins, inn.0)) left ∙ h address inn ∙ ap (λ (b : Bool). if b then Record s.offset else Nothing) (sym same)
 
 -- where a block is compared
-pub reached_stretch : (before : Comparing) (at : ℕ) (next : Option ℕ) (old new : Standing) (block : Block) (has_old has_new is_even : Bool) (stretch : Stretch) → IsReached before (comparing (Some at) None old new) → IsComparedAt old new at block has_old has_new is_even → start_of next ≡ end block → stretch.block ≡ block → stretch.has_old ≡ has_old → stretch.has_new ≡ has_new → IsNextStretch before (comparing next None old new) stretch
+pub reached_stretch : (before : Comparing) (at : ℕ) (next : Option ℕ) (old new : Standing) (block : Block) (has_old has_new is_even : Bool) (stretch : Stretch) → IsReached before (comparing (Some at) old new) → IsComparedAt old new at block has_old has_new is_even → start_of next ≡ end block → stretch.block ≡ block → stretch.has_old ≡ has_old → stretch.has_new ≡ has_new → IsNextStretch before (comparing next old new) stretch
 reached_stretch before at next old new block has_old has_new is_even stretch r c e same_block same_old same_new = record {
   block = subst IsBlock (sym same_block) c.is_block;
   behind = let first = ap (λ (b : Block). b.first) same_block in omega (arith, r.behind, c.begins, first);
@@ -80,7 +80,7 @@ past before at c s met same = record {
   left = ap (coming_from at) (behind_left s.stand s met.stands met.unknown);
 }
 
-pub reached_unread : (before : Comparing) (at : ℕ) (side : Side) (old new old_after new_after : Standing) → IsReached before (comparing (Some at) None old new) → IsMetIn side at old new old_after new_after → IsNextUnread before (comparing (Some at) None old_after new_after) side
+pub reached_unread : (before : Comparing) (at : ℕ) (side : Side) (old new old_after new_after : Standing) → IsReached before (comparing (Some at) old new) → IsMetIn side at old new old_after new_after → IsNextUnread before (comparing (Some at) old_after new_after) side
 reached_unread before at Old old new old_after new_after r met = record {
   behind = r.behind;
   skipped = r.skipped;
@@ -92,45 +92,38 @@ reached_unread before at New old new old_after new_after r met = record {
   past = (past before.new at (coming_from at (left_of new)) new_after met.0 r.left_of_new, gone_left before.old at old old_after met.1 r.left_of_old);
 }
 
--- a leaf that was met before
-pub unread_before : (at : Option ℕ) (side : Side) (old new : Standing) → (is_old (Some side) ≡ true → IsBehindUnread old) → (is_new (Some side) ≡ true → IsBehindUnread new) → IsNextUnread (comparing at (Some side) old new) (comparing at None old new) side
-unread_before at Old old new of_old of_new = record {
+-- a leaf that comes behind one network that both stand at
+unread_first : (at : ℕ) (c : Coming) (s : Standing) → IsMet c s → coming_from at c ≡ c
+unread_first at c s met = rw met.met refl
+
+-- what comes behind a network of which nothing is left
+done_left : (at : ℕ) (s : Standing) → IsDone s at → coming_from at (left_of s) ≡ coming_from at (behind_of s)
+done_left at s d = behind_is at s (rw d.stands d.ends)
+
+pub shared_unread : (at : ℕ) (side : Side) (old new old_after new_after : Standing) → IsDone old at → IsDone new at → IsMetOn side old new old_after new_after → IsNextUnread (comparing (Some at) old new) (comparing (Some at) old_after new_after) side
+shared_unread at Old old new old_after new_after done_old done_new met = record {
   behind = omega arith;
   skipped = λ address from to. absurd (omega (arith, from, to));
   past = (
-    record { leaves = (left_of old).leaves; is_unknown = false; met = refl; left = let b = of_old refl in let e = behind_left old.stand old b.stands b.unknown in ap (coming_from (start_of at)) (e ∙ ap (λ (c : Coming). coming c.leaves true) (sym e)) },
-    sym (once_more (start_of at) (start_of at) (left_of new) (omega arith)),
+    past (coming_from at (left_of old)) at (behind_of old) old_after met.0 (sym (unread_first at (behind_of old) old_after met.0) ∙ sym (done_left at old done_old) ∙ sym (once_more at at (left_of old) (omega arith))),
+    ap (λ (s : Standing). coming_from at (left_of s)) met.1 ∙ sym (once_more at at (left_of new) (omega arith)),
   );
 }
-unread_before at New old new of_old of_new = record {
+shared_unread at New old new old_after new_after done_old done_new met = record {
   behind = omega arith;
   skipped = λ address from to. absurd (omega (arith, from, to));
   past = (
-    record { leaves = (left_of new).leaves; is_unknown = false; met = refl; left = let b = of_new refl in let e = behind_left new.stand new b.stands b.unknown in ap (coming_from (start_of at)) (e ∙ ap (λ (c : Coming). coming c.leaves true) (sym e)) },
-    sym (once_more (start_of at) (start_of at) (left_of old) (omega arith)),
+    past (coming_from at (left_of new)) at (behind_of new) new_after met.0 (sym (unread_first at (behind_of new) new_after met.0) ∙ sym (done_left at new done_new) ∙ sym (once_more at at (left_of new) (omega arith))),
+    ap (coming_from at) met.1.left ∙ sym (done_left at old done_old) ∙ sym (once_more at at (left_of old) (omega arith)),
   );
 }
 
--- a comparison that is not even, with no leaf that was met before
-pub idle : (at : Option ℕ) (are_even : Bool) (unread : Option Side) (old new : Standing) → are_even ≡ false → unread ≡ None → IsComparing at are_even unread old new
-idle at are_even unread old new e u = record {
-  even = λ h. absurd (let k : true ≡ false = sym h ∙ e in cc);
-  none = λ h. u;
-  unread_old = λ h. absurd (let k : false ≡ true = ap is_old (sym u) ∙ h in cc);
-  unread_new = λ h. absurd (let k : false ≡ true = ap is_new (sym u) ∙ h in cc);
-}
-
--- one that stands behind a block
-pub behind_block : (at from : ℕ) (next : Option ℕ) (old new : Standing) (block : Block) (has_old has_new is_even : Bool) (unread : Option Side) → IsComparedAt old new at block has_old has_new is_even → start_of next ≡ end block → unread ≡ None → IsComparing next is_even unread old new
-behind_block at from next old new block has_old has_new is_even unread c e u = record {
-  even = λ h. let d = c.even h in (record { stands = d.0.stands; ends = omega (arith, d.0.ends, e) }, record { stands = d.1.stands; ends = omega (arith, d.1.ends, e) });
-  none = λ h. u;
-  unread_old = λ h. absurd (let k : false ≡ true = ap is_old (sym u) ∙ h in cc);
-  unread_new = λ h. absurd (let k : false ≡ true = ap is_new (sym u) ∙ h in cc);
-}
+-- a comparison that stands behind a block
+pub behind_block : (at from : ℕ) (next : Option ℕ) (old new : Standing) (block : Block) (has_old has_new is_even : Bool) → IsComparedAt old new at block has_old has_new is_even → start_of next ≡ end block → IsComparing next is_even old new
+behind_block at from next old new block has_old has_new is_even c e h = let d = c.even h in (record { stands = d.0.stands; ends = omega (arith, d.0.ends, e) }, record { stands = d.1.stands; ends = omega (arith, d.1.ends, e) })
 
 -- nothing was skipped yet
-pub reached_start : (at : Option ℕ) (old new : Standing) → IsReached (comparing at None old new) (comparing at None old new)
+pub reached_start : (at : Option ℕ) (old new : Standing) → IsReached (comparing at old new) (comparing at old new)
 reached_start at old new = record {
   behind = omega arith;
   skipped = λ address from to. absurd (omega (arith, from, to));

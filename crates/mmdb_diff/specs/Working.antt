@@ -1,5 +1,5 @@
 -- Where a walk stands, and what it says.
-use Rattle.std.specs.Prelude.{◌≡◌, ℕ, ◌+◌, ◌*◌, ◌^◌, length, ◌<◌, ◌≤◌, ◌⊎◌, Bool, true, false, List, [], ◌∷◌, ◌||◌, Option, Some, None}
+use Rattle.std.specs.Prelude.{◌≡◌, ℕ, ◌+◌, ◌*◌, ◌^◌, length, ◌<◌, ◌≤◌, ◌⊎◌, Bool, true, false, List, [], ◌∷◌, ◌||◌, Option}
 use Rattle.mmdb_blocks.specs.declared.block.Block.{Block}
 use Rattle.mmdb_blocks.specs.Blocks.{IsBlock, end}
 use Rattle.mmdb_diff.specs.declared.walk.Stand.{Stand}
@@ -145,12 +145,12 @@ IsMetIn Old at old_before new_before old new = IsMet (coming_from at (left_of ol
 IsMetIn New at old_before new_before old new = IsMet (coming_from at (left_of new_before)) new × IsGone at old_before old
 
 abbrev pub AreTaken : Standing → Standing → Standing → Standing → Type 0
-AreTaken old_before new_before old new = IsTaken (coming old_before.leaves false) old × IsTaken (coming new_before.leaves false) new
+AreTaken old_before new_before old new = IsTaken (behind_of old_before) old × IsTaken (behind_of new_before) new
 
 -- the same, on the way to the next network of each
 abbrev pub IsMetOn : Side → Standing → Standing → Standing → Standing → Type 0
-IsMetOn Old old_before new_before old new = IsMet (coming old_before.leaves false) old × (new ≡ new_before)
-IsMetOn New old_before new_before old new = IsMet (coming new_before.leaves false) new × IsTaken (coming old_before.leaves false) old
+IsMetOn Old old_before new_before old new = IsMet (behind_of old_before) old × (new ≡ new_before)
+IsMetOn New old_before new_before old new = IsMet (behind_of new_before) new × IsTaken (behind_of old_before) old
 
 -- it stands at a network in which a block begins, with no longer prefix
 pub record StandsAround (s : Standing) (block : Block) : Type 0 where
@@ -199,42 +199,18 @@ pub record IsShared (old new : Standing) (at : ℕ) (block : Block) : Type 0 whe
 
 -- ---- a comparison
 
--- the side is that of a leaf that can't be read and was not handed out
-abbrev pub is_old : Option Side → Bool
-is_old None = false
-is_old (Some Old) = true
-is_old (Some New) = false
-
-abbrev pub is_new : Option Side → Bool
-is_new None = false
-is_new (Some Old) = false
-is_new (Some New) = true
-
--- such a leaf is still to come
-abbrev pub with_unread : Bool → Coming → Coming
-with_unread false c = c
-with_unread true c = coming (Unread ∷ c.leaves) false
-
-abbrev pub comparing : Option ℕ → Option Side → Standing → Standing → Comparing
-comparing at unread old new = record {
+abbrev pub comparing : Option ℕ → Standing → Standing → Comparing
+comparing at old new = record {
   at = start_of at;
-  old = coming_from (start_of at) (with_unread (is_old unread) (left_of old));
-  new = coming_from (start_of at) (with_unread (is_new unread) (left_of new));
+  old = coming_from (start_of at) (left_of old);
+  new = coming_from (start_of at) (left_of new);
   old_offset = old.offset;
   new_offset = new.offset;
 }
 
--- behind a leaf that can't be read
-pub record IsBehindUnread (s : Standing) : Type 0 where
-  pub stands : s.stand ≡ Nowhere
-  pub unknown : s.is_unknown ≡ true
-
 -- What holds of each comparison.
-pub record IsComparing (at : Option ℕ) (are_even : Bool) (unread : Option Side) (old new : Standing) : Type 0 where
-  pub even : are_even ≡ true → IsDone old (start_of at) × IsDone new (start_of at)
-  pub none : are_even ≡ true → unread ≡ None
-  pub unread_old : is_old unread ≡ true → IsBehindUnread old
-  pub unread_new : is_new unread ≡ true → IsBehindUnread new
+abbrev pub IsComparing : Option ℕ → Bool → Standing → Standing → Type 0
+IsComparing at are_even old new = are_even ≡ true → IsDone old (start_of at) × IsDone new (start_of at)
 
 -- from one address to another one all is skipped, and past it nothing is left out
 pub record IsReached (before after : Comparing) : Type 0 where
@@ -244,7 +220,6 @@ pub record IsReached (before after : Comparing) : Type 0 where
   pub left_of_new : after.new ≡ coming_from after.at before.new
 
 -- so on the way to the next part
-pub record IsOnWay (before after : Comparing) (are_even : Bool) (unread : Option Side) : Type 0 where
+pub record IsOnWay (before after : Comparing) (are_even : Bool) : Type 0 where
   pub reached : IsReached before after
   pub is_odd : are_even ≡ false
-  pub none : unread ≡ None

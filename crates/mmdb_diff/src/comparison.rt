@@ -48,8 +48,6 @@ pub struct Comparison<'a, S: AsSlice<u8> + Drop> {
     at: Option<u128>,
     /// Whether both stand at one network, of which nothing is left.
     are_even: bool,
-    /// The side whose next leaf can't be read, where `next_shared` met it.
-    unread: Option<Side>,
 }
 
 impl<'a, S: AsSlice<u8> + Drop> Model for Comparison<'a, S> {
@@ -58,9 +56,9 @@ impl<'a, S: AsSlice<u8> + Drop> Model for Comparison<'a, S> {
 
     ghost Value = { Comparing };
 
-    ghost view = { λ c. comparing c.at c.unread c.walks.old c.walks.new };
+    ghost view = { λ c. comparing c.at c.walks.old c.walks.new };
 
-    ghost invariant = { λ c. IsComparing c.at c.are_even c.unread c.walks.old c.walks.new };
+    ghost invariant = { λ c. IsComparing c.at c.are_even c.walks.old c.walks.new };
 }
 
 // The address behind another one, if there is one.
@@ -101,43 +99,40 @@ impl<'a, S: AsSlice<u8> + Drop> Comparison<'a, S> {
                 is_ipv4: matches!(range, IpNetwork::V4(_)),
                 at: Some(0),
                 are_even: false,
-                unread: None,
             }),
             Err(error) => Err((Side::New, error)),
         }
     }
 
-    /// The next stretch, where both databases had the same network before it and have the same next one. Most stretches of
-    /// two days come this way, in fewer steps than by `next_part`, which gives what comes where this gives none.
+    // The next part, where both databases had the same network before it: mostly they have the same next one, which is found
+    // in fewer steps than any other part.
     #[inline(always)]
-    pub fn next_shared(&mut self) -> Option<Stretch>
+    fn next_shared(&mut self) -> Option<Part>
         ensures { MatchOption result (IsSameLeft self.entry.now self.exit.now)
-            (λ stretch. IsNextPart self.entry.now self.exit.now (Part.Stretch stretch)) }
+            (λ part. IsNextPart self.entry.now self.exit.now part) }
     {
         if !self.are_even {
             return None;
         }
         self.are_even = false;
         let at = self.at?;
-        self.unread = self.walks.go_on();
-        if self.unread.is_some() {
-            return None;
+        if let Some(side) = self.walks.go_on() {
+            return Some(Part::Unread(side));
         }
         let block = self.walks.shared_behind(at)?;
         self.at = behind(block);
         self.are_even = true;
-        Some(self.walks.stretch_of(block, true, true, self.is_ipv4))
+        let stretch = self.walks.stretch_of(block, true, true, self.is_ipv4);
+        Some(Part::Stretch(stretch))
     }
 
-    /// The next part. A stretch begins where the one before ends, or later. None where all is compared.
-    pub fn next_part(&mut self) -> Option<Part>
+    // The next part, address by address.
+    #[inline(never)]
+    fn next_apart(&mut self) -> Option<Part>
         ensures { MatchOption result (IsOver self.entry.now self.exit.now)
             (λ part. IsNextPart self.entry.now self.exit.now part) }
     {
         self.are_even = false;
-        if let Some(side) = self.unread.take() {
-            return Some(Part::Unread(side));
-        }
         while let Some(at) = self.at {
             if let Some(side) = self.walks.go_to(at) {
                 return Some(Part::Unread(side));
@@ -159,6 +154,18 @@ impl<'a, S: AsSlice<u8> + Drop> Comparison<'a, S> {
             }
         }
         None
+    }
+
+    /// The next part. A stretch begins where the one before ends, or later. None where all is compared.
+    #[inline(always)]
+    pub fn next_part(&mut self) -> Option<Part>
+        ensures { MatchOption result (IsOver self.entry.now self.exit.now)
+            (λ part. IsNextPart self.entry.now self.exit.now part) }
+    {
+        match self.next_shared() {
+            Some(part) => Some(part),
+            None => self.next_apart(),
+        }
     }
 
     /// The leaf that can't be read of a side, where the last part names one.

@@ -202,9 +202,9 @@ impl<'a, S: AsSlice<u8> + Drop> Walk<'a, S> {
         }
     }
 
-    // Goes on from where it stands. Says whether the next leaf can be read.
+    /// Goes on from where it stands. Says whether the next leaf can be read; `take_unread` has it, if not.
     #[inline(always)]
-    fn pass(&mut self) -> bool
+    pub(crate) fn pass(&mut self) -> bool
         ensures { let before = behind_of self.old in
             MatchBool result (IsTaken before self.new) (IsMet before self.new) }
     {
@@ -227,17 +227,6 @@ impl<'a, S: AsSlice<u8> + Drop> Walk<'a, S> {
             }
         }
         true
-    }
-
-    /// Goes on from the network that it stands at, of which nothing is left. Says whether the next leaf can be read;
-    /// `take_unread` has it, if not.
-    #[inline(always)]
-    pub(crate) fn go_on(&mut self) -> bool
-        ensures { let before = coming self.old.leaves false in
-            MatchBool result (IsTaken before self.new) (IsMet before self.new) }
-    {
-        self.is_unknown = false;
-        self.advance()
     }
 
     /// What the database has at an address.

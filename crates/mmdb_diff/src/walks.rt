@@ -115,7 +115,7 @@ impl<'a, S: AsSlice<u8> + Drop> Walks<'a, S> {
         }
     }
 
-    /// Goes on from one network that both stand at to the next of each, or names the side of a leaf that can't be read.
+    /// Goes on from where both stand, or names the side of a leaf that can't be read.
     #[inline(always)]
     pub(crate) fn go_on(&mut self) -> Option<Side>
         ensures { MatchOption result
@@ -123,9 +123,9 @@ impl<'a, S: AsSlice<u8> + Drop> Walks<'a, S> {
             (λ side. IsMetOn side self.entry.now.old self.entry.now.new self.exit.now.old
             self.exit.now.new) }
     {
-        if !self.old.go_on() {
+        if !self.old.pass() {
             Some(Side::Old)
-        } else if !self.new.go_on() {
+        } else if !self.new.pass() {
             Some(Side::New)
         } else {
             None

@@ -1,214 +1,261 @@
 //! Whether two values are equal, as far as that is seen while both are read side by side, without memory for them.
-use crate::allowance::{Allowance, MOST_LEVELS, VALUE, is_text};
-use crate::known_maps::{KnownMaps, SharedMap, is_behind_pointer};
-use mmdb_decode::decoder::Decoder;
-use mmdb_decode::detours::{forget_array, forget_map, spend};
-use mmdb_decode::items::{Entries, Items};
-use mmdb_format::kind::Kind;
-use std::alloc::Global;
-use std::mem;
+ghost use Rattle.std.specs.Prelude.{◌≡◌, ℕ, true, Some, IfOk};
+ghost use Rattle.mmdb_format.specs.Pointer.{direct_at as spec_direct_at};
+ghost use Rattle.mmdb_equality.specs.Same.{HaveSameValue};
+ghost use Rattle.mmdb_equality.specs.Working.{IsSame, IsSameKey, AreSamePairs, AreSamePairsUpTo, AreSameElements, IsKnownMap};
 
-// Two values that are read side by side, the maps that are known to be equal, and what may still be read.
+use crate::contents::are_same;
+use crate::pairs::Offsets;
+use crate::place::Place;
+use mmdb_cache::{Known, Table};
+use mmdb_format::content::{content_at, content_end, key_bytes_at};
+use mmdb_format::header::{Direct, direct_at};
+use mmdb_format::kind::{ARRAY, MAP};
+use mmdb_format::utf8::is_utf8;
+use std::alloc::{AllocError, Global};
+use std::marker::Model;
+
+/// How deep maps and arrays may stand in one another, and what a record may cost. What is larger than this or costs more is
+/// not read: both are far below the limits within which a value can be read.
+const MOST_LEVELS: usize = 32;
+
+const MOST_COST: usize = 1 << 18;
+
+/// What a value or a key costs beside the bytes of its text.
+const VALUE: usize = 32;
+
+/// How many sets of maps are kept.
+const SETS_OF_MAPS: usize = 1 << 11;
+
+/// A map that was read in both: how many pairs it has, how deep containers were allowed to be in it, and what it cost.
+#[derive(Clone, Copy)]
+pub(crate) struct KnownMap {
+    pub(crate) pairs: usize,
+    pub(crate) depth: usize,
+    pub(crate) cost: usize,
+}
+
+/// The data sections of two databases, whose values are read side by side. Maps to which pointers lead are kept where they
+/// are equal, by the offsets of their first keys: many records share them.
 #[derive(Drop)]
-struct SideBySide<'de> {
-    alloc: Global,
-    old: Decoder<'de>,
-    new: Decoder<'de>,
-    known: KnownMaps,
-    allowance: Allowance,
+pub struct SideBySide<'r> {
+    in_old: &'r [u8],
+    in_new: &'r [u8],
+    known: Table<Offsets, KnownMap, SETS_OF_MAPS>,
 }
 
-impl<'de> SideBySide<'de> {
-    fn has_same_text(&mut self) -> bool {
-        match (self.old.try_str(), self.new.try_str()) {
-            (Ok(old), Ok(new)) => old == new && self.allowance.takes(old.len()),
-            _ => false,
-        }
+impl<'r> Model for SideBySide<'r> {
+    ghost use Rattle.mmdb_equality.specs.Same.{Sections};
+    ghost use Rattle.mmdb_equality.specs.Working.{AreKnownMaps};
+
+    ghost Value = { Sections };
+
+    ghost view = { λ s. record { in_old = s.in_old.now; in_new = s.in_new.now } };
+
+    ghost invariant = { λ s. AreKnownMaps (record { in_old = s.in_old.now; in_new = s.in_new.now }) s.known };
+}
+
+impl<'r> SideBySide<'r> {
+    /// Two data sections of which nothing was read. An `Err` is of memory.
+    pub fn new(alloc: Global, old: &'r [u8], new: &'r [u8]) -> Result<SideBySide<'r>, AllocError>
+        ensures { IfOk result (λ both. both ≡ record { in_old = old.now; in_new = new.now }) }
+    {
+        let no_pairs = Known {
+            key: Offsets { old: 0, new: 0 },
+            value: KnownMap {
+                pairs: 0,
+                depth: 0,
+                cost: 0,
+            },
+        };
+        Ok(SideBySide {
+            in_old: old,
+            in_new: new,
+            known: Table::new(alloc, no_pairs)?,
+        })
     }
 
-    fn has_same_bytes(&mut self) -> bool {
-        let old = self.old.read_bytes(self.alloc).ok();
-        let new = self.new.read_bytes(self.alloc).ok();
-        match (old, new) {
-            (Some(old), Some(new)) => old == new && self.allowance.takes(old.len()),
-            _ => false,
-        }
-    }
-
-    // Whether both have the same number or truth value of a kind.
-    fn has_same_scalar(&mut self, kind: Kind) -> bool {
-        let alloc = self.alloc;
-        match kind {
-            Kind::U16 => are_same(self.old.try_u16(), self.new.try_u16()),
-            Kind::U32 => are_same(self.old.try_u32(), self.new.try_u32()),
-            Kind::Bool => are_same(self.old.try_bool(), self.new.try_bool()),
-            Kind::Double => are_same(self.old.try_double(), self.new.try_double()),
-            Kind::U64 => are_same(self.old.read_u64(alloc), self.new.read_u64(alloc)),
-            Kind::U128 => are_same(self.old.read_u128(alloc), self.new.read_u128(alloc)),
-            Kind::I32 => are_same(self.old.read_i32(alloc), self.new.read_i32(alloc)),
-            Kind::Float => are_same(self.old.read_float(alloc), self.new.read_float(alloc)),
-            _ => false,
-        }
-    }
-
-    // Reads a value of both, whose containers nest at most so deep. Whether they are seen to be equal.
-    #[cycle(equality)]
-    fn has_same_value(&mut self, depth: usize) -> bool {
-        if !self.allowance.takes(VALUE) {
+    // Passes a key of both. Whether it is the same text.
+    #[inline(always)]
+    fn has_same_key(&self, place: &mut Place) -> bool
+        ensures { result ≡ true → IsSameKey self.now place.old place.new }
+    {
+        let (Ok((old, behind_old)), Ok((new, behind_new))) = (
+            key_bytes_at(self.in_old, place.in_old),
+            key_bytes_at(self.in_new, place.in_new),
+        ) else {
+            return false;
+        };
+        if old != new || !is_utf8(old) || !place.takes(VALUE + old.len()) {
             return false;
         }
-        // of another kind the new value can't be read as one of this
-        match self.old.try_kind() {
-            Some(Kind::Map) => self.has_same_map(depth),
-            Some(Kind::Array) => self.has_same_array(depth),
-            Some(Kind::Text) => self.has_same_text(),
-            Some(Kind::Bytes) => self.has_same_bytes(),
-            Some(kind) => self.has_same_scalar(kind),
-            None => false,
-        }
+        place.in_old = behind_old;
+        place.in_new = behind_new;
+        true
     }
 
-    // Reads the next key of both maps. Whether it is the same.
-    fn has_same_key(&mut self, old: &mut Entries, new: &mut Entries) -> bool {
-        match (self.old.try_next(old), self.new.try_next(new)) {
-            (Ok(Some(old)), Ok(Some(new))) => {
-                old == new && self.allowance.takes(VALUE.saturating_add(old.len())) && is_text(old)
-            }
-            _ => false,
-        }
-    }
-
-    // Reads the pairs of both maps.
-    #[cycle(equality)]
-    fn has_same_pairs(&mut self, depth: usize, old: &mut Entries, new: &mut Entries) -> bool {
-        if depth == 0 || old.left() != new.left() {
+    // Passes the contents behind two headers, which hold no others. Whether they are the same.
+    #[inline(always)]
+    fn has_same_content(&self, place: &mut Place, old: Direct, new: Direct) -> bool
+        requires old { spec_direct_at self.now.in_old place.old.in_old 0 ≡ Some old }
+        requires new { spec_direct_at self.now.in_new place.old.in_new 0 ≡ Some new }
+        ensures { result ≡ true → (depth : ℕ) → IsSame self.now place.old place.new depth }
+    {
+        let (Ok(in_old), Ok(in_new)) = (
+            content_at(self.in_old, old.header),
+            content_at(self.in_new, new.header),
+        ) else {
+            return false;
+        };
+        if !are_same(in_old, in_new) || !place.takes(VALUE + in_old.payload()) {
             return false;
         }
-        for _ in 0..old.left() {
-            if !self.has_same_key(old, new) || !self.has_same_value(depth - 1) {
+        place.in_old = content_end(old.header);
+        place.in_new = content_end(new.header);
+        place.leave(old, new);
+        true
+    }
+
+    // Passes so many pairs of both. Whether they are the same.
+    #[cycle(equality)]
+    fn has_same_pairs(&mut self, place: &mut Place, depth: usize, count: usize) -> bool
+        ensures pairs { result ≡ true → AreSamePairs self.old place.old place.new count depth }
+        ensures sections { self.new ≡ self.old }
+    {
+        for _i in 0..count {
+            if !self.has_same_key(place) || !self.has_same_value(place, depth) {
                 return false;
             }
         }
         true
     }
 
-    // Reads the pairs of two maps to which pointers lead, unless the two are known to be equal.
+    // Keeps the pairs of two maps that are the same.
+    fn keep(&mut self, offsets: Offsets, map: KnownMap)
+        requires { IsKnownMap self.old (record { key = offsets; value = map }) }
+        ensures { self.new ≡ self.old }
+    {
+        self.known.put(offsets, map);
+    }
+
+    // Passes the pairs of two maps to which pointers lead, by what is kept of them, if that is. Whether they are the same.
     #[cycle(equality)]
-    fn has_same_shared(&mut self, depth: usize, old: &mut Entries, new: &mut Entries) -> bool {
-        let map = SharedMap {
-            old: self.old.offset(),
-            new: self.new.offset(),
-            pairs: old.left(),
+    fn has_same_shared(&mut self, place: &mut Place, depth: usize, count: usize) -> bool
+        ensures pairs { result ≡ true
+            → AreSamePairsUpTo self.old place.old place.new.left count depth }
+        ensures sections { self.new ≡ self.old }
+    {
+        let Some(offsets) = Offsets::of(Some(place.in_old), Some(place.in_new)) else {
+            return self.has_same_pairs(place, depth, count);
         };
-        if map.pairs != new.left() {
+        if let Some(map) = self.known.get(offsets) {
+            if map.pairs == count && map.depth <= depth {
+                return place.takes(map.cost);
+            }
+        }
+        let before = place.left;
+        if !self.has_same_pairs(place, depth, count) {
             return false;
         }
-        if let Some(cost) = self.known.cost_of(map, depth) {
-            return self.allowance.takes(cost);
+        let map = KnownMap {
+            pairs: count,
+            depth,
+            cost: before.saturating_sub(place.left),
+        };
+        self.keep(offsets, map);
+        true
+    }
+
+    // Passes the maps behind two headers. Whether they are the same.
+    #[cycle(equality)]
+    fn has_same_map(&mut self, place: &mut Place, depth: usize, old: Direct, new: Direct) -> bool
+        requires old { spec_direct_at self.old.in_old place.old.in_old 0 ≡ Some old }
+        requires new { spec_direct_at self.old.in_new place.old.in_new 0 ≡ Some new }
+        requires maps { (old.header.kind ≡ 7) × (new.header.kind ≡ 7) }
+        ensures same { result ≡ true → IsSame self.old place.old place.new depth }
+        ensures sections { self.new ≡ self.old }
+    {
+        let count = old.header.size;
+        if depth == 0 || count != new.header.size || !place.takes(VALUE) {
+            return false;
         }
-        let before = self.allowance;
-        let is_same = self.has_same_pairs(depth, old, new);
-        if is_same {
-            let cost = self.allowance.taken_since(before);
-            self.known.keep(map, depth, cost);
+        place.enter(old, new);
+        if old.after.is_some() && new.after.is_some() {
+            let is_same = self.has_same_shared(place, depth - 1, count);
+            place.leave(old, new);
+            return is_same;
         }
+        let is_same = self.has_same_pairs(place, depth - 1, count);
+        place.leave(old, new);
         is_same
     }
 
-    // Reads a map of both.
+    // Passes so many elements of both. Whether they are the same.
     #[cycle(equality)]
-    fn has_same_map(&mut self, depth: usize) -> bool {
-        let (old_at, new_at) = (self.old.offset(), self.new.offset());
-        let Ok(mut old) = self.old.try_map() else {
-            return false;
-        };
-        let Ok(mut new) = self.new.try_map() else {
-            forget_map(old);
-            return false;
-        };
-        let are_shared = is_behind_pointer(old_at, &self.old)
-            && is_behind_pointer(new_at, &self.new);
-        let is_same = if are_shared {
-            self.has_same_shared(depth, &mut old, &mut new)
-        } else {
-            self.has_same_pairs(depth, &mut old, &mut new)
-        };
-        spend(&mut old);
-        spend(&mut new);
-        self.old.end_map(old);
-        self.new.end_map(new);
-        is_same
-    }
-
-    // Reads so many elements of both arrays.
-    #[cycle(equality)]
-    fn has_same_elements(&mut self, depth: usize, count: usize) -> bool {
-        if depth == 0 {
-            return false;
-        }
-        for _ in 0..count {
-            if !self.has_same_value(depth - 1) {
+    fn has_same_elements(&mut self, place: &mut Place, depth: usize, count: usize) -> bool
+        ensures elements { result ≡ true
+            → AreSameElements self.old place.old place.new count depth }
+        ensures sections { self.new ≡ self.old }
+    {
+        for _i in 0..count {
+            if !self.has_same_value(place, depth) {
                 return false;
             }
         }
         true
     }
 
-    // Reads an array of both.
+    // Passes the arrays behind two headers. Whether they are the same.
     #[cycle(equality)]
-    fn has_same_array(&mut self, depth: usize) -> bool {
-        let Ok(old) = self.old.try_array() else {
+    fn has_same_array(&mut self, place: &mut Place, depth: usize, old: Direct, new: Direct) -> bool
+        requires old { spec_direct_at self.old.in_old place.old.in_old 0 ≡ Some old }
+        requires new { spec_direct_at self.old.in_new place.old.in_new 0 ≡ Some new }
+        requires arrays { (old.header.kind ≡ 11) × (new.header.kind ≡ 11) }
+        ensures same { result ≡ true → IsSame self.old place.old place.new depth }
+        ensures sections { self.new ≡ self.old }
+    {
+        let count = old.header.size;
+        if depth == 0 || count != new.header.size || !place.takes(VALUE) {
             return false;
-        };
-        let Ok(new) = self.new.try_array() else {
-            forget_array(old);
-            return false;
-        };
-        let count = self.old.remaining(&old);
-        let is_same = count == self.new.remaining(&new) && self.has_same_elements(depth, count);
-        leave(&mut self.old, old);
-        leave(&mut self.new, new);
+        }
+        place.enter(old, new);
+        let is_same = self.has_same_elements(place, depth - 1, count);
+        place.leave(old, new);
         is_same
     }
-}
 
-/// Leaves an array whose elements were read.
-pub(crate) fn leave(d: &mut Decoder<'_>, items: Items) {
-    let mut items = items;
-    for _ in 0..d.remaining(&items) {
-        let _ = d.next_item(&mut items);
+    // Passes a value of both, whose containers nest at most so deep. Whether it is the same.
+    #[cycle(equality)]
+    fn has_same_value(&mut self, place: &mut Place, depth: usize) -> bool
+        ensures same { result ≡ true → IsSame self.old place.old place.new depth }
+        ensures sections { self.new ≡ self.old }
+    {
+        let (Ok(old), Ok(new)) = (
+            direct_at(self.in_old, place.in_old, 0),
+            direct_at(self.in_new, place.in_new, 0),
+        ) else {
+            return false;
+        };
+        if old.header.kind != new.header.kind {
+            return false;
+        }
+        match old.header.kind {
+            MAP => self.has_same_map(place, depth, old, new),
+            ARRAY => self.has_same_array(place, depth, old, new),
+            _ => self.has_same_content(place, old, new),
+        }
     }
-    if d.next_item(&mut items) {
-        forget_array(items);
-    } else {
-        d.end_array(items);
-    }
-}
 
-// Whether two readings gave the same.
-fn are_same<T: PartialEq + Copy, E: Drop>(old: Result<T, E>, new: Result<T, E>) -> bool {
-    match (old.ok(), new.ok()) {
-        (Some(old), Some(new)) => old == new,
-        _ => false,
+    /// Whether the values at two offsets are seen to be equal, and can be read. Others may be equal too.
+    pub fn have_equal(&mut self, old: usize, new: usize) -> bool
+        ensures same { result ≡ true → HaveSameValue self.old old new }
+        ensures sections { self.new ≡ self.old }
+    {
+        let mut place = Place {
+            in_old: old,
+            in_new: new,
+            left: MOST_COST,
+        };
+        self.has_same_value(&mut place, MOST_LEVELS)
     }
-}
-
-/// Whether the values at which two decoders stand are seen to be equal, and can be read. Others may be equal too. The maps
-/// are those that are known to be equal in the two databases.
-pub fn are_seen_equal<'de>(
-    alloc: Global,
-    known: &mut KnownMaps,
-    old: Decoder<'de>,
-    new: Decoder<'de>,
-) -> bool {
-    let mut both = SideBySide {
-        alloc,
-        old,
-        new,
-        known: mem::replace(known, KnownMaps::none(alloc)),
-        allowance: Allowance::whole(),
-    };
-    let is_same = both.has_same_value(MOST_LEVELS);
-    *known = both.known;
-    is_same
 }

@@ -1,16 +1,13 @@
-//! What two databases have in common, as far as no reader is needed to see it: values that are
-//! read side by side, and what is kept of pairs of records.
+//! What two databases have in common, as far as no reader is needed to see it: values that are read side by side, and what is
+//! kept of pairs of records.
 #![tactic(auto)]
 
-mod allowance;
+mod contents;
 mod equality;
-mod known_maps;
 mod pairs;
-mod readable;
+mod place;
 mod shown;
 
-pub use equality::are_seen_equal;
-pub use known_maps::KnownMaps;
+pub use equality::SideBySide;
 pub use pairs::{KnownPairs, Offsets};
-pub use readable::RecordReader;
 pub use shown::{Shown, ShownPairs};

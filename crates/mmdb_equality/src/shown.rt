@@ -1,6 +1,6 @@
 //! What is shown of pairs of records.
 use crate::pairs::Offsets;
-use mmdb_cache::Cache;
+use mmdb_cache::{Cache, Key};
 use std::alloc::{AllocError, Global};
 
 /// The most bytes of what is shown of a record of a pair that is kept.
@@ -13,19 +13,12 @@ pub struct Shown {
     pub new: Vec<u8>,
 }
 
-// A pair, and what is shown of it.
-#[derive(Drop)]
-struct ShownPair {
-    offsets: Offsets,
-    shown: Shown,
-}
-
-/// What is shown of the pairs that were shown last, by their offsets.
+/// What is shown of the pairs that were shown last, by a number for each.
 #[derive(Drop)]
 pub struct ShownPairs {
-    kept: Cache<ShownPair>,
+    kept: Cache<Shown>,
     /// The pair that was compared last, where it differs: it is mostly shown next.
-    last: Option<ShownPair>,
+    last: Option<(usize, Shown)>,
 }
 
 impl Shown {
@@ -64,7 +57,7 @@ impl ShownPairs {
 
     /// Keeps what is shown of the pair that was compared last, of any length.
     pub fn note_last(&mut self, offsets: Offsets, shown: Shown) {
-        self.last = Some(ShownPair { offsets, shown });
+        self.last = Some((offsets.number() as usize, shown));
     }
 
     /// Lets go of what is shown of the pair that was compared last.
@@ -74,17 +67,8 @@ impl ShownPairs {
 
     // Takes what is shown of a pair, if it was compared last.
     fn take_last(&mut self, offsets: Offsets) -> Option<Shown> {
-        let last = self.last.take()?;
-        if !last.offsets.are(offsets) {
-            return None;
-        }
-        Some(last.shown)
-    }
-
-    // What is shown of a pair, if that is kept.
-    fn shown_at(&self, offsets: Offsets) -> Option<&Shown> {
-        match self.kept.get(offsets.key()) {
-            Some(pair) if pair.offsets.are(offsets) => Some(&pair.shown),
+        match self.last.take() {
+            Some((last, shown)) if last == offsets.number() as usize => Some(shown),
             _ => None,
         }
     }
@@ -96,7 +80,7 @@ impl ShownPairs {
             self.keep(alloc, offsets, &shown);
             return Ok(Some(shown));
         }
-        match self.shown_at(offsets) {
+        match self.kept.get(offsets.number() as usize) {
             Some(shown) => Ok(Some(shown.copy(alloc)?)),
             None => Ok(None),
         }
@@ -108,12 +92,8 @@ impl ShownPairs {
             return;
         }
         if let Ok(copy) = shown.copy(alloc) {
-            let bytes = shown.bytes();
-            let pair = ShownPair {
-                offsets,
-                shown: copy,
-            };
-            self.kept.put(offsets.key(), pair, bytes);
+            self.kept
+                .put(offsets.number() as usize, copy, shown.bytes());
         }
     }
 }

@@ -1,8 +1,7 @@
-//! Two databases side by side, over trees that are made: networks that both have, taken in fewer steps, beside all taken
-//! one by one; and the stretches beside the networks of each database.
+//! Two databases side by side, over trees that are made: the stretches beside the networks of each database.
 use super::record_texts::Numbers;
 use mmdb_blocks::Block;
-use mmdb_diff::{Comparison, Part, Side, Stretch};
+use mmdb_diff::{Comparison, Part};
 use mmdb_reader::{IpNetwork, Reader, WithinOptions};
 use mmdb_vectors::builder::{Field, changed_file, nodes_24};
 use std::alloc::{AllocError, Global};
@@ -12,17 +11,14 @@ use std::process::Abort;
 /// So many zeros stand behind one another in a data section.
 const ZEROS: &[u8] = &[0xA0; 16];
 
-/// What a record leads to that leads to no node is this and a number: 0 to nothing, 1 to 16 to a zero, others nowhere.
+/// What a record leads to that leads to no node is this and a number: 0 to nothing, 1 to 16 to a zero.
 const LEAF: u32 = 1 << 20;
 
 /// A node's two records.
 type Node = (u32, u32);
 
 // What a leaf has: mostly a zero.
-fn leaf_of(numbers: &mut Numbers, faults_of_1000: usize) -> u32 {
-    if numbers.below(1000) < faults_of_1000 {
-        return LEAF + 100;
-    }
+fn leaf_of(numbers: &mut Numbers) -> u32 {
     match numbers.below(20) {
         0 | 1 | 2 => LEAF,
         other => LEAF + (other & 15) as u32 + 1,
@@ -44,17 +40,12 @@ fn split(nodes: &mut Vec<Node>, place: usize, right: bool, halves: Node) -> Resu
 }
 
 // A tree of so many nodes at the most, with 96 zeros before IPv4 in one of IPv6.
-fn tree_of(
-    alloc: Global,
-    numbers: &mut Numbers,
-    is_ipv6: bool,
-    faults_of_1000: usize,
-) -> Result<Vec<Node>, AllocError> {
+fn tree_of(alloc: Global, numbers: &mut Numbers, is_ipv6: bool) -> Result<Vec<Node>, AllocError> {
     let mut nodes = Vec::new(alloc);
-    nodes.push((leaf_of(numbers, 0), leaf_of(numbers, 0)))?;
+    nodes.push((leaf_of(numbers), leaf_of(numbers)))?;
     if is_ipv6 {
         for place in 0..96 {
-            split(&mut nodes, place, false, (leaf_of(numbers, 0), LEAF))?;
+            split(&mut nodes, place, false, (leaf_of(numbers), LEAF))?;
         }
     }
     let first = nodes.len().saturating_sub(1);
@@ -64,10 +55,7 @@ fn tree_of(
         } else {
             first.saturating_add(numbers.below(nodes.len().saturating_sub(first)))
         };
-        let halves = (
-            leaf_of(numbers, faults_of_1000),
-            leaf_of(numbers, faults_of_1000),
-        );
+        let halves = (leaf_of(numbers), leaf_of(numbers));
         split(&mut nodes, place, numbers.below(2) == 1, halves)?;
     }
     if is_ipv6 && numbers.below(2) == 1 {
@@ -80,13 +68,9 @@ fn tree_of(
 }
 
 // Changes some leaves of a tree, and splits or cuts some.
-fn change(
-    nodes: &mut Vec<Node>,
-    numbers: &mut Numbers,
-    faults_of_1000: usize,
-) -> Result<(), AllocError> {
+fn change(nodes: &mut Vec<Node>, numbers: &mut Numbers) -> Result<(), AllocError> {
     for place in 0..nodes.len() {
-        let halves = (leaf_of(numbers, faults_of_1000), leaf_of(numbers, 0));
+        let halves = (leaf_of(numbers), leaf_of(numbers));
         match numbers.below(24) {
             0 => split(nodes, place, numbers.below(2) == 1, halves)?,
             1 => {
@@ -135,124 +119,6 @@ fn file_of(alloc: Global, nodes: &[Node], is_ipv6: bool) -> Result<Vec<u8>, Allo
 
 /// A database whose bytes are in memory.
 type Database = Reader<Vec<u8>>;
-
-// A stretch as a line.
-fn stretch_line(
-    alloc: Global,
-    comparison: &Comparison<'_, Vec<u8>>,
-    stretch: Stretch,
-) -> Result<String, AllocError> {
-    let old = comparison.offset_in_old(stretch);
-    let new = comparison.offset_in_new(stretch);
-    let Stretch {
-        block,
-        is_ipv4,
-        has_old,
-        has_new,
-    } = stretch;
-    format!(in alloc; "{block:?} {is_ipv4} {has_old} {has_new} {old:?} {new:?}\n")
-}
-
-// A leaf that can't be read as a line.
-fn unread_line(
-    alloc: Global,
-    comparison: &mut Comparison<'_, Vec<u8>>,
-    side: Side,
-) -> Result<String, AllocError> {
-    let name = match side {
-        Side::Old => "old",
-        Side::New => "new",
-    };
-    match comparison.take_unread(side) {
-        Some(leaf) => {
-            let line = match leaf.behind {
-                Some(network) => format!(in alloc; "{name} {network} {}\n", leaf.error),
-                None => format!(in alloc; "{name} first {}\n", leaf.error),
-            };
-            drop(leaf);
-            line
-        }
-        None => format!(in alloc; "{name}\n"),
-    }
-}
-
-/// What a comparison gives, a line for each part, and how many came as shared networks.
-#[derive(Drop)]
-struct Lines {
-    text: String,
-    shared: usize,
-}
-
-fn lines_of(
-    alloc: Global,
-    comparison: &mut Comparison<'_, Vec<u8>>,
-    takes_shared: bool,
-) -> Result<Lines, AllocError> {
-    let mut lines = Lines {
-        text: String::new(alloc),
-        shared: 0,
-    };
-    for _ in 0..2000 {
-        if takes_shared {
-            if let Some(stretch) = comparison.next_shared() {
-                let line = stretch_line(alloc, comparison, stretch)?;
-                lines.text.push_str(line.as_str())?;
-                lines.shared = lines.shared.saturating_add(1);
-                continue;
-            }
-        }
-        let line = match comparison.next_part() {
-            Some(Part::Stretch(stretch)) => stretch_line(alloc, comparison, stretch)?,
-            Some(Part::Unread(side)) => unread_line(alloc, comparison, side)?,
-            None => break,
-        };
-        lines.text.push_str(line.as_str())?;
-    }
-    lines.text.push_str("end\n")?;
-    Ok(lines)
-}
-
-// What a comparison of a range gives.
-fn lines_in(
-    rt: &impl Abort,
-    alloc: Global,
-    databases: (&Database, &Database),
-    range: IpNetwork,
-    takes_shared: bool,
-) -> Lines {
-    match Comparison::new(alloc, databases.0, databases.1, range) {
-        Ok(mut comparison) => {
-            let lines = lines_of(alloc, &mut comparison, takes_shared).expect(rt, "lines");
-            drop(comparison);
-            lines
-        }
-        Err((_, error)) => {
-            let text = format!(in alloc; "{error}").expect(rt, "a text");
-            drop(error);
-            Lines { text, shared: 0 }
-        }
-    }
-}
-
-// Asserts that a comparison gives the same, however it is taken; how many shared networks came, and how many lines.
-fn assert_same(
-    rt: &impl Abort,
-    alloc: Global,
-    databases: (&Database, &Database),
-    range: IpNetwork,
-    seed: u64,
-) -> (usize, usize) {
-    let wanted = lines_in(rt, alloc, databases, range, false);
-    let lines = lines_in(rt, alloc, databases, range, true);
-    assert!(rt;
-        lines.text.as_str() == wanted.text.as_str(),
-        "{seed} {range}: {} but {}",
-        lines.text.as_str(),
-        wanted.text.as_str()
-    );
-    let count = wanted.text.as_str().split('\n').count();
-    (lines.shared, count)
-}
 
 /// A network as much of it as lies in a range: its first and its last address, and where its record is.
 type Network = (u128, u128, Option<usize>);
@@ -324,8 +190,7 @@ fn joint_count(old: &[Network], new: &[Network]) -> u128 {
     count
 }
 
-// Asserts that each stretch has what the networks of the databases have, and that all their addresses are in stretches; how
-// many stretches there are.
+// Asserts that each stretch has what the networks of the databases have, and that all their addresses are in stretches.
 fn assert_of_networks<'a>(
     rt: &impl Abort,
     alloc: Global,
@@ -333,25 +198,21 @@ fn assert_of_networks<'a>(
     range: IpNetwork,
     seed: u64,
     kinds: &mut Kinds,
-) -> usize {
+) {
     let old = networks_of(rt, alloc, databases.0, range);
     let new = networks_of(rt, alloc, databases.1, range);
-    let (mut addresses, mut next, mut count) = (0u128, Some(0u128), 0usize);
+    let (mut addresses, mut next) = (0u128, Some(0u128));
     let compared = Comparison::new(alloc, databases.0, databases.1, range);
     let mut comparison = match compared {
         Ok(comparison) => comparison,
         Err((_, error)) => {
             drop(error);
-            return 0;
+            return;
         }
     };
     for _ in 0..2000 {
-        let stretch = match comparison.next_shared() {
-            Some(stretch) => stretch,
-            None => match comparison.next_part() {
-                Some(Part::Stretch(stretch)) => stretch,
-                _ => break,
-            },
+        let Some(Part::Stretch(stretch)) = comparison.next_part() else {
+            break;
         };
         let block = stretch.block;
         assert!(rt; block.is_block(), "{seed} {range}: {block:?} is no block");
@@ -379,7 +240,6 @@ fn assert_of_networks<'a>(
         kinds[kind] = kinds[kind].saturating_add(1);
         addresses = addresses.wrapping_add(last - block.first).wrapping_add(1);
         next = last.checked_add(1);
-        count = count.saturating_add(1);
     }
     drop(comparison);
     let wanted = joint_count(&old, &new);
@@ -387,7 +247,6 @@ fn assert_of_networks<'a>(
         addresses == wanted,
         "{seed} {range}: {addresses} addresses, not {wanted}"
     );
-    count
 }
 
 // A range of some bits of an address.
@@ -403,56 +262,30 @@ fn range_of(rt: &impl Abort, numbers: &mut Numbers, is_ipv6: bool) -> IpNetwork 
 }
 
 // Asserts of two made trees, of all their addresses and of some ranges.
-fn assert_made(
-    rt: &impl Abort,
-    alloc: Global,
-    seed: u64,
-    faults_of_1000: usize,
-    kinds: &mut Kinds,
-) -> (usize, usize) {
+fn assert_made(rt: &impl Abort, alloc: Global, seed: u64, kinds: &mut Kinds) {
     let mut numbers = Numbers { state: seed };
     let is_ipv6 = seed % 2 == 1;
-    let mut nodes = tree_of(alloc, &mut numbers, is_ipv6, faults_of_1000).expect(rt, "a tree");
+    let mut nodes = tree_of(alloc, &mut numbers, is_ipv6).expect(rt, "a tree");
     let old = file_of(alloc, nodes.as_slice(), is_ipv6).expect(rt, "a file");
-    change(&mut nodes, &mut numbers, faults_of_1000).expect(rt, "a tree");
+    change(&mut nodes, &mut numbers).expect(rt, "a tree");
     let new = file_of(alloc, nodes.as_slice(), is_ipv6).expect(rt, "a file");
     let old = Reader::from_source(alloc, old).expect(rt, "a database");
     let new = Reader::from_source(alloc, new).expect(rt, "a database");
-    let (mut shared, mut count) = (0usize, 0usize);
     for turn in 0..6 {
         let of_ipv6 = is_ipv6 && turn < 3;
         let mut range = range_of(rt, &mut numbers, of_ipv6);
         if turn % 3 == 0 {
             range = IpNetwork::new(range.ip(), 0).expect(rt, "a network");
         }
-        let (some, lines) = assert_same(rt, alloc, (&old, &new), range, seed);
-        if faults_of_1000 == 0 {
-            let stretches = assert_of_networks(rt, alloc, (&old, &new), range, seed, kinds);
-            assert!(rt;
-                stretches.saturating_add(2) == lines,
-                "{seed} {range}: {stretches} and {lines}"
-            );
-        }
-        shared = shared.saturating_add(some);
-        count = count.saturating_add(lines);
+        assert_of_networks(rt, alloc, (&old, &new), range, seed, kinds);
     }
-    (shared, count)
 }
 
 #[test]
-fn shared_networks_as_one_by_one(rt: HostRuntime) {
+fn stretches_of_networks(rt: HostRuntime) {
     let mut kinds = [0; 4];
-    for faults_of_1000 in [0, 5, 100] {
-        let (mut shared, mut count) = (0usize, 0usize);
-        for seed in 0..40u64 {
-            let (some, lines) = assert_made(&rt, rt.alloc(), seed, faults_of_1000, &mut kinds);
-            shared = shared.saturating_add(some);
-            count = count.saturating_add(lines);
-        }
-        assert!(rt;
-            shared > 500 && shared < count,
-            "{faults_of_1000}: {shared} of {count}"
-        );
+    for seed in 0..80u64 {
+        assert_made(&rt, rt.alloc(), seed, &mut kinds);
     }
     for count in kinds {
         assert!(rt; count > 30, "{kinds:?}");

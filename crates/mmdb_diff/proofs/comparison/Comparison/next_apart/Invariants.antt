@@ -1,14 +1,14 @@
-use Rattle.std.proofs.Common.{◌-◌, ◌^◌, None}
+use Rattle.std.proofs.Common.{◌-◌, ◌^◌}
 use Rattle.mmdb_diff.specs.Parts.{start_of}
 use Rattle.mmdb_diff.specs.Working.{comparing, IsOnWay}
-use Rattle.mmdb_diff.proofs.comparison.Comparison.next_part.Given as goal
+use Rattle.mmdb_diff.proofs.comparison.Comparison.next_apart.Given as goal
 
 -- what came before is skipped, and the rest is left
 abbrev pub invariant-loop-self : goal.invariant-loop-self
 invariant-loop-self g l =
     let first = l.initial.self-inside in
     let inside = l.self-inside in
-    IsOnWay (comparing first.at None first.walks.old first.walks.new) (comparing inside.at None inside.walks.old inside.walks.new) inside.are_even inside.unread
+    IsOnWay (comparing first.at first.walks.old first.walks.new) (comparing inside.at inside.walks.old inside.walks.new) inside.are_even
 
 -- each round skips an address
 abbrev pub decreases-loop-self : goal.decreases-loop-self

@@ -1,0 +1,3 @@
+pub mod Placing
+pub mod Same
+pub mod Known
