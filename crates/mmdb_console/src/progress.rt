@@ -8,7 +8,7 @@ const CLEARED: &[u8] = b"\r\x1b[K";
 
 /// A line on a terminal that shows how many rows passed.
 #[derive(Drop)]
-pub(crate) struct ProgressLine<'e, E: Write> {
+pub struct ProgressLine<'e, E: Write> {
     alloc: Global,
     is_terminal: bool,
     is_shown: bool,
@@ -16,7 +16,7 @@ pub(crate) struct ProgressLine<'e, E: Write> {
 }
 
 impl<'e, E: Write> ProgressLine<'e, E> {
-    pub(crate) fn new(alloc: Global, is_terminal: bool, err: &'e mut E) -> ProgressLine<'e, E> {
+    pub fn new(alloc: Global, is_terminal: bool, err: &'e mut E) -> ProgressLine<'e, E> {
         ProgressLine {
             alloc,
             is_terminal,
@@ -26,7 +26,7 @@ impl<'e, E: Write> ProgressLine<'e, E> {
     }
 
     /// Takes the line away again.
-    pub(crate) fn clear(&mut self) {
+    pub fn clear(&mut self) {
         if self.is_shown {
             let _ = self.err.write_all(CLEARED);
             self.is_shown = false;
