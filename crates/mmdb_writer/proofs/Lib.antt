@@ -3,3 +3,4 @@ pub mod ReadLemmas
 pub mod LastLemmas
 pub mod RowLemmas
 pub mod FileLemmas
+pub mod MakingLemmas

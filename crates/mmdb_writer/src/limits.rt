@@ -1,11 +1,9 @@
 //! Which values are given back by readings.
 ghost use Rattle.std.specs.Prelude.{◌≡◌, ◌≢◌, ◌+◌, ◌<◌, OnOk, IfErr};
-ghost use Rattle.std.specs.List.{AllByRecursion};
 ghost use Rattle.mmdb_value.specs.Values.{value_tree};
 ghost use Rattle.mmdb_writer.specs.Limits.{CanBeRead, Exceeds};
-ghost use Rattle.mmdb_writer.specs.Working.{TakesRoom, ExceedsRoom, IsUnreadable};
+ghost use Rattle.mmdb_writer.specs.Working.{TakesRoom, ExceedsRoom};
 
-use crate::error::WriteError;
 use mmdb_value::Value;
 
 /// Why no reading gives a value back.
@@ -91,7 +89,7 @@ fn take_room(room: &mut Room, levels: u8, value: &Value<'_>) -> Result<(), Value
 }
 
 // Whether a reading gives a value back.
-fn check_value(value: &Value<'_>) -> Result<(), ValueError>
+pub(crate) fn check_value(value: &Value<'_>) -> Result<(), ValueError>
     ensures ok { OnOk result (CanBeRead (value_tree value.now)) }
     ensures err { IfErr result (λ e. Exceeds e (value_tree value.now)) }
 {
@@ -100,17 +98,4 @@ fn check_value(value: &Value<'_>) -> Result<(), ValueError>
         bytes: 2_097_152,
     };
     take_room(&mut room, MOST_LEVELS, value)
-}
-
-// Whether readings give all values back.
-pub(crate) fn check_values(values: &[Value<'_>]) -> Result<(), WriteError>
-    ensures ok { OnOk result (AllByRecursion (λ value. CanBeRead (value_tree value)) values.now) }
-    ensures err { IfErr result (IsUnreadable values.now) }
-{
-    for index in 0..values.len() {
-        if let Err(error) = check_value(&values[index]) {
-            return Err(WriteError::Value { index, error });
-        }
-    }
-    Ok(())
 }

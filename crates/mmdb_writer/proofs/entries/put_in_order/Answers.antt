@@ -9,8 +9,8 @@ use Rattle.std.proofs.lemmas.List.Sorted.{answers_always}
 use Rattle.mmdb_nodes.specs.declared.entry.Entry.{Entry}
 use Rattle.mmdb_nodes.specs.Entries.{IsEntry, IsOrdered}
 use Rattle.mmdb_writer.specs.Working.{is_same_block}
-use Rattle.mmdb_writer.proofs.entries.ordered_entries.Goals as goal
-use Rattle.mmdb_writer.proofs.entries.ordered_entries.Goals.{then-not-are_ordered+in_ok-sort_by_key, else-not-are_ordered}
+use Rattle.mmdb_writer.proofs.entries.put_in_order.Goals as goal
+use Rattle.mmdb_writer.proofs.entries.put_in_order.Goals.{then-not-are_ordered+in_ok-sort_by_key, else-not-are_ordered}
 
 filter_alike : {X : Type 0} (s t : X → Bool) → ((x : X) → s x ≡ t x) → (xs : List X) → filter s xs ≡ filter t xs
 filter_alike s t h [] = refl
@@ -47,12 +47,10 @@ pub returns-then-all_fit-clause-ok : goal.returns-then-all_fit-clause-ok
 returns-then-all_fit-clause-ok c = record {
   ordered = subst IsOrdered c.deref-2.ensures.value (c.if-are_ordered.ensures.0 refl);
   fit = subst (AllByRecursion (IsEntry c.args.version c.args.data_len)) c.deref-then-are_ordered.ensures.value (c.if-all_fit.ensures.0 refl);
-  given = c.in_ok-entries.entries.items;
-  of_rows = c.in_ok-entries.ensures.ok;
   stable = λ e. elim c.if-not-are_ordered.branch [
     | then-not-are_ordered+in_ok-sort_by_key w ↦
         let stable = w.in_ok-sort_by_key.ensures.stable key_of (answers_always _ _ _ (λ f a r f' k. search rules)) in
-        let old = c.in_ok-entries.entries.items in
+        let old = c.args.entries.now.items in
         let new = w.sort_by_key.new.self.items in
         let alike = λ (xs : List Entry). filter_alike (ties (λ (x y : Entry). is_lt (ordering_then (nat_cmp x.first y.first) (nat_cmp x.prefix y.prefix))) e) (is_same_block e) (tied e) xs in
         ap (λ (v : Vec Entry Global). filter (is_same_block e) v.items) w.entries-is ∙ sym (alike new) ∙ stable e ∙ alike old

@@ -3,7 +3,7 @@ use Rattle.mmdb_section.specs.declared.value.Part.{Part}
 use Rattle.mmdb_value.specs.Values.{value_tree}
 use Rattle.mmdb_writer.specs.Working.{Puts}
 use Rattle.mmdb_writer.proofs.SectionLemmas.{number_put}
-use Rattle.mmdb_writer.proofs.values.add_value.Goals as goal
+use Rattle.mmdb_writer.proofs.values.put_value.Goals as goal
 
 pub returns-in-Number : goal.returns-in-Number
 returns-in-Number c =

@@ -1,0 +1,15 @@
+use Rattle.std.proofs.Common.{rules, ◌≡◌, ◌∙◌, length, refl}
+use Rattle.mmdb_writer.proofs.MakingLemmas.{values_so_far, value_added, value_error}
+use Rattle.mmdb_writer.proofs.writer.Writer.add_value.Goals as goal
+
+pub returns-in-Err-clause-explained : goal.returns-in-Err-clause-explained
+returns-in-Err-clause-explained c =
+    let next : c.len-index.result ≡ length c.args.self.now.offsets.items = search rules in
+    value_error c.args.value.now c.args.self.now c.len-index.result c.in-Err.error next c.in-Err.ensures.err
+
+pub returns-clause-added : goal.returns-clause-added
+returns-clause-added c = λ values rows options made.
+    let next : c.len-index.result ≡ length c.args.self.now.offsets.items = search rules in (
+      next ∙ values_so_far values rows options c.args.self.now made,
+      value_added values rows options c.args.self.now made c.args.value.now _ c.in_ok-offset.offset c.in_default.ensures.ok c.in_ok-offset.ensures refl c.in_ok-push.ensures.items refl,
+    )
