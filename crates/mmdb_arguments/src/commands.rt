@@ -108,19 +108,9 @@ enum Argument {
     /// An option with a value, which has to be given.
     Needed(&'static str, &'static str, &'static str),
     /// An option with one of these values, the first if it is not given.
-    Choice(
-        &'static str,
-        &'static str,
-        &'static str,
-        &'static [&'static str],
-    ),
+    Choice(&'static str, &'static str, &'static str, &'static [&'static str]),
     /// An option with one of these values.
-    OneOf(
-        &'static str,
-        &'static str,
-        &'static str,
-        &'static [&'static str],
-    ),
+    OneOf(&'static str, &'static str, &'static str, &'static [&'static str]),
     /// An option with a value, which goes with none of these.
     Without(&'static str, &'static str, &'static str, &'static [&'static str]),
 }
@@ -255,12 +245,7 @@ const COMMANDS: &[Usage] = &[
             Argument::Required("NEW", "The MaxMind DB file after"),
             Argument::Optional("RANGE", "Only inside this network"),
             FIELDS,
-            Argument::Choice(
-                "format",
-                "FORMAT",
-                "csv needs a --field",
-                &["jsonl", "csv"],
-            ),
+            Argument::Choice("format", "FORMAT", "csv needs a --field", &["jsonl", "csv"]),
             Argument::Flag("exit-code", "Status 7 where something differs"),
         ],
     },

@@ -2,13 +2,16 @@
 #![tactic(auto)]
 
 mod bad_rows;
-mod build;
+mod check;
+mod command;
 mod gather;
+mod kept;
 mod like;
+mod pieces;
 mod reserved;
 mod rows;
 mod summary;
 mod taken;
 mod task;
 
-pub use build::build;
+pub use command::build;

@@ -31,11 +31,7 @@ fn learn_found(
 }
 
 // Learns the types of all records of a database.
-fn learn_all(
-    alloc: Global,
-    database: &Database,
-    types: &mut Types,
-) -> Result<(), MaxMindDbError> {
+fn learn_all(alloc: Global, database: &Database, types: &mut Types) -> Result<(), MaxMindDbError> {
     let mut met = HashSet::new(alloc);
     for item in database.networks(alloc, WithinOptions::default())? {
         match item {

@@ -24,8 +24,7 @@ fn without_end(row: &[u8]) -> &[u8] {
 
 // Whether a row has nothing but white space.
 fn is_blank(row: &[u8]) -> bool {
-    row.iter()
-        .all(|byte| matches!(*byte, b' ' | b'\t' | b'\r'))
+    row.iter().all(|byte| matches!(*byte, b' ' | b'\t' | b'\r'))
 }
 
 impl<'t> RowReader<'t> {

@@ -1,4 +1,5 @@
 //! What was taken of rows.
+use crate::kept::{Kept, KeptRow, print_of};
 use crate::reserved::is_reserved;
 use crate::task::BuildTask;
 use mmdb_arguments::Reserved;
@@ -27,6 +28,8 @@ pub(crate) struct Taken {
     is_ipv4_alone: bool,
     /// The networks, where equal ones are an error.
     met: Option<Vec<Met>>,
+    /// What the rows said, where it is to be compared with the file.
+    pub(crate) kept: Option<Kept>,
 }
 
 // Why a value is not taken.
@@ -53,7 +56,10 @@ fn error_of(error: WriteError) -> InputError {
 impl Values for Taken {
     fn add(&mut self, alloc: Global, value: &Value<'_>) -> Result<usize, InputError> {
         match self.writer.add_value(alloc, value) {
-            Ok(index) => Ok(index),
+            Ok(index) => {
+                self.keep_value(alloc, value)?;
+                Ok(index)
+            }
             Err(error) => Err(error_of(error)),
         }
     }
@@ -77,6 +83,27 @@ impl Taken {
             } else {
                 None
             },
+            kept: if task.check {
+                Some(Kept::new(alloc))
+            } else {
+                None
+            },
+        }
+    }
+
+    // Keeps a value, where it is to be compared with the file.
+    fn keep_value(&mut self, alloc: Global, value: &Value<'_>) -> Result<(), AllocError> {
+        match &mut self.kept {
+            Some(kept) => Ok(kept.prints.push(print_of(alloc, value)?)?),
+            None => Ok(()),
+        }
+    }
+
+    // Keeps a network, where it is to be compared with the file.
+    fn keep_row(&mut self, block: Block, value: Option<usize>) -> Result<(), AllocError> {
+        match &mut self.kept {
+            Some(kept) => Ok(kept.rows.push(KeptRow { block, value })?),
+            None => Ok(()),
         }
     }
 
@@ -92,8 +119,7 @@ impl Taken {
     }
 
     // Notes a network and its line, where equal ones are an error.
-    fn note(&mut self, network: IpNetwork, line: u64) -> Result<(), AllocError> {
-        let block = Block::of_network(network);
+    fn note(&mut self, block: Block, line: u64) -> Result<(), AllocError> {
         match &mut self.met {
             Some(met) => Ok(met.push(Met { block, line })?),
             None => Ok(()),
@@ -114,7 +140,9 @@ impl Taken {
                 return Ok(());
             }
         }
-        self.note(network, line)?;
+        let block = Block::of_network(network);
+        self.note(block, line)?;
+        self.keep_row(block, value)?;
         self.networks = self.networks.saturating_add(1);
         match self.writer.add_row(Row { network, value }) {
             Ok(()) => Ok(()),

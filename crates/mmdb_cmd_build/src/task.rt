@@ -47,14 +47,9 @@ impl BuildTask<'_> {
 }
 
 // The columns of addresses.
-fn columns_of<'a>(
-    alloc: Global,
-    arguments: &BuildArguments<'a>,
-) -> Result<Columns<'a>, NoRequest> {
+fn columns_of<'a>(alloc: Global, arguments: &BuildArguments<'a>) -> Result<Columns<'a>, NoRequest> {
     let Some(names) = arguments.range_columns else {
-        return Ok(Columns::Network(
-            arguments.network_column.unwrap_or("network"),
-        ));
+        return Ok(Columns::Network(arguments.network_column.unwrap_or("network")));
     };
     match names.split_once(',') {
         Some((first, last)) if first != last => Ok(Columns::Range(first, last)),

@@ -42,12 +42,7 @@ struct ValueColumn {
 }
 
 // Cuts the cells of a row, in place of others.
-fn cut(
-    alloc: Global,
-    rows: Rows,
-    row: &[u8],
-    cells: &mut ByteRecord,
-) -> Result<(), InputError> {
+fn cut(alloc: Global, rows: Rows, row: &[u8], cells: &mut ByteRecord) -> Result<(), InputError> {
     cells.clear();
     match rows {
         Rows::Lines => {

@@ -4,7 +4,7 @@ use crate::entry::{Entry, Place, Values};
 use crate::error::{InputError, Reason};
 use crate::known::KnownTexts;
 use crate::networks::{address_of, network_of};
-use crate::plan::{MOST_COLUMNS, add_assembled, column_path, plan_of};
+use crate::plan::{MOST_COLUMNS, Plan, add_assembled, column_path, plan_of};
 use crate::range::AddressRange;
 use crate::types::Types;
 use crate::values::value_of;
@@ -26,7 +26,10 @@ fn front_of(alloc: Global, columns: Columns<'_>) -> Result<Option<Vec<u8>>, Allo
     let Columns::Network(name) = columns else {
         return Ok(None);
     };
-    if name.chars().any(|c| c.is_control() || c == '"' || c == '\\') {
+    if name
+        .chars()
+        .any(|c| c.is_control() || c == '"' || c == '\\')
+    {
         return Ok(None);
     }
     let front: String = format!(in alloc; "{{\"{name}\":\"")?;
@@ -176,53 +179,72 @@ fn values_in<'a>(
     Ok(values)
 }
 
-// Adds the record of members at paths.
-fn add_members<V: Values>(
+// The members of an object.
+fn members_of<'m, 'a>(
+    object: &'m json::Value<'a>,
+) -> Result<&'m [(&'a str, json::Value<'a>)], InputError> {
+    match object {
+        json::Value::Object(members) => Ok(members),
+        _ => Err(InputError::from(Reason::NotAnObject)),
+    }
+}
+
+// How a record is put together of the members that are paths.
+fn plan_in(
     alloc: Global,
-    others: &[(&str, &json::Value<'_>)],
+    columns: Columns<'_>,
+    object: &json::Value<'_>,
+) -> Result<Plan, InputError> {
+    let others = others_in(alloc, columns, members_of(object)?)?;
+    plan_of(alloc, &paths_in(alloc, &others)?)
+}
+
+// Adds the record of members at paths, by the plan of these.
+fn add_members<'a, V: Values>(
+    alloc: Global,
+    others: &[(&'a str, &json::Value<'a>)],
+    plan: &'a Plan,
     types: &Types,
+    arena: &'a Bump,
     values: &mut V,
 ) -> Result<Option<usize>, InputError> {
     let paths = paths_in(alloc, others)?;
-    let plan = plan_of(alloc, &paths)?;
-    let arena = Bump::new(alloc);
-    let parts = values_in(alloc, others, &paths, types, &arena)?;
-    add_assembled(alloc, &plan, parts, values)
+    let parts = values_in(alloc, others, &paths, types, arena)?;
+    add_assembled(alloc, plan, parts, values)
 }
 
 // Adds a record that stands as a whole.
-fn add_record<V: Values>(
+fn add_record<'a, V: Values>(
     alloc: Global,
-    shown: &json::Value<'_>,
+    shown: &json::Value<'a>,
     types: &Types,
+    arena: &'a Bump,
     values: &mut V,
 ) -> Result<Option<usize>, InputError> {
     if shown.is_null() {
         return Ok(None);
     }
-    let arena = Bump::new(alloc);
-    match value_of(alloc, shown, types, types.whole(), &arena) {
+    match value_of(alloc, shown, types, types.whole(), arena) {
         Ok(record) => Ok(Some(values.add(alloc, &record)?)),
         Err(error) => Err(error.below(alloc, RECORD)),
     }
 }
 
 // What an object says.
-fn entry_in<V: Values>(
+fn entry_in<'a, V: Values>(
     alloc: Global,
     columns: Columns<'_>,
     types: &Types,
-    object: &json::Value<'_>,
+    object: &json::Value<'a>,
+    plan: &'a Plan,
+    arena: &'a Bump,
     values: &mut V,
 ) -> Result<Entry, InputError> {
-    let json::Value::Object(members) = object else {
-        return Err(InputError::from(Reason::NotAnObject));
-    };
     let place = place_in(alloc, columns, object)?;
-    let others = others_in(alloc, columns, members)?;
+    let others = others_in(alloc, columns, members_of(object)?)?;
     let value = match (object.get(RECORD), others.first()) {
-        (Some(record), None) => add_record(alloc, record, types, values)?,
-        (None, Some(_)) => add_members(alloc, &others, types, values)?,
+        (Some(record), None) => add_record(alloc, record, types, arena, values)?,
+        (None, Some(_)) => add_members(alloc, &others, plan, types, arena, values)?,
         (Some(_), Some(other)) => {
             return Err(InputError::at(alloc, other.0, Reason::BesideRecord));
         }
@@ -288,8 +310,11 @@ impl<'t> JsonLines<'t> {
         let Ok(text) = str::from_utf8(line) else {
             return Err(InputError::from(Reason::NotUtf8));
         };
+        let (columns, types) = (self.columns, self.types);
+        let arena = Bump::new(alloc);
         let object = json::Value::parse_strict(alloc, text, &mut self.scratch)?;
-        entry_in(alloc, self.columns, self.types, &object, values)
+        let plan = plan_in(alloc, columns, &object)?;
+        entry_in(alloc, columns, types, &object, &plan, &arena, values)
     }
 
     // Keeps what a line says, for others that differ in their network alone. Its network needs no escapes.

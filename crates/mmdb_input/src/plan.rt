@@ -105,12 +105,26 @@ fn plan_of_parts<'p, 'a>(
     match (parts, steps) {
         ([Part { column, path: [] }], _) => Ok(Plan::Column(*column)),
         (_, 0) => Err(InputError::from(Reason::TooDeep)),
-        ([Part { path: [PathElement::Key(_), ..], .. }, ..], _) => {
-            plan_of_map(alloc, parts, steps - 1)
-        }
-        ([Part { path: [PathElement::Index(_), ..], .. }, ..], _) => {
-            plan_of_array(alloc, parts, steps - 1)
-        }
+        (
+            [
+                Part {
+                    path: [PathElement::Key(_), ..],
+                    ..
+                },
+                ..
+            ],
+            _,
+        ) => { plan_of_map(alloc, parts, steps - 1) }
+        (
+            [
+                Part {
+                    path: [PathElement::Index(_), ..],
+                    ..
+                },
+                ..
+            ],
+            _,
+        ) => { plan_of_array(alloc, parts, steps - 1) }
         _ => Err(InputError::from(Reason::InAnother)),
     }
 }
@@ -132,10 +146,7 @@ fn is_from_end(step: &PathElement<'_>) -> bool {
 }
 
 /// How a record is put together of the values at these paths.
-pub(crate) fn plan_of(
-    alloc: Global,
-    paths: &[Vec<PathElement<'_>>],
-) -> Result<Plan, InputError> {
+pub(crate) fn plan_of(alloc: Global, paths: &[Vec<PathElement<'_>>]) -> Result<Plan, InputError> {
     if paths.is_empty() {
         return Ok(Plan::Map(Vec::new(alloc)));
     }

@@ -17,7 +17,11 @@ impl AddressRange {
     pub fn new(first: IpAddr, last: IpAddr) -> Result<AddressRange, Reason> {
         let (first, last, is_ipv4) = match (first, last) {
             (IpAddr::V4(first), IpAddr::V4(last)) => {
-                (u128::from(first.to_bits()), u128::from(last.to_bits()), true)
+                (
+                    u128::from(first.to_bits()),
+                    u128::from(last.to_bits()),
+                    true,
+                )
             }
             (IpAddr::V6(first), IpAddr::V6(last)) => (first.to_bits(), last.to_bits(), false),
             _ => return Err(Reason::TwoKinds),
@@ -84,7 +88,11 @@ impl Iterator for RangeNetworks {
         } else {
             None
         };
-        let kind = if range.is_ipv4 { Kind::Ipv4 } else { Kind::Ipv6 };
+        let kind = if range.is_ipv4 {
+            Kind::Ipv4
+        } else {
+            Kind::Ipv6
+        };
         let block = Block {
             first: range.first,
             prefix: 128 - free as u8,

@@ -52,14 +52,21 @@ fn kind_of(value: &Value<'_>) -> Kind {
 // Whether JSON shows values of both types alike.
 fn look_alike(one: Kind, other: Kind) -> bool {
     let is_text = |kind: Kind| matches!(kind, Kind::Text | Kind::Bytes);
-    let is_number = |kind: Kind| !matches!(kind, Kind::Bool | Kind::Map | Kind::Array | Kind::Text | Kind::Bytes);
+    let is_number = |kind: Kind| !matches!(
+        kind,
+        Kind::Bool | Kind::Map | Kind::Array | Kind::Text | Kind::Bytes
+    );
     (is_text(one) && is_text(other)) || (is_number(one) && is_number(other))
 }
 
 // Whether JSON shows alike what the first of some types has, and what another one of them has.
 fn are_several(kinds: &[Kind]) -> bool {
     for (place, kind) in kinds.iter().enumerate() {
-        if kinds.iter().take(place).any(|other| look_alike(*other, *kind)) {
+        if kinds
+            .iter()
+            .take(place)
+            .any(|other| look_alike(*other, *kind))
+        {
             return true;
         }
     }

@@ -1,14 +1,18 @@
 //! A file that is made of rows.
 use crate::bad_rows::BadRows;
+use crate::check::first_difference;
 use crate::gather::Gathering;
+use crate::kept::Kept;
 use crate::like::learn_types;
 use crate::summary::{Summary, summary_of};
 use crate::taken::Taken;
 use crate::task::{BuildTask, build_task, options_of};
 use mmdb_arguments::{BuildArguments, Reserved};
+use mmdb_blocks::{Block, Kind};
 use mmdb_console::{Console, DONE, FAILED, ProgramError, ProgressLine};
 use mmdb_files::{Standing, replace_file, standing_of};
 use mmdb_input::Types;
+use mmdb_layout::{Database, open_database};
 use mmdb_writer::{Options, WriteError, Writer};
 use std::alloc::{AllocError, Global};
 use std::env::Env;
@@ -62,7 +66,11 @@ fn report_write<O: Write, E: Write>(
 }
 
 // How the rows fared.
-fn text_of_rows(alloc: Global, task: &BuildTask<'_>, gathering: &Gathering) -> Result<String, AllocError> {
+fn text_of_rows(
+    alloc: Global,
+    task: &BuildTask<'_>,
+    gathering: &Gathering,
+) -> Result<String, AllocError> {
     let networks = gathering.taken.networks;
     let reserved = gathering.taken.reserved;
     let bad = gathering.bad.count;
@@ -71,7 +79,9 @@ fn text_of_rows(alloc: Global, task: &BuildTask<'_>, gathering: &Gathering) -> R
     } else {
         "among them"
     };
-    format!(in alloc; "mmdb: {networks} networks taken, {reserved} reserved {how}, {bad} lines left out\n")
+    format!(in alloc;
+        "mmdb: {networks} networks taken, {reserved} reserved {how}, {bad} lines left out\n"
+    )
 }
 
 // What the file has.
@@ -82,7 +92,9 @@ fn text_of_file(alloc: Global, out: &str, summary: Summary) -> Result<String, Al
         nodes,
         bytes,
     } = summary;
-    format!(in alloc; "mmdb: {out}: {networks} networks, {records} records, {nodes} nodes, {bytes} bytes\n")
+    format!(in alloc;
+        "mmdb: {out}: {networks} networks, {records} records, {nodes} nodes, {bytes} bytes\n"
+    )
 }
 
 // Reports the lines that are wrong, and whether there is something that rules out a file.
@@ -121,6 +133,79 @@ fn put_file<R: Files + Clock, O: Write, E: Write>(
     }
 }
 
+// Makes the file, and puts it in its place.
+fn write<R: Files + Clock, O: Write, E: Write>(
+    rt: &R,
+    task: &BuildTask<'_>,
+    writer: Writer,
+    console: &mut Console<'_, O, E>,
+) -> Result<u8, ProgramError> {
+    match writer.write(console.alloc) {
+        Ok(bytes) => put_file(rt, task, &bytes, console),
+        Err(error) => report_write(task.out, error, console),
+    }
+}
+
+// An address by its number, as one network.
+fn text_of_number(alloc: Global, number: u128) -> Result<String, AllocError> {
+    let kind = if number < 1 << 32 {
+        Kind::Ipv4
+    } else {
+        Kind::Ipv6
+    };
+    let block = Block {
+        first: number,
+        prefix: 128,
+    };
+    match kind.network_of(block) {
+        Ok(network) => network.to_string(alloc),
+        Err(_) => String::from_str(alloc, "an address"),
+    }
+}
+
+// Compares a file with the rows, and answers the status.
+fn compare<O: Write, E: Write>(
+    task: &BuildTask<'_>,
+    database: &Database,
+    kept: &Kept,
+    console: &mut Console<'_, O, E>,
+) -> Result<u8, ProgramError> {
+    match first_difference(console.alloc, database, kept)? {
+        None => {
+            let out = task.out;
+            console.note(format!(in console.alloc;
+                "mmdb: {out}: every network is read back as the lines say\n"
+            ));
+            Ok(DONE)
+        }
+        Some(number) => {
+            let at = text_of_number(console.alloc, number)?;
+            let text: String = format!(in console.alloc; "{at} is not read back as the lines say")?;
+            console.report(task.out, &text);
+            Ok(FAILED)
+        }
+    }
+}
+
+// Reads the file back, compares it with the rows, and answers the status.
+fn check<R: Files, O: Write, E: Write>(
+    rt: &R,
+    task: &BuildTask<'_>,
+    kept: Kept,
+    console: &mut Console<'_, O, E>,
+) -> Result<u8, ProgramError> {
+    let mut kept = kept;
+    kept.sort()?;
+    match open_database(rt, task.out, console) {
+        Some(database) => {
+            let done = compare(task, &database, &kept, console);
+            drop(database);
+            done
+        }
+        None => Ok(FAILED),
+    }
+}
+
 // Makes the file of what was gathered.
 fn finish<R: Files + Clock, O: Write, E: Write>(
     rt: &R,
@@ -139,10 +224,11 @@ fn finish<R: Files + Clock, O: Write, E: Write>(
     }
     console.note(text_of_rows(console.alloc, task, &gathering));
     let Gathering { taken, .. } = gathering;
-    let Taken { writer, .. } = taken;
-    match writer.write(console.alloc) {
-        Ok(bytes) => put_file(rt, task, &bytes, console),
-        Err(error) => report_write(task.out, error, console),
+    let Taken { writer, kept, .. } = taken;
+    let done = write(rt, task, writer, console);
+    match (done, kept) {
+        (Ok(DONE), Some(kept)) => check(rt, task, kept, console),
+        (done, _) => done,
     }
 }
 
