@@ -135,7 +135,8 @@ const FIELDS: Argument = Argument::Values(
 /// What says of columns, which lines of JSON have not.
 const COLUMNS: &[&str] = &["column", "delimiter", "header"];
 
-const COMMANDS: &[Usage] = &[
+/// The commands that read files.
+const READING: &[Usage] = &[
     Usage {
         name: "show",
         about: "Show the records of addresses as JSON",
@@ -250,98 +251,100 @@ const COMMANDS: &[Usage] = &[
         ],
     },
     Usage {
-        name: "build",
-        about: "Make a MaxMind DB file of lines of JSON, CSV or TSV",
-        example: BUILD_EXAMPLE,
-        arguments: &[
-            Argument::Required("OUT", "The MaxMind DB file that is made or replaced"),
-            Argument::Needed("from", "FILE", "Where the lines are, - for standard input"),
-            Argument::Choice(
-                "format",
-                "FORMAT",
-                "What the lines are",
-                &["jsonl", "csv", "tsv"],
-            ),
-            Argument::Value(
-                "network-column",
-                "NAME",
-                "The column or member of the network, network if not given",
-            ),
-            Argument::Without(
-                "range-columns",
-                "FIRST,LAST",
-                "The columns or members of the first address and the last one",
-                &["network-column"],
-            ),
-            Argument::Values(
-                "type",
-                "PATH=TYPE",
-                "The type of the values at a path; may be repeated",
-            ),
-            Argument::Value(
-                "types-like",
-                "FILE",
-                "The types are those of the values at the same paths of this MaxMind DB file",
-            ),
-            Argument::Choice(
-                "equal",
-                "WHAT",
-                "Of equal networks the last counts, or they are an error",
-                &["last", "error"],
-            ),
-            Argument::Default(
-                "database-type",
-                "TYPE",
-                "The type of the database",
-                "Custom",
-            ),
-            Argument::Values(
-                "description",
-                "LANG=TEXT",
-                "A description in a language, en and the type if not given; may be repeated",
-            ),
-            Argument::Values(
-                "language",
-                "LANG",
-                "A language in which records have names; may be repeated",
-            ),
-            Argument::Value(
-                "build-epoch",
-                "SECONDS",
-                "When the file was built, in seconds since 1970, now if not given",
-            ),
-            Argument::Choice(
-                "ip-version",
-                "VERSION",
-                "6 for IPv4 and IPv6, 4 for IPv4 alone",
-                &["6", "4"],
-            ),
-            Argument::OneOf(
-                "record-size",
-                "BITS",
-                "The size of the tree's records, the least that serves if not given",
-                &["24", "28", "32"],
-            ),
-            Argument::Choice(
-                "reserved",
-                "WHAT",
-                "Networks in reserved ones are kept, skipped, or an error",
-                &["keep", "skip", "error"],
-            ),
-            Argument::Flag("skip-bad", "Leave out lines that are wrong, and count them"),
-            Argument::Flag(
-                "check",
-                "Read the file back, and compare every network with the lines",
-            ),
-        ],
-    },
-    Usage {
         name: "verify",
         about: "Check whether files are whole, so that every lookup succeeds",
         example: VERIFY_EXAMPLE,
         arguments: &[Argument::Several("FILE", "MaxMind DB files")],
     },
 ];
+
+/// The commands that make files.
+const MAKING: &[Usage] = &[Usage {
+    name: "build",
+    about: "Make a MaxMind DB file of lines of JSON, CSV or TSV",
+    example: BUILD_EXAMPLE,
+    arguments: &[
+        Argument::Required("OUT", "The MaxMind DB file that is made or replaced"),
+        Argument::Needed("from", "FILE", "Where the lines are, - for standard input"),
+        Argument::Choice(
+            "format",
+            "FORMAT",
+            "What the lines are",
+            &["jsonl", "csv", "tsv"],
+        ),
+        Argument::Value(
+            "network-column",
+            "NAME",
+            "The column or member of the network, network if not given",
+        ),
+        Argument::Without(
+            "range-columns",
+            "FIRST,LAST",
+            "The columns or members of the first address and the last one",
+            &["network-column"],
+        ),
+        Argument::Values(
+            "type",
+            "PATH=TYPE",
+            "The type of the values at a path; may be repeated",
+        ),
+        Argument::Value(
+            "types-like",
+            "FILE",
+            "The types are those of the values at the same paths of this MaxMind DB file",
+        ),
+        Argument::Choice(
+            "equal",
+            "WHAT",
+            "Of equal networks the last counts, or they are an error",
+            &["last", "error"],
+        ),
+        Argument::Default(
+            "database-type",
+            "TYPE",
+            "The type of the database",
+            "Custom",
+        ),
+        Argument::Values(
+            "description",
+            "LANG=TEXT",
+            "A description in a language, en and the type if not given; may be repeated",
+        ),
+        Argument::Values(
+            "language",
+            "LANG",
+            "A language in which records have names; may be repeated",
+        ),
+        Argument::Value(
+            "build-epoch",
+            "SECONDS",
+            "When the file was built, in seconds since 1970, now if not given",
+        ),
+        Argument::Choice(
+            "ip-version",
+            "VERSION",
+            "6 for IPv4 and IPv6, 4 for IPv4 alone",
+            &["6", "4"],
+        ),
+        Argument::OneOf(
+            "record-size",
+            "BITS",
+            "The size of the tree's records, the least that serves if not given",
+            &["24", "28", "32"],
+        ),
+        Argument::Choice(
+            "reserved",
+            "WHAT",
+            "Networks in reserved ones are kept, skipped, or an error",
+            &["keep", "skip", "error"],
+        ),
+        Argument::Flag("skip-bad", "Leave out lines that are wrong, and count them"),
+        Argument::Flag(
+            "check",
+            "Read the file back, and compare every network with the lines",
+        ),
+    ],
+}];
 
 // An argument in its place.
 fn positional<'a>(alloc: Global, name: &'a str, help: &'a str) -> Arg<'a> {
@@ -396,15 +399,26 @@ fn command_of<'a>(alloc: Global, usage: &Usage) -> Result<Command<'a>, AllocErro
     Ok(command)
 }
 
+// A program with more commands.
+fn with_commands<'a>(
+    alloc: Global,
+    program: Command<'a>,
+    usages: &[Usage],
+) -> Result<Command<'a>, AllocError> {
+    let mut program = program;
+    for usage in usages {
+        program = program.subcommand(command_of(alloc, usage)?)?;
+    }
+    Ok(program)
+}
+
 /// The program's commands.
 pub(crate) fn command<'a>(alloc: Global) -> Result<Command<'a>, AllocError> {
-    let mut program = Command::new(alloc, "mmdb")
+    let program = Command::new(alloc, "mmdb")
         .version("0.1.0")
         .about("Read and make MaxMind DB files (GeoIP2, GeoLite2 and others)")
         .subcommand_required(true)
         .arg_required_else_help(true);
-    for usage in COMMANDS {
-        program = program.subcommand(command_of(alloc, usage)?)?;
-    }
-    Ok(program)
+    let program = with_commands(alloc, program, READING)?;
+    with_commands(alloc, program, MAKING)
 }

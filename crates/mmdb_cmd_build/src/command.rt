@@ -6,7 +6,7 @@ use crate::kept::Kept;
 use crate::like::learn_types;
 use crate::summary::{Summary, summary_of};
 use crate::taken::Taken;
-use crate::task::{BuildTask, build_task, options_of};
+use crate::task::{BuildTask, STANDARD_INPUT, build_task, options_of};
 use mmdb_arguments::{BuildArguments, Reserved};
 use mmdb_blocks::{Block, Kind};
 use mmdb_console::{Console, DONE, FAILED, ProgramError, ProgressLine};
@@ -23,9 +23,6 @@ use std::time::Clock;
 
 /// How many bytes are read at once.
 const BUFFER: usize = 1 << 16;
-
-/// The name of standard input.
-const STANDARD_INPUT: &str = "-";
 
 // Reports an error of a file, unless it is of memory, and answers that something failed.
 fn report_io<O: Write, E: Write>(
@@ -100,14 +97,15 @@ fn text_of_file(alloc: Global, out: &str, summary: Summary) -> Result<String, Al
 // Reports the lines that are wrong, and whether there is something that rules out a file.
 fn report_bad<O: Write, E: Write>(
     task: &BuildTask<'_>,
-    bad: &BadRows,
+    gathering: &Gathering,
     console: &mut Console<'_, O, E>,
 ) -> bool {
-    bad.report(task.from, console);
-    if bad.count == 0 || task.skip_bad {
+    let bad = &gathering.bad;
+    bad.report(task.from_name(), console);
+    if bad.count == 0 || (task.skip_bad && !gathering.has_no_header) {
         return false;
     }
-    let (from, count) = (task.from, bad.count);
+    let (from, count) = (task.from_name(), bad.count);
     console.note(format!(in console.alloc; "mmdb: {from}: {count} lines are wrong\n"));
     true
 }
@@ -213,7 +211,7 @@ fn finish<R: Files + Clock, O: Write, E: Write>(
     gathering: Gathering,
     console: &mut Console<'_, O, E>,
 ) -> Result<u8, ProgramError> {
-    let is_ruled_out = report_bad(task, &gathering.bad, console);
+    let is_ruled_out = report_bad(task, &gathering, console);
     if gathering.is_too_large {
         drop(gathering);
         return report_write(task.out, WriteError::TooLarge, console);
@@ -282,6 +280,7 @@ fn build_of<R: Files + Clock, I: BufRead, O: Write, E: Write>(
         taken: Taken::new(console.alloc, task, version, writer),
         bad: BadRows::new(console.alloc),
         is_too_large: false,
+        has_no_header: false,
     };
     match gather_from(rt, task, types, &mut gathering, input, console) {
         Ok(()) => finish(rt, task, gathering, console),

@@ -19,6 +19,8 @@ pub(crate) struct Gathering {
     pub(crate) bad: BadRows,
     /// Whether the values have more bytes than a file may have.
     pub(crate) is_too_large: bool,
+    /// Whether the first row should be a header and is none, so that no other row was read.
+    pub(crate) has_no_header: bool,
 }
 
 // How many lines end in a row.
@@ -103,10 +105,14 @@ impl Gathering {
                 progress.passed(passed);
             }
             let read = read_row(alloc, input, task.rows(), &mut row)?;
-            if read == RowRead::End || self.is_too_large {
+            if read == RowRead::End {
                 break;
             }
             self.take_row(alloc, task, types, &mut reader, line, read, &row)?;
+            self.has_no_header = reader.wants_header();
+            if self.has_no_header || self.is_too_large {
+                break;
+            }
             line = line.saturating_add(line_ends(&row));
         }
         self.note_equal(alloc)

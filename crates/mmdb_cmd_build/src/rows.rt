@@ -39,6 +39,11 @@ impl<'t> RowReader<'t> {
         })
     }
 
+    /// Whether the header is still to come.
+    pub(crate) fn wants_header(&self) -> bool {
+        matches!(self, RowReader::Header)
+    }
+
     /// What a row says. None of a header, and of a row with nothing but white space.
     pub(crate) fn entry<V: Values>(
         &mut self,

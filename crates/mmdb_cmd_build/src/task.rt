@@ -36,7 +36,19 @@ pub(crate) struct BuildTask<'a> {
     pub(crate) check: bool,
 }
 
+/// The name of standard input.
+pub(crate) const STANDARD_INPUT: &str = "-";
+
 impl BuildTask<'_> {
+    /// What reports call the file of the rows.
+    pub(crate) fn from_name(&self) -> &str {
+        if self.from == STANDARD_INPUT {
+            "standard input"
+        } else {
+            self.from
+        }
+    }
+
     /// Where rows end.
     pub(crate) fn rows(&self) -> Rows {
         match self.format {
