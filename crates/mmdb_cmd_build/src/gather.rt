@@ -4,7 +4,7 @@ use crate::rows::RowReader;
 use crate::taken::Taken;
 use crate::task::BuildTask;
 use mmdb_console::{ProgramError, ProgressLine};
-use mmdb_filter::Progress;
+use mmdb_filter::{Progress, Rows};
 use mmdb_input::{BadRow, Entry, InputError, Reason, RowRead, Types, read_row};
 use std::alloc::Global;
 use std::io::{BufRead, Write};
@@ -23,9 +23,12 @@ pub(crate) struct Gathering {
     pub(crate) has_no_header: bool,
 }
 
-// How many lines end in a row.
-fn line_ends(row: &[u8]) -> u64 {
-    row.iter().filter(|byte| **byte == b'\n').count() as u64
+// How many lines end in a row. Only in CSV there may be several.
+fn line_ends(rows: Rows, row: &[u8]) -> u64 {
+    match rows {
+        Rows::Lines => 1,
+        Rows::Csv { .. } => row.iter().filter(|byte| **byte == b'\n').count() as u64,
+    }
 }
 
 impl Gathering {
@@ -113,7 +116,7 @@ impl Gathering {
             if self.has_no_header || self.is_too_large {
                 break;
             }
-            line = line.saturating_add(line_ends(&row));
+            line = line.saturating_add(line_ends(task.rows(), &row));
         }
         self.note_equal(alloc)
     }
