@@ -185,7 +185,7 @@ module _ (file : List ℕ) (options : Options) (tree : SearchTree) (section : Li
     value_read None found is = (None, refl, subst (λ (o : Option ℕ). IsRead db o None) (sym is) refl)
     value_read (Some index) found (offset, at, is) =
         let b = begins_at tiles values offsets index offset all can at in
-        let read : WholeValue true (data_section db) offset (value_tree b.value) = subst (λ (s : List ℕ). WholeValue true s offset (value_tree b.value)) (sym section_is) (part_is_read tiles section laid offset (value_tree b.value) b.begins b.readable) in
+        let read : WholeValue true (data_section db) offset (value_tree b.value) = subst (λ (s : List ℕ). WholeValue true s offset (value_tree b.value)) (sym section_is) (part_is_read tiles section laid offset (value_tree b.value) b.begins b.readable.within) in
         (Some (value_tree b.value), (b.value, b.at, refl), subst (λ (o : Option ℕ). IsRead db o (Some (value_tree b.value))) (sym is) (value_tree b.value, refl, read))
 
     says_read : (bits : List Bool) (found : Option ℕ) → GivesRow rows offsets bits found → (v : Option Tree) × Says values rows bits v × IsRead db found v

@@ -1,4 +1,5 @@
 pub mod SectionLemmas
+pub mod KeyLemmas
 pub mod ReadLemmas
 pub mod LastLemmas
 pub mod RowLemmas

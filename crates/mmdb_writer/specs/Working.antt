@@ -1,6 +1,6 @@
 -- What contracts of private functions and proofs name.
-use Rattle.std.specs.Prelude.{◌≡◌, ◌≤◌, ◌<◌, ◌+◌, ◌==◌, ◌&&◌, Bool, ℕ, true, List, ◌++◌, ◌*◌, length, Option, Some, ⊤}
-use Rattle.mmdb_format.specs.Unfolding.{Tree, is_keyed, value_count, payload, levels}
+use Rattle.std.specs.Prelude.{◌≡◌, ◌≤◌, ◌<◌, ◌+◌, ◌==◌, ◌&&◌, ◌⊎◌, Bool, ℕ, true, List, [], ◌∷◌, ◌++◌, ◌*◌, length, Option, Some, ⊤}
+use Rattle.mmdb_format.specs.Unfolding.{Tree, Pairs, is_keyed, value_count, payload, levels}
 use Rattle.mmdb_section.specs.declared.value.Part.{Part}
 use Rattle.mmdb_section.specs.Sections.{Tile, IsSection, AreParts, ArePairs, SectionView, Holds}
 use Rattle.mmdb_reader.specs.File.{Database, data_length}
@@ -19,7 +19,8 @@ use Rattle.mmdb_writer.specs.declared.error.WriteError.{WriteError}
 use Rattle.mmdb_writer.specs.declared.error.WriteError.TheVariants as errors
 use Rattle.mmdb_writer.specs.declared.limits.Room.{Room}
 use Rattle.mmdb_writer.specs.declared.limits.ValueError.{ValueError}
-use Rattle.mmdb_writer.specs.declared.limits.ValueError.TheVariants.{TooManyValues, TooManyBytes, TooDeep}
+use Rattle.mmdb_writer.specs.declared.limits.ValueError.TheVariants.{TooManyValues, TooManyBytes, TooDeep, KeyTwice}
+use Rattle.mmdb_writer.specs.Limits.{PairsHaveKeyTwice}
 use Rattle.mmdb_writer.specs.Written.{asked}
 
 -- what reading back tells: a whole database with these metadata, and so many bytes of data
@@ -61,6 +62,19 @@ abbrev pub ExceedsRoom : ℕ → Tree → Room → ValueError → Type 0
 ExceedsRoom most v room TooManyValues = room.values < value_count v
 ExceedsRoom most v room TooManyBytes = room.bytes < payload v
 ExceedsRoom most v room TooDeep = most < levels v
+ExceedsRoom most v room KeyTwice = ⊥
+
+-- ---- keys
+
+-- one of the keys was seen
+abbrev pub HasSeen : (List ℕ → Bool) → List (List ℕ × Tree) → Type 0
+HasSeen seen [] = ⊥
+HasSeen seen (x ∷ xs) = (seen x.0 ≡ true) ⊎ HasSeen seen xs
+
+-- Pairs have a key twice exactly where those that are left do, or have one that was seen.
+pub record AreLeft (all : Pairs) (seen : List ℕ → Bool) (left : List (List ℕ × Tree)) : Type 0 where
+  pub to : PairsHaveKeyTwice all → PairsHaveKeyTwice (pairs_of left) ⊎ HasSeen seen left
+  pub from : PairsHaveKeyTwice (pairs_of left) ⊎ HasSeen seen left → PairsHaveKeyTwice all
 
 -- ---- entries of rows
 

@@ -4,6 +4,7 @@
 mod certify;
 mod entries;
 mod error;
+mod keys;
 mod limits;
 mod metadata;
 mod options;

@@ -6,7 +6,8 @@ ghost use Rattle.mmdb_writer.specs.Written.{IsWritten};
 
 use crate::entries::entry_of;
 use crate::error::WriteError;
-use crate::limits::check_value;
+use crate::keys::has_keys_once;
+use crate::limits::{ValueError, check_value};
 use crate::options::Options;
 use crate::row::Row;
 use crate::values::put_value;
@@ -52,6 +53,10 @@ impl Writer {
     {
         let index = self.offsets.len();
         if let Err(error) = check_value(value) {
+            return Err(WriteError::Value { index, error });
+        }
+        if !has_keys_once(alloc, value)? {
+            let error = ValueError::KeyTwice;
             return Err(WriteError::Value { index, error });
         }
         let offset = put_value(alloc, &mut self.section, value)?;

@@ -4,7 +4,7 @@ use mmdb_reader::Reader;
 use mmdb_value::Value;
 use mmdb_vectors::hoard::Hoard;
 use mmdb_writer::{
-    IpVersion, Options, OptionsError, RecordSize, Row, RowError, ValueError, WriteError,
+    IpVersion, Options, OptionsError, RecordSize, Row, RowError, ValueError, WriteError, Writer,
     write_database,
 };
 use std::alloc::{AllocError, Global};
@@ -400,6 +400,130 @@ fn values_at_the_limits(rt: HostRuntime) {
         let wanted = error.map(|error| WriteError::Value { index: 0, error });
         assert!(rt; met == Ok(wanted), "{shape:?} {count}: {met:?}");
     }
+}
+
+/// Maps with these keys, and why they are not written.
+const KEYS: &[(&[&str], Option<ValueError>)] = &[
+    (&[], None),
+    (&["a", "b", "", "ab"], None),
+    (&["a", "b", "a"], Some(ValueError::KeyTwice)),
+    (&["", ""], Some(ValueError::KeyTwice)),
+];
+
+// A map with these keys, in an array in a map.
+fn map_of(alloc: Global, keys: &[&'static str]) -> Result<Value<'static>, AllocError> {
+    let mut pairs = Vec::new(alloc);
+    for key in keys {
+        pairs.push((*key, Value::Bool(true)))?;
+    }
+    let values = vec![in alloc; Value::Map(pairs)]?;
+    Ok(Value::Map(vec![in alloc; ("a", Value::Array(values))]?))
+}
+
+#[test]
+fn keys_that_stand_twice(rt: HostRuntime) {
+    for (keys, error) in KEYS {
+        let met = match map_of(rt.alloc(), keys) {
+            Ok(value) => error_of(rt.alloc(), value),
+            Err(error) => Err(WriteError::from(error)),
+        };
+        let wanted = error.map(|error| WriteError::Value { index: 0, error });
+        assert!(rt; met == Ok(wanted), "{keys:?}: {met:?}");
+    }
+}
+
+/// What is added to a writer in turn, and whether it is accepted: a value that can be read, one that can't, a row of a network
+/// and the index of its value.
+#[derive(Clone, Copy, Debug)]
+enum Step {
+    Value(&'static str),
+    TwiceKeyed,
+    Row(&'static str, Option<usize>),
+}
+
+/// Steps, each with the error that it gives.
+const STEPS: &[(Step, Option<WriteError>)] = &[
+    (
+        Step::Row("10.0.0.0/8", Some(0)),
+        Some(WriteError::Row {
+            index: 0,
+            error: RowError::NoValue,
+        }),
+    ),
+    (Step::Value("a"), None),
+    (Step::Row("10.0.0.0/8", Some(0)), None),
+    (
+        Step::TwiceKeyed,
+        Some(WriteError::Value {
+            index: 1,
+            error: ValueError::KeyTwice,
+        }),
+    ),
+    (
+        Step::Row("10.1.0.0/16", Some(1)),
+        Some(WriteError::Row {
+            index: 1,
+            error: RowError::NoValue,
+        }),
+    ),
+    (Step::Value("b"), None),
+    (Step::Row("10.1.0.0/16", Some(1)), None),
+    (Step::Value("a"), None),
+    (Step::Row("10.1.1.0/24", Some(2)), None),
+    (Step::Row("10.1.1.1/32", None), None),
+];
+
+/// Addresses of the file that those steps make, and what is found.
+const FOUND: &[(&str, &str)] = &[
+    ("9.255.255.255", "none"),
+    ("10.0.0.0", "String(\"a\")"),
+    ("10.1.0.0", "String(\"b\")"),
+    ("10.1.1.0", "String(\"a\")"),
+    ("10.1.1.1", "none"),
+    ("10.1.1.2", "String(\"a\")"),
+];
+
+fn add(alloc: Global, writer: &mut Writer, step: Step) -> Result<(), WriteError> {
+    match step {
+        Step::Value(text) => {
+            writer.add_value(alloc, &Value::String(text))?;
+        }
+        Step::TwiceKeyed => {
+            writer.add_value(alloc, &map_of(alloc, &["a", "a"])?)?;
+        }
+        Step::Row(network, value) => {
+            for row in rows_of(alloc, &[(network, value)])? {
+                writer.add_row(row)?;
+            }
+        }
+    }
+    Ok(())
+}
+
+// The first step or address that does not come out as it should.
+fn missed_in_turn(alloc: Global) -> Result<Option<String>, WriteError> {
+    let mut writer = Writer::new(alloc, options(alloc, IpVersion::V4, None)?)?;
+    for (step, error) in STEPS {
+        if add(alloc, &mut writer, *step).err() != *error {
+            return Ok(Some(format!(in alloc; "{step:?}")?));
+        }
+    }
+    let file = writer.write(alloc)?;
+    let Ok(reader) = Reader::from_source(alloc, file.as_slice()) else {
+        return Ok(Some(String::from_str(alloc, "the file")?));
+    };
+    for (address, wanted) in FOUND {
+        if found_at(alloc, &reader, address)?.as_str() != *wanted {
+            return Ok(Some(String::from_str(alloc, address)?));
+        }
+    }
+    Ok(None)
+}
+
+#[test]
+fn calls_in_turn(rt: HostRuntime) {
+    let missed = missed_in_turn(rt.alloc());
+    assert!(rt; missed == Ok(None), "{missed:?}");
 }
 
 /// Metadata that are not accepted: the type, the description and the time.
