@@ -38,6 +38,7 @@ fn reason_of(error: ValueError) -> Reason {
         ValueError::TooManyValues => Reason::TooManyValues,
         ValueError::TooManyBytes => Reason::TooManyBytes,
         ValueError::TooDeep => Reason::TooDeep,
+        ValueError::KeyTwice => Reason::KeyTwice,
     }
 }
 
