@@ -113,13 +113,18 @@ impl BadRow {
         let BadRow { at, reason } = self;
         let longer = joined(alloc, key, at.as_deref());
         drop(at);
-        match longer {
-            Ok(at) => InputError::Row(BadRow {
-                at: Some(at),
-                reason,
-            }),
-            Err(_) => InputError::Memory,
-        }
+        with_place(longer, reason)
+    }
+}
+
+// Of something in a column or at a path, if there was memory for its name.
+fn with_place(at: Result<String, AllocError>, reason: Reason) -> InputError {
+    match at {
+        Ok(at) => InputError::Row(BadRow {
+            at: Some(at),
+            reason,
+        }),
+        Err(_) => InputError::Memory,
     }
 }
 
@@ -147,13 +152,7 @@ impl InputError {
     /// Of something in a column, or at a path.
     #[cold]
     pub(crate) fn at(alloc: Global, at: &str, reason: Reason) -> InputError {
-        match String::from_str(alloc, at) {
-            Ok(at) => InputError::Row(BadRow {
-                at: Some(at),
-                reason,
-            }),
-            Err(_) => InputError::Memory,
-        }
+        with_place(String::from_str(alloc, at), reason)
     }
 
     /// The same error, seen from the value that has it under this key.
