@@ -179,24 +179,18 @@ fn values_in<'a>(
     Ok(values)
 }
 
-// The members of an object.
-fn members_of<'m, 'a>(
-    object: &'m json::Value<'a>,
-) -> Result<&'m [(&'a str, json::Value<'a>)], InputError> {
-    match object {
-        json::Value::Object(members) => Ok(members),
-        _ => Err(InputError::from(Reason::NotAnObject)),
-    }
-}
-
 // How a record is put together of the members that are paths.
 fn plan_in(
     alloc: Global,
     columns: Columns<'_>,
     object: &json::Value<'_>,
 ) -> Result<Plan, InputError> {
-    let others = others_in(alloc, columns, members_of(object)?)?;
-    plan_of(alloc, &paths_in(alloc, &others)?)
+    let json::Value::Object(members) = object else {
+        return Err(InputError::from(Reason::NotAnObject));
+    };
+    let others = others_in(alloc, columns, members)?;
+    let paths = paths_in(alloc, &others)?;
+    plan_of(alloc, &paths)
 }
 
 // Adds the record of members at paths, by the plan of these.
@@ -240,8 +234,11 @@ fn entry_in<'a, V: Values>(
     arena: &'a Bump,
     values: &mut V,
 ) -> Result<Entry, InputError> {
+    let json::Value::Object(members) = object else {
+        return Err(InputError::from(Reason::NotAnObject));
+    };
     let place = place_in(alloc, columns, object)?;
-    let others = others_in(alloc, columns, members_of(object)?)?;
+    let others = others_in(alloc, columns, members)?;
     let value = match (object.get(RECORD), others.first()) {
         (Some(record), None) => add_record(alloc, record, types, arena, values)?,
         (None, Some(_)) => add_members(alloc, &others, plan, types, arena, values)?,
@@ -314,7 +311,9 @@ impl<'t> JsonLines<'t> {
         let arena = Bump::new(alloc);
         let object = json::Value::parse_strict(alloc, text, &mut self.scratch)?;
         let plan = plan_in(alloc, columns, &object)?;
-        entry_in(alloc, columns, types, &object, &plan, &arena, values)
+        let entry = entry_in(alloc, columns, types, &object, &plan, &arena, values);
+        drop(object);
+        entry
     }
 
     // Keeps what a line says, for others that differ in their network alone. Its network needs no escapes.
