@@ -282,7 +282,7 @@ fn build_of<R: Files + Clock, I: BufRead, O: Write, E: Write>(
         is_too_large: false,
         has_no_header: false,
     };
-    match gather_from(rt, task, types, &mut gathering, input, console) {
+    match gather_from(rt, &*task, &*types, &mut gathering, input, console) {
         Ok(()) => finish(rt, task, gathering, console),
         Err(ProgramError::Read(error)) if task.from != STANDARD_INPUT => {
             drop(gathering);
@@ -324,7 +324,7 @@ fn build_file<R: Files + Clock, I: BufRead, O: Write, E: Write>(
 ) -> Result<u8, ProgramError> {
     let mut types = Types::new(console.alloc);
     if may_replace(rt, task.out, console)? && learn_types(rt, task, &mut types, console)? {
-        build_of(rt, task, options, &types, input, console)
+        build_of(rt, &*task, options, &types, input, console)
     } else {
         drop(options);
         Ok(FAILED)

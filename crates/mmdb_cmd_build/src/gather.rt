@@ -51,12 +51,14 @@ impl Gathering {
         line: u64,
         entry: Result<Option<Entry>, InputError>,
     ) -> Result<(), ProgramError> {
-        let taken = match entry {
-            Ok(Some(entry)) => self.taken.take(task, entry, line),
-            Ok(None) => Ok(()),
-            Err(error) => Err(error),
+        let entry = match entry {
+            Ok(entry) => entry,
+            Err(error) => return self.note(line, error),
         };
-        match taken {
+        let Some(entry) = entry else {
+            return Ok(());
+        };
+        match self.taken.take(task, entry, line) {
             Ok(()) => Ok(()),
             Err(error) => self.note(line, error),
         }
