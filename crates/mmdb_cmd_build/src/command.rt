@@ -110,6 +110,17 @@ fn report_bad<O: Write, E: Write>(
     true
 }
 
+// A number that no other run has: the nanoseconds of the time.
+fn number_now<R: Clock>(rt: &R) -> u64 {
+    match rt.since_1970() {
+        Ok(time) => time
+            .as_secs()
+            .wrapping_mul(1_000_000_000)
+            .wrapping_add(u64::from(time.subsec_nanos())),
+        Err(_) => 0,
+    }
+}
+
 // Puts the bytes of the file in its place, and reports what it has.
 fn put_file<R: Files + Clock, O: Write, E: Write>(
     rt: &R,
@@ -118,11 +129,7 @@ fn put_file<R: Files + Clock, O: Write, E: Write>(
     console: &mut Console<'_, O, E>,
 ) -> Result<u8, ProgramError> {
     let summary = summary_of(console.alloc, bytes)?;
-    let number = match rt.since_1970() {
-        Ok(time) => time.as_nanos() as u64,
-        Err(_) => 0,
-    };
-    match replace_file(rt, console.alloc, task.out, number, bytes) {
+    match replace_file(rt, console.alloc, task.out, number_now(rt), bytes) {
         Ok(()) => {
             console.note(text_of_file(console.alloc, task.out, summary));
             Ok(DONE)
