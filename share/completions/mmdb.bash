@@ -13,7 +13,7 @@ _mmdb_offer() {
 
 _mmdb() {
   local typed=${COMP_WORDS[COMP_CWORD]} before=${COMP_WORDS[COMP_CWORD - 1]} command=${COMP_WORDS[1]-}
-  local options='' commands='show enrich export diff info verify help' word at arguments=0 ended=''
+  local options='' commands='show enrich export diff build info verify help' word at arguments=0 ended=''
   COMPREPLY=()
   # A redirection has a file behind it.
   if [[ $before == *[\<\>] || $typed == *[\<\>] ]]; then
@@ -29,6 +29,10 @@ _mmdb() {
     enrich) options='--column --delimiter --field --header --json --into' ;;
     export) options='--field --format --where --where-not --ipv4 --ipv6 --name' ;;
     diff) options='--field --format --exit-code' ;;
+    build)
+      options='--from --format --network-column --range-columns --type --types-like --equal --database-type --description'
+      options+=' --language --build-epoch --ip-version --record-size --reserved --skip-bad --check'
+      ;;
     info) options='--json' ;;
     verify) ;;
     help) [ "$COMP_CWORD" -ne 2 ] || _mmdb_offer "$commands"; return ;;
@@ -41,7 +45,9 @@ _mmdb() {
     case $ended$word in
       --) ended=ended ;;
       *[\<\>]) at=$((at + 1)) ;;
-      --path | --column | --delimiter | --field | --format | --where | --where-not | --name | --into | --json)
+      --path | --column | --delimiter | --field | --format | --where | --where-not | --name | --into | --json | \
+        --from | --network-column | --range-columns | --type | --types-like | --equal | --database-type | --description | \
+        --language | --build-epoch | --ip-version | --record-size | --reserved)
         if [ "$word$command" = --jsoninfo ]; then continue; fi
         at=$((at + 1))
         [ "${COMP_WORDS[at]-}" != = ] || at=$((at + 1))
@@ -55,9 +61,19 @@ _mmdb() {
   if [ "$typed" = = ]; then typed=''; fi
   case $ended$before in
     --format)
-      if [ "$command" = diff ]; then _mmdb_offer 'jsonl csv'; else _mmdb_offer 'jsonl csv cidr nft ipset'; fi
+      case $command in
+        diff) _mmdb_offer 'jsonl csv' ;;
+        build) _mmdb_offer 'jsonl csv tsv' ;;
+        *) _mmdb_offer 'jsonl csv cidr nft ipset' ;;
+      esac
       return
       ;;
+    --equal) _mmdb_offer 'last error'; return ;;
+    --ip-version) _mmdb_offer '6 4'; return ;;
+    --record-size) _mmdb_offer '24 28 32'; return ;;
+    --reserved) _mmdb_offer 'keep skip error'; return ;;
+    --network-column | --range-columns | --type | --database-type | --description | --language | --build-epoch) return ;;
+    --from | --types-like) return ;;
     --path | --column | --delimiter | --field | --where | --where-not | --name | --into) return ;;
     --json) if [ "$command" = enrich ]; then return; fi ;;
   esac

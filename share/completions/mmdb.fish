@@ -20,7 +20,7 @@ function __mmdb_wants_file
     for word in $words[3..-1]
         if test $value = yes
             set value no
-        else if contains -- $word --path --column --delimiter --field --format --where --where-not --name --into; or test "$words[2]$word" = enrich--json
+        else if contains -- $word --path --column --delimiter --field --format --where --where-not --name --into --from --network-column --range-columns --type --types-like --equal --database-type --description --language --build-epoch --ip-version --record-size --reserved; or test "$words[2]$word" = enrich--json
             set value yes
         else if not string match -q -- '-*' $word
             return 1
@@ -35,6 +35,7 @@ complete -c mmdb -n __mmdb_no_command -a show -d 'Show the records of addresses 
 complete -c mmdb -n __mmdb_no_command -a enrich -d 'Copy lines from standard input, with fields behind each'
 complete -c mmdb -n __mmdb_no_command -a export -d 'Write every network that has data'
 complete -c mmdb -n __mmdb_no_command -a diff -d 'Write what changed between two files'
+complete -c mmdb -n __mmdb_no_command -a build -d 'Make a MaxMind DB file of lines of JSON, CSV or TSV'
 complete -c mmdb -n __mmdb_no_command -a info -d 'Show what a database says of itself'
 complete -c mmdb -n __mmdb_no_command -a verify -d 'Check whether files are whole'
 complete -c mmdb -n __mmdb_no_command -a help -d 'Print help'
@@ -68,13 +69,31 @@ complete -c mmdb -n '__mmdb_is diff' -l format -x -a 'jsonl csv' -d 'How lines a
 complete -c mmdb -n '__mmdb_is diff' -l exit-code -d 'Status 7 where something differs'
 complete -c mmdb -n '__mmdb_is diff' -s h -l help -d 'Print help'
 
+complete -c mmdb -n '__mmdb_is build' -l from -x -d 'Where the lines are, - for standard input'
+complete -c mmdb -n '__mmdb_is build' -l format -x -a 'jsonl csv tsv' -d 'What the lines are'
+complete -c mmdb -n '__mmdb_is build' -l network-column -x -d 'The column or member of the network'
+complete -c mmdb -n '__mmdb_is build' -l range-columns -x -d 'The columns or members of the first address and the last one'
+complete -c mmdb -n '__mmdb_is build' -l type -x -d 'The type of the values at a path'
+complete -c mmdb -n '__mmdb_is build' -l types-like -x -d 'The types are those of this file'
+complete -c mmdb -n '__mmdb_is build' -l equal -x -a 'last error' -d 'What becomes of equal networks'
+complete -c mmdb -n '__mmdb_is build' -l database-type -x -d 'The type of the database'
+complete -c mmdb -n '__mmdb_is build' -l description -x -d 'A description in a language'
+complete -c mmdb -n '__mmdb_is build' -l language -x -d 'A language in which records have names'
+complete -c mmdb -n '__mmdb_is build' -l build-epoch -x -d 'When the file was built'
+complete -c mmdb -n '__mmdb_is build' -l ip-version -x -a '6 4' -d '6 for IPv4 and IPv6, 4 for IPv4 alone'
+complete -c mmdb -n '__mmdb_is build' -l record-size -x -a '24 28 32' -d 'The size of the records of the tree'
+complete -c mmdb -n '__mmdb_is build' -l reserved -x -a 'keep skip error' -d 'What becomes of networks in reserved ones'
+complete -c mmdb -n '__mmdb_is build' -l skip-bad -d 'Leave out lines that are wrong'
+complete -c mmdb -n '__mmdb_is build' -l check -d 'Read the file back and compare it with the lines'
+complete -c mmdb -n '__mmdb_is build' -s h -l help -d 'Print help'
+
 complete -c mmdb -n '__mmdb_is info' -l json -d 'As JSON'
 complete -c mmdb -n '__mmdb_is info' -s h -l help -d 'Print help'
 
 complete -c mmdb -n '__mmdb_is verify' -s h -l help -d 'Print help'
 
-complete -c mmdb -n '__mmdb_is help' -a 'show enrich export diff info verify help'
+complete -c mmdb -n '__mmdb_is help' -a 'show enrich export diff build info verify help'
 
 # The first argument is a file; all arguments of verify are.
-complete -c mmdb -n '__mmdb_wants_file show enrich export info' -F
+complete -c mmdb -n '__mmdb_wants_file show enrich export build info' -F
 complete -c mmdb -n '__mmdb_is verify' -F

@@ -66,6 +66,28 @@ are compared on IPv4. How many networks and IPv4 addresses were added, removed
 and changed is said on standard error at the end. A network that can't be read is
 named there too, and the status is 1 then.";
 
+const BUILD_EXAMPLE: &str = "Examples:
+  mmdb export GeoLite2-City.mmdb |
+      mmdb build copy.mmdb --from - --types-like GeoLite2-City.mmdb
+  mmdb build offices.mmdb --from offices.csv --format csv --type asn=uint32
+
+Lines of JSON are what export writes: an object with a network and its record,
+or the values at paths; a range of addresses stands as \"range\":[FIRST,LAST],
+and a record that is null is no value. CSV and TSV have a header: a column has
+the network, or two have a range, and every other one the values at the path
+that it is named by; an empty cell is no value.
+
+An address has the value of the longest prefix, whatever the order of the lines;
+of equal networks the last one counts. JSON does not show all types: without
+--type and --types-like a text is a string, a number with a point or an exponent
+a double, and any other the least of uint32, uint64, uint128 and int32 that has
+it. Cells are strings. The types: string, bytes (in base64), bool, int32, uint16,
+uint32, uint64, uint128, double, float.
+
+Up to 20 lines that are wrong are named on standard error, and OUT stays as it
+was. OUT takes its name when it is whole, and only what is no file or a MaxMind
+DB file is replaced. SOURCE_DATE_EPOCH serves where there is no --build-epoch.";
+
 /// An argument of a command: its name, what its value is called, its help, and what else there is to say.
 #[derive(Clone, Copy)]
 enum Argument {
@@ -83,8 +105,12 @@ enum Argument {
     Values(&'static str, &'static str, &'static str),
     /// An option with a value, which is the last text here if it is not given.
     Default(&'static str, &'static str, &'static str, &'static str),
-    /// An option with a format, which is `jsonl` if it is not given.
-    Format(&'static [&'static str]),
+    /// An option with a value, which has to be given.
+    Needed(&'static str, &'static str, &'static str),
+    /// An option with one of these values, the first if it is not given.
+    Choice(&'static str, &'static str, &'static str, &'static [&'static str]),
+    /// An option with one of these values.
+    OneOf(&'static str, &'static str, &'static str, &'static [&'static str]),
     /// An option with a value, which goes with none of these.
     Without(&'static str, &'static str, &'static str, &'static [&'static str]),
 }
@@ -109,7 +135,8 @@ const FIELDS: Argument = Argument::Values(
 /// What says of columns, which lines of JSON have not.
 const COLUMNS: &[&str] = &["column", "delimiter", "header"];
 
-const COMMANDS: &[Usage] = &[
+/// The commands that read files.
+const READING: &[Usage] = &[
     Usage {
         name: "show",
         about: "Show the records of addresses as JSON",
@@ -185,7 +212,12 @@ const COMMANDS: &[Usage] = &[
                 "Only networks inside this one, or the one around it",
             ),
             FIELDS,
-            Argument::Format(&["jsonl", "csv", "cidr", "nft", "ipset"]),
+            Argument::Choice(
+                "format",
+                "FORMAT",
+                "csv needs a --field",
+                &["jsonl", "csv", "cidr", "nft", "ipset"],
+            ),
             Argument::Values(
                 "where",
                 "PATH=VALUE",
@@ -214,7 +246,7 @@ const COMMANDS: &[Usage] = &[
             Argument::Required("NEW", "The MaxMind DB file after"),
             Argument::Optional("RANGE", "Only inside this network"),
             FIELDS,
-            Argument::Format(&["jsonl", "csv"]),
+            Argument::Choice("format", "FORMAT", "csv needs a --field", &["jsonl", "csv"]),
             Argument::Flag("exit-code", "Status 7 where something differs"),
         ],
     },
@@ -225,6 +257,94 @@ const COMMANDS: &[Usage] = &[
         arguments: &[Argument::Several("FILE", "MaxMind DB files")],
     },
 ];
+
+/// The commands that make files.
+const MAKING: &[Usage] = &[Usage {
+    name: "build",
+    about: "Make a MaxMind DB file of lines of JSON, CSV or TSV",
+    example: BUILD_EXAMPLE,
+    arguments: &[
+        Argument::Required("OUT", "The MaxMind DB file that is made or replaced"),
+        Argument::Needed("from", "FILE", "Where the lines are, - for standard input"),
+        Argument::Choice(
+            "format",
+            "FORMAT",
+            "What the lines are",
+            &["jsonl", "csv", "tsv"],
+        ),
+        Argument::Value(
+            "network-column",
+            "NAME",
+            "The column or member of the network, network if not given",
+        ),
+        Argument::Without(
+            "range-columns",
+            "FIRST,LAST",
+            "The columns or members of the first address and the last one",
+            &["network-column"],
+        ),
+        Argument::Values(
+            "type",
+            "PATH=TYPE",
+            "The type of the values at a path; may be repeated",
+        ),
+        Argument::Value(
+            "types-like",
+            "FILE",
+            "The types are those of the values at the same paths of this MaxMind DB file",
+        ),
+        Argument::Choice(
+            "equal",
+            "WHAT",
+            "Of equal networks the last counts, or they are an error",
+            &["last", "error"],
+        ),
+        Argument::Default(
+            "database-type",
+            "TYPE",
+            "The type of the database",
+            "Custom",
+        ),
+        Argument::Values(
+            "description",
+            "LANG=TEXT",
+            "A description in a language, en and the type if not given; may be repeated",
+        ),
+        Argument::Values(
+            "language",
+            "LANG",
+            "A language in which records have names; may be repeated",
+        ),
+        Argument::Value(
+            "build-epoch",
+            "SECONDS",
+            "When the file was built, in seconds since 1970, now if not given",
+        ),
+        Argument::Choice(
+            "ip-version",
+            "VERSION",
+            "6 for IPv4 and IPv6, 4 for IPv4 alone",
+            &["6", "4"],
+        ),
+        Argument::OneOf(
+            "record-size",
+            "BITS",
+            "The size of the tree's records, the least that serves if not given",
+            &["24", "28", "32"],
+        ),
+        Argument::Choice(
+            "reserved",
+            "WHAT",
+            "Networks in reserved ones are kept, skipped, or an error",
+            &["keep", "skip", "error"],
+        ),
+        Argument::Flag("skip-bad", "Leave out lines that are wrong, and count them"),
+        Argument::Flag(
+            "check",
+            "Read the file back, and compare every network with the lines",
+        ),
+    ],
+}];
 
 // An argument in its place.
 fn positional<'a>(alloc: Global, name: &'a str, help: &'a str) -> Arg<'a> {
@@ -253,9 +373,16 @@ fn argument_of<'a>(alloc: Global, argument: Argument) -> Result<Arg<'a>, AllocEr
         Argument::Default(name, value, help, default) => {
             option(alloc, name, value, help).default_value(default)
         }
-        Argument::Format(formats) => option(alloc, "format", "FORMAT", "csv needs a --field")
-            .value_parser(formats)
-            .default_value("jsonl"),
+        Argument::Needed(name, value, help) => option(alloc, name, value, help).required(true),
+        Argument::Choice(name, value, help, values) => {
+            let default = values.first().copied().unwrap_or("");
+            option(alloc, name, value, help)
+                .value_parser(values)
+                .default_value(default)
+        }
+        Argument::OneOf(name, value, help, values) => {
+            option(alloc, name, value, help).value_parser(values)
+        }
         Argument::Without(name, value, help, others) => {
             return option(alloc, name, value, help).conflicts_with_all(others);
         }
@@ -272,15 +399,26 @@ fn command_of<'a>(alloc: Global, usage: &Usage) -> Result<Command<'a>, AllocErro
     Ok(command)
 }
 
-/// The program's commands.
-pub(crate) fn command<'a>(alloc: Global) -> Result<Command<'a>, AllocError> {
-    let mut program = Command::new(alloc, "mmdb")
-        .version("0.1.0")
-        .about("Read MaxMind DB files (GeoIP2, GeoLite2 and others)")
-        .subcommand_required(true)
-        .arg_required_else_help(true);
-    for usage in COMMANDS {
+// A program with more commands.
+fn with_commands<'a>(
+    alloc: Global,
+    program: Command<'a>,
+    usages: &[Usage],
+) -> Result<Command<'a>, AllocError> {
+    let mut program = program;
+    for usage in usages {
         program = program.subcommand(command_of(alloc, usage)?)?;
     }
     Ok(program)
+}
+
+/// The program's commands.
+pub(crate) fn command<'a>(alloc: Global) -> Result<Command<'a>, AllocError> {
+    let program = Command::new(alloc, "mmdb")
+        .version("0.1.0")
+        .about("Read and make MaxMind DB files (GeoIP2, GeoLite2 and others)")
+        .subcommand_required(true)
+        .arg_required_else_help(true);
+    let program = with_commands(alloc, program, READING)?;
+    with_commands(alloc, program, MAKING)
 }

@@ -8,7 +8,7 @@ mod shown;
 
 pub use rejected::{Message, NoRequest};
 pub use request::{
-    DiffArguments, EnrichArguments, ExportArguments, Format, InfoArguments, Request, ShowArguments,
-    VerifyArguments, request_of,
+    BuildArguments, DiffArguments, EnrichArguments, ExportArguments, Format, InfoArguments,
+    Request, Reserved, RowFormat, ShowArguments, VerifyArguments, request_of,
 };
 pub use shown::shown_text;

@@ -90,6 +90,50 @@ pub struct VerifyArguments<'a> {
     pub files: Vec<&'a str>,
 }
 
+/// What the rows of a file that is made are.
+#[derive(Clone, Copy, Debug, PartialEq, Eq)]
+pub enum RowFormat {
+    JsonLines,
+    Csv,
+    /// Cells between tabs.
+    Tsv,
+}
+
+/// What becomes of networks that lie in reserved ones.
+#[derive(Clone, Copy, Debug, PartialEq, Eq)]
+pub enum Reserved {
+    Keep,
+    Skip,
+    Error,
+}
+
+/// The arguments of `build`.
+#[derive(Drop)]
+pub struct BuildArguments<'a> {
+    pub out: &'a str,
+    /// Where the rows are: a file, or `-` for standard input.
+    pub from: &'a str,
+    pub format: RowFormat,
+    pub network_column: Option<&'a str>,
+    /// A text that should be two names with a comma between them.
+    pub range_columns: Option<&'a str>,
+    /// Texts that should be paths with types.
+    pub types: Vec<&'a str>,
+    pub types_like: Option<&'a str>,
+    pub equal_is_error: bool,
+    pub database_type: &'a str,
+    /// Texts that should be languages with texts.
+    pub descriptions: Vec<&'a str>,
+    pub languages: Vec<&'a str>,
+    /// A text that should be a number of seconds.
+    pub build_epoch: Option<&'a str>,
+    pub ipv4_alone: bool,
+    pub record_size: Option<&'a str>,
+    pub reserved: Reserved,
+    pub skip_bad: bool,
+    pub check: bool,
+}
+
 /// A command with its arguments.
 #[derive(Drop)]
 pub enum Request<'a> {
@@ -103,6 +147,8 @@ pub enum Request<'a> {
     Export(ExportArguments<'a>),
     /// What changed between two files.
     Diff(DiffArguments<'a>),
+    /// A file that is made of rows.
+    Build(BuildArguments<'a>),
     /// Whether files are whole.
     Verify(VerifyArguments<'a>),
 }
@@ -202,6 +248,47 @@ fn diff<'a>(alloc: Global, matches: &ArgMatches<'a>) -> Result<Request<'a>, NoRe
     }))
 }
 
+fn row_format_of(matches: &ArgMatches<'_>) -> RowFormat {
+    match matches.get_str("format") {
+        Some("csv") => RowFormat::Csv,
+        Some("tsv") => RowFormat::Tsv,
+        _ => RowFormat::JsonLines,
+    }
+}
+
+fn reserved_of(matches: &ArgMatches<'_>) -> Reserved {
+    match matches.get_str("reserved") {
+        Some("skip") => Reserved::Skip,
+        Some("error") => Reserved::Error,
+        _ => Reserved::Keep,
+    }
+}
+
+fn build<'a>(alloc: Global, matches: &ArgMatches<'a>) -> Result<Request<'a>, NoRequest> {
+    let types = texts_of(alloc, matches, "type")?;
+    let descriptions = texts_of(alloc, matches, "description")?;
+    let languages = texts_of(alloc, matches, "language")?;
+    Ok(Request::Build(BuildArguments {
+        out: matches.get_str("OUT").unwrap_or(""),
+        from: matches.get_str("from").unwrap_or("-"),
+        format: row_format_of(matches),
+        network_column: matches.get_str("network-column"),
+        range_columns: matches.get_str("range-columns"),
+        types,
+        types_like: matches.get_str("types-like"),
+        equal_is_error: matches.get_str("equal") == Some("error"),
+        database_type: matches.get_str("database-type").unwrap_or(""),
+        descriptions,
+        languages,
+        build_epoch: matches.get_str("build-epoch"),
+        ipv4_alone: matches.get_str("ip-version") == Some("4"),
+        record_size: matches.get_str("record-size"),
+        reserved: reserved_of(matches),
+        skip_bad: matches.get_flag("skip-bad"),
+        check: matches.get_flag("check"),
+    }))
+}
+
 fn verify<'a>(alloc: Global, matches: &ArgMatches<'a>) -> Result<Request<'a>, NoRequest> {
     let files = texts_of(alloc, matches, "FILE")?;
     Ok(Request::Verify(VerifyArguments { files }))
@@ -223,6 +310,8 @@ fn of_command<'a>(
         export(alloc, matches)
     } else if name == "diff" {
         diff(alloc, matches)
+    } else if name == "build" {
+        build(alloc, matches)
     } else {
         verify(alloc, matches)
     }

@@ -4,8 +4,10 @@
 mod error;
 mod output;
 mod place;
+mod progress;
 
 pub use error::ProgramError;
 pub use mmdb_main::{BAD_ARGUMENTS, DONE, FAILED};
 pub use output::{Console, DIFFERENT, Io, NO_MEMORY, NOT_FOUND, Terminals, line_of, put, reported};
 pub use place::Where;
+pub use progress::ProgressLine;

@@ -4,7 +4,6 @@
 mod header;
 mod lines;
 mod output;
-mod progress;
 mod task;
 
 pub use lines::enrich;

@@ -1,10 +1,9 @@
 //! Rows with fields behind them.
 use crate::header::column_of;
 use crate::output::Output;
-use crate::progress::ProgressLine;
 use crate::task::{JsonTask, RowsTask, json_task, rows_task};
 use mmdb_arguments::EnrichArguments;
-use mmdb_console::{Console, DONE, FAILED, ProgramError};
+use mmdb_console::{Console, DONE, FAILED, ProgramError, ProgressLine};
 use mmdb_enrich::{Enrichment, JsonEnrichment, JsonMemory, RowMemory};
 use mmdb_filter::{Additions, Counts, Rows, filter_rows};
 use mmdb_layout::{Database, open_database};

@@ -1,5 +1,5 @@
 -- Entries in order, those of a whole block, and the values that addresses have.
-use Rattle.std.proofs.Common.{◌≡◌, ℕ, suc, zero, ◌+◌, ◌^◌, ◌<◌, ◌≤◌, inl, inr, Bool, true, false, cond, List, [], ◌∷◌, ◌++◌, Option, Some, length, drop, take, get_or, refl, ap, sym, arith, subst, length-drop, length-take, get_or-take, get_or-drop}
+use Rattle.std.proofs.Common.{◌≡◌, ℕ, suc, zero, ◌+◌, ◌^◌, ◌<◌, ◌≤◌, inl, inr, Bool, true, false, cond, List, [], ◌∷◌, ◌++◌, Option, length, drop, take, get_or, refl, ap, sym, arith, subst, length-drop, length-take, get_or-take, get_or-drop}
 use Rattle.std.specs.List.{AllByRecursion}
 use Rattle.std.proofs.lemmas.Bool.{cases_lt}
 use Rattle.std.proofs.lemmas.Bool.Decides.{nat_tests}
@@ -17,7 +17,7 @@ use Rattle.mmdb_nodes.specs.Working.{IsInside, IsSmaller, HasOffsetBelow, IsUnde
 
 pub offset_after-append : (found : Option ℕ) (xs ys : List Entry) (a : ℕ) → offset_after found (xs ++ ys) a ≡ offset_after (offset_after found xs a) ys a
 offset_after-append found [] ys a = refl
-offset_after-append found (x ∷ xs) ys a = offset_after-append (cond (has x a) (Some x.offset) found) xs ys a
+offset_after-append found (x ∷ xs) ys a = offset_after-append (cond (has x a) (x.offset) found) xs ys a
 
 pub offset_after-none : (found : Option ℕ) (es : List Entry) (a : ℕ) → AllByRecursion (λ e. has e a ≡ false) es → offset_after found es a ≡ found
 offset_after-none found [] a h = refl
@@ -110,8 +110,8 @@ module _ (P : Entry → Type 0) (es : List Entry) (n : ℕ) where
 pub offset_below : (bound : ℕ) (found : Option ℕ) (es : List Entry) (a : ℕ) → AllByRecursion (HasOffsetBelow bound) es → IfSome found (IsUnder bound) → IfSome (offset_after found es a) (IsUnder bound)
 offset_below bound found [] a all given = given
 offset_below bound found (e ∷ es) a all given =
-    let next : IfSome (cond (has e a) (Some e.offset) found) (IsUnder bound) = elim (has e a) as (λ (b : Bool). IfSome (cond b (Some e.offset) found) (IsUnder bound)) [ true ↦ all.0 | false ↦ given ] in
-    offset_below bound (cond (has e a) (Some e.offset) found) es a all.1 next
+    let next : IfSome (cond (has e a) (e.offset) found) (IsUnder bound) = elim (has e a) as (λ (b : Bool). IfSome (cond b (e.offset) found) (IsUnder bound)) [ true ↦ all.0 | false ↦ given ] in
+    offset_below bound (cond (has e a) (e.offset) found) es a all.1 next
 
 -- ---- entries of a whole tree
 

@@ -44,7 +44,7 @@ nested first free a e f i j (inl before) h k = elim (cases_lt (free_bits e) (fre
 
 -- what was found before stays where no entry has the address
 abbrev Outcome : Option ℕ → List Entry → ℕ → Type 0
-Outcome found es a = (HasNone es a × (offset_after found es a ≡ found)) ⊎ ((e : Entry) × IsLongest es a e × (offset_after found es a ≡ Some e.offset))
+Outcome found es a = (HasNone es a × (offset_after found es a ≡ found)) ⊎ ((e : Entry) × IsLongest es a e × (offset_after found es a ≡ e.offset))
 
 none_of : (e : Entry) (es : List Entry) (a : ℕ) → has e a ≡ false → HasNone es a → HasNone (e ∷ es) a
 none_of e es a out h zero f at there = let same : e ≡ f = cc in false≢true (sym out ∙ ap (λ (x : Entry). has x a) same ∙ there)
@@ -88,16 +88,16 @@ alone a e es there none = record { place = zero; at = refl; here = there; longes
 outcome : (first free a : ℕ) (found : Option ℕ) (es : List Entry) → IsOrdered es → AllByRecursion (IsInside first free) es → Outcome found es a
 outcome first free a found [] o all = inl (λ j f at there. absurd (cc), refl)
 outcome first free a found (e ∷ es) o all =
-    by (has e a) refl (outcome first free a (cond (has e a) (Some e.offset) found) es o.1 all.1)
+    by (has e a) refl (outcome first free a (cond (has e a) e.offset found) es o.1 all.1)
   where
-    by : (b : Bool) → has e a ≡ b → Outcome (cond (has e a) (Some e.offset) found) es a → Outcome found (e ∷ es) a
+    by : (b : Bool) → has e a ≡ b → Outcome (cond (has e a) e.offset found) es a → Outcome found (e ∷ es) a
     by b is (inr w) = inr (w.0, later first free a e es all.0 all.1 o.0 w.0 w.1, w.2)
-    by true is (inl w) = inr (e, alone a e es is w.0, w.1 ∙ ap (λ (b : Bool). cond b (Some e.offset) found) is)
-    by false is (inl w) = inl (none_of e es a is w.0, w.1 ∙ ap (λ (b : Bool). cond b (Some e.offset) found) is)
+    by true is (inl w) = inr (e, alone a e es is w.0, w.1 ∙ ap (λ (b : Bool). cond b e.offset found) is)
+    by false is (inl w) = inl (none_of e es a is w.0, w.1 ∙ ap (λ (b : Bool). cond b e.offset found) is)
 
 says_of : (es : List Entry) (a : ℕ) → Outcome None es a → Gives es a (offset_in es a)
-says_of es a (inl w) = subst (Gives es a) (sym w.1) w.0
-says_of es a (inr w) = subst (Gives es a) (sym w.2) (w.0, w.1, refl)
+says_of es a (inl w) = inl w
+says_of es a (inr w) = inr w
 
 pub last_of_inside : (es : List Entry) (first free a : ℕ) → IsOrdered es → AllByRecursion (IsInside first free) es → Gives es a (offset_in es a)
 last_of_inside es first free a o all = says_of es a (outcome first free a None es o all)

@@ -1,5 +1,5 @@
 -- Entries, and which offset an address has by them. Addresses are numbers, those of IPv4 below 2 ^ 32.
-use Rattle.std.specs.Prelude.{◌≡◌, ◌≢◌, ℕ, ◌^◌, ◌<◌, ◌≤◌, ◌⊎◌, Bool, true, ◌&&◌, List, [], ◌∷◌, Option, Some, None, nat_lt, nat_le, if◌then◌else◌, slice_get}
+use Rattle.std.specs.Prelude.{◌≡◌, ◌≢◌, ℕ, ◌^◌, ◌<◌, ◌≤◌, ◌⊎◌, Bool, true, ◌&&◌, List, [], ◌∷◌, Option, Some, None, IfSome, nat_lt, nat_le, if◌then◌else◌, slice_get}
 use Rattle.std.specs.List.{AllByRecursion}
 use Rattle.mmdb_blocks.specs.declared.block.Block.{Block}
 use Rattle.mmdb_blocks.specs.Blocks.{end, IsBlock}
@@ -19,11 +19,11 @@ block_of entry = record { first = entry.first; prefix = entry.prefix }
 abbrev pub has : Entry → ℕ → Bool
 has entry address = nat_le entry.first address && nat_lt address (end (block_of entry))
 
--- a block of addresses of this version, with an offset of a data section of so many bytes
+-- a block of addresses of this version, with an offset of a data section of so many bytes, or with none
 pub record IsEntry (version : IpVersion) (data_len : ℕ) (entry : Entry) : Type 0 where
   pub block : IsBlock (block_of entry)
   pub within : end (block_of entry) ≤ 2 ^ width version
-  pub offset : entry.offset < data_len
+  pub offset : IfSome entry.offset (λ offset. offset < data_len)
 
 -- by their first addresses, and of those that begin alike the shorter prefix first
 abbrev pub ComesBefore : Entry → Entry → Type 0
@@ -44,15 +44,15 @@ pub record IsLongest (entries : List Entry) (address : ℕ) (entry : Entry) : Ty
 abbrev pub HasNone : List Entry → ℕ → Type 0
 HasNone entries address = (j : ℕ) (entry : Entry) → slice_get entries j ≡ Some entry → has entry address ≢ true
 
--- the offset that an address has: that of the longest prefix, of equal ones the last, or none
+-- the offset that an address has: that of the longest prefix, of equal ones the last; none where no entry has the address, or
+-- that one has none
 abbrev pub Gives : List Entry → ℕ → Option ℕ → Type 0
-Gives entries address None = HasNone entries address
-Gives entries address (Some offset) = (entry : Entry) × IsLongest entries address entry × (entry.offset ≡ offset)
+Gives entries address found = (HasNone entries address × (found ≡ None)) ⊎ ((entry : Entry) × IsLongest entries address entry × (found ≡ entry.offset))
 
 -- the offset of the last entry that has an address, or what was found before: in order that is the one of the longest prefix
 abbrev pub offset_after : Option ℕ → List Entry → ℕ → Option ℕ
 offset_after found [] address = found
-offset_after found (entry ∷ entries) address = offset_after (if has entry address then Some entry.offset else found) entries address
+offset_after found (entry ∷ entries) address = offset_after (if has entry address then entry.offset else found) entries address
 
 abbrev pub offset_in : List Entry → ℕ → Option ℕ
 offset_in entries address = offset_after None entries address

@@ -1,5 +1,5 @@
 -- What contracts of private functions and proofs name.
-use Rattle.std.specs.Prelude.{◌≡◌, ℕ, zero, suc, ◌+◌, ◌-◌, ◌*◌, ◌%◌, ◌^◌, ◌<◌, ◌≤◌, ◌⊎◌, Bool, true, false, List, [], ◌∷◌, ◌++◌, length, take, set, Option, Some, None, if◌then◌else◌, slice_get}
+use Rattle.std.specs.Prelude.{◌≡◌, ℕ, zero, suc, ◌+◌, ◌-◌, ◌*◌, ◌%◌, ◌^◌, ◌<◌, ◌≤◌, ◌⊎◌, Bool, true, false, List, [], ◌∷◌, ◌++◌, length, take, set, Option, Some, None, IfSome, if◌then◌else◌, slice_get}
 use Rattle.mmdb_blocks.specs.Blocks.{end}
 use Rattle.mmdb_net.specs.Bits.{bits_of}
 use Rattle.mmdb_tree.specs.Tree.{node_bytes, child}
@@ -34,11 +34,11 @@ Precedes middle entry = entry.first < middle
 abbrev pub Follows : ℕ → Entry → Type 0
 Follows middle entry = middle ≤ entry.first
 
-abbrev pub HasOffsetBelow : ℕ → Entry → Type 0
-HasOffsetBelow bound entry = entry.offset < bound
-
 abbrev pub IsUnder : ℕ → ℕ → Type 0
 IsUnder bound offset = offset < bound
+
+abbrev pub HasOffsetBelow : ℕ → Entry → Type 0
+HasOffsetBelow bound entry = IfSome entry.offset (IsUnder bound)
 
 -- ---- where bits lead over nodes in memory
 

@@ -1,4 +1,4 @@
-//! Entries: blocks of addresses, each with the offset of a value.
+//! Entries: blocks of addresses, each with the offset of a value, or with none.
 ghost use Rattle.std.specs.Prelude.{◌≡◌, ◌≤◌, ◌<◌, ◌^◌, ◌+◌, ◌↔◌, ℕ, length, take, drop, IfSome, IsTrue};
 ghost use Rattle.std.specs.List.{AllByRecursion};
 ghost use Rattle.mmdb_blocks.specs.Blocks.{IsBlock};
@@ -38,17 +38,21 @@ impl IpVersion {
 }
 
 /// The addresses that begin with the same `prefix` bits, at most 128, and the offset of their value in the data section, in
-/// bytes. `first` is the first of these addresses. IPv4 addresses are numbers below 2^32, with prefixes of 96 and more.
+/// bytes, or none where they are to have no value. `first` is the first of these addresses. IPv4 addresses are numbers below
+/// 2^32, with prefixes of 96 and more.
 #[derive(Clone, Copy, Debug, PartialEq, Eq)]
 pub struct Entry {
     pub first: u128,
     pub prefix: u8,
-    pub offset: u32,
+    pub offset: Option<u32>,
 }
 
+// A list of City's size has 5.8 million entries.
+const _: () = prove!(size_of::<Entry>() == 32);
+
 impl Entry {
-    /// The entry of a block, whose addresses have the value at an offset.
-    pub fn new(block: Block, offset: u32) -> Entry
+    /// The entry of a block, whose addresses have the value at an offset, or none.
+    pub fn new(block: Block, offset: Option<u32>) -> Entry
         ensures block { block_of result ≡ block }
         ensures offset { result.offset ≡ offset }
     {
@@ -70,14 +74,24 @@ impl Entry {
     }
 
     /// Whether a tree of this version can have it before a data section of so many bytes: it is a block of addresses of that
-    /// version, and its offset is one of the section.
+    /// version, and its offset, if it has one, is one of the section.
     pub fn fits(&self, version: IpVersion, data_len: usize) -> bool
         ensures { IsTrue result ↔ IsEntry version data_len self.now }
     {
         let block = self.block();
         block.is_block()
             && block.last() <= version.last_address()
-            && (self.offset as usize) < data_len
+            && self.has_offset_below(data_len)
+    }
+
+    // Whether its offset, if it has one, is below a bound.
+    fn has_offset_below(&self, bound: usize) -> bool
+        ensures { IsTrue result ↔ HasOffsetBelow bound self.now }
+    {
+        match self.offset {
+            None => true,
+            Some(offset) => (offset as usize) < bound,
+        }
     }
 
     // Whether it begins before the other one, or where that one begins and with no longer prefix.
@@ -135,7 +149,7 @@ pub(crate) fn skip_whole(entries: &[Entry], free: u8, found: Option<u32>) -> (Op
         if entry.prefix != prefix {
             return (found, &entries[i..]);
         }
-        found = Some(entry.offset);
+        found = entry.offset;
     }
     (found, &entries[entries.len()..])
 }

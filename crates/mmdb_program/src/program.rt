@@ -1,13 +1,16 @@
 //! What the program does with its arguments.
 use mmdb_arguments::{Message, NoRequest, Request, request_of};
 use mmdb_changes::diff;
+use mmdb_cmd_build::build;
 use mmdb_console::{BAD_ARGUMENTS, Console, DONE, FAILED, Io, NO_MEMORY, ProgramError};
 use mmdb_export::export;
 use mmdb_lines::enrich;
 use mmdb_show::{describe, show, verify};
 use std::alloc::Global;
+use std::env::Env;
 use std::io::{BufRead, Write};
 use std::rt::Files;
+use std::time::Clock;
 
 // Writes a message in the place of a request, and answers the status.
 fn put_message<O: Write, E: Write>(message: &Message, console: &mut Console<'_, O, E>) -> u8 {
@@ -41,6 +44,7 @@ fn subject_of<'a>(request: &Request<'a>) -> &'a str {
         Request::Enrich(arguments) => arguments.file,
         Request::Export(arguments) => arguments.file,
         Request::Diff(_) => "diff",
+        Request::Build(arguments) => arguments.out,
         Request::Verify(_) => "verify",
     }
 }
@@ -65,7 +69,7 @@ fn status_of<O: Write, E: Write>(
 }
 
 // Does what is requested.
-fn done_of<R: Files, I: BufRead, O: Write, E: Write>(
+fn done_of<R: Files + Env + Clock, I: BufRead, O: Write, E: Write>(
     rt: &R,
     request: &Request<'_>,
     input: &mut I,
@@ -77,12 +81,13 @@ fn done_of<R: Files, I: BufRead, O: Write, E: Write>(
         Request::Enrich(arguments) => enrich(rt, arguments, input, console),
         Request::Export(arguments) => export(rt, arguments, console),
         Request::Diff(arguments) => diff(rt, arguments, console),
+        Request::Build(arguments) => build(rt, arguments, input, console),
         Request::Verify(arguments) => verify(rt, arguments, console),
     }
 }
 
 // Does what is requested, and answers the status.
-fn run_request<R: Files, I: BufRead, O: Write, E: Write>(
+fn run_request<R: Files + Env + Clock, I: BufRead, O: Write, E: Write>(
     rt: &R,
     request: &Request<'_>,
     input: &mut I,
@@ -99,7 +104,7 @@ fn run_request<R: Files, I: BufRead, O: Write, E: Write>(
 /// 0: done. 1: an error, which is reported on `errors` with the file, the stream or the argument. 2: a usage error; no file was opened,
 /// unless for a column that the first line has not. 6: an address has no record, or a path leads nowhere in it. 7: two
 /// files differ, where that was asked. Faults of `errors` change no status.
-pub fn run<R: Files, I: BufRead, O: Write, E: Write>(
+pub fn run<R: Files + Env + Clock, I: BufRead, O: Write, E: Write>(
     rt: &R,
     alloc: Global,
     arguments: &[String],

@@ -9,7 +9,7 @@ use crate::header::MOST_SIZE;
 use crate::value::Value;
 use crate::write::push_value;
 use std::alloc::{AllocError, AllocFailed, Global};
-use std::collections::HashMap;
+use std::collections::BTreeMap;
 use std::marker::Model;
 
 /// Why a value is not added.
@@ -48,26 +48,14 @@ pub struct Section {
     bytes: Vec<u8>,
     /// Where the values begin, ascending.
     starts: Vec<u32>,
-    /// From a hash to the index of the last value whose bytes have it.
-    last: HashMap<u64, usize>,
-    /// For each value the index of the one before it whose bytes have the same hash. After memory ran out some may not be
-    /// found: a value like them is written again.
-    earlier: Vec<Option<usize>>,
+    /// From the bytes of a value to its index.
+    known: BTreeMap<Vec<u8>, usize>,
 }
 
 impl Model for Section {
     ghost Value = { SectionView };
 
     ghost view = { λ s. record { bytes = s.bytes.items; starts = s.starts.items } };
-}
-
-// A number that equal bytes share, and few others (FNV-1a).
-fn hash_of(bytes: &[u8]) -> u64 {
-    let mut hash = 0xcbf2_9ce4_8422_2325;
-    for byte in bytes {
-        hash = (hash ^ u64::from(*byte)).wrapping_mul(0x0100_0000_01b3);
-    }
-    hash
 }
 
 impl Section {
@@ -79,23 +67,16 @@ impl Section {
         Section {
             bytes: Vec::new(alloc),
             starts: Vec::new(alloc),
-            last: HashMap::new(alloc),
-            earlier: Vec::new(alloc),
+            known: BTreeMap::new(alloc),
         }
     }
 
-    // Where a value with these bytes begins, among those whose bytes have the same hash.
-    fn find(&self, hash: u64, bytes: &[u8]) -> Option<u32>
+    // Where a value with these bytes begins.
+    fn find(&self, bytes: &[u8]) -> Option<u32>
         ensures { IfSome result (λ start. StandAt self.now start bytes.now) }
     {
-        let mut index = *self.last.get(&hash)?;
-        for _ in 0..self.starts.len() {
-            if let Some(start) = self.start_of(index, bytes) {
-                return Some(start);
-            }
-            index = (*self.earlier.get(index)?)?;
-        }
-        None
+        let index = self.known.get(bytes)?;
+        self.start_of(*index, bytes)
     }
 
     // Where the value of an index begins, if these bytes stand there.
@@ -112,15 +93,22 @@ impl Section {
     }
 
     // Puts the bytes of a value behind the others.
-    fn put(&mut self, start: u32, bytes: &[u8]) -> Result<(), AllocError>
-        ensures bytes { OnOk result (self.new.bytes ≡ self.old.bytes ++ bytes.now) }
+    fn put(&mut self, start: u32, bytes: Vec<u8>) -> Result<(), AllocError>
+        requires { start ≡ length self.old.bytes }
+        ensures bytes { OnOk result (self.new.bytes ≡ self.old.bytes ++ bytes.items) }
         ensures starts { OnOk result (self.new.starts ≡ self.old.starts ++ start ∷ []) }
         ensures kept { OnErr result (self.new ≡ self.old) }
     {
+        let index = self.starts.len();
         self.starts.push(start)?;
-        if let Err(error) = self.bytes.extend_from_slice(bytes) {
-            self.starts.pop();
+        if let Err(error) = self.bytes.extend_from_slice(&bytes) {
+            self.starts.truncate(index);
             return Err(error);
+        }
+        if let Err(failed) = self.known.insert(bytes, index) {
+            self.starts.truncate(index);
+            self.bytes.truncate(start as usize);
+            return Err(AllocError::from(failed));
         }
         Ok(())
     }
@@ -142,15 +130,10 @@ impl Section {
         };
         let mut added = Vec::new(alloc);
         push_value(&mut added, value)?;
-        let hash = hash_of(&added);
-        if let Some(earlier) = self.find(hash, &added) {
+        if let Some(earlier) = self.find(&added) {
             return Ok(earlier);
         }
-        let index = self.starts.len();
-        let earlier = self.last.insert(hash, index)?;
-        self.earlier.truncate(index);
-        self.earlier.push(earlier)?;
-        self.put(start, &added)?;
+        self.put(start, added)?;
         Ok(start)
     }
 

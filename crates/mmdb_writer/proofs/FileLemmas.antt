@@ -1,6 +1,6 @@
 -- The file that was written has the tree and the section, and each of its lookups finds what the rows say.
-use Rattle.std.proofs.Common.{◌≡◌, ℕ, zero, suc, ◌-◌, ◌*◌, ◌/◌, ◌^◌, ◌<◌, eqb, Bool, true, false, cond, List, [], ◌∷◌, ◌++◌, length, map, take, drop, Option, Some, None, refl, ap, sym, ◌∙◌, subst, arith, append_assoc, length-append}
-use Rattle.std.specs.List.{AllByRecursion, slice_get}
+use Rattle.std.proofs.Common.{◌≡◌, inl, inr, ℕ, zero, suc, ◌-◌, ◌*◌, ◌/◌, ◌^◌, ◌<◌, eqb, Bool, true, false, cond, List, [], ◌∷◌, ◌++◌, length, map, take, drop, Option, Some, None, refl, ap, sym, ◌∙◌, subst, arith, append_assoc, length-append}
+use Rattle.std.specs.List.{AllByRecursion, AllZip, slice_get}
 use Rattle.std.specs.declared.net.ip_addr.IpAddr.{IpAddr}
 use Rattle.std.specs.declared.net.ip_addr.IpAddr.TheVariants as Ip
 use Rattle.std.proofs.lemmas.List.{take_all}
@@ -34,9 +34,11 @@ use Rattle.mmdb_reader.proofs.NumberLemmas.{take-bits-number}
 use Rattle.mmdb_writer.specs.declared.options.Options.{Options}
 use Rattle.mmdb_writer.specs.declared.row.Row.{Row}
 use Rattle.mmdb_writer.specs.Limits.{CanBeRead}
-use Rattle.mmdb_writer.specs.Rows.{wide_bits, Says}
+use Rattle.mmdb_writer.specs.Rows.{wide_bits, IsValueOf, Says}
 use Rattle.mmdb_writer.specs.Written.{version_number, asked as asked_metadata, IsRead, LookupsAgree, IsAsked, IsWritten}
-use Rattle.mmdb_writer.specs.Working.{IsCertified, BeginsWith, AreEntriesOf, AllBegin, IsEntryOf}
+use Rattle.mmdb_writer.specs.Making.{AllBegin, IsOffsetOf, IsEntryOf, IsMadeOf}
+use Rattle.mmdb_writer.specs.Working.{IsCertified, BeginsWith, AreInOrder, IsFileOf}
+use Rattle.mmdb_writer.specs.declared.writer.Writer.{Writer}
 use Rattle.mmdb_writer.proofs.ReadLemmas.{part_is_read}
 use Rattle.mmdb_writer.proofs.RowLemmas.{GivesRow, zip_left, gives_given, gives_row}
 
@@ -177,18 +179,23 @@ module _ (file : List ℕ) (options : Options) (tree : SearchTree) (section : Li
       ap for_lookup same ∙ for_leaf found
 
   module _ (values : List Value) (rows : List Row) (can : AllByRecursion (λ v. CanBeRead (value_tree v)) values) (tiles : List Tile) (laid : AreTiles tiles section) (offsets : List ℕ)
-      (all : AllBegin tiles (map value_tree values) offsets) (entries : List Entry) (of : AreEntriesOf options.ip_version (length section) offsets rows entries)
-      (leads : LeadsByPrefix options.ip_version (length section) entries tree) where
-    says_read : (bits : List Bool) (found : Option ℕ) → GivesRow rows offsets bits found → (v : Option Tree) × Says values rows bits v × IsRead db found v
-    says_read bits None none = (None, none, refl)
-    says_read bits (Some offset) h =
-        let row = h.0 in
-        let b = begins_at tiles values offsets row.value offset all can h.2 in
-        let read : WholeValue true (data_section db) offset (value_tree b.value) = subst (λ (s : List ℕ). WholeValue true s offset (value_tree b.value)) (sym section_is) (part_is_read tiles section laid offset (value_tree b.value) b.begins b.readable) in
-        (Some (value_tree b.value), (row, h.1, b.value, b.at, refl), (value_tree b.value, refl, read))
+      (all : AllBegin tiles (map value_tree values) offsets) (given entries : List Entry) (of_rows : AllZip (IsEntryOf offsets) rows given)
+      (order : AreInOrder options.ip_version (length section) given entries) (leads : LeadsByPrefix options.ip_version (length section) entries tree) where
+    value_read : (value found : Option ℕ) → IsOffsetOf offsets value found → (v : Option Tree) × IsValueOf values value v × IsRead db found v
+    value_read None found is = (None, refl, subst (λ (o : Option ℕ). IsRead db o None) (sym is) refl)
+    value_read (Some index) found (offset, at, is) =
+        let b = begins_at tiles values offsets index offset all can at in
+        let read : WholeValue true (data_section db) offset (value_tree b.value) = subst (λ (s : List ℕ). WholeValue true s offset (value_tree b.value)) (sym section_is) (part_is_read tiles section laid offset (value_tree b.value) b.begins b.readable.within) in
+        (Some (value_tree b.value), (b.value, b.at, refl), subst (λ (o : Option ℕ). IsRead db o (Some (value_tree b.value))) (sym is) (value_tree b.value, refl, read))
 
-    blocks_are : (j : ℕ) (e : Entry) → slice_get of.given j ≡ Some e → IsBlock (block_of e)
-    blocks_are j e at = let r = zip_left (IsEntryOf offsets) rows of.given of.of_rows j e at in r.2.block
+    says_read : (bits : List Bool) (found : Option ℕ) → GivesRow rows offsets bits found → (v : Option Tree) × Says values rows bits v × IsRead db found v
+    says_read bits found (inl h) = (None, inl (h.0, refl), subst (λ (o : Option ℕ). IsRead db o None) (sym h.1) refl)
+    says_read bits found (inr h) =
+        let read = value_read h.0.value found h.2 in
+        (read.0, inr (h.0, h.1, read.1), read.2)
+
+    blocks_are : (j : ℕ) (e : Entry) → slice_get given j ≡ Some e → IsBlock (block_of e)
+    blocks_are j e at = let r = zip_left (IsEntryOf offsets) rows given of_rows j e at in r.2.block
 
     pub lookups_agree : LookupsAgree db values rows
     lookups_agree address asked =
@@ -197,8 +204,8 @@ module _ (file : List ℕ) (options : Options) (tree : SearchTree) (section : Li
         let fits : n < 2 ^ 128 = below_widest options.ip_version n number.fits in
         let led = leads behind n number.fits in
         let found = led.0 in
-        let given = gives_given of.given entries n of.stable blocks_are found led.1 in
-        let row = subst (λ (bits : List Bool). GivesRow rows offsets bits found) (sym number.wide) (gives_row rows offsets of.given of.of_rows n fits found given) in
+        let given_is = gives_given given entries n order.stable blocks_are found led.1 in
+        let row = subst (λ (bits : List Bool). GivesRow rows offsets bits found) (sym number.wide) (gives_row rows offsets given of_rows n fits found given_is) in
         let answer = each_address_is_answered db address asked in
         let answers : Answers db address answer.0 (outcome_at found) = subst (λ (r : TreeRecord). Answers db address answer.0 r) (outcome_is found n address number.bits led.2) answer.1 in
         let said = says_read (wide_bits address) found row in
@@ -217,5 +224,13 @@ module _ (file : List ℕ) (options : Options) (tree : SearchTree) (section : Li
           (subst (λ (k : ℕ). IsSizeFor options.record_size (numbers_of k (length section)) tree.record_size) (sym count_is) serves);
     }
 
-    pub is_written : IsSizeFor options.record_size (numbers_of tree.node_count (length section)) tree.record_size → IsWritten values rows options file
+    is_written : IsSizeFor options.record_size (numbers_of tree.node_count (length section)) tree.record_size → IsWritten values rows options file
     is_written serves = record { db = db; database = certified.database; asked = asked_is serves; whole = certified.whole; lookups = lookups_agree }
+
+-- the file of a writer has what was added
+pub writes_of : (writer : Writer) (section file : List ℕ) (values : List Value) (rows : List Row) → section ≡ writer.section.bytes
+    → IsFileOf writer.options section writer.entries.items file → (options : Options) → IsMadeOf values rows options writer → IsWritten values rows options file
+writes_of writer section file values rows same f options made =
+    let laid : AreTiles made.tiles section = subst (AreTiles made.tiles) (sym same) made.has.are in
+    subst (λ (o : Options). IsWritten values rows o file) made.options_are
+    (is_written file writer.options f.tree section f.certified f.begins f.len values rows made.readable made.tiles laid writer.offsets.items made.begin writer.entries.items f.entries made.entries_are f.order f.leads f.serves)

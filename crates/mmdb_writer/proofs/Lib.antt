@@ -1,5 +1,7 @@
 pub mod SectionLemmas
+pub mod KeyLemmas
 pub mod ReadLemmas
 pub mod LastLemmas
 pub mod RowLemmas
 pub mod FileLemmas
+pub mod MakingLemmas

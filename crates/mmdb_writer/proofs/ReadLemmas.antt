@@ -10,7 +10,7 @@ use Rattle.mmdb_section.specs.declared.value.Part.TheVariants.{At}
 use Rattle.mmdb_section.proofs.WriteLemmas.{laid_tile, and_first, and_second, or_true, same_start}
 use Rattle.mmdb_section.proofs.AllowanceLemmas.{tile_at, unfolds_here}
 use Rattle.mmdb_value.specs.Standing.{WholeValue}
-use Rattle.mmdb_writer.specs.Limits.{CanBeRead}
+use Rattle.mmdb_writer.specs.Limits.{IsWithinLimits}
 
 -- ---- measures, with pointers and without
 
@@ -131,7 +131,7 @@ module _ (tiles : List Tile) (bytes : List ℕ) (section : AreTiles tiles bytes)
     key_text (pointer a t) h = key_text t h
 
   -- a value that can be read is what is read there
-  pub part_is_read : (offset : ℕ) (v : Tree) → IsPart tiles (At offset) v → CanBeRead v → WholeValue true bytes offset v
+  pub part_is_read : (offset : ℕ) (v : Tree) → IsPart tiles (At offset) v → IsWithinLimits v → WholeValue true bytes offset v
   part_is_read offset v part can =
       let t = part.0 in
       let is = part.1 in

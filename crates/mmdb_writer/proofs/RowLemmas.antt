@@ -1,5 +1,5 @@
 -- Entries of rows, in order, say of an address what the rows say.
-use Rattle.std.proofs.Common.{◌≡◌, inl, inr, ℕ, zero, suc, ◌+◌, ◌-◌, ◌*◌, ◌/◌, ◌%◌, ◌^◌, ◌<◌, ◌≤◌, eqb, Bool, true, List, [], ◌∷◌, ◌++◌, length, Option, Some, None, refl, ap, sym, ◌∙◌, subst, arith}
+use Rattle.std.proofs.Common.{◌≡◌, ◌⊎◌, inl, inr, ℕ, zero, suc, ◌+◌, ◌-◌, ◌*◌, ◌/◌, ◌%◌, ◌^◌, ◌<◌, ◌≤◌, eqb, Bool, true, List, [], ◌∷◌, ◌++◌, length, Option, Some, None, refl, ap, sym, ◌∙◌, subst, arith}
 use Rattle.std.specs.List.{AllZip, slice_get, filter}
 use Rattle.std.proofs.lemmas.Bool.{and_parts, and_from}
 use Rattle.std.proofs.lemmas.Bool.Decides.{nat_tests}
@@ -16,7 +16,8 @@ use Rattle.mmdb_nodes.specs.Entries.{block_of, has, IsLongest, HasNone, Gives}
 use Rattle.mmdb_nodes.proofs.EntryLemmas.{has-true}
 use Rattle.mmdb_writer.specs.declared.row.Row.{Row}
 use Rattle.mmdb_writer.specs.Rows.{Has, prefix_of, IsRowOf, HasNoRow}
-use Rattle.mmdb_writer.specs.Working.{IsEntryOf, is_same_block}
+use Rattle.mmdb_writer.specs.Making.{IsOffsetOf, IsEntryOf}
+use Rattle.mmdb_writer.specs.Working.{is_same_block}
 use Rattle.mmdb_writer.proofs.LastLemmas.{IsLastAt, still_in, still_last}
 
 -- ---- blocks and the bits that their addresses begin with
@@ -157,15 +158,14 @@ module _ (given sorted : List Entry) (a : ℕ) (stable : (e : Entry) → filter 
         }
 
   pub gives_given : (found : Option ℕ) → Gives sorted a found → Gives given a found
-  gives_given None none = none_given none
-  gives_given (Some offset) h = (h.0, longest_given h.0 h.1, h.2)
+  gives_given found (inl h) = inl (none_given h.0, h.1)
+  gives_given found (inr h) = inr (h.0, longest_given h.0 h.1, h.2)
 
 -- ---- rows
 
--- the row of an address, whose value begins at an offset; or none
+-- the offset of the row of an address, or none
 abbrev pub GivesRow : List Row → List ℕ → List Bool → Option ℕ → Type 0
-GivesRow rows offsets bits None = HasNoRow rows bits
-GivesRow rows offsets bits (Some offset) = (row : Row) × IsRowOf rows bits row × (slice_get offsets row.value ≡ Some offset)
+GivesRow rows offsets bits found = (HasNoRow rows bits × (found ≡ None)) ⊎ ((row : Row) × IsRowOf rows bits row × IsOffsetOf offsets row.value found)
 
 module _ (rows : List Row) (offsets : List ℕ) (given : List Entry) (all : AllZip (IsEntryOf offsets) rows given) (a : ℕ) (fits : a < 2 ^ 128) where
   no_row : HasNone given a → HasNoRow rows (bits_of 128 a)
@@ -174,25 +174,23 @@ module _ (rows : List Row) (offsets : List ℕ) (given : List Entry) (all : AllZ
       none j e.0 e.1 (has_entry offsets row e.0 e.2 a fits h)
 
   pub gives_row : (found : Option ℕ) → Gives given a found → GivesRow rows offsets (bits_of 128 a) found
-  gives_row None none = no_row none
-  gives_row (Some offset) h =
+  gives_row found (inl h) = inl (no_row h.0, h.1)
+  gives_row found (inr h) =
       let e = h.0 in
       let longest = h.1 in
       let r = zip_left (IsEntryOf offsets) rows given all longest.place e longest.at in
       let row = r.0 in
-      let prefix = prefix_is offsets row e r.2 in (
-        row,
-        record {
-          place = longest.place;
-          at = r.1;
-          here = has_row offsets row e r.2 a fits longest.here;
-          longest = λ j other at there.
-              let o = zip_right (IsEntryOf offsets) rows given all j other at in
-              let other_prefix = prefix_is offsets other o.0 o.2 in
-              elim (longest.longest j o.0 o.1 (has_entry offsets other o.0 o.2 a fits there)) [
-                | inl less ↦ inl (omega arith)
-                | inr more ↦ let m = more.0 in inr (omega arith, more.1)
-              ];
-        },
-        r.2.offset ∙ ap Some h.2,
-      )
+      let prefix = prefix_is offsets row e r.2 in
+      let is : IsRowOf rows (bits_of 128 a) row = record {
+        place = longest.place;
+        at = r.1;
+        here = has_row offsets row e r.2 a fits longest.here;
+        longest = λ j other at there.
+            let o = zip_right (IsEntryOf offsets) rows given all j other at in
+            let other_prefix = prefix_is offsets other o.0 o.2 in
+            elim (longest.longest j o.0 o.1 (has_entry offsets other o.0 o.2 a fits there)) [
+              | inl less ↦ inl (omega arith)
+              | inr more ↦ let m = more.0 in inr (omega arith, more.1)
+            ];
+      } in
+      inr (row, is, subst (IsOffsetOf offsets row.value) (sym h.2) r.2.offset)

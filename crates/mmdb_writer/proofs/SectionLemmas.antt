@@ -9,7 +9,8 @@ use Rattle.mmdb_section.specs.declared.value.Part.TheVariants.{Number, At}
 use Rattle.mmdb_section.specs.declared.value.Value.TheVariants as values
 use Rattle.mmdb_section.specs.Sections.{Tile, IsTile, IsSection, IsPart, AreParts, ArePairs, IsValue, SectionView, Holds}
 use Rattle.mmdb_value.specs.AnyValue.{trees_of, pairs_of}
-use Rattle.mmdb_writer.specs.Working.{Puts, AllBegin, HoldsAll, HoldsParts, HoldsPairs}
+use Rattle.mmdb_writer.specs.Making.{AllBegin}
+use Rattle.mmdb_writer.specs.Working.{Puts, HoldsParts, HoldsPairs}
 
 -- ---- more values
 
@@ -54,7 +55,7 @@ pairs_snoc tiles [] key part (w ∷ ws) x v h k l = absurd h
 pairs_snoc tiles (p ∷ ps) key part [] x v h k l = absurd h
 pairs_snoc tiles (p ∷ ps) key part (w ∷ ws) x v h k l = (h.0, h.1, pairs_snoc tiles ps key part ws x v h.2 k l)
 
-all_snoc : (tiles : List Tile) (vs : List Tree) (offsets : List ℕ) (v : Tree) (offset : ℕ) → AllBegin tiles vs offsets → IsPart tiles (At offset) v → AllBegin tiles (vs ++ v ∷ []) (offsets ++ offset ∷ [])
+pub all_snoc : (tiles : List Tile) (vs : List Tree) (offsets : List ℕ) (v : Tree) (offset : ℕ) → AllBegin tiles vs offsets → IsPart tiles (At offset) v → AllBegin tiles (vs ++ v ∷ []) (offsets ++ offset ∷ [])
 all_snoc tiles [] [] v o h k = (k, tt)
 all_snoc tiles [] (p ∷ ps) v o h k = absurd h
 all_snoc tiles (w ∷ ws) [] v o h k = absurd h
@@ -79,9 +80,6 @@ no_parts tiles section h = record { more = []; has = subst (λ (ts : List Tile).
 pub no_pairs_yet : (tiles : List Tile) (section : SectionView) → IsSection tiles section → HoldsPairs tiles [] section []
 no_pairs_yet tiles section h = record { more = []; has = subst (λ (ts : List Tile). IsSection ts section) (sym (append-nil tiles)) h; are = tt }
 
-pub none_yet : (tiles : List Tile) (section : SectionView) → IsSection tiles section → HoldsAll tiles [] section []
-none_yet tiles section h = record { more = []; has = subst (λ (ts : List Tile). IsSection ts section) (sym (append-nil tiles)) h; all = tt }
-
 pub one_part_more : (tiles : List Tile) (vs : List Tree) (v : Tree) (old new : SectionView) (parts : List Part) (part : Part) → HoldsParts tiles vs old parts → Puts v old new part → HoldsParts tiles (vs ++ v ∷ []) new (parts ++ part ∷ [])
 one_part_more tiles vs v old new parts part h puts =
     let now = puts (tiles ++ h.more) h.has in
@@ -90,16 +88,6 @@ one_part_more tiles vs v old new parts part h puts =
       has = grown tiles h.more now.more new now.has;
       are = subst (λ (ts : List Tile). AreParts ts (parts ++ part ∷ []) (trees_of (vs ++ v ∷ []))) (append_assoc tiles h.more now.more)
           (parts_snoc ((tiles ++ h.more) ++ now.more) parts part vs v (still_parts (tiles ++ h.more) now.more parts (trees_of vs) h.are) now.is_part);
-    }
-
-pub one_more : (tiles : List Tile) (vs : List Tree) (v : Tree) (old new : SectionView) (offsets : List ℕ) (offset : ℕ) → HoldsAll tiles vs old offsets → Puts v old new (At offset) → HoldsAll tiles (vs ++ v ∷ []) new (offsets ++ offset ∷ [])
-one_more tiles vs v old new offsets offset h puts =
-    let now = puts (tiles ++ h.more) h.has in
-    record {
-      more = h.more ++ now.more;
-      has = grown tiles h.more now.more new now.has;
-      all = subst (λ (ts : List Tile). AllBegin ts (vs ++ v ∷ []) (offsets ++ offset ∷ [])) (append_assoc tiles h.more now.more)
-          (all_snoc ((tiles ++ h.more) ++ now.more) vs offsets v offset (still_all (tiles ++ h.more) now.more vs offsets h.all) now.is_part);
     }
 
 -- a key, and then its value

@@ -22,10 +22,10 @@ IsWrongOption options NoType = string_bytes options.database_type ≡ []
 IsWrongOption options NoDescription = options.description.entries ≡ []
 IsWrongOption options TooLate = 2 ^ 63 ≤ options.build_epoch
 
--- A database of IPv4 has no networks of IPv6, and each row has one of so many values.
+-- A database of IPv4 has no networks of IPv6, and each row has one of so many values, or none.
 abbrev pub IsWrongRow : IpVersion → ℕ → Row → RowError → Type 0
 IsWrongRow version count row Ipv6 = (version ≡ V4) × (address_width (ip_of row.network) ≡ 128)
-IsWrongRow version count row NoValue = count ≤ row.value
+IsWrongRow version count row NoValue = (index : ℕ) × (row.value ≡ Some index) × (count ≤ index)
 
 -- An option is wrong, and how; the value of the index exceeds a limit, and which one; or the row of the index is wrong, and how.
 abbrev pub IsErrorOf : List Value → List Row → Options → WriteError → Type 0

@@ -33,7 +33,12 @@ pub record IsRowOf (rows : List Row) (address : List Bool) (row : Row) : Type 0 
 abbrev pub HasNoRow : List Row → List Bool → Type 0
 HasNoRow rows address = (j : ℕ) (row : Row) → slice_get rows j ≡ Some row → ¬ Has row address
 
--- The value that an address has: that of the row with the longest prefix, of equal ones of the last, or none.
+-- the value of an index, or none
+abbrev pub IsValueOf : List Value → Option ℕ → Option Tree → Type 0
+IsValueOf values None v = v ≡ None
+IsValueOf values (Some index) v = (value : Value) × (slice_get values index ≡ Some value) × (v ≡ Some (value_tree value))
+
+-- The value that an address has: that of the row with the longest prefix, of equal ones of the last; none where no row has the
+-- address, or that one has no value.
 abbrev pub Says : List Value → List Row → List Bool → Option Tree → Type 0
-Says values rows address None = HasNoRow rows address
-Says values rows address (Some t) = (row : Row) × IsRowOf rows address row × (value : Value) × (slice_get values row.value ≡ Some value) × (value_tree value ≡ t)
+Says values rows address v = (HasNoRow rows address × (v ≡ None)) ⊎ ((row : Row) × IsRowOf rows address row × IsValueOf values row.value v)

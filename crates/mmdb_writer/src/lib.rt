@@ -4,16 +4,18 @@
 mod certify;
 mod entries;
 mod error;
+mod keys;
 mod limits;
 mod metadata;
 mod options;
 mod row;
 mod values;
 mod write;
+mod writer;
 
 pub use error::WriteError;
 pub use limits::ValueError;
 pub use mmdb_nodes::{IpVersion, RecordSize};
 pub use options::{Options, OptionsError};
 pub use row::{Row, RowError};
-pub use write::write_database;
+pub use writer::{Writer, write_database};

@@ -1,11 +1,9 @@
 //! Which values are given back by readings.
 ghost use Rattle.std.specs.Prelude.{◌≡◌, ◌≢◌, ◌+◌, ◌<◌, OnOk, IfErr};
-ghost use Rattle.std.specs.List.{AllByRecursion};
 ghost use Rattle.mmdb_value.specs.Values.{value_tree};
-ghost use Rattle.mmdb_writer.specs.Limits.{CanBeRead, Exceeds};
-ghost use Rattle.mmdb_writer.specs.Working.{TakesRoom, ExceedsRoom, IsUnreadable};
+ghost use Rattle.mmdb_writer.specs.Limits.{IsWithinLimits, Exceeds};
+ghost use Rattle.mmdb_writer.specs.Working.{TakesRoom, ExceedsRoom};
 
-use crate::error::WriteError;
 use mmdb_value::Value;
 
 /// Why no reading gives a value back.
@@ -17,6 +15,8 @@ pub enum ValueError {
     TooManyBytes,
     /// More than 64 arrays and maps stand in one another.
     TooDeep,
+    /// In a map a key stands twice.
+    KeyTwice,
 }
 
 /// How many arrays and maps may stand in one another: each may stand behind a pointer, and a verification takes 128 levels.
@@ -37,6 +37,7 @@ impl Room {
         ensures too_many { IfErr result (λ e. e ≡ ValueError.TooManyValues → self.old.values ≡ 0) }
         ensures too_long { IfErr result (λ e. e ≡ ValueError.TooManyBytes → self.old.bytes < bytes) }
         ensures not_deep { IfErr result (λ e. e ≢ ValueError.TooDeep) }
+        ensures not_twice { IfErr result (λ e. e ≢ ValueError.KeyTwice) }
     {
         let Some(values) = self.values.checked_sub(1) else {
             return Err(ValueError::TooManyValues);
@@ -90,9 +91,9 @@ fn take_room(room: &mut Room, levels: u8, value: &Value<'_>) -> Result<(), Value
     }
 }
 
-// Whether a reading gives a value back.
-fn check_value(value: &Value<'_>) -> Result<(), ValueError>
-    ensures ok { OnOk result (CanBeRead (value_tree value.now)) }
+// Whether a value is within the limits of readings.
+pub(crate) fn check_value(value: &Value<'_>) -> Result<(), ValueError>
+    ensures ok { OnOk result (IsWithinLimits (value_tree value.now)) }
     ensures err { IfErr result (λ e. Exceeds e (value_tree value.now)) }
 {
     let mut room = Room {
@@ -100,17 +101,4 @@ fn check_value(value: &Value<'_>) -> Result<(), ValueError>
         bytes: 2_097_152,
     };
     take_room(&mut room, MOST_LEVELS, value)
-}
-
-// Whether readings give all values back.
-pub(crate) fn check_values(values: &[Value<'_>]) -> Result<(), WriteError>
-    ensures ok { OnOk result (AllByRecursion (λ value. CanBeRead (value_tree value)) values.now) }
-    ensures err { IfErr result (IsUnreadable values.now) }
-{
-    for index in 0..values.len() {
-        if let Err(error) = check_value(&values[index]) {
-            return Err(WriteError::Value { index, error });
-        }
-    }
-    Ok(())
 }

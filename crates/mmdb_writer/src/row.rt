@@ -10,9 +10,9 @@ pub enum RowError {
     NoValue,
 }
 
-/// A network, and which of the values its addresses have: the index of one.
+/// A network, and which of the values its addresses have: the index of one, or none, which takes them out of a wider network.
 #[derive(Clone, Copy, Debug, PartialEq, Eq)]
 pub struct Row {
     pub network: IpNetwork,
-    pub value: usize,
+    pub value: Option<usize>,
 }

@@ -1,9 +1,8 @@
 //! Values that are put into a data section.
-ghost use Rattle.std.specs.Prelude.{◌≡◌, List, map, length, IfOk};
-ghost use Rattle.mmdb_section.specs.Sections.{Tile, IsSection};
+ghost use Rattle.std.specs.Prelude.{IfOk};
 ghost use Rattle.mmdb_section.specs.declared.value.Part.TheVariants.{At};
 ghost use Rattle.mmdb_value.specs.Values.{value_tree};
-ghost use Rattle.mmdb_writer.specs.Working.{Puts, PutsAll};
+ghost use Rattle.mmdb_writer.specs.Working.{Puts};
 
 use mmdb_section::{Number, Part, Section, SectionError, Value as SectionValue};
 use mmdb_value::Value;
@@ -47,7 +46,11 @@ fn add_part(alloc: Global, section: &mut Section, value: &Value<'_>) -> Result<P
 }
 
 // Adds a value, and answers the offset at which it begins.
-fn add_value(alloc: Global, section: &mut Section, value: &Value<'_>) -> Result<u32, SectionError>
+pub(crate) fn put_value(
+    alloc: Global,
+    section: &mut Section,
+    value: &Value<'_>,
+) -> Result<u32, SectionError>
     ensures { IfOk result
         (λ offset. Puts (value_tree value.now) section.old section.new (At offset)) }
 {
@@ -55,21 +58,4 @@ fn add_value(alloc: Global, section: &mut Section, value: &Value<'_>) -> Result<
         Part::At(offset) => Ok(offset),
         Part::Number(number) => section.add(alloc, SectionValue::Number(number)),
     }
-}
-
-// Adds values, and answers the offsets at which they begin.
-pub(crate) fn add_values(
-    alloc: Global,
-    section: &mut Section,
-    values: &[Value<'_>],
-) -> Result<Vec<u32>, SectionError>
-    ensures { IfOk result (λ offsets. PutsAll (map value_tree values.now) section.old section.new
-        offsets.items) }
-{
-    let mut offsets = Vec::new(alloc);
-    for value in values {
-        let offset = add_value(alloc, section, value)?;
-        offsets.push(offset)?;
-    }
-    Ok(offsets)
 }

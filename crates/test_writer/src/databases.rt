@@ -4,7 +4,7 @@ use mmdb_reader::Reader;
 use mmdb_value::Value;
 use mmdb_vectors::hoard::Hoard;
 use mmdb_writer::{
-    IpVersion, Options, OptionsError, RecordSize, Row, RowError, ValueError, WriteError,
+    IpVersion, Options, OptionsError, RecordSize, Row, RowError, ValueError, WriteError, Writer,
     write_database,
 };
 use std::alloc::{AllocError, Global};
@@ -15,7 +15,7 @@ use std::net::IpAddr;
 struct Case {
     name: &'static str,
     version: IpVersion,
-    rows: &'static [(&'static str, usize)],
+    rows: &'static [(&'static str, Option<usize>)],
     addresses: &'static [(&'static str, Option<usize>)],
 }
 
@@ -29,7 +29,7 @@ const CASES: &[Case] = &[
     Case {
         name: "one address",
         version: IpVersion::V4,
-        rows: &[("192.0.2.1/32", 0)],
+        rows: &[("192.0.2.1/32", Some(0))],
         addresses: &[
             ("192.0.2.0", None),
             ("192.0.2.1", Some(0)),
@@ -39,17 +39,17 @@ const CASES: &[Case] = &[
     Case {
         name: "all addresses",
         version: IpVersion::V6,
-        rows: &[("::/0", 3)],
+        rows: &[("::/0", Some(3))],
         addresses: &[("::", Some(3)), ("10.0.0.1", Some(3)), ("ffff::1", Some(3))],
     },
     Case {
         name: "the longest prefix counts, whatever the order",
         version: IpVersion::V4,
         rows: &[
-            ("10.1.2.0/24", 2),
-            ("10.0.0.0/8", 0),
-            ("10.1.0.0/16", 1),
-            ("10.1.2.3/32", 3),
+            ("10.1.2.0/24", Some(2)),
+            ("10.0.0.0/8", Some(0)),
+            ("10.1.0.0/16", Some(1)),
+            ("10.1.2.3/32", Some(3)),
         ],
         addresses: &[
             ("9.255.255.255", None),
@@ -69,27 +69,46 @@ const CASES: &[Case] = &[
         name: "of equal networks the last counts",
         version: IpVersion::V4,
         rows: &[
-            ("10.0.0.0/8", 1),
-            ("10.0.0.0/9", 4),
-            ("10.0.0.0/8", 2),
-            ("10.0.0.0/8", 0),
-            ("10.0.0.0/9", 3),
+            ("10.0.0.0/8", Some(1)),
+            ("10.0.0.0/9", Some(4)),
+            ("10.0.0.0/8", Some(2)),
+            ("10.0.0.0/8", Some(0)),
+            ("10.0.0.0/9", Some(3)),
         ],
         addresses: &[("10.127.0.0", Some(3)), ("10.128.0.0", Some(0))],
     },
     Case {
         name: "a network is given by any of its addresses",
         version: IpVersion::V4,
-        rows: &[("10.1.2.3/8", 0)],
+        rows: &[("10.1.2.3/8", Some(0))],
         addresses: &[("10.255.0.0", Some(0)), ("11.0.0.0", None)],
+    },
+    Case {
+        name: "a row without a value takes addresses out",
+        version: IpVersion::V4,
+        rows: &[
+            ("10.1.0.0/16", None),
+            ("10.0.0.0/8", Some(0)),
+            ("10.1.2.0/24", Some(1)),
+            ("192.0.2.0/24", Some(1)),
+            ("192.0.2.0/24", None),
+        ],
+        addresses: &[
+            ("10.0.255.255", Some(0)),
+            ("10.1.0.0", None),
+            ("10.1.2.0", Some(1)),
+            ("10.1.3.0", None),
+            ("10.2.0.0", Some(0)),
+            ("192.0.2.1", None),
+        ],
     },
     Case {
         name: "IPv4 and IPv6 in one file",
         version: IpVersion::V6,
         rows: &[
-            ("2001:db8::/32", 0),
-            ("10.0.0.0/8", 1),
-            ("2001:db8:1::/48", 2),
+            ("2001:db8::/32", Some(0)),
+            ("10.0.0.0/8", Some(1)),
+            ("2001:db8:1::/48", Some(2)),
         ],
         addresses: &[
             ("10.0.0.1", Some(1)),
@@ -103,7 +122,11 @@ const CASES: &[Case] = &[
     Case {
         name: "an IPv4 network in one of IPv6, written with 96 zeros too",
         version: IpVersion::V6,
-        rows: &[("::/64", 0), ("::10.0.0.0/104", 1), ("10.0.0.0/8", 2)],
+        rows: &[
+            ("::/64", Some(0)),
+            ("::10.0.0.0/104", Some(1)),
+            ("10.0.0.0/8", Some(2)),
+        ],
         addresses: &[
             ("10.1.1.1", Some(2)),
             ("::9.1.1.1", Some(0)),
@@ -157,7 +180,7 @@ fn options(
 }
 
 // The rows of networks that can be read.
-fn rows_of(alloc: Global, texts: &[(&str, usize)]) -> Result<Vec<Row>, AllocError> {
+fn rows_of(alloc: Global, texts: &[(&str, Option<usize>)]) -> Result<Vec<Row>, AllocError> {
     let mut rows = Vec::new(alloc);
     for (text, value) in texts {
         let network: Result<IpNetwork, _> = text.parse();
@@ -175,16 +198,11 @@ fn file_of(
     alloc: Global,
     version: IpVersion,
     record_size: Option<RecordSize>,
-    texts: &[(&str, usize)],
+    texts: &[(&str, Option<usize>)],
 ) -> Result<Vec<u8>, WriteError> {
     let values = values(alloc)?;
     let rows = rows_of(alloc, texts)?;
-    write_database(
-        alloc,
-        &values,
-        &rows,
-        &options(alloc, version, record_size)?,
-    )
+    write_database(alloc, &values, &rows, options(alloc, version, record_size)?)
 }
 
 // A value as a text, or that there is none.
@@ -265,9 +283,9 @@ const BEHIND_NODES: &[u8] = b"\0\0\0\0\0\0\0\0\0\0\0\0\0\0\0\0\x41a\xAB\xCD\xEFM
 // Whether a file of one value has these bytes.
 fn has_bytes(alloc: Global, size: RecordSize, nodes: &[u8]) -> Result<bool, WriteError> {
     let values = vec![in alloc; Value::String("a")]?;
-    let rows = rows_of(alloc, &[("128.0.0.0/1", 0)])?;
+    let rows = rows_of(alloc, &[("128.0.0.0/1", Some(0))])?;
     let options = options(alloc, IpVersion::V4, Some(size))?;
-    let file = write_database(alloc, &values, &rows, &options)?;
+    let file = write_database(alloc, &values, &rows, options)?;
     let Some(behind) = file.as_slice().strip_prefix(nodes) else {
         return Ok(false);
     };
@@ -283,10 +301,10 @@ fn bytes_of_files(rt: HostRuntime) {
 }
 
 /// Networks that are not written, and why.
-const REJECTED: &[(IpVersion, &[(&str, usize)], WriteError)] = &[
+const REJECTED: &[(IpVersion, &[(&str, Option<usize>)], WriteError)] = &[
     (
         IpVersion::V4,
-        &[("10.0.0.0/8", 0), ("2001:db8::/32", 1)],
+        &[("10.0.0.0/8", Some(0)), ("2001:db8::/32", Some(1))],
         WriteError::Row {
             index: 1,
             error: RowError::Ipv6,
@@ -294,7 +312,7 @@ const REJECTED: &[(IpVersion, &[(&str, usize)], WriteError)] = &[
     ),
     (
         IpVersion::V6,
-        &[("10.0.0.0/8", 5)],
+        &[("10.0.0.0/8", Some(5))],
         WriteError::Row {
             index: 0,
             error: RowError::NoValue,
@@ -331,9 +349,9 @@ fn wide(alloc: Global, len: usize) -> Result<Value<'static>, AllocError> {
 // The error of a file of one value, if it is not written.
 fn error_of(alloc: Global, value: Value<'_>) -> Result<Option<WriteError>, WriteError> {
     let values = vec![in alloc; value]?;
-    let rows = rows_of(alloc, &[("::/0", 0)])?;
+    let rows = rows_of(alloc, &[("::/0", Some(0))])?;
     let options = options(alloc, IpVersion::V6, None)?;
-    Ok(write_database(alloc, &values, &rows, &options).err())
+    Ok(write_database(alloc, &values, &rows, options).err())
 }
 
 // So many zeros.
@@ -384,6 +402,130 @@ fn values_at_the_limits(rt: HostRuntime) {
     }
 }
 
+/// Maps with these keys, and why they are not written.
+const KEYS: &[(&[&str], Option<ValueError>)] = &[
+    (&[], None),
+    (&["a", "b", "", "ab"], None),
+    (&["a", "b", "a"], Some(ValueError::KeyTwice)),
+    (&["", ""], Some(ValueError::KeyTwice)),
+];
+
+// A map with these keys, in an array in a map.
+fn map_of(alloc: Global, keys: &[&'static str]) -> Result<Value<'static>, AllocError> {
+    let mut pairs = Vec::new(alloc);
+    for key in keys {
+        pairs.push((*key, Value::Bool(true)))?;
+    }
+    let values = vec![in alloc; Value::Map(pairs)]?;
+    Ok(Value::Map(vec![in alloc; ("a", Value::Array(values))]?))
+}
+
+#[test]
+fn keys_that_stand_twice(rt: HostRuntime) {
+    for (keys, error) in KEYS {
+        let met = match map_of(rt.alloc(), keys) {
+            Ok(value) => error_of(rt.alloc(), value),
+            Err(error) => Err(WriteError::from(error)),
+        };
+        let wanted = error.map(|error| WriteError::Value { index: 0, error });
+        assert!(rt; met == Ok(wanted), "{keys:?}: {met:?}");
+    }
+}
+
+/// What is added to a writer in turn, and whether it is accepted: a value that can be read, one that can't, a row of a network
+/// and the index of its value.
+#[derive(Clone, Copy, Debug)]
+enum Step {
+    Value(&'static str),
+    TwiceKeyed,
+    Row(&'static str, Option<usize>),
+}
+
+/// Steps, each with the error that it gives.
+const STEPS: &[(Step, Option<WriteError>)] = &[
+    (
+        Step::Row("10.0.0.0/8", Some(0)),
+        Some(WriteError::Row {
+            index: 0,
+            error: RowError::NoValue,
+        }),
+    ),
+    (Step::Value("a"), None),
+    (Step::Row("10.0.0.0/8", Some(0)), None),
+    (
+        Step::TwiceKeyed,
+        Some(WriteError::Value {
+            index: 1,
+            error: ValueError::KeyTwice,
+        }),
+    ),
+    (
+        Step::Row("10.1.0.0/16", Some(1)),
+        Some(WriteError::Row {
+            index: 1,
+            error: RowError::NoValue,
+        }),
+    ),
+    (Step::Value("b"), None),
+    (Step::Row("10.1.0.0/16", Some(1)), None),
+    (Step::Value("a"), None),
+    (Step::Row("10.1.1.0/24", Some(2)), None),
+    (Step::Row("10.1.1.1/32", None), None),
+];
+
+/// Addresses of the file that those steps make, and what is found.
+const FOUND: &[(&str, &str)] = &[
+    ("9.255.255.255", "none"),
+    ("10.0.0.0", "String(\"a\")"),
+    ("10.1.0.0", "String(\"b\")"),
+    ("10.1.1.0", "String(\"a\")"),
+    ("10.1.1.1", "none"),
+    ("10.1.1.2", "String(\"a\")"),
+];
+
+fn add(alloc: Global, writer: &mut Writer, step: Step) -> Result<(), WriteError> {
+    match step {
+        Step::Value(text) => {
+            writer.add_value(alloc, &Value::String(text))?;
+        }
+        Step::TwiceKeyed => {
+            writer.add_value(alloc, &map_of(alloc, &["a", "a"])?)?;
+        }
+        Step::Row(network, value) => {
+            for row in rows_of(alloc, &[(network, value)])? {
+                writer.add_row(row)?;
+            }
+        }
+    }
+    Ok(())
+}
+
+// The first step or address that does not come out as it should.
+fn missed_in_turn(alloc: Global) -> Result<Option<String>, WriteError> {
+    let mut writer = Writer::new(alloc, options(alloc, IpVersion::V4, None)?)?;
+    for (step, error) in STEPS {
+        if add(alloc, &mut writer, *step).err() != *error {
+            return Ok(Some(format!(in alloc; "{step:?}")?));
+        }
+    }
+    let file = writer.write(alloc)?;
+    let Ok(reader) = Reader::from_source(alloc, file.as_slice()) else {
+        return Ok(Some(String::from_str(alloc, "the file")?));
+    };
+    for (address, wanted) in FOUND {
+        if found_at(alloc, &reader, address)?.as_str() != *wanted {
+            return Ok(Some(String::from_str(alloc, address)?));
+        }
+    }
+    Ok(None)
+}
+
+#[test]
+fn calls_in_turn(rt: HostRuntime) {
+    let missed = missed_in_turn(rt.alloc());
+    assert!(rt; missed == Ok(None), "{missed:?}");
+}
+
 /// Metadata that are not accepted: the type, the description and the time.
 const UNACCEPTED: &[(&str, Option<&str>, u64, OptionsError)] = &[
     ("", Some("en"), 0, OptionsError::NoType),
@@ -404,7 +546,7 @@ fn error_of_metadata(
     if language.is_none() {
         options.description = BTreeMap::new(alloc);
     }
-    Ok(write_database(alloc, &[], &[], &options).err())
+    Ok(write_database(alloc, &[], &[], options).err())
 }
 
 #[test]
@@ -430,7 +572,7 @@ fn budgets(alloc: Global) -> (u32, u32) {
     let (mut rejected, mut accepted) = (0u32, 0u32);
     for piece in 0..PIECES {
         let hoard = Hoard::around(alloc, FIRST + piece * PIECE);
-        let file = file_of(alloc, IpVersion::V6, None, &[("10.0.0.0/8", 1)]);
+        let file = file_of(alloc, IpVersion::V6, None, &[("10.0.0.0/8", Some(1))]);
         drop(hoard);
         match file {
             Ok(_) => accepted = accepted.saturating_add(1),
@@ -447,7 +589,7 @@ fn small_budgets(alloc: Global) -> u32 {
     let mut rejected = 0u32;
     for turn in 0..200usize {
         let small = Hoard::of_all_but(alloc, turn * 32);
-        let file = file_of(alloc, IpVersion::V6, None, &[("10.0.0.0/8", 1)]);
+        let file = file_of(alloc, IpVersion::V6, None, &[("10.0.0.0/8", Some(1))]);
         drop(small);
         if file.err() == Some(WriteError::Memory) {
             rejected = rejected.saturating_add(1);

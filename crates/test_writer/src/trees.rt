@@ -14,7 +14,7 @@ use std::alloc::{AllocError, Global};
 struct Row {
     name: &'static str,
     version: IpVersion,
-    entries: &'static [(&'static str, u32)],
+    entries: &'static [(&'static str, Option<u32>)],
     data_len: usize,
     record_size: Option<RecordSize>,
     bytes: &'static [u8],
@@ -32,7 +32,7 @@ const ROWS: &[Row] = &[
     Row {
         name: "all addresses: one node, which leads to the data for both bits",
         version: IpVersion::V6,
-        entries: &[("::/0", 3)],
+        entries: &[("::/0", Some(3))],
         data_len: 4,
         record_size: None,
         bytes: &[0, 0, 20, 0, 0, 20],
@@ -40,7 +40,7 @@ const ROWS: &[Row] = &[
     Row {
         name: "the right half",
         version: IpVersion::V4,
-        entries: &[("128.0.0.0/1", 0)],
+        entries: &[("128.0.0.0/1", Some(0))],
         data_len: 1,
         record_size: None,
         bytes: &[0, 0, 1, 0, 0, 17],
@@ -48,7 +48,7 @@ const ROWS: &[Row] = &[
     Row {
         name: "the longest prefix, whose node comes after that of the whole",
         version: IpVersion::V4,
-        entries: &[("0.0.0.0/0", 1), ("64.0.0.0/2", 2)],
+        entries: &[("0.0.0.0/0", Some(1)), ("64.0.0.0/2", Some(2))],
         data_len: 3,
         record_size: None,
         bytes: &[0, 0, 1, 0, 0, 19, 0, 0, 19, 0, 0, 20],
@@ -56,15 +56,23 @@ const ROWS: &[Row] = &[
     Row {
         name: "the last of equal networks",
         version: IpVersion::V4,
-        entries: &[("128.0.0.0/1", 1), ("128.0.0.0/1", 2)],
+        entries: &[("128.0.0.0/1", Some(1)), ("128.0.0.0/1", Some(2))],
         data_len: 3,
         record_size: None,
         bytes: &[0, 0, 1, 0, 0, 19],
     },
     Row {
+        name: "a longer prefix without data",
+        version: IpVersion::V4,
+        entries: &[("0.0.0.0/0", Some(1)), ("128.0.0.0/1", None)],
+        data_len: 2,
+        record_size: None,
+        bytes: &[0, 0, 18, 0, 0, 1],
+    },
+    Row {
         name: "neighbours with the same offset are one leaf",
         version: IpVersion::V6,
-        entries: &[("::/2", 7), ("4000::/2", 7)],
+        entries: &[("::/2", Some(7)), ("4000::/2", Some(7))],
         data_len: 8,
         record_size: None,
         bytes: &[0, 0, 24, 0, 0, 1],
@@ -72,7 +80,7 @@ const ROWS: &[Row] = &[
     Row {
         name: "28 bits, as asked for",
         version: IpVersion::V4,
-        entries: &[("128.0.0.0/1", 0)],
+        entries: &[("128.0.0.0/1", Some(0))],
         data_len: 1,
         record_size: Some(RecordSize::Bits28),
         bytes: &[0, 0, 1, 0, 0, 0, 17],
@@ -80,7 +88,10 @@ const ROWS: &[Row] = &[
     Row {
         name: "28 bits, the least: the four highest bits of both records in the middle byte",
         version: IpVersion::V4,
-        entries: &[("0.0.0.0/1", 0x0a_bc_de_00), ("128.0.0.0/1", 0x05_43_21_00)],
+        entries: &[
+            ("0.0.0.0/1", Some(0x0a_bc_de_00)),
+            ("128.0.0.0/1", Some(0x05_43_21_00)),
+        ],
         data_len: 0x0a_bc_de_01,
         record_size: None,
         bytes: &[0xbc, 0xde, 0x11, 0xa5, 0x43, 0x21, 0x11],
@@ -88,7 +99,7 @@ const ROWS: &[Row] = &[
     Row {
         name: "as many numbers as 24 bits have",
         version: IpVersion::V4,
-        entries: &[("128.0.0.0/1", 0xff_ff_ee)],
+        entries: &[("128.0.0.0/1", Some(0xff_ff_ee))],
         data_len: 0xff_ff_ef,
         record_size: None,
         bytes: &[0, 0, 1, 0xff, 0xff, 0xff],
@@ -96,7 +107,7 @@ const ROWS: &[Row] = &[
     Row {
         name: "one number more than 24 bits have",
         version: IpVersion::V4,
-        entries: &[("128.0.0.0/1", 0xff_ff_ef)],
+        entries: &[("128.0.0.0/1", Some(0xff_ff_ef))],
         data_len: 0xff_ff_f0,
         record_size: None,
         bytes: &[0, 0, 1, 0x01, 0, 0, 0],
@@ -104,7 +115,7 @@ const ROWS: &[Row] = &[
     Row {
         name: "32 bits",
         version: IpVersion::V4,
-        entries: &[("128.0.0.0/1", 0xff_ff_ff_ee)],
+        entries: &[("128.0.0.0/1", Some(0xff_ff_ff_ee))],
         data_len: 0xff_ff_ff_ef,
         record_size: None,
         bytes: &[0, 0, 0, 1, 0xff, 0xff, 0xff, 0xff],
@@ -121,13 +132,13 @@ const TOO_LARGE: &[(usize, Option<RecordSize>)] = &[
 ];
 
 // The entry of a network.
-fn entry_of(network: &str, offset: u32) -> Option<Entry> {
+fn entry_of(network: &str, offset: Option<u32>) -> Option<Entry> {
     let network: Result<IpNetwork, _> = network.parse();
     let block = Block::of_network(network.ok()?);
     Some(Entry::new(block, offset))
 }
 
-fn entries_of(alloc: Global, rows: &[(&str, u32)]) -> Result<Vec<Entry>, AllocError> {
+fn entries_of(alloc: Global, rows: &[(&str, Option<u32>)]) -> Result<Vec<Entry>, AllocError> {
     let mut entries = Vec::new(alloc);
     for (network, offset) in rows {
         if let Some(entry) = entry_of(network, *offset) {
@@ -178,7 +189,7 @@ fn calls_succeed(rt: HostRuntime) {
 
 // The error of a tree of one entry.
 fn error_of(alloc: Global, data_len: usize, record_size: Option<RecordSize>) -> Option<TreeError> {
-    let entry = entry_of("128.0.0.0/1", 0)?;
+    let entry = entry_of("128.0.0.0/1", Some(0))?;
     match tree_of(alloc, IpVersion::V4, &[entry], data_len, record_size)? {
         Ok(_) => None,
         Err(error) => Some(error),
@@ -203,7 +214,7 @@ const ORDERS: &[(&str, &str, bool)] = &[
 ];
 
 fn is_ordered(first: &str, second: &str) -> Option<bool> {
-    Some(are_ordered(&[entry_of(first, 0)?, entry_of(second, 0)?]))
+    Some(are_ordered(&[entry_of(first, None)?, entry_of(second, None)?]))
 }
 
 #[test]
@@ -217,22 +228,23 @@ fn orders(rt: HostRuntime) {
 }
 
 /// An entry's first address, prefix and offset, a version and the length of a data section.
-type Fitting = (u128, u8, u32, IpVersion, usize);
+type Fitting = (u128, u8, Option<u32>, IpVersion, usize);
 
 /// Whether a tree of that version can have the entry before that section.
 const FITTING: &[(Fitting, bool)] = &[
-    ((0x0a00_0000, 104, 4, IpVersion::V4, 5), true),
-    ((0x0a00_0000, 104, 5, IpVersion::V4, 5), false),
-    ((0x0a00_0001, 104, 0, IpVersion::V4, 5), false),
-    ((0, 96, 0, IpVersion::V4, 1), true),
-    ((0, 95, 0, IpVersion::V4, 1), false),
-    ((0, 95, 0, IpVersion::V6, 1), true),
-    ((1 << 32, 128, 0, IpVersion::V4, 1), false),
-    ((1 << 32, 128, 0, IpVersion::V6, 1), true),
-    ((0, 129, 0, IpVersion::V6, 1), false),
+    ((0x0a00_0000, 104, Some(4), IpVersion::V4, 5), true),
+    ((0x0a00_0000, 104, Some(5), IpVersion::V4, 5), false),
+    ((0x0a00_0001, 104, Some(0), IpVersion::V4, 5), false),
+    ((0x0a00_0000, 104, None, IpVersion::V4, 0), true),
+    ((0, 96, Some(0), IpVersion::V4, 1), true),
+    ((0, 95, Some(0), IpVersion::V4, 1), false),
+    ((0, 95, Some(0), IpVersion::V6, 1), true),
+    ((1 << 32, 128, Some(0), IpVersion::V4, 1), false),
+    ((1 << 32, 128, Some(0), IpVersion::V6, 1), true),
+    ((0, 129, Some(0), IpVersion::V6, 1), false),
 ];
 
-fn entry(first: u128, prefix: u8, offset: u32) -> Entry {
+fn entry(first: u128, prefix: u8, offset: Option<u32>) -> Entry {
     Entry::new(Block { first, prefix }, offset)
 }
 
@@ -248,7 +260,7 @@ fn entries_that_fit(rt: HostRuntime) {
 
 // What comes of a tree of two entries.
 fn outcome_of(alloc: Global, record_size: Option<RecordSize>) -> Outcome {
-    let entries = [entry(0, 96, 1), entry(0x0102_0304, 128, 2)];
+    let entries = [entry(0, 96, Some(1)), entry(0x0102_0304, 128, Some(2))];
     match tree_of(alloc, IpVersion::V4, &entries, 0xff_ff_f0, record_size) {
         Some(Ok(_)) => Outcome::Value,
         Some(Err(TreeError::Memory)) => Outcome::Memory,

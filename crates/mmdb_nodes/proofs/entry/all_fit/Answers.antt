@@ -1,4 +1,4 @@
-use Rattle.std.proofs.Common.{refl}
+use Rattle.std.proofs.Common.{None, refl}
 use Rattle.std.proofs.lemmas.Bool.{false≢true}
 use Rattle.std.proofs.lemmas.List.Elements.{All-get_or, All-from_recursion}
 use Rattle.mmdb_nodes.specs.declared.entry.Entry.{Entry}
@@ -7,7 +7,7 @@ use Rattle.mmdb_nodes.proofs.EntryLemmas.{one_more_holds}
 use Rattle.mmdb_nodes.proofs.entry.all_fit.Goals as goal
 
 abbrev none : Entry
-none = record { first = 0; prefix = 0; offset = 0 }
+none = record { first = 0; prefix = 0; offset = None }
 
 pub returns-then-not-fits : goal.returns-then-not-fits
 returns-then-not-fits c = (

@@ -1,4 +1,4 @@
-use Rattle.std.proofs.Common.{◌≡◌, ◌≤◌, ◌<◌, ℕ, suc, ◌+◌, ◌-◌, List, refl, sym, subst, arith, length, take, get_or}
+use Rattle.std.proofs.Common.{None, ◌≡◌, ◌≤◌, ◌<◌, ℕ, suc, ◌+◌, ◌-◌, List, refl, sym, subst, arith, length, take, get_or}
 use Rattle.std.proofs.lemmas.Bool.{false≢true}
 use Rattle.mmdb_nodes.specs.declared.entry.Entry.{Entry}
 use Rattle.mmdb_nodes.specs.Entries.{ComesBefore, IsOrdered}
@@ -6,7 +6,7 @@ use Rattle.mmdb_nodes.proofs.EntryLemmas.{one_more_ordered, neighbours}
 use Rattle.mmdb_nodes.proofs.entry.are_ordered.Goals as goal
 
 abbrev none : Entry
-none = record { first = 0; prefix = 0; offset = 0 }
+none = record { first = 0; prefix = 0; offset = None }
 
 neighbours_at : (es : List Entry) (i : ℕ) → 1 ≤ i → i < length es → IsOrdered es → ComesBefore (get_or es (i - 1) none) (get_or es i none)
 neighbours_at es i some lt ordered =

@@ -1,4 +1,4 @@
-use Rattle.std.proofs.Common.{◌≡◌, ℕ, ◌+◌, ◌-◌, ◌<◌, ◌≤◌, length, take, drop, get_or, ap, sym, subst, ◌∙◌, arith, length-drop, get_or-drop}
+use Rattle.std.proofs.Common.{None, ◌≡◌, ℕ, ◌+◌, ◌-◌, ◌<◌, ◌≤◌, length, take, drop, get_or, ap, sym, subst, ◌∙◌, arith, length-drop, get_or-drop}
 use Rattle.std.proofs.lemmas.List.{take_all}
 use Rattle.std.proofs.lemmas.List.Elements.{All-get_or, All-from_recursion}
 use Rattle.mmdb_nodes.specs.declared.entry.Entry.{Entry}
@@ -18,7 +18,7 @@ returns-then-entry-prefix-clause-ordered c =
     subst IsOrdered (rest_is es c.loop-i.i) (ordered-drop c.loop-i.i es c.requires.ordered)
 
 abbrev none : Entry
-none = record { first = 0; prefix = 0; offset = 0 }
+none = record { first = 0; prefix = 0; offset = None }
 
 -- what begins with an entry that is no whole block has none
 rest_smaller : (first free i : ℕ) (es : List Entry) → IsOrdered es → free ≤ 128 → AllByRecursion (IsInside first free) es → i < length es → ((get_or es i none).prefix ≡ 128 - free → ⊥) → AllByRecursion (IsSmaller free) (drop i es)

@@ -1,0 +1,51 @@
+//! Rows that are not taken.
+use mmdb_console::Console;
+use mmdb_input::BadRow;
+use std::alloc::{AllocError, Global};
+use std::io::Write;
+
+/// How many are shown.
+const MOST_SHOWN: usize = 20;
+
+/// A row that is shown: its line, and what is wrong with it.
+#[derive(Drop)]
+struct Shown {
+    line: u64,
+    row: BadRow,
+}
+
+/// Rows that are not taken: how many there are, and the first of them.
+#[derive(Drop)]
+pub(crate) struct BadRows {
+    pub(crate) count: u64,
+    shown: Vec<Shown>,
+}
+
+impl BadRows {
+    pub(crate) fn new(alloc: Global) -> BadRows {
+        BadRows {
+            count: 0,
+            shown: Vec::new(alloc),
+        }
+    }
+
+    /// Notes that the row of a line is not taken.
+    pub(crate) fn add(&mut self, line: u64, row: BadRow) -> Result<(), AllocError> {
+        self.count = self.count.saturating_add(1);
+        if self.shown.len() < MOST_SHOWN {
+            self.shown.push(Shown { line, row })?;
+        }
+        Ok(())
+    }
+
+    /// Reports the first ones, with the file that they are of.
+    pub(crate) fn report<O: Write, E: Write>(&self, from: &str, console: &mut Console<'_, O, E>) {
+        for shown in &self.shown {
+            let line = shown.line;
+            let of: Result<String, AllocError> = format!(in console.alloc; "{from}:{line}");
+            if let Ok(of) = of {
+                console.report(of.as_str(), &shown.row);
+            }
+        }
+    }
+}

@@ -1,0 +1,17 @@
+//! The command `build`: a MaxMind DB file of rows.
+#![tactic(auto)]
+
+mod bad_rows;
+mod check;
+mod command;
+mod gather;
+mod kept;
+mod like;
+mod pieces;
+mod reserved;
+mod rows;
+mod summary;
+mod taken;
+mod task;
+
+pub use command::build;

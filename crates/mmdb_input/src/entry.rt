@@ -1,0 +1,26 @@
+//! What a row says.
+use crate::error::InputError;
+use crate::range::AddressRange;
+use mmdb_net::IpNetwork;
+use mmdb_value::Value;
+use std::alloc::Global;
+
+/// The addresses that a row is of.
+#[derive(Clone, Copy, Debug)]
+pub enum Place {
+    Network(IpNetwork),
+    Range(AddressRange),
+}
+
+/// Addresses, and the index of their value, or none where they have none.
+#[derive(Clone, Copy, Debug)]
+pub struct Entry {
+    pub place: Place,
+    pub value: Option<usize>,
+}
+
+/// What takes values.
+pub trait Values {
+    /// Takes a value, and answers an index that stands for it.
+    fn add(&mut self, alloc: Global, value: &Value<'_>) -> Result<usize, InputError>;
+}

@@ -1,0 +1,150 @@
+-- What a file in the making has after each call.
+use Rattle.std.proofs.Common.{◌≡◌, ℕ, zero, suc, List, [], ◌∷◌, ◌++◌, length, map, Option, Some, None, Result, Ok, Err, IfOk, IfErr, Vec, Global, refl, ap, sym, ◌∙◌, subst}
+use Rattle.std.specs.List.{AllByRecursion, AllZip, slice_get}
+use Rattle.std.proofs.lemmas.List.{length-map, map-append}
+use Rattle.mmdb_format.specs.Unfolding.{Tree}
+use Rattle.mmdb_nodes.specs.declared.entry.Entry.{Entry}
+use Rattle.mmdb_section.specs.declared.value.Part.TheVariants.{At}
+use Rattle.mmdb_section.specs.Sections.{Tile, IsSection}
+use Rattle.mmdb_value.specs.declared.any_value.Value.{Value}
+use Rattle.mmdb_value.specs.Values.{value_tree}
+use Rattle.mmdb_writer.specs.declared.error.WriteError.{WriteError}
+use Rattle.mmdb_writer.specs.declared.error.WriteError.TheVariants as errors
+use Rattle.mmdb_writer.specs.declared.limits.ValueError.{ValueError}
+use Rattle.mmdb_writer.specs.declared.options.Options.{Options}
+use Rattle.mmdb_writer.specs.declared.row.Row.{Row}
+use Rattle.mmdb_writer.specs.declared.row.RowError.{RowError}
+use Rattle.mmdb_writer.specs.declared.writer.Writer.{Writer}
+use Rattle.mmdb_writer.specs.Errors.{IsWrongRow, IsErrorOf}
+use Rattle.mmdb_writer.specs.Limits.{CanBeRead, Exceeds}
+use Rattle.mmdb_writer.specs.Making.{AllBegin, IsOffsetOf, IsEntryOf, IsMadeOf, IsErrorAfterValue, IsErrorAfterRow, IsErrorAfter, Writes}
+use Rattle.mmdb_writer.specs.Written.{IsWritten}
+use Rattle.mmdb_writer.specs.Working.{Puts, IsFileOf}
+use Rattle.mmdb_writer.proofs.FileLemmas.{writes_of}
+use Rattle.mmdb_writer.proofs.RowLemmas.{zip_snoc}
+use Rattle.mmdb_writer.proofs.SectionLemmas.{still_all, all_snoc}
+
+-- ---- lists
+
+at_front : {X : Type 0} (xs ys : List X) (i : ℕ) (x : X) → slice_get xs i ≡ Some x → slice_get (xs ++ ys) i ≡ Some x
+at_front [] ys i x at = absurd (cc)
+at_front (z ∷ zs) ys zero x at = at
+at_front (z ∷ zs) ys (suc i) x at = at_front zs ys i x at
+
+at_end : {X : Type 0} (xs : List X) (x : X) → slice_get (xs ++ x ∷ []) (length xs) ≡ Some x
+at_end [] x = refl
+at_end (z ∷ zs) x = at_end zs x
+
+all_more : {X : Type 0} (P : X → Type 0) (xs : List X) (x : X) → AllByRecursion P xs → P x → AllByRecursion P (xs ++ x ∷ [])
+all_more P [] x all last = (last, tt)
+all_more P (z ∷ zs) x all last = (all.0, all_more P zs x all.1 last)
+
+as_many_zipped : {A B : Type 0} (R : A → B → Type 0) (xs : List A) (ys : List B) → AllZip R xs ys → length ys ≡ length xs
+as_many_zipped R [] [] all = refl
+as_many_zipped R [] (y ∷ ys) all = absurd all
+as_many_zipped R (x ∷ xs) [] all = absurd all
+as_many_zipped R (x ∷ xs) (y ∷ ys) all = ap suc (as_many_zipped R xs ys all.1)
+
+-- one value has one offset
+as_many : (tiles : List Tile) (vs : List Tree) (offsets : List ℕ) → AllBegin tiles vs offsets → length offsets ≡ length vs
+as_many tiles [] [] h = refl
+as_many tiles [] (o ∷ os) h = absurd h
+as_many tiles (v ∷ vs) [] h = absurd h
+as_many tiles (v ∷ vs) (o ∷ os) h = ap suc (as_many tiles vs os h.1)
+
+-- ---- entries stay those of their rows where more values are added
+
+still_offset : (offsets more : List ℕ) (value found : Option ℕ) → IsOffsetOf offsets value found → IsOffsetOf (offsets ++ more) value found
+still_offset offsets more None found h = h
+still_offset offsets more (Some index) found h = (h.0, at_front offsets more index h.0 h.1, h.2)
+
+still_entries : (offsets more : List ℕ) (rows : List Row) (entries : List Entry) → AllZip (IsEntryOf offsets) rows entries → AllZip (IsEntryOf (offsets ++ more)) rows entries
+still_entries offsets more [] [] all = tt
+still_entries offsets more [] (e ∷ es) all = absurd all
+still_entries offsets more (r ∷ rs) [] all = absurd all
+still_entries offsets more (r ∷ rs) (e ∷ es) all = (
+  record { block = all.0.block; bits = all.0.bits; offset = still_offset offsets more r.value e.offset all.0.offset },
+  still_entries offsets more rs es all.1,
+)
+
+-- ---- what calls do
+
+module _ (values : List Value) (rows : List Row) (options : Options) (old : Writer) (made : IsMadeOf values rows options old) where
+  pub values_so_far : length old.offsets.items ≡ length values
+  values_so_far = as_many made.tiles (map value_tree values) old.offsets.items made.begin ∙ length-map values value_tree
+
+  pub rows_so_far : length old.entries.items ≡ length rows
+  rows_so_far = as_many_zipped (IsEntryOf old.offsets.items) rows old.entries.items made.entries_are
+
+  pub value_added : (value : Value) (new : Writer) (offset : ℕ) → CanBeRead (value_tree value) → Puts (value_tree value) old.section new.section (At offset)
+      → new.options ≡ old.options → new.offsets.items ≡ old.offsets.items ++ offset ∷ [] → new.entries ≡ old.entries → IsMadeOf (values ++ value ∷ []) rows options new
+  value_added value new offset can puts same grown kept =
+      let put = puts made.tiles made.has in
+      let tiles : List Tile = made.tiles ++ put.more in
+      let all : AllBegin tiles (map value_tree values ++ value_tree value ∷ []) (old.offsets.items ++ offset ∷ []) =
+      all_snoc tiles (map value_tree values) old.offsets.items (value_tree value) offset (still_all made.tiles put.more (map value_tree values) old.offsets.items made.begin) put.is_part in
+      record {
+        options_are = same ∙ made.options_are;
+        readable = all_more (λ v. CanBeRead (value_tree v)) values value made.readable can;
+        tiles = tiles;
+        has = put.has;
+        begin = subst (AllBegin tiles (map value_tree (values ++ value ∷ []))) (sym grown)
+            (subst (λ (vs : List Tree). AllBegin tiles vs (old.offsets.items ++ offset ∷ [])) (sym (map-append value_tree values (value ∷ []))) all);
+        entries_are = subst (λ (os : List ℕ). AllZip (IsEntryOf os) rows new.entries.items) (sym grown)
+            (subst (λ es. AllZip (IsEntryOf (old.offsets.items ++ offset ∷ [])) rows es.items) (sym kept) (still_entries old.offsets.items (offset ∷ []) rows old.entries.items made.entries_are));
+      }
+
+  pub row_added : (row : Row) (new : Writer) (entry : Entry) → IsEntryOf old.offsets.items row entry
+      → new.options ≡ old.options → new.section ≡ old.section → new.offsets ≡ old.offsets → new.entries.items ≡ old.entries.items ++ entry ∷ [] → IsMadeOf values (rows ++ row ∷ []) options new
+  row_added row new entry is same section offsets grown = record {
+    options_are = same ∙ made.options_are;
+    readable = made.readable;
+    tiles = made.tiles;
+    has = subst (IsSection made.tiles) (sym section) made.has;
+    begin = subst (λ os. AllBegin made.tiles (map value_tree values) os.items) (sym offsets) made.begin;
+    entries_are = subst (λ os. AllZip (IsEntryOf os.items) (rows ++ row ∷ []) new.entries.items) (sym offsets)
+        (subst (AllZip (IsEntryOf old.offsets.items) (rows ++ row ∷ [])) (sym grown) (zip_snoc (IsEntryOf old.offsets.items) rows old.entries.items row entry made.entries_are is));
+  }
+
+-- ---- errors
+
+pub value_error : (value : Value) (writer : Writer) (index : ℕ) (error : ValueError) → index ≡ length writer.offsets.items → Exceeds error (value_tree value) → IsErrorAfterValue value writer (errors.Value index error)
+value_error value writer index error next exceeds = λ values rows options made.
+    (value, subst (λ (n : ℕ). slice_get (values ++ value ∷ []) n ≡ Some value) (sym (next ∙ values_so_far values rows options writer made)) (at_end values value), exceeds)
+
+pub row_error : (row : Row) (writer : Writer) (index : ℕ) (error : RowError) → index ≡ length writer.entries.items → IsWrongRow writer.options.ip_version (length writer.offsets.items) row error → IsErrorAfterRow row writer (errors.Row index error)
+row_error row writer index error next wrong = λ values rows options made. (
+  row,
+  subst (λ (n : ℕ). slice_get (rows ++ row ∷ []) n ≡ Some row) (sym (next ∙ rows_so_far values rows options writer made)) (at_end rows row),
+  subst (λ (o : Options). IsWrongRow o.ip_version (length values) row error) made.options_are
+      (subst (λ (n : ℕ). IsWrongRow writer.options.ip_version n row error) (values_so_far values rows options writer made) wrong),
+)
+
+-- an error of the first values is one of all, and one of the first rows too
+pub more_values : (values more : List Value) (rows : List Row) (options : Options) (e : WriteError) → IsErrorOf values [] options e → IsErrorOf (values ++ more) rows options e
+more_values values more rows options (errors.Options error) h = h
+more_values values more rows options (errors.Value index error) h = (h.0, at_front values more index h.0 h.1, h.2)
+more_values values more rows options (errors.Row index error) h = let at = h.1 in absurd (cc)
+more_values values more rows options errors.Memory h = h
+more_values values more rows options errors.TooLarge h = h
+more_values values more rows options errors.NotAsMeant h = h
+
+pub more_rows : (values : List Value) (rows more : List Row) (options : Options) (e : WriteError) → IsErrorOf values rows options e → IsErrorOf values (rows ++ more) options e
+more_rows values rows more options (errors.Options error) h = h
+more_rows values rows more options (errors.Value index error) h = h
+more_rows values rows more options (errors.Row index error) h = (h.0, at_front rows more index h.0 h.1, h.2)
+more_rows values rows more options errors.Memory h = h
+more_rows values rows more options errors.TooLarge h = h
+more_rows values rows more options errors.NotAsMeant h = h
+
+pub written_if : (writer : Writer) (section : List ℕ) (r : Result (Vec ℕ Global) WriteError) → section ≡ writer.section.bytes → IfOk r (λ file. IsFileOf writer.options section writer.entries.items file.items) → IfOk r (λ file. Writes writer file.items)
+written_if writer section (Ok file) same f = λ values rows options made. writes_of writer section file.items values rows same f options made
+written_if writer section (Err e) same f = tt
+
+pub file_written : (writer : Writer) (values : List Value) (rows : List Row) (options : Options) (r : Result (Vec ℕ Global) WriteError) → IsMadeOf values rows options writer → IfOk r (λ file. Writes writer file.items) → IfOk r (λ file. IsWritten values rows options file.items)
+file_written writer values rows options (Ok file) made writes = writes values rows options made
+file_written writer values rows options (Err e) made writes = tt
+
+pub file_explained : (writer : Writer) (values : List Value) (rows : List Row) (options : Options) (r : Result (Vec ℕ Global) WriteError) → IsMadeOf values rows options writer → IfErr r (IsErrorAfter writer) → IfErr r (IsErrorOf values rows options)
+file_explained writer values rows options (Ok file) made explained = tt
+file_explained writer values rows options (Err e) made explained = explained values rows options made

@@ -1,0 +1,124 @@
+//! The writer.
+ghost use Rattle.std.specs.Prelude.{[], IfOk, IfErr, OnOk, OnErr};
+ghost use Rattle.mmdb_writer.specs.Errors.{IsErrorOf};
+ghost use Rattle.mmdb_writer.specs.Making.{IsMadeOf, AddsValue, AddsRow, Stays, IsErrorAfterValue, IsErrorAfterRow, IsErrorAfter, Writes};
+ghost use Rattle.mmdb_writer.specs.Written.{IsWritten};
+
+use crate::entries::entry_of;
+use crate::error::WriteError;
+use crate::keys::has_keys_once;
+use crate::limits::{ValueError, check_value};
+use crate::options::Options;
+use crate::row::Row;
+use crate::values::put_value;
+use crate::write::write_file;
+use mmdb_nodes::Entry;
+use mmdb_section::Section;
+use mmdb_value::Value;
+use std::alloc::Global;
+
+/// A file in the making. Of a value only its bytes in the file are kept, and where they are found; of a row 32 bytes.
+#[derive(Drop)]
+pub struct Writer {
+    options: Options,
+    section: Section,
+    /// Where the values begin.
+    offsets: Vec<u32>,
+    /// The entries of the rows.
+    entries: Vec<Entry>,
+}
+
+impl Writer {
+    /// A file without values and rows. Metadata without a type or a description, or later than a signed number of seconds can
+    /// hold, are rejected.
+    pub fn new(alloc: Global, options: Options) -> Result<Writer, WriteError>
+        ensures made { IfOk result (IsMadeOf [] [] options) }
+        ensures explained { IfErr result (IsErrorOf [] [] options) }
+    {
+        options.check()?;
+        Ok(Writer {
+            options,
+            section: Section::new(alloc),
+            offsets: Vec::new(alloc),
+            entries: Vec::new(alloc),
+        })
+    }
+
+    /// Adds a value, and answers its index: how many were added before. One that no reading gives back is rejected, and changes
+    /// nothing. Else it fails for memory, and as `TooLarge`, where texts, arrays, maps or all values have more bytes or parts
+    /// than the format can say.
+    pub fn add_value(&mut self, alloc: Global, value: &Value<'_>) -> Result<usize, WriteError>
+        ensures added { IfOk result (AddsValue value.now self.old self.new) }
+        ensures explained { IfErr result (IsErrorAfterValue value.now self.old) }
+    {
+        let index = self.offsets.len();
+        if let Err(error) = check_value(value) {
+            return Err(WriteError::Value { index, error });
+        }
+        if !has_keys_once(alloc, value)? {
+            let error = ValueError::KeyTwice;
+            return Err(WriteError::Value { index, error });
+        }
+        let offset = put_value(alloc, &mut self.section, value)?;
+        self.offsets.push(offset)?;
+        Ok(index)
+    }
+
+    /// Adds a row. One whose network is of IPv6 in a database of IPv4 is rejected, and one whose value is not among those added so
+    /// far. Else it fails for memory. After an error the file has what it had.
+    pub fn add_row(&mut self, row: Row) -> Result<(), WriteError>
+        ensures added { OnOk result (AddsRow row self.old self.new) }
+        ensures explained { IfErr result (IsErrorAfterRow row self.old) }
+        ensures kept { OnErr result (Stays self.old self.new) }
+    {
+        match entry_of(self.options.ip_version, &self.offsets, row) {
+            Ok(entry) => Ok(self.entries.push(entry)?),
+            Err(error) => Err(WriteError::Row {
+                index: self.entries.len(),
+                error,
+            }),
+        }
+    }
+
+    /// The bytes of the file, in which each address has the value of the row with the longest prefix that has it, of equal ones
+    /// that of the last, whatever the order of the others; where no row has it, or that one has no value, it has none.
+    ///
+    /// On `Ok` a reader opens the file, with the metadata that the options ask for, and records of the size that was asked for or
+    /// of the least that serves; `verify` accepts it; and each lookup that may be asked succeeds and finds what the rows say, which
+    /// `decode::<Value>` gives back. The file is read back before it is handed out: what is not proved of it is tested then.
+    ///
+    /// It fails for memory; as `TooLarge`, where nodes, values or metadata have more bytes or numbers than the format can say; and
+    /// as `NotAsMeant`, where the file is not read back as it was meant, as with metadata that pass a reader's limits.
+    pub fn write(self, alloc: Global) -> Result<Vec<u8>, WriteError>
+        ensures written { IfOk result (λ file. Writes self file.items) }
+        ensures explained { IfErr result (IsErrorAfter self) }
+    {
+        let Writer {
+            options,
+            section,
+            mut entries,
+            ..
+        } = self;
+        write_file(alloc, &options, section.bytes(), &mut entries)
+    }
+}
+
+/// Writes a file of values and rows at hand: what a `Writer` writes, to which they are added in order.
+pub fn write_database(
+    alloc: Global,
+    values: &[Value<'_>],
+    rows: &[Row],
+    options: Options,
+) -> Result<Vec<u8>, WriteError>
+    ensures written { IfOk result (λ file. IsWritten values.now rows.now options file.items) }
+    ensures explained { IfErr result (IsErrorOf values.now rows.now options) }
+{
+    let mut writer = Writer::new(alloc, options)?;
+    for value in values {
+        writer.add_value(alloc, value)?;
+    }
+    for row in rows {
+        writer.add_row(*row)?;
+    }
+    writer.write(alloc)
+}

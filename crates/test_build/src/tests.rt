@@ -1,0 +1,5 @@
+mod bad;
+mod disk;
+mod faults;
+mod made;
+mod run;

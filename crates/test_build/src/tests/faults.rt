@@ -1,0 +1,117 @@
+//! Calls of the system that fail, and memory that runs out: the file is the old one or the new one, whole.
+use super::disk::Disk;
+use super::run::{Run, run_on};
+use mmdb_vectors::base::BASE_FILE;
+use mmdb_vectors::hoard::Hoard;
+use std::alloc::Global;
+use std::process::Abort;
+
+const ROWS: &[u8] =
+    b"{\"network\":\"1.0.0.0/8\",\"record\":\"a\"}\n{\"network\":\"2.0.0.0/8\",\"record\":\"b\"}\n";
+
+const WORDS: &[&str] = &[
+    "mmdb",
+    "build",
+    "out.mmdb",
+    "--from",
+    "rows",
+    "--types-like",
+    "out.mmdb",
+    "--check",
+];
+
+// A disk with an old file, rows, and what a run left that was killed.
+fn disk_with(alloc: Global, fails_at: u32) -> Disk {
+    let disk = Disk::new(alloc, fails_at, Some("7"));
+    let _ = disk.put("out.mmdb", BASE_FILE);
+    let _ = disk.put("rows", ROWS);
+    let _ = disk.put(".out.mmdb.tmp-5", b"left");
+    let _ = disk.put(".out.mmdb.tmp-x", b"another's");
+    disk
+}
+
+// What a run without a fault makes, and how many calls it has.
+fn without_fault(rt: &impl Abort, alloc: Global) -> (Vec<u8>, u32) {
+    let disk = disk_with(alloc, u32::MAX);
+    let run = run_on(alloc, &disk, WORDS, b"");
+    assert!(rt; run.status == Some(0), "{}", run.err());
+    assert!(rt; disk.len() == 3, "a file is left");
+    let made = disk.get("out.mmdb").expect(rt, "a file");
+    assert!(rt; made.as_slice() != BASE_FILE, "the old file");
+    (made, disk.calls())
+}
+
+// Asserts that the file is the old one or the new one, and the new one where all is said to be done.
+fn assert_whole(rt: &impl Abort, run: &Run, file: &[u8], made: &[u8]) {
+    let is_new = file == made;
+    assert!(rt; is_new || file == BASE_FILE, "neither file: {}", run.err());
+    assert!(rt; is_new || run.status != Some(0), "not done");
+}
+
+#[test]
+fn calls_that_fail_in_turn(rt: HostRuntime) {
+    let alloc = rt.alloc();
+    let (made, calls) = without_fault(&rt, alloc);
+    let mut failed = 0u32;
+    for fails_at in 0..calls {
+        let disk = disk_with(alloc, fails_at);
+        let run = run_on(alloc, &disk, WORDS, b"");
+        let file = disk.get("out.mmdb").expect(&rt, "a file");
+        assert_whole(&rt, &run, &file, &made);
+        if run.status == Some(1) {
+            failed = failed.saturating_add(1);
+            assert!(rt; run.err().contains("mmdb: "), "nothing is said");
+        }
+    }
+    assert!(rt; failed > 10, "{failed} of {calls} runs failed");
+}
+
+#[test]
+fn what_is_no_database_stays(rt: HostRuntime) {
+    let alloc = rt.alloc();
+    let disk = disk_with(alloc, u32::MAX);
+    let _ = disk.put("out.mmdb", ROWS);
+    let words = &["mmdb", "build", "out.mmdb", "--from", "rows"];
+    let run = run_on(alloc, &disk, words, b"");
+    let file = disk.get("out.mmdb").expect(&rt, "a file");
+    assert!(rt;
+        run.status == Some(1) && file.as_slice() == ROWS,
+        "{}",
+        run.err()
+    );
+}
+
+/// By how many bytes budgets differ, and how many there are.
+const STEP: usize = 16_384;
+
+const BUDGETS: usize = 200;
+
+// A run with so much memory.
+fn with_budget(alloc: Global, disk: &Disk, budget: usize) -> Run {
+    let hoard = Hoard::around(alloc, budget);
+    let run = run_on(alloc, disk, WORDS, b"");
+    drop(hoard);
+    run
+}
+
+#[test]
+fn memory_that_runs_out(rt: HostRuntime) {
+    let alloc = rt.alloc();
+    let (made, _) = without_fault(&rt, alloc);
+    let (mut done, mut out_of_memory) = (0u32, 0u32);
+    for step in 0..BUDGETS {
+        let disk = disk_with(alloc, u32::MAX);
+        let run = with_budget(alloc, &disk, step.saturating_mul(STEP));
+        let file = disk.get("out.mmdb").expect(&rt, "a file");
+        assert_whole(&rt, &run, &file, &made);
+        if run.status == Some(0) {
+            done = done.saturating_add(1);
+        } else {
+            out_of_memory = out_of_memory.saturating_add(1);
+        }
+    }
+    assert!(rt;
+        done > 0 && out_of_memory > 0,
+        "{done} done, {out_of_memory} out of memory"
+    );
+}

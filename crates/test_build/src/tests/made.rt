@@ -1,0 +1,278 @@
+//! Files that are made, read by the library.
+use super::disk::Disk;
+use super::run::run_on;
+use mmdb_reader::{MaxMindDbError, Reader};
+use mmdb_value::Value;
+use std::alloc::Global;
+use std::net::IpAddr;
+use std::process::Abort;
+
+/// Rows, the options that they are taken with, and what addresses have then.
+struct Case {
+    options: &'static [&'static str],
+    rows: &'static str,
+    answers: &'static [(&'static str, &'static str)],
+}
+
+/// What an address has that has no record.
+const NONE: &str = "none";
+
+const CASES: &[Case] = &[
+    Case {
+        options: &[],
+        rows: "{\"network\":\"1.0.0.0/8\",\"record\":{\"a\":1,\"b\":-1,\"c\":1.5,\"d\":true,\"e\":\"x\",\"f\":4294967296,\"g\":18446744073709551616,\"h\":[1,\"y\"],\"i\":{}}}\n",
+        answers: &[(
+            "1.2.3.4",
+            "1.0.0.0/8 Map([(\"a\", U32(1)), (\"b\", I32(-1)), (\"c\", Double(Double { bits: 4609434218613702656 })), (\"d\", Bool(true)), (\"e\", String(\"x\")), (\"f\", U64(4294967296)), (\"g\", U128(18446744073709551616)), (\"h\", Array([U32(1), String(\"y\")])), (\"i\", Map([]))])",
+        )],
+    },
+    // the longest prefix, of equal ones the last, whatever the order of the others
+    Case {
+        options: &[],
+        rows: "{\"network\":\"1.2.3.0/24\",\"record\":\"b\"}\n{\"network\":\"1.0.0.0/8\",\"record\":\"a\"}\r\n\n{\"network\":\"1.2.0.0/16\",\"record\":null}\n{\"record\":\"c\",\"network\":\"1.2.3.0/24\"}",
+        answers: &[
+            ("1.2.3.4", "1.2.3.0/24 String(\"c\")"),
+            ("1.2.9.9", NONE),
+            ("1.9.9.9", "1.8.0.0/13 String(\"a\")"),
+            ("2.0.0.0", NONE),
+        ],
+    },
+    // a range as its fewest blocks
+    Case {
+        options: &["--reserved", "keep"],
+        rows: "{\"range\":[\"10.0.0.1\",\"10.0.0.6\"],\"record\":7}\n{\"range\":[\"::ffff:ffff:ffff:ffff\",\"0:0:0:1::\"],\"record\":8}\n",
+        answers: &[
+            ("10.0.0.0", NONE),
+            ("10.0.0.1", "10.0.0.1/32 U32(7)"),
+            ("10.0.0.3", "10.0.0.2/31 U32(7)"),
+            ("10.0.0.5", "10.0.0.4/31 U32(7)"),
+            ("10.0.0.6", "10.0.0.6/32 U32(7)"),
+            ("10.0.0.7", NONE),
+            ("::ffff:ffff:ffff:fffe", NONE),
+            ("::ffff:ffff:ffff:ffff", "::ffff:ffff:ffff:ffff/128 U32(8)"),
+            ("0:0:0:1::", "0:0:0:1::/128 U32(8)"),
+            ("0:0:0:1::1", NONE),
+        ],
+    },
+    Case {
+        options: &["--ip-version", "4"],
+        rows: "{\"range\":[\"0.0.0.0\",\"255.255.255.255\"],\"record\":7}\n",
+        answers: &[
+            ("9.9.9.9", "0.0.0.0/1 U32(7)"),
+            ("200.0.0.1", "128.0.0.0/1 U32(7)"),
+        ],
+    },
+    // members and columns that are paths
+    Case {
+        options: &[],
+        rows: "{\"network\":\"1.0.0.0/8\",\"country.iso_code\":\"US\",\"subs.0.x\":1,\"city\":null,\"subs.1.x\":[2]}\n{\"network\":\"2.0.0.1\",\"\":5}\n{\"network\":\"3.0.0.1\",\"a\":null}\n",
+        answers: &[
+            (
+                "1.1.1.1",
+                "1.0.0.0/8 Map([(\"country\", Map([(\"iso_code\", String(\"US\"))])), (\"subs\", Array([Map([(\"x\", U32(1))]), Map([(\"x\", Array([U32(2)]))])]))])",
+            ),
+            ("2.0.0.1", "2.0.0.1/32 U32(5)"),
+            ("3.0.0.1", NONE),
+        ],
+    },
+    Case {
+        options: &[
+            "--format",
+            "csv",
+            "--type",
+            "asn=uint32",
+            "--type",
+            "geo.lat=float",
+        ],
+        rows: "network,asn,\"name\",geo.lat\n1.0.0.0/8,64500,\"A, \"\"B\"\"\n\",\n2.0.0.0/8,,,\n3.0.0.0/8,,7,0.5\n4.0.0.0/8,,7,0.5\n",
+        answers: &[
+            (
+                "1.1.1.1",
+                "1.0.0.0/8 Map([(\"asn\", U32(64500)), (\"name\", String(\"A, \\\"B\\\"\\n\"))])",
+            ),
+            ("2.1.1.1", NONE),
+            (
+                "3.1.1.1",
+                "3.0.0.0/8 Map([(\"name\", String(\"7\")), (\"geo\", Map([(\"lat\", Float(Float { bits: 1056964608 }))]))])",
+            ),
+            (
+                "4.1.1.1",
+                "4.0.0.0/8 Map([(\"name\", String(\"7\")), (\"geo\", Map([(\"lat\", Float(Float { bits: 1056964608 }))]))])",
+            ),
+        ],
+    },
+    Case {
+        options: &[
+            "--format",
+            "tsv",
+            "--range-columns",
+            "from,to",
+            "--type",
+            "ok=bool",
+            "--type",
+            "raw=bytes",
+        ],
+        rows: "from\tok\tto\traw\n1.0.0.0\ttrue\t1.0.0.1\tAAE=\n1.0.0.2\tfalse\t1.0.0.2\t\n",
+        answers: &[(
+            "1.0.0.1",
+            "1.0.0.0/31 Map([(\"ok\", Bool(true)), (\"raw\", Bytes([0, 1]))])",
+        )],
+    },
+    Case {
+        options: &[
+            "--network-column",
+            "cidr",
+            "--skip-bad",
+            "--reserved",
+            "skip",
+        ],
+        rows: "{\"cidr\":\"1.0.0.0/8\",\"record\":\"a\"}\nnonsense\n{\"cidr\":\"10.0.0.0/9\",\"record\":\"a\"}\n{\"cidr\":\"10.0.0.0/7\",\"record\":\"b\"}\n",
+        answers: &[
+            ("1.0.0.0", "1.0.0.0/8 String(\"a\")"),
+            ("10.0.0.0", "10.0.0.0/7 String(\"b\")"),
+        ],
+    },
+];
+
+// The network and the record of an address.
+fn answer_of(
+    alloc: Global,
+    reader: &Reader<&[u8]>,
+    address: &str,
+) -> Result<String, MaxMindDbError> {
+    let Ok(address) = address.parse::<IpAddr>() else {
+        return Ok(String::from_str(alloc, "no address")?);
+    };
+    let found = reader.lookup(address)?;
+    let record: Option<Value<'_>> = found.decode(alloc)?;
+    let network = found.network()?;
+    let text = match &record {
+        Some(record) => format!(in alloc; "{network} {record:?}"),
+        None => String::from_str(alloc, NONE),
+    };
+    drop(record);
+    Ok(text?)
+}
+
+// Whether each address has what it is to have in a file.
+fn assert_answers(rt: &impl Abort, alloc: Global, file: &[u8], answers: &[(&str, &str)]) {
+    let reader = Reader::from_source(alloc, file).expect(rt, "a file");
+    for (address, wanted) in answers {
+        let answer = answer_of(alloc, &reader, address).expect(rt, "an answer");
+        assert!(rt; answer.as_str() == *wanted, "{address}: {answer}");
+    }
+}
+
+// The words of a run with options.
+fn words_with<'a>(alloc: Global, options: &[&'a str]) -> Vec<&'a str> {
+    let mut words = Vec::new(alloc);
+    let _ = words.extend_from_slice(&["mmdb", "build", "out.mmdb", "--from", "-", "--check"]);
+    let _ = words.extend_from_slice(options);
+    words
+}
+
+#[test]
+fn rows_are_found_again(rt: HostRuntime) {
+    let alloc = rt.alloc();
+    for case in CASES {
+        let disk = Disk::new(alloc, u32::MAX, None);
+        let words = words_with(alloc, case.options);
+        let run = run_on(alloc, &disk, &words, case.rows.as_bytes());
+        assert!(rt; run.status == Some(0), "{}", run.err());
+        let file = disk.get("out.mmdb").expect(&rt, "a file");
+        assert_answers(&rt, alloc, &file, case.answers);
+    }
+}
+
+/// A row whose values have types that JSON does not show, and what it is then.
+const TYPED: (&str, &str) = (
+    "{\"network\":\"1.0.0.0/8\",\"record\":{\"a\":[{\"b\":1}],\"c\":0.1,\"d\":\"AAE=\"}}\n",
+    "1.0.0.0/8 Map([(\"a\", Array([Map([(\"b\", U16(1))])])), (\"c\", Float(Float { bits: 1036831949 })), (\"d\", Bytes([0, 1]))])",
+);
+
+#[test]
+fn types_are_those_of_a_file(rt: HostRuntime) {
+    let alloc = rt.alloc();
+    let disk = Disk::new(alloc, u32::MAX, Some("5"));
+    let named = &[
+        "--type",
+        "a.0.b=uint16",
+        "--type",
+        "c=float",
+        "--type",
+        "d=bytes",
+    ];
+    let words = words_with(alloc, named);
+    let run = run_on(alloc, &disk, &words, TYPED.0.as_bytes());
+    assert!(rt; run.status == Some(0), "{}", run.err());
+    let first = disk.get("out.mmdb").expect(&rt, "a file");
+    assert_answers(&rt, alloc, &first, &[("1.1.1.1", TYPED.1)]);
+    let words = words_with(alloc, &["--types-like", "out.mmdb"]);
+    let run = run_on(alloc, &disk, &words, TYPED.0.as_bytes());
+    assert!(rt; run.status == Some(0), "{}", run.err());
+    let second = disk.get("out.mmdb").expect(&rt, "a file");
+    assert!(rt; first == second, "other bytes");
+}
+
+/// Options, and what metadata have then.
+const METADATA: &[(&[&str], &str)] = &[
+    (&[], "Custom 7 6 24 {\"en\": \"Custom\"} []"),
+    (
+        &[
+            "--database-type",
+            "T",
+            "--description",
+            "en=D=E",
+            "--description",
+            "de=F",
+            "--language",
+            "de",
+        ],
+        "T 7 6 24 {\"de\": \"F\", \"en\": \"D=E\"} [\"de\"]",
+    ),
+    (
+        &[
+            "--build-epoch",
+            "9",
+            "--ip-version",
+            "4",
+            "--record-size",
+            "32",
+        ],
+        "Custom 9 4 32 {\"en\": \"Custom\"} []",
+    ),
+];
+
+// What the metadata of a file have.
+fn metadata_of(alloc: Global, file: &[u8]) -> Result<String, MaxMindDbError> {
+    let reader = Reader::from_source(alloc, file)?;
+    let metadata = reader.metadata();
+    Ok(format!(in alloc;
+        "{} {} {} {} {:?} {:?}",
+        metadata.database_type,
+        metadata.build_epoch,
+        metadata.ip_version,
+        metadata.record_size,
+        metadata.description,
+        metadata.languages
+    )?)
+}
+
+#[test]
+fn metadata_are_as_asked(rt: HostRuntime) {
+    let alloc = rt.alloc();
+    for (options, wanted) in METADATA {
+        let disk = Disk::new(alloc, u32::MAX, Some("7"));
+        let words = words_with(alloc, options);
+        let run = run_on(
+            alloc,
+            &disk,
+            &words,
+            b"{\"network\":\"1.0.0.0/8\",\"record\":1}\n",
+        );
+        assert!(rt; run.status == Some(0), "{}", run.err());
+        let file = disk.get("out.mmdb").expect(&rt, "a file");
+        let metadata = metadata_of(alloc, &file).expect(&rt, "metadata");
+        assert!(rt; metadata.as_str() == *wanted, "{metadata}");
+    }
+}
