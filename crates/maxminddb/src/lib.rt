@@ -1,4 +1,4 @@
-//! A reader of MaxMind DB files with the records of GeoIP2 and GeoLite2: what users name of the crates below.
+//! A reader and a writer of MaxMind DB files with the records of GeoIP2 and GeoLite2: what users name of the crates below.
 #![tactic(auto)]
 
 pub mod laws;
@@ -16,3 +16,4 @@ pub use mmdb_value::{
     RawValue, Value, check_value, decoding, decoding_at, decoding_at_path, empty_container,
     fuzzing as fuzzing, invalid_database, invalid_database_at, invalid_input, resource_limit_at,
 };
+pub use mmdb_writer as writer;

@@ -17,9 +17,9 @@ use Rattle.mmdb_writer.specs.declared.row.RowError.{RowError}
 use Rattle.mmdb_writer.specs.declared.writer.Writer.{Writer}
 use Rattle.mmdb_writer.specs.Errors.{IsWrongRow, IsErrorOf}
 use Rattle.mmdb_writer.specs.Limits.{CanBeRead, Exceeds}
-use Rattle.mmdb_writer.specs.Making.{AllBegin, IsOffsetOf, IsEntryOf, IsMadeOf, IsErrorAfterValue, IsErrorAfterRow, IsErrorAfter, Writes}
+use Rattle.mmdb_writer.specs.Making.{AllBegin, IsOffsetOf, IsEntryOf, IsMadeOf, Stays, IsErrorAfterValue, IsErrorAfterRow, IsErrorAfter, Writes}
 use Rattle.mmdb_writer.specs.Written.{IsWritten}
-use Rattle.mmdb_writer.specs.Working.{Puts, IsFileOf}
+use Rattle.mmdb_writer.specs.Working.{Puts, Keeps, IsFileOf}
 use Rattle.mmdb_writer.proofs.FileLemmas.{writes_of}
 use Rattle.mmdb_writer.proofs.RowLemmas.{zip_snoc}
 use Rattle.mmdb_writer.proofs.SectionLemmas.{still_all, all_snoc}
@@ -105,6 +105,19 @@ module _ (values : List Value) (rows : List Row) (options : Options) (old : Writ
     entries_are = subst (λ os. AllZip (IsEntryOf os.items) (rows ++ row ∷ []) new.entries.items) (sym offsets)
         (subst (AllZip (IsEntryOf old.offsets.items) (rows ++ row ∷ [])) (sym grown) (zip_snoc (IsEntryOf old.offsets.items) rows old.entries.items row entry made.entries_are is));
   }
+
+-- a section that has more, and nothing else that is new
+pub stays_grown : (old new : Writer) → new.options ≡ old.options → new.offsets.items ≡ old.offsets.items → new.entries.items ≡ old.entries.items → Keeps old.section new.section → Stays old new
+stays_grown old new same offsets entries keeps = λ values rows options made.
+    let h = keeps made.tiles made.has in
+    record {
+      options_are = same ∙ made.options_are;
+      readable = made.readable;
+      tiles = made.tiles ++ h.0;
+      has = h.1;
+      begin = subst (AllBegin (made.tiles ++ h.0) (map value_tree values)) (sym offsets) (still_all made.tiles h.0 (map value_tree values) old.offsets.items made.begin);
+      entries_are = subst (λ (os : List ℕ). AllZip (IsEntryOf os) rows new.entries.items) (sym offsets) (subst (AllZip (IsEntryOf old.offsets.items) rows) (sym entries) made.entries_are);
+    }
 
 -- ---- errors
 

@@ -10,7 +10,7 @@ use Rattle.mmdb_section.specs.declared.value.Value.TheVariants as values
 use Rattle.mmdb_section.specs.Sections.{Tile, IsTile, IsSection, IsPart, AreParts, ArePairs, IsValue, SectionView, Holds}
 use Rattle.mmdb_value.specs.AnyValue.{trees_of, pairs_of}
 use Rattle.mmdb_writer.specs.Making.{AllBegin}
-use Rattle.mmdb_writer.specs.Working.{Puts, HoldsParts, HoldsPairs}
+use Rattle.mmdb_writer.specs.Working.{Puts, Keeps, HoldsParts, HoldsPairs}
 
 -- ---- more values
 
@@ -111,3 +111,23 @@ pub number_put : (r : Result ℕ SectionError) (n : SpecNumber) (w : Tree) (old 
     → IfOk r (λ offset. (tiles : List Tile) (v : Tree) → IsSection tiles mid → IsValue tiles (values.Number n) v → Holds tiles v new (At offset)) → IfOk r (λ offset. Puts w old new (At offset))
 number_put (Ok offset) n w old mid new puts h = λ tiles is. let p = puts tiles is in holds_after tiles p.more w new (At offset) (h (tiles ++ p.more) w p.has p.is_part)
 number_put (Err e) n w old mid new puts h = tt
+
+-- ---- sections that have what they had
+
+pub same_kept : (old new : SectionView) → new ≡ old → Keeps old new
+same_kept old new same = λ tiles is. ([], subst (λ (ts : List Tile). IsSection ts new) (sym (append-nil tiles)) (subst (IsSection tiles) (sym same) is))
+
+pub put_kept : (v : Tree) (old new : SectionView) (part : Part) → Puts v old new part → Keeps old new
+put_kept v old new part puts = λ tiles is. let h = puts tiles is in (h.more, h.has)
+
+pub then_kept : (old mid new : SectionView) → Keeps old mid → Keeps mid new → Keeps old new
+then_kept old mid new first second = λ tiles is.
+    let h = first tiles is in
+    let k = second (tiles ++ h.0) h.1 in
+    (h.0 ++ k.0, grown tiles h.0 k.0 new k.1)
+
+pub parts_kept : (vs : List Tree) (old new : SectionView) (parts : List Part) → ((tiles : List Tile) → IsSection tiles old → HoldsParts tiles vs new parts) → Keeps old new
+parts_kept vs old new parts holds = λ tiles is. let h = holds tiles is in (h.more, h.has)
+
+pub pairs_kept : (vs : List (List ℕ × Tree)) (old new : SectionView) (parts : List (Part × Part)) → ((tiles : List Tile) → IsSection tiles old → HoldsPairs tiles vs new parts) → Keeps old new
+pairs_kept vs old new parts holds = λ tiles is. let h = holds tiles is in (h.more, h.has)

@@ -37,6 +37,10 @@ pub record IsCertified (file : List ℕ) (options : Options) (tree : SearchTree)
 abbrev pub Puts : Tree → SectionView → SectionView → Part → Type 0
 Puts v old new part = (tiles : List Tile) → IsSection tiles old → Holds tiles v new part
 
+-- it has them, and perhaps more
+abbrev pub Keeps : SectionView → SectionView → Type 0
+Keeps old new = (tiles : List Tile) → IsSection tiles old → (more : List Tile) × IsSection (tiles ++ more) new
+
 -- The section has these values, and perhaps more, and the parts stand for the trees, or pairs of them.
 pub record HoldsParts (tiles : List Tile) (vs : List Tree) (section : SectionView) (parts : List Part) : Type 0 where
   pub more : List Tile

@@ -7,21 +7,28 @@ use crate::row::RowError;
 use mmdb_nodes::TreeError;
 use mmdb_section::SectionError;
 use std::alloc::{AllocError, AllocFailed};
+use thiserror::Error;
 
 /// Why no file is written.
-#[derive(Clone, Copy, Debug, PartialEq, Eq)]
+#[derive(Clone, Copy, Debug, PartialEq, Eq, Error)]
 pub enum WriteError {
     /// Out of memory.
+    #[error("out of memory")]
     Memory,
     /// Nodes and values have more bytes or numbers than records and pointers can have.
+    #[error("too large for the format")]
     TooLarge,
     /// The options ask for metadata that are not accepted.
+    #[error("{0}")]
     Options(OptionsError),
     /// No reading gives back the value of this index.
+    #[error("value {index}: {error}")]
     Value { index: usize, error: ValueError },
     /// The row of this index cannot be written.
+    #[error("row {index}: {error}")]
     Row { index: usize, error: RowError },
     /// The file that was made is not read back as it was meant: its metadata pass a reader's limits.
+    #[error("not read back as it was meant")]
     NotAsMeant,
 }
 

@@ -5,17 +5,22 @@ ghost use Rattle.mmdb_writer.specs.Limits.{IsWithinLimits, Exceeds};
 ghost use Rattle.mmdb_writer.specs.Working.{TakesRoom, ExceedsRoom};
 
 use mmdb_value::Value;
+use thiserror::Error;
 
 /// Why no reading gives a value back.
-#[derive(Clone, Copy, Debug, PartialEq, Eq)]
+#[derive(Clone, Copy, Debug, PartialEq, Eq, Error)]
 pub enum ValueError {
     /// It has more than 65,536 values: itself, its parts and their parts, keys included.
+    #[error("more than 65,536 values")]
     TooManyValues,
     /// Its texts, keys included, and byte strings have more than 2,097,152 bytes.
+    #[error("more than 2,097,152 bytes of texts and byte strings")]
     TooManyBytes,
     /// More than 64 arrays and maps stand in one another.
+    #[error("more than 64 arrays and maps in one another")]
     TooDeep,
     /// In a map a key stands twice.
+    #[error("a key stands twice in a map")]
     KeyTwice,
 }
 

@@ -3,15 +3,19 @@ ghost use Rattle.std.specs.Prelude.{IfErr};
 
 use mmdb_nodes::{IpVersion, RecordSize};
 use std::collections::BTreeMap;
+use thiserror::Error;
 
 /// Why metadata are not written.
-#[derive(Clone, Copy, Debug, PartialEq, Eq)]
+#[derive(Clone, Copy, Debug, PartialEq, Eq, Error)]
 pub enum OptionsError {
     /// The database has no type.
+    #[error("no database type")]
     NoType,
     /// Nothing describes the database.
+    #[error("no description")]
     NoDescription,
     /// It is built later than a signed number of seconds can hold.
+    #[error("built too late for a signed number of seconds")]
     TooLate,
 }
 

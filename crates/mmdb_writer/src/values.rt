@@ -1,8 +1,8 @@
 //! Values that are put into a data section.
-ghost use Rattle.std.specs.Prelude.{IfOk};
+ghost use Rattle.std.specs.Prelude.{IfOk, OnErr};
 ghost use Rattle.mmdb_section.specs.declared.value.Part.TheVariants.{At};
 ghost use Rattle.mmdb_value.specs.Values.{value_tree};
-ghost use Rattle.mmdb_writer.specs.Working.{Puts};
+ghost use Rattle.mmdb_writer.specs.Working.{Puts, Keeps};
 
 use mmdb_section::{Number, Part, Section, SectionError, Value as SectionValue};
 use mmdb_value::Value;
@@ -10,7 +10,8 @@ use std::alloc::Global;
 
 // Adds a value, its parts first, and answers the part that stands for it.
 fn add_part(alloc: Global, section: &mut Section, value: &Value<'_>) -> Result<Part, SectionError>
-    ensures { IfOk result (λ part. Puts (value_tree value.now) section.old section.new part) }
+    ensures ok { IfOk result (λ part. Puts (value_tree value.now) section.old section.new part) }
+    ensures kept { OnErr result (Keeps section.old section.new) }
 {
     match value {
         Value::String(text) => Ok(Part::At(section.add(alloc, SectionValue::Text(*text))?)),
@@ -51,8 +52,9 @@ pub(crate) fn put_value(
     section: &mut Section,
     value: &Value<'_>,
 ) -> Result<u32, SectionError>
-    ensures { IfOk result
+    ensures ok { IfOk result
         (λ offset. Puts (value_tree value.now) section.old section.new (At offset)) }
+    ensures kept { OnErr result (Keeps section.old section.new) }
 {
     match add_part(alloc, section, value)? {
         Part::At(offset) => Ok(offset),

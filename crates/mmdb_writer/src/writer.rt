@@ -44,12 +44,13 @@ impl Writer {
         })
     }
 
-    /// Adds a value, and answers its index: how many were added before. One that no reading gives back is rejected, and changes
-    /// nothing. Else it fails for memory, and as `TooLarge`, where texts, arrays, maps or all values have more bytes or parts
-    /// than the format can say.
+    /// Adds a value, and answers its index: how many were added before. One that no reading gives back is rejected. Else it fails
+    /// for memory, and as `TooLarge`, where texts, arrays, maps or all values have more bytes or parts than the format can say.
+    /// After an error the file has the values and rows that it had.
     pub fn add_value(&mut self, alloc: Global, value: &Value<'_>) -> Result<usize, WriteError>
         ensures added { IfOk result (AddsValue value.now self.old self.new) }
         ensures explained { IfErr result (IsErrorAfterValue value.now self.old) }
+        ensures kept { OnErr result (Stays self.old self.new) }
     {
         let index = self.offsets.len();
         if let Err(error) = check_value(value) {
@@ -65,7 +66,8 @@ impl Writer {
     }
 
     /// Adds a row. One whose network is of IPv6 in a database of IPv4 is rejected, and one whose value is not among those added so
-    /// far. Else it fails for memory. After an error the file has what it had.
+    /// far. Else it fails for memory. After an error the file has the values and
+    /// rows that it had.
     pub fn add_row(&mut self, row: Row) -> Result<(), WriteError>
         ensures added { OnOk result (AddsRow row self.old self.new) }
         ensures explained { IfErr result (IsErrorAfterRow row self.old) }
