@@ -164,14 +164,14 @@ impl Taken {
     ) -> Result<(), InputError> {
         let mut checked = range.networks();
         for _ in 0..MOST_NETWORKS {
-            match checked.next() {
+            match checked.next_network() {
                 Some(network) => self.check(task, network)?,
                 None => break,
             }
         }
         let mut taken = range.networks();
         for _ in 0..MOST_NETWORKS {
-            match taken.next() {
+            match taken.next_network() {
                 Some(network) => self.put(task, network, value, line)?,
                 None => break,
             }
