@@ -10,6 +10,9 @@ use mmdb_value::Value;
 use mmdb_writer::{IpVersion, Row, ValueError, WriteError, Writer};
 use std::alloc::{AllocError, Global};
 
+/// A range has at most two networks for each bit of its addresses.
+const MOST_NETWORKS: u32 = 256;
+
 /// A network that was met, and its line.
 #[derive(Clone, Copy)]
 struct Met {
@@ -159,11 +162,19 @@ impl Taken {
         value: Option<usize>,
         line: u64,
     ) -> Result<(), InputError> {
-        for network in range.networks() {
-            self.check(task, network)?;
+        let mut checked = range.networks();
+        for _ in 0..MOST_NETWORKS {
+            match checked.next_network() {
+                Some(network) => self.check(task, network)?,
+                None => break,
+            }
         }
-        for network in range.networks() {
-            self.put(task, network, value, line)?;
+        let mut taken = range.networks();
+        for _ in 0..MOST_NETWORKS {
+            match taken.next_network() {
+                Some(network) => self.put(task, network, value, line)?,
+                None => break,
+            }
         }
         Ok(())
     }

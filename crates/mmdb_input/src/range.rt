@@ -73,10 +73,9 @@ fn free_bits(first: u128, last: u128) -> u32 {
     aligned.min(fitting)
 }
 
-impl Iterator for RangeNetworks {
-    type Item = IpNetwork;
-
-    fn next(&mut self) -> Option<IpNetwork> {
+impl RangeNetworks {
+    /// The next network, none behind the last.
+    pub fn next_network(&mut self) -> Option<IpNetwork> {
         let range = self.left?;
         let free = free_bits(range.first, range.last).min(128);
         let end = range.first | low_bits(free);
