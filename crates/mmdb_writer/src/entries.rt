@@ -51,7 +51,7 @@ pub(crate) fn put_in_order(
     if !are_ordered(entries) {
         entries.sort_by_key(|entry| (entry.first, entry.prefix))?;
     }
-    if are_ordered(entries) && all_fit(entries, version, data_len) {
+    if all_fit(entries, version, data_len) {
         Ok(())
     } else {
         Err(WriteError::NotAsMeant)

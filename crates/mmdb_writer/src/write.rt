@@ -15,6 +15,15 @@ use std::alloc::Global;
 /// What stands before the metadata.
 const MARKER: [u8; 14] = *b"\xAB\xCD\xEFMaxMind.com";
 
+// How many bytes a file has: so many are taken at once, since it may be large.
+fn file_len(tree: &SearchTree, section_len: usize, metadata_len: usize) -> usize {
+    tree.bytes
+        .len()
+        .saturating_add(SEPARATOR + MARKER.len())
+        .saturating_add(section_len)
+        .saturating_add(metadata_len)
+}
+
 // The bytes of a file: the tree, the separator, the data section, the marker and the metadata.
 fn file_of(
     alloc: Global,
@@ -25,12 +34,13 @@ fn file_of(
     ensures { IfOk result (λ file. BeginsWith tree.now.bytes.items section.now file.items) }
 {
     let separator = [0; SEPARATOR];
-    let mut file = Vec::new(alloc);
+    let metadata = metadata_bytes(alloc, options, tree)?;
+    let len = file_len(tree, section.len(), metadata.len());
+    let mut file = Vec::with_capacity(alloc, len)?;
     file.extend_from_slice(&tree.bytes)?;
     file.extend_from_slice(&separator)?;
     file.extend_from_slice(section)?;
     file.extend_from_slice(&MARKER)?;
-    let metadata = metadata_bytes(alloc, options, tree)?;
     file.extend_from_slice(&metadata)?;
     Ok(file)
 }

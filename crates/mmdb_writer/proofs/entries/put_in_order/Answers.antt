@@ -1,13 +1,13 @@
-use Rattle.std.proofs.Common.{rules, ◌≡◌, ◌⊎◌, inl, inr, ℕ, eqb, Bool, true, false, not, ◌&&◌, arith, Ordering, Less, Equal, Greater, is_lt, nat_cmp, List, [], ◌∷◌, refl, sym, ap, ◌∙◌, subst, Vec, Global}
+use Rattle.std.proofs.Common.{◌+◌, ◌<◌, suc, length, get_or, rules, ◌≡◌, ◌⊎◌, inl, inr, ℕ, eqb, Bool, true, false, not, ◌&&◌, arith, Ordering, Less, Equal, Greater, is_lt, nat_cmp, List, [], ◌∷◌, refl, sym, ap, ◌∙◌, subst, Vec, Global}
 use Rattle.std.specs.Cmp.{nat_cmp_is}
 use Rattle.std.specs.Ordering.{ordering_then}
-use Rattle.std.proofs.lemmas.Bool.{cases_lt}
+use Rattle.std.proofs.lemmas.Bool.{cases_lt, false≢true}
 use Rattle.std.proofs.lemmas.Bool.Decides.{nat_tests}
 use Rattle.std.specs.List.{AllByRecursion, filter}
 use Rattle.std.specs.List.Sorted.{ties}
 use Rattle.std.proofs.lemmas.List.Sorted.{answers_always}
 use Rattle.mmdb_nodes.specs.declared.entry.Entry.{Entry}
-use Rattle.mmdb_nodes.specs.Entries.{IsEntry, IsOrdered}
+use Rattle.mmdb_nodes.specs.Entries.{IsEntry, ComesBefore, IsOrdered}
 use Rattle.mmdb_writer.specs.Working.{is_same_block}
 use Rattle.mmdb_writer.proofs.entries.put_in_order.Goals as goal
 use Rattle.mmdb_writer.proofs.entries.put_in_order.Goals.{then-not-are_ordered+in_ok-sort_by_key, else-not-are_ordered}
@@ -43,10 +43,57 @@ tied e f = neither (nat_cmp e.first f.first) (nat_cmp f.first e.first) (eqb e.fi
 abbrev key_of : Entry → ℕ × ℕ
 key_of e = (e.first, e.prefix)
 
+-- a key that is not less than another one comes not before it
+follows : (o : Ordering) (p : Ordering) (e f : Entry) → nat_cmp f.first e.first ≡ o → nat_cmp f.prefix e.prefix ≡ p → is_lt (ordering_then o p) ≡ false → ComesBefore e f
+follows o p e f first prefix none = elim (cases_lt e.first f.first) [
+  | inl less ↦ inl less
+  | inr rest ↦ elim (cases_lt f.first e.first) [
+    | inl more ↦
+        let is : o ≡ Less = sym first ∙ sym (nat_cmp_is f.first e.first Less more) in
+        absurd (false≢true (sym none ∙ ap (λ (q : Ordering). is_lt (ordering_then q p)) is))
+    | inr other ↦
+        let same : f.first ≡ e.first = omega arith in
+        let is : o ≡ Equal = sym first ∙ sym (nat_cmp_is f.first e.first Equal same) in
+        elim (cases_lt f.prefix e.prefix) [
+          | inl smaller ↦
+              let less : p ≡ Less = sym prefix ∙ sym (nat_cmp_is f.prefix e.prefix Less smaller) in
+              absurd (false≢true (sym none ∙ ap (λ (q : Ordering). is_lt (ordering_then q p)) is ∙ ap (λ (q : Ordering). is_lt (ordering_then Equal q)) less))
+          | inr no_smaller ↦ inr (sym same, omega arith)
+        ]
+  ]
+]
+
+before_all : (d e f : Entry) → ComesBefore d e → ComesBefore e f → ComesBefore d f
+before_all d e f (inl h) (inl k) = inl (omega arith)
+before_all d e f (inl h) (inr k) = inl (omega (arith, k.0))
+before_all d e f (inr h) (inl k) = inl (omega (arith, h.0))
+before_all d e f (inr h) (inr k) = inr (omega (arith, h.0, k.0), omega (arith, h.1, k.1))
+
+before_rest : (d e : Entry) (es : List Entry) → ComesBefore d e → AllByRecursion (ComesBefore e) es → AllByRecursion (ComesBefore d) es
+before_rest d e [] h all = tt
+before_rest d e (f ∷ fs) h all = (before_all d e f h all.0, before_rest d e fs h all.1)
+
+-- where no neighbours are turned, all entries are in order
+in_order : (es : List Entry) → ((k : ℕ) (d : Entry) → suc k < length es → ComesBefore (get_or es k d) (get_or es (suc k) d)) → IsOrdered es
+in_order [] h = tt
+in_order (e ∷ []) h = (tt, tt)
+in_order (e ∷ f ∷ es) h =
+    let rest : IsOrdered (f ∷ es) = in_order (f ∷ es) (λ k d lt. h (suc k) d (omega arith)) in
+    let first : ComesBefore e f = h 0 e (omega arith) in
+    ((first, before_rest e f es first rest.0), rest)
+
 pub returns-then-all_fit-clause-ok : goal.returns-then-all_fit-clause-ok
 returns-then-all_fit-clause-ok c = record {
-  ordered = subst IsOrdered c.deref-2.ensures.value (c.if-are_ordered.ensures.0 refl);
-  fit = subst (AllByRecursion (IsEntry c.args.version c.args.data_len)) c.deref-then-are_ordered.ensures.value (c.if-all_fit.ensures.0 refl);
+  ordered = elim c.if-not-are_ordered.branch [
+    | then-not-are_ordered+in_ok-sort_by_key w ↦
+        let sorted = w.in_ok-sort_by_key.ensures.sorted key_of (answers_always _ _ _ (λ f a r f' k. search rules)) in
+        let es = w.sort_by_key.new.self.items in
+        subst IsOrdered (sym (ap (λ (v : Vec Entry Global). v.items) w.entries-is)) (in_order es (λ k d lt.
+        let next : k + 1 ≡ suc k = omega arith in
+        subst (λ (n : ℕ). ComesBefore (get_or es k d) (get_or es n d)) next (follows _ _ (get_or es k d) (get_or es (k + 1) d) refl refl (sorted k d (omega arith) (omega arith)))))
+    | else-not-are_ordered w ↦ subst IsOrdered (sym (ap (λ (v : Vec Entry Global). v.items) w.entries-is)) (subst IsOrdered c.deref.ensures.value (w.if-not-are_ordered.ensures.0 refl))
+  ];
+  fit = subst (AllByRecursion (IsEntry c.args.version c.args.data_len)) c.deref-2.ensures.value (c.if-all_fit.ensures.0 refl);
   stable = λ e. elim c.if-not-are_ordered.branch [
     | then-not-are_ordered+in_ok-sort_by_key w ↦
         let stable = w.in_ok-sort_by_key.ensures.stable key_of (answers_always _ _ _ (λ f a r f' k. search rules)) in

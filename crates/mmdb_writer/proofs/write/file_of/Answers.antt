@@ -17,5 +17,5 @@ begins tree separator section marker metadata a b c d e h i j k l len = record {
 pub returns : goal.returns
 returns c =
     begins c.args.tree.now.bytes.items _ c.args.section.now _ _ _ _ _ _ _
-    (c.in_ok-extend_from_slice.ensures.items ∙ ap (λ (xs : List ℕ). xs ++ c.deref.result.now) c.new-file.ensures.items ∙ c.deref.ensures.value)
+    (c.in_ok-extend_from_slice.ensures.items ∙ ap (λ (xs : List ℕ). xs ++ c.deref.result.now) c.in_ok-file.ensures.items ∙ c.deref.ensures.value)
     c.in_ok-extend_from_slice-2.ensures.items c.in_ok-extend_from_slice-3.ensures.items c.in_ok-extend_from_slice-4.ensures.items c.in_ok-extend_from_slice-5.ensures.items refl
