@@ -101,7 +101,11 @@ impl<K: Key, V: Copy, const SETS: usize> Table<K, V, SETS> {
     {
         let count = SETS.saturating_mul(WAYS);
         let mut kept = Vec::with_capacity(alloc, count)?;
-        for _ in 0..count {
+        let few = [known; 64];
+        for _ in 0..count / 64 {
+            kept.extend_from_slice(&few)?;
+        }
+        for _ in 0..count % 64 {
             kept.push(known)?;
         }
         Ok(Table { kept })
