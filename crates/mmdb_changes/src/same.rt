@@ -51,7 +51,7 @@ fn can_read_some(records: &mut SideBySide<'_>, first: usize, bits: u64) -> bool 
 
 // Whether the records at the offsets whose bits are 1 are seen to be readable: each is equal to itself.
 fn can_read_all(alloc: Global, section: &[u8], met: &[u64]) -> bool {
-    let Ok(mut records) = SideBySide::new(alloc, section, section) else {
+    let Ok(mut records) = SideBySide::of_one(alloc, section) else {
         return false;
     };
     for (index, bits) in met.iter().enumerate() {

@@ -6,14 +6,24 @@ ghost use Rattle.mmdb_format.specs.Views.{content_view};
 use mmdb_format::content::Content;
 use mmdb_format::utf8::is_utf8;
 
-/// Whether two contents are the same, and text is UTF-8.
+/// Whether a content, if it is a text, is UTF-8.
+#[inline(always)]
+pub(crate) fn is_text(content: Content<'_>) -> bool
+    ensures { result ≡ true → scalar_is_text (content_view content.entry) ≡ true }
+{
+    match content {
+        Content::Text(bytes) => is_utf8(bytes),
+        _ => true,
+    }
+}
+
+/// Whether two contents are the same.
 #[inline(always)]
 pub(crate) fn are_same(old: Content<'_>, new: Content<'_>) -> bool
-    ensures same { result ≡ true → content_view old.entry ≡ content_view new.entry }
-    ensures text { result ≡ true → scalar_is_text (content_view old.entry) ≡ true }
+    ensures { result ≡ true → content_view old.entry ≡ content_view new.entry }
 {
     match (old, new) {
-        (Content::Text(old), Content::Text(new)) => old == new && is_utf8(old),
+        (Content::Text(old), Content::Text(new)) => old == new,
         (Content::Bytes(old), Content::Bytes(new)) => old == new,
         (Content::Bool(old), Content::Bool(new)) => old == new,
         (Content::I32(old), Content::I32(new)) => old == new,

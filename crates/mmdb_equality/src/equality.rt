@@ -1,14 +1,16 @@
 //! Whether two values are equal, as far as that is seen while both are read side by side, without memory for them.
-ghost use Rattle.std.specs.Prelude.{◌≡◌, ℕ, true, Some, IfOk};
+ghost use Rattle.std.specs.Prelude.{◌≡◌, ◌<◌, ◌^◌, ℕ, true, Some, IfOk, IfSome, IsSome};
+ghost use Rattle.mmdb_format.specs.Contents.{content_at as spec_content_at, content_end as spec_content_end, key_bytes_at as spec_key_bytes_at, scalar_is_text};
+ghost use Rattle.mmdb_format.specs.Views.{content_view};
 ghost use Rattle.mmdb_format.specs.Pointer.{direct_at as spec_direct_at};
 ghost use Rattle.mmdb_equality.specs.Same.{HaveSameValue};
 ghost use Rattle.mmdb_equality.specs.Working.{IsSame, IsSameKey, AreSamePairs, AreSamePairsUpTo, AreSameElements, IsKnownMap};
 
-use crate::contents::are_same;
+use crate::contents::{are_same, is_text};
 use crate::pairs::Offsets;
 use crate::place::Place;
 use mmdb_cache::{Known, Table};
-use mmdb_format::content::{content_at, content_end, key_bytes_at};
+use mmdb_format::content::{Content, content_at, content_end, key_bytes_at};
 use mmdb_format::header::{Direct, direct_at};
 use mmdb_format::kind::{ARRAY, MAP};
 use mmdb_format::utf8::is_utf8;
@@ -41,6 +43,9 @@ pub(crate) struct KnownMap {
 pub struct SideBySide<'r> {
     in_old: &'r [u8],
     in_new: &'r [u8],
+    /// Whether both are one: then what was read in the old one is not read again.
+    are_one: bool,
+    ghost one: { are_one ≡ true → in_new.now ≡ in_old.now },
     known: Table<Offsets, KnownMap, SETS_OF_MAPS>,
 }
 
@@ -55,24 +60,90 @@ impl<'r> Model for SideBySide<'r> {
     ghost invariant = { λ s. AreKnownMaps (record { in_old = s.in_old.now; in_new = s.in_new.now }) s.known };
 }
 
+/// What is kept at first.
+const NO_PAIRS: Known<Offsets, KnownMap> = Known {
+    key: Offsets { old: 0, new: 0 },
+    value: KnownMap {
+        pairs: 0,
+        depth: 0,
+        cost: 0,
+    },
+};
+
 impl<'r> SideBySide<'r> {
     /// Two data sections of which nothing was read. An `Err` is of memory.
     pub fn new(alloc: Global, old: &'r [u8], new: &'r [u8]) -> Result<SideBySide<'r>, AllocError>
         ensures { IfOk result (λ both. both ≡ record { in_old = old.now; in_new = new.now }) }
     {
-        let no_pairs = Known {
-            key: Offsets { old: 0, new: 0 },
-            value: KnownMap {
-                pairs: 0,
-                depth: 0,
-                cost: 0,
-            },
-        };
         Ok(SideBySide {
             in_old: old,
             in_new: new,
-            known: Table::new(alloc, no_pairs)?,
+            are_one: false,
+            known: Table::new(alloc, NO_PAIRS)?,
         })
+    }
+
+    /// One data section beside itself: what is equal to itself can be read. An `Err` is of memory.
+    pub fn of_one(alloc: Global, section: &'r [u8]) -> Result<SideBySide<'r>, AllocError>
+        ensures { IfOk result
+            (λ both. both ≡ record { in_old = section.now; in_new = section.now }) }
+    {
+        Ok(SideBySide {
+            in_old: section,
+            in_new: section,
+            are_one: true,
+            known: Table::new(alloc, NO_PAIRS)?,
+        })
+    }
+
+    // The key in the new section, where the old one has this one.
+    #[inline(always)]
+    fn key_in_new(&self, place: Place, old: &'r [u8], behind: usize) -> Option<(&'r [u8], usize)>
+        requires { spec_key_bytes_at self.now.in_old place.in_old ≡ Some (old.now, behind) }
+        ensures { IfSome result
+            (λ k. spec_key_bytes_at self.now.in_new place.in_new ≡ Some (k.0.now, k.1)) }
+    {
+        if self.are_one && place.in_new == place.in_old {
+            return Some((old, behind));
+        }
+        key_bytes_at(self.in_new, place.in_new).ok()
+    }
+
+    // The header in the new section, where the old one has this one.
+    #[inline(always)]
+    fn header_in_new(&self, place: Place, old: Direct) -> Option<Direct>
+        requires { spec_direct_at self.now.in_old place.in_old 0 ≡ Some old }
+        ensures { IfSome result
+            (λ new. spec_direct_at self.now.in_new place.in_new 0 ≡ Some new) }
+    {
+        if self.are_one && place.in_new == place.in_old {
+            return Some(old);
+        }
+        direct_at(self.in_new, place.in_new, 0).ok()
+    }
+
+    // The content behind two headers, where it is the same, and text.
+    #[inline(always)]
+    fn content_in_both(&self, place: Place, old: Direct, new: Direct) -> Option<Content<'r>>
+        requires old { spec_direct_at self.now.in_old place.in_old 0 ≡ Some old }
+        requires new { spec_direct_at self.now.in_new place.in_new 0 ≡ Some new }
+        ensures in_old { IfSome result (λ content.
+            spec_content_at self.now.in_old old.header ≡ Some (content_view content)) }
+        ensures in_new { IfSome result (λ content.
+            spec_content_at self.now.in_new new.header ≡ Some (content_view content)) }
+        ensures text { IfSome result (λ content. scalar_is_text (content_view content) ≡ true) }
+        ensures ends { IsSome result → (spec_content_end old.header < 2 ^ 64)
+            × (spec_content_end new.header < 2 ^ 64) }
+    {
+        let in_old = content_at(self.in_old, old.header).ok()?;
+        if self.are_one && place.in_new == place.in_old {
+            return if is_text(in_old) { Some(in_old) } else { None };
+        }
+        let in_new = content_at(self.in_new, new.header).ok()?;
+        if is_text(in_old) && are_same(in_old, in_new) {
+            return Some(in_old);
+        }
+        None
     }
 
     // Passes a key of both. Whether it is the same text.
@@ -80,10 +151,10 @@ impl<'r> SideBySide<'r> {
     fn has_same_key(&self, place: &mut Place) -> bool
         ensures { result ≡ true → IsSameKey self.now place.old place.new }
     {
-        let (Ok((old, behind_old)), Ok((new, behind_new))) = (
-            key_bytes_at(self.in_old, place.in_old),
-            key_bytes_at(self.in_new, place.in_new),
-        ) else {
+        let Ok((old, behind_old)) = key_bytes_at(self.in_old, place.in_old) else {
+            return false;
+        };
+        let Some((new, behind_new)) = self.key_in_new(*place, old, behind_old) else {
             return false;
         };
         if old != new || !is_utf8(old) || !place.takes(VALUE + old.len()) {
@@ -101,13 +172,10 @@ impl<'r> SideBySide<'r> {
         requires new { spec_direct_at self.now.in_new place.old.in_new 0 ≡ Some new }
         ensures { result ≡ true → (depth : ℕ) → IsSame self.now place.old place.new depth }
     {
-        let (Ok(in_old), Ok(in_new)) = (
-            content_at(self.in_old, old.header),
-            content_at(self.in_new, new.header),
-        ) else {
+        let Some(content) = self.content_in_both(*place, old, new) else {
             return false;
         };
-        if !are_same(in_old, in_new) || !place.takes(VALUE + in_old.payload()) {
+        if !place.takes(VALUE + content.payload()) {
             return false;
         }
         place.in_old = content_end(old.header);
@@ -230,10 +298,10 @@ impl<'r> SideBySide<'r> {
         ensures same { result ≡ true → IsSame self.old place.old place.new depth }
         ensures sections { self.new ≡ self.old }
     {
-        let (Ok(old), Ok(new)) = (
-            direct_at(self.in_old, place.in_old, 0),
-            direct_at(self.in_new, place.in_new, 0),
-        ) else {
+        let Ok(old) = direct_at(self.in_old, place.in_old, 0) else {
+            return false;
+        };
+        let Some(new) = self.header_in_new(*place, old) else {
             return false;
         };
         if old.header.kind != new.header.kind {
