@@ -89,11 +89,11 @@ fn typed_paths<'a>(alloc: Global, texts: &[&'a str]) -> Result<Vec<TypedPath<'a>
     Ok(paths)
 }
 
-// The seconds that a text spells.
+// The seconds that a text spells. Other readers reject a file of second 0.
 fn seconds_of(alloc: Global, of: &str, text: &str) -> Result<u64, NoRequest> {
     match text.parse::<u64>() {
-        Ok(seconds) if seconds < 1 << 63 => Ok(seconds),
-        _ => Err(NoRequest::bad_argument(alloc, of, "not a number of seconds")),
+        Ok(seconds) if seconds > 0 && seconds < 1 << 63 => Ok(seconds),
+        _ => Err(NoRequest::bad_argument(alloc, of, "not a number of seconds from 1 on")),
     }
 }
 
@@ -107,7 +107,7 @@ fn seconds_outside<R: Env + Clock>(rt: &R, alloc: Global) -> Result<u64, NoReque
         }
         Err(_) => Ok(match rt.since_1970() {
             Ok(time) => time.as_secs(),
-            Err(_) => 0,
+            Err(_) => 1,
         }),
     }
 }

@@ -112,6 +112,15 @@ pub(crate) fn number_value<'a>(text: &str, kinds: &[Kind]) -> Result<Value<'a>, 
     }
 }
 
+/// The value of `null`: where a double or a float is wanted the number that is none, which is shown so again.
+pub(crate) fn null_value<'a>(kinds: &[Kind]) -> Result<Value<'a>, Reason> {
+    match kinds {
+        [Kind::Double, ..] => Ok(Value::Double(Double { bits: 0x7FF8 << 48 })),
+        [Kind::Float, ..] => Ok(Value::Float(Float { bits: 0x7FC0 << 16 })),
+        _ => Err(Reason::Null),
+    }
+}
+
 /// The value of a truth value, unless another type is wanted.
 pub(crate) fn bool_value<'a>(truth: bool, kinds: &[Kind]) -> Result<Value<'a>, Reason> {
     match kinds {

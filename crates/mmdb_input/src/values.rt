@@ -1,6 +1,6 @@
 //! Values of JSON as values of this format.
 use crate::error::{InputError, Reason};
-use crate::scalars::{bool_value, number_value, text_value};
+use crate::scalars::{bool_value, null_value, number_value, text_value};
 use crate::types::Types;
 use bumpalo::Bump;
 use mmdb_format::kind::Kind;
@@ -25,7 +25,7 @@ pub(crate) fn value_of<'a>(
 ) -> Result<Value<'a>, InputError> {
     let kinds = types.kinds(node);
     match shown {
-        json::Value::Null => Err(InputError::from(Reason::Null)),
+        json::Value::Null => Ok(null_value(kinds)?),
         json::Value::Bool(truth) => Ok(bool_value(*truth, kinds)?),
         json::Value::Number(text) => Ok(number_value(*text, kinds)?),
         json::Value::String(text) => text_value(alloc, *text, kinds, arena),

@@ -265,6 +265,7 @@ const USAGE: &[&[&str]] = &[
     &["--range-columns", "a"],
     &["--range-columns", "a,b", "--network-column", "c"],
     &["--build-epoch", "-1"],
+    &["--build-epoch", "0"],
     &["--description", "en"],
     &["--database-type", ""],
     &["--record-size", "26"],

@@ -26,6 +26,15 @@ const CASES: &[Case] = &[
             "1.0.0.0/8 Map([(\"a\", U32(1)), (\"b\", I32(-1)), (\"c\", Double(Double { bits: 4609434218613702656 })), (\"d\", Bool(true)), (\"e\", String(\"x\")), (\"f\", U64(4294967296)), (\"g\", U128(18446744073709551616)), (\"h\", Array([U32(1), String(\"y\")])), (\"i\", Map([]))])",
         )],
     },
+    // null is the number that is none
+    Case {
+        options: &["--type", "d=double", "--type", "f=float"],
+        rows: "{\"network\":\"1.0.0.0/8\",\"record\":{\"d\":null,\"f\":null}}\n",
+        answers: &[(
+            "1.2.3.4",
+            "1.0.0.0/8 Map([(\"d\", Double(Double { bits: 9221120237041090560 })), (\"f\", Float(Float { bits: 2143289344 }))])",
+        )],
+    },
     // the longest prefix, of equal ones the last, whatever the order of the others
     Case {
         options: &[],
