@@ -15,7 +15,7 @@ fn options(alloc: Global) -> Result<Options, AllocError> {
         database_type: String::from_str(alloc, "Example-Offices")?,
         description,
         languages: Vec::new(alloc),
-        build_epoch: 0,
+        build_epoch: 1,
         ip_version: IpVersion::V4,
         record_size: None,
     })
