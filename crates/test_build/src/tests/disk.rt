@@ -157,10 +157,10 @@ pub(crate) struct DiskFile<'d> {
 impl Read for DiskFile<'_> {
     fn read(&mut self, buf: &mut [u8]) -> io::Result<usize> {
         self.disk.count()?;
-        let left = self.bytes.get(self.at..).unwrap_or(&[]);
-        let count = left.len().min(buf.len()).min(50_000);
-        buf[..count].copy_from_slice(&left[..count]);
-        self.at = self.at.saturating_add(count);
+        let at = self.at.min(self.bytes.len());
+        let count = (self.bytes.len() - at).min(buf.len()).min(50_000);
+        buf[..count].copy_from_slice(&self.bytes[at..at + count]);
+        self.at = at + count;
         Ok(count)
     }
 }
