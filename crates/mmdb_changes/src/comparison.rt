@@ -102,7 +102,7 @@ impl<'a, 'r> SoFar<'a, 'r> {
         })
     }
 
-    // Says of the records of a stretch that waits that they came last of those that are the same.
+    // Marks the waiting pair as the last one found equal.
     fn keep_last(&mut self, index: usize) {
         if let Some(offsets) = self.waiting.offsets.get(index) {
             self.pairs.kept.keep_last(*offsets);

@@ -30,7 +30,10 @@ impl Place {
     /// Goes to the contents behind two headers.
     #[inline(always)]
     pub(crate) fn enter(&mut self, old: Direct, new: Direct)
-        ensures { self.new ≡ record self.old { in_old = old.header.body; in_new = new.header.body } }
+        ensures { self.new ≡ record self.old {
+          in_old = old.header.body;
+          in_new = new.header.body;
+        } }
     {
         self.in_old = old.header.body;
         self.in_new = new.header.body;

@@ -41,8 +41,8 @@ pub(crate) trait Source<K>: Steps {
     fn text(&mut self, header: Header) -> Result<Self::Text, Failed>
         requires size { header.size < 2 ^ 25 }
         requires kind { header.kind ≡ 2 }
-        ensures { TriesValue (λ x. scalar (spec_text (text_bytes x))) false (scalar_of tested header)
-            (Self.state self.old) (Self.state self.new) result };
+        ensures { TriesValue (λ x. scalar (spec_text (text_bytes x))) false
+            (scalar_of tested header) (Self.state self.old) (Self.state self.new) result };
 
     /// The value behind a header, which holds no others.
     fn scalar(&mut self, header: Header) -> Result<Self::Value, Failed>

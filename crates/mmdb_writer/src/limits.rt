@@ -40,7 +40,8 @@ impl Room {
         ensures values { OnOk result (self.new.values + 1 ≡ self.old.values) }
         ensures bytes { OnOk result (self.new.bytes + bytes ≡ self.old.bytes) }
         ensures too_many { IfErr result (λ e. e ≡ ValueError.TooManyValues → self.old.values ≡ 0) }
-        ensures too_long { IfErr result (λ e. e ≡ ValueError.TooManyBytes → self.old.bytes < bytes) }
+        ensures too_long { IfErr result (λ e.
+            e ≡ ValueError.TooManyBytes → self.old.bytes < bytes) }
         ensures not_deep { IfErr result (λ e. e ≢ ValueError.TooDeep) }
         ensures not_twice { IfErr result (λ e. e ≢ ValueError.KeyTwice) }
     {

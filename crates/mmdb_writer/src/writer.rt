@@ -17,7 +17,7 @@ use mmdb_section::Section;
 use mmdb_value::Value;
 use std::alloc::Global;
 
-/// A file in the making. Of a value only its bytes in the file are kept, and where they are found; of a row 32 bytes.
+/// A file in the making. Of a value only its bytes in the file are kept, and where they are found, and 32 bytes for each row.
 #[derive(Drop)]
 pub struct Writer {
     options: Options,
