@@ -389,6 +389,7 @@ fn argument_of<'a>(alloc: Global, argument: Argument) -> Result<Arg<'a>, AllocEr
     })
 }
 
+// A command with its arguments.
 fn command_of<'a>(alloc: Global, usage: &Usage) -> Result<Command<'a>, AllocError> {
     let mut command = Command::new(alloc, usage.name)
         .about(usage.about)
@@ -399,26 +400,38 @@ fn command_of<'a>(alloc: Global, usage: &Usage) -> Result<Command<'a>, AllocErro
     Ok(command)
 }
 
-// A program with more commands.
+// Whether a word of the command line is this one.
+fn is_among(words: &[String], name: &str) -> bool {
+    words.iter().any(|word| word.as_str() == name)
+}
+
+// A program with more commands. Each start pays for arguments that are made, so a command has its own only where its name
+// stands in the command line: else nobody asks for it or its help.
 fn with_commands<'a>(
     alloc: Global,
     program: Command<'a>,
+    words: &[String],
     usages: &[Usage],
 ) -> Result<Command<'a>, AllocError> {
     let mut program = program;
     for usage in usages {
-        program = program.subcommand(command_of(alloc, usage)?)?;
+        let command = if is_among(words, usage.name) {
+            command_of(alloc, usage)?
+        } else {
+            Command::new(alloc, usage.name).about(usage.about)
+        };
+        program = program.subcommand(command)?;
     }
     Ok(program)
 }
 
-/// The program's commands.
-pub(crate) fn command<'a>(alloc: Global) -> Result<Command<'a>, AllocError> {
+/// The program's commands, of which those that the words of a command line name have their arguments.
+pub(crate) fn command<'a>(alloc: Global, words: &[String]) -> Result<Command<'a>, AllocError> {
     let program = Command::new(alloc, "mmdb")
         .version("0.1.0")
         .about("Read and make MaxMind DB files (GeoIP2, GeoLite2 and others)")
         .subcommand_required(true)
         .arg_required_else_help(true);
-    let program = with_commands(alloc, program, READING)?;
-    with_commands(alloc, program, MAKING)
+    let program = with_commands(alloc, program, words, READING)?;
+    with_commands(alloc, program, words, MAKING)
 }

@@ -319,7 +319,7 @@ fn of_command<'a>(
 
 /// What a command line asks for, the program's name first.
 pub fn request_of<'a>(alloc: Global, arguments: &'a [String]) -> Result<Request<'a>, NoRequest> {
-    let matches = match command(alloc)?.try_get_matches_from(arguments) {
+    let matches = match command(alloc, arguments)?.try_get_matches_from(arguments) {
         Ok(matches) => matches,
         Err(error) => return Err(NoRequest::from_clap(alloc, &error)),
     };
