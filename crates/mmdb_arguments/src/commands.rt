@@ -199,6 +199,30 @@ const READING: &[Usage] = &[
                 "With --json: the name of the member that is added, geo if not given",
                 COLUMNS,
             ),
+            Argument::Flag(
+                "nulls",
+                "With --json: lines without a record get the member too, with nulls",
+            ),
+            Argument::Choice(
+                "hop",
+                "WHICH",
+                "Of addresses with commas between them, as in X-Forwarded-For, this one",
+                &["first", "last"],
+            ),
+            Argument::Flag(
+                "anywhere",
+                "The first address that stands anywhere in the line",
+            ),
+            Argument::Flag(
+                "exact",
+                "An address counts only where the cell holds nothing else",
+            ),
+            Argument::Flag(
+                "no-quotes",
+                "With --delimiter: quotes mean nothing, and each line is a row",
+            ),
+            Argument::Flag("strict", "Status 1 where there is anything to warn of"),
+            Argument::Flag("quiet", "No notes on standard error"),
         ],
     },
     Usage {

@@ -22,6 +22,13 @@ pub struct InfoArguments<'a> {
     pub json: bool,
 }
 
+/// Which of several addresses in one cell is meant.
+#[derive(Clone, Copy, Debug, PartialEq, Eq)]
+pub enum Hop {
+    First,
+    Last,
+}
+
 /// The arguments of `enrich`.
 #[derive(Drop)]
 pub struct EnrichArguments<'a> {
@@ -37,6 +44,19 @@ pub struct EnrichArguments<'a> {
     pub json: Option<&'a str>,
     /// The name of the member that an object gets, if it is given.
     pub into: Option<&'a str>,
+    /// Whether objects without a record get the member too.
+    pub nulls: bool,
+    pub hop: Hop,
+    /// Whether the address may stand anywhere in a row.
+    pub anywhere: bool,
+    /// Whether a cell holds an address and nothing else.
+    pub exact: bool,
+    /// Whether quotes mean nothing.
+    pub no_quotes: bool,
+    /// Whether what is warned of is a failure.
+    pub strict: bool,
+    /// Whether nothing is said but what sets the status.
+    pub quiet: bool,
 }
 
 /// The formats of an export.
@@ -196,6 +216,13 @@ fn info<'a>(matches: &ArgMatches<'a>) -> Request<'a> {
     })
 }
 
+fn hop_of(matches: &ArgMatches<'_>) -> Hop {
+    match matches.get_str("hop") {
+        Some("last") => Hop::Last,
+        _ => Hop::First,
+    }
+}
+
 fn enrich<'a>(alloc: Global, matches: &ArgMatches<'a>) -> Result<Request<'a>, NoRequest> {
     let fields = texts_of(alloc, matches, "field")?;
     Ok(Request::Enrich(EnrichArguments {
@@ -206,6 +233,13 @@ fn enrich<'a>(alloc: Global, matches: &ArgMatches<'a>) -> Result<Request<'a>, No
         header: matches.get_flag("header"),
         json: matches.get_str("json"),
         into: matches.get_str("into"),
+        nulls: matches.get_flag("nulls"),
+        hop: hop_of(matches),
+        anywhere: matches.get_flag("anywhere"),
+        exact: matches.get_flag("exact"),
+        no_quotes: matches.get_flag("no-quotes"),
+        strict: matches.get_flag("strict"),
+        quiet: matches.get_flag("quiet"),
     }))
 }
 
