@@ -166,7 +166,7 @@ const READING: &[Usage] = &[
         about: "Copy lines from standard input, with fields of the address's record behind each",
         example: ENRICH_EXAMPLE,
         arguments: &[
-            FILE,
+            Argument::Several("FILE", "A MaxMind DB file"),
             Argument::Default(
                 "column",
                 "COLUMN",

@@ -33,6 +33,8 @@ pub enum Hop {
 #[derive(Drop)]
 pub struct EnrichArguments<'a> {
     pub file: &'a str,
+    /// What else stands where the file does.
+    pub others: Vec<&'a str>,
     /// A text that should be what stands between columns.
     pub delimiter: Option<&'a str>,
     /// A text that should be the number of a column, or with a header its name.
@@ -225,8 +227,12 @@ fn hop_of(matches: &ArgMatches<'_>) -> Hop {
 
 fn enrich<'a>(alloc: Global, matches: &ArgMatches<'a>) -> Result<Request<'a>, NoRequest> {
     let fields = texts_of(alloc, matches, "field")?;
+    let mut others = Vec::new(alloc);
+    let files = matches.get_strs("FILE").unwrap_or(&[]);
+    others.extend_from_slice(files.get(1..).unwrap_or(&[]))?;
     Ok(Request::Enrich(EnrichArguments {
-        file: file_of(matches),
+        file: files.first().copied().unwrap_or(""),
+        others,
         delimiter: matches.get_str("delimiter"),
         column: matches.get_str("column").unwrap_or("1"),
         fields,
