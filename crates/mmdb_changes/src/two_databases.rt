@@ -32,13 +32,14 @@ impl TwoDatabases {
 }
 
 // A database and another one, or none where there is an error, which is reported with the file.
-fn with_other<O: Write, E: Write>(
+fn with_other<R: Files, O: Write, E: Write>(
+    rt: &R,
     file: &str,
     old: Database,
     other: Result<Option<Database>, MaxMindDbError>,
     console: &mut Console<'_, O, E>,
 ) -> Option<TwoDatabases> {
-    match reported(file, other, console) {
+    match reported(rt, file, other, console) {
         Some(other) => Some(TwoDatabases { old, other }),
         None => {
             drop(old);
@@ -57,5 +58,5 @@ pub(crate) fn open_two<R: Files, O: Write, E: Write>(
 ) -> Option<TwoDatabases> {
     let old = open_database(rt, old_file, console)?;
     let other = Reader::open_unless_same(rt, console.alloc, new_file, &old);
-    with_other(new_file, old, other, console)
+    with_other(rt, new_file, old, other, console)
 }

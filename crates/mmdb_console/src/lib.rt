@@ -1,11 +1,13 @@
 //! Where commands write and report, with which statuses they end, and why they give up.
 #![tactic(auto)]
 
+mod archive;
 mod error;
 mod output;
 mod place;
 mod progress;
 
+pub use archive::{Archive, note_archive};
 pub use error::ProgramError;
 pub use mmdb_main::{BAD_ARGUMENTS, DONE, FAILED};
 pub use output::{Console, DIFFERENT, Io, NO_MEMORY, NOT_FOUND, Terminals, line_of, put, reported};

@@ -1,10 +1,12 @@
 //! What goes to standard output and standard error.
+use crate::archive::note_archive;
 use crate::error::ProgramError;
 use mmdb_arguments::shown_text;
 use mmdb_format::error::MaxMindDbError;
 use std::alloc::{AllocError, Global};
 use std::fmt::Display;
 use std::io::{self, BufRead, Write};
+use std::rt::Files;
 
 /// An address has no record, or a path leads nowhere in it.
 pub const NOT_FOUND: u8 = 6;
@@ -115,8 +117,9 @@ impl<'c, O: Write, E: Write> Console<'c, O, E> {
     }
 }
 
-/// What was got of a file, or none where there is an error, which is reported.
-pub fn reported<T: Drop, O: Write, E: Write>(
+/// What was got of a file, or none where there is an error, which is reported: with how it is unpacked, where it is packed.
+pub fn reported<R: Files, T: Drop, O: Write, E: Write>(
+    rt: &R,
     file: &str,
     got: Result<T, MaxMindDbError>,
     console: &mut Console<'_, O, E>,
@@ -125,7 +128,11 @@ pub fn reported<T: Drop, O: Write, E: Write>(
         Ok(value) => Some(value),
         Err(error) => {
             console.report(file, &error);
+            let is_no_database = matches!(error, MaxMindDbError::InvalidDatabase { .. });
             drop(error);
+            if is_no_database {
+                note_archive(rt, file, console);
+            }
             None
         }
     }

@@ -20,6 +20,7 @@ pub fn open_database<R: Files, O: Write, E: Write>(
     console: &mut Console<'_, O, E>,
 ) -> Option<Database> {
     reported(
+        rt,
         file,
         Reader::open_readfile(rt, console.alloc, file),
         console,

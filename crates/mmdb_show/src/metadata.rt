@@ -2,8 +2,9 @@
 use jiff::Timestamp;
 use json::{Pretty, Token};
 use mmdb_arguments::{InfoArguments, shown_text};
-use mmdb_console::{Console, DONE, ProgramError, line_of};
+use mmdb_console::{Console, DONE, FAILED, ProgramError, line_of};
 use mmdb_json::write_value;
+use mmdb_layout::open_database;
 use mmdb_reader::{Metadata, Reader, Sections};
 use mmdb_value::Value;
 use std::alloc::{AllocError, Global};
@@ -237,27 +238,20 @@ pub fn info(alloc: Global, bytes: &[u8], json: bool) -> Result<Vec<u8>, ProgramE
     Ok(text?)
 }
 
-// What a file says of itself.
-fn info_of_file<R: Files>(
-    rt: &R,
-    alloc: Global,
-    file: &str,
-    json: bool,
-) -> Result<Vec<u8>, ProgramError> {
-    let reader = Reader::open_readfile(rt, alloc, file)?;
-    let text = info_text(alloc, reader.metadata(), &reader.sections(), json);
-    drop(reader);
-    Ok(text?)
-}
-
-/// Writes what a database says of itself, and answers the status. An `Err` where the file is no database that can be read,
+/// Writes what a database says of itself, or reports why its file can't be read, and answers the status. An `Err` where
 /// standard output can't be written, or out of memory.
 pub fn describe<R: Files, O: Write, E: Write>(
     rt: &R,
     arguments: &InfoArguments<'_>,
     console: &mut Console<'_, O, E>,
 ) -> Result<u8, ProgramError> {
-    let text = info_of_file(rt, console.alloc, arguments.file, arguments.json)?;
+    let Some(database) = open_database(rt, arguments.file, console) else {
+        return Ok(FAILED);
+    };
+    let (metadata, sections) = (database.metadata(), database.sections());
+    let text = info_text(console.alloc, metadata, &sections, arguments.json);
+    drop(database);
+    let text = text?;
     let put = console.put(text.as_slice());
     drop(text);
     put?;

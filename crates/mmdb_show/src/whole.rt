@@ -1,6 +1,6 @@
 //! Whether files are whole.
 use mmdb_arguments::VerifyArguments;
-use mmdb_console::{Console, DONE, FAILED, ProgramError, line_of};
+use mmdb_console::{Console, DONE, FAILED, ProgramError, line_of, note_archive};
 use mmdb_reader::{MaxMindDbError, Reader};
 use std::alloc::{AllocError, Global};
 use std::io::Write;
@@ -45,9 +45,13 @@ fn verify_one<R: Files, O: Write, E: Write>(
 ) -> Result<bool, ProgramError> {
     let verified = verified(rt, console.alloc, file);
     let is_whole = verified.is_ok();
+    let is_no_database = matches!(verified, Err(MaxMindDbError::InvalidDatabase { .. }));
     let put = put_line(file, &verified, console);
     drop(verified);
     put?;
+    if is_no_database {
+        note_archive(rt, file, console);
+    }
     Ok(is_whole)
 }
 
