@@ -54,7 +54,11 @@ are alternatives, several paths must all fit, and --where-not leaves out.
 
 The formats cidr, nft and ipset write no records but the fewest blocks that have
 the addresses of the networks: one a line, or two sets NAME_ipv4 and NAME_ipv6
-as a file for nft -f (in the table inet mmdb) or for ipset restore.";
+as a file for nft -f (in the table inet mmdb) or for ipset restore. A list has
+no address outside RANGE. Where it would have no network, or no network has a
+value of a condition, nothing is written, so that a wrong value empties no set,
+and the status is 1. A row names a network as it is, even if it is wider than
+RANGE.";
 
 const DIFF_EXAMPLE: &str = "Example:
   mmdb diff old/GeoLite2-Country.mmdb GeoLite2-Country.mmdb --field country.iso_code
@@ -258,6 +262,14 @@ const READING: &[Usage] = &[
                 "name",
                 "NAME",
                 "How the sets of nft and ipset begin, mmdb if not given",
+            ),
+            Argument::Flag(
+                "allow-empty",
+                "Write a list of networks even where it has none",
+            ),
+            Argument::Flag(
+                "allow-missing",
+                "Write a list even where no network has a value of a condition",
             ),
         ],
     },

@@ -91,6 +91,10 @@ pub struct ExportArguments<'a> {
     pub ipv6: bool,
     /// A text that should be the beginning of a set's name.
     pub name: Option<&'a str>,
+    /// Whether a list may have no networks.
+    pub allow_empty: bool,
+    /// Whether a list is written even where no network has a value of a condition.
+    pub allow_missing: bool,
 }
 
 /// The arguments of `diff`.
@@ -273,6 +277,8 @@ fn export<'a>(alloc: Global, matches: &ArgMatches<'a>) -> Result<Request<'a>, No
         ipv4: matches.get_flag("ipv4"),
         ipv6: matches.get_flag("ipv6"),
         name: matches.get_str("name"),
+        allow_empty: matches.get_flag("allow-empty"),
+        allow_missing: matches.get_flag("allow-missing"),
     }))
 }
 

@@ -8,7 +8,7 @@ use mmdb_arguments::{DiffArguments, NoRequest};
 use mmdb_console::{Console, DIFFERENT, DONE, FAILED, ProgramError, Where};
 use mmdb_diff::{Comparison, Part, Side, Stretch, UnreadLeaf};
 use mmdb_equality::Offsets;
-use mmdb_layout::{Database, Layout, layout_of, range_of};
+use mmdb_layout::{Database, Layout, layout_of, note_range, range_of};
 use mmdb_reader::{IpNetwork, MaxMindDbError};
 use std::alloc::{AllocError, Global};
 use std::io::Write;
@@ -462,6 +462,7 @@ pub fn diff<R: Files, O: Write, E: Write>(
     console: &mut Console<'_, O, E>,
 ) -> Result<u8, ProgramError> {
     let task = diff_task(console.alloc, arguments)?;
+    note_range(task.range, console);
     let done = diff_files(rt, &task, console);
     drop(task);
     done

@@ -21,6 +21,8 @@ pub enum ProgramError {
     LongHeader,
     /// The networks of a database do not ascend.
     OutOfOrder,
+    /// A list would have no networks.
+    EmptyList,
     /// Out of memory.
     Memory,
 }
@@ -75,6 +77,9 @@ impl fmt::Display for ProgramError {
             }
             ProgramError::LongHeader => f.write_str("the first line has more than 65536 bytes"),
             ProgramError::OutOfOrder => f.write_str("the networks do not ascend"),
+            ProgramError::EmptyList => {
+                f.write_str("no network is chosen; --allow-empty writes an empty list")
+            }
         }
     }
 }

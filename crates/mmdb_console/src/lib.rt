@@ -6,6 +6,7 @@ mod error;
 mod output;
 mod place;
 mod progress;
+mod similar;
 
 pub use archive::{Archive, note_archive};
 pub use error::ProgramError;
@@ -13,3 +14,4 @@ pub use mmdb_main::{BAD_ARGUMENTS, DONE, FAILED};
 pub use output::{Console, DIFFERENT, Io, NO_MEMORY, NOT_FOUND, Terminals, line_of, put, reported};
 pub use place::Where;
 pub use progress::ProgressLine;
+pub use similar::Similar;

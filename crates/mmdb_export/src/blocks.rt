@@ -1,9 +1,10 @@
 //! Lists of the fewest blocks.
 use crate::sink::{Sink, kind_of};
-use mmdb_blocks::{Block, Kinds};
+use mmdb_blocks::{Block, Kind, Kinds};
 use mmdb_console::ProgramError;
 use mmdb_layout::Found;
 use mmdb_lists::{List, ListError, Syntax, Taken};
+use mmdb_reader::IpNetwork;
 use std::alloc::Global;
 use std::io::Write;
 
@@ -11,6 +12,19 @@ use std::io::Write;
 #[derive(Drop)]
 pub(crate) struct Blocks<'a> {
     list: List<'a>,
+    /// The only addresses that are wanted.
+    range: Option<(Kind, Block)>,
+    /// Whether there may be no networks.
+    may_be_empty: bool,
+}
+
+// The kind and the block of a range.
+fn part_of_range(range: IpNetwork) -> (Kind, Block) {
+    let kind = match range {
+        IpNetwork::V4(_) => Kind::Ipv4,
+        IpNetwork::V6(_) => Kind::Ipv6,
+    };
+    (kind, Block::of_network(range))
 }
 
 // What a list answered, as the program reports it.
@@ -32,16 +46,30 @@ pub(crate) fn block_of(found: &Found<'_>) -> Block {
 }
 
 impl<'a> Blocks<'a> {
-    /// A list of no networks yet. What stands before them is written.
-    pub(crate) fn begin<O: Write>(
+    /// A list of no networks yet, which has no address outside a range. Nothing is written before the first block.
+    pub(crate) fn new(
         alloc: Global,
         syntax: Syntax<'a>,
         kinds: Kinds,
-        out: &mut O,
+        range: Option<IpNetwork>,
+        may_be_empty: bool,
     ) -> Result<Blocks<'a>, ProgramError> {
-        let list = List::new(alloc, syntax, kinds)?;
-        of_list(list.begin(out))?;
-        Ok(Blocks { list })
+        Ok(Blocks {
+            list: List::new(alloc, syntax, kinds)?,
+            range: range.map(part_of_range),
+            may_be_empty,
+        })
+    }
+
+    // What a network has of the range, in which it lies or which it has. A block of IPv4 addresses stays one of IPv4.
+    #[inline(always)]
+    fn part_of(&self, found: &Found<'_>) -> (Kind, Block) {
+        let (kind, block) = (kind_of(found), block_of(found));
+        match self.range {
+            Some((Kind::Ipv4, range)) if block.prefix < range.prefix => (Kind::Ipv4, range),
+            Some((_, range)) if block.prefix < range.prefix => (kind, range),
+            _ => (kind, block),
+        }
     }
 
     // Writes the blocks that nothing can join any more.
@@ -55,7 +83,8 @@ impl<'a> Blocks<'a> {
 impl Sink for Blocks<'_> {
     #[inline(always)]
     fn take<O: Write>(&mut self, found: &Found<'_>, out: &mut O) -> Result<bool, ProgramError> {
-        match self.list.take(kind_of(found), block_of(found)) {
+        let (kind, block) = self.part_of(found);
+        match self.list.take(kind, block) {
             Taken::Whole => Ok(true),
             Taken::Settled => self.write_settled(out),
             Taken::Not => Ok(false),
@@ -63,7 +92,8 @@ impl Sink for Blocks<'_> {
     }
 
     fn put<O: Write>(&mut self, found: &Found<'_>, out: &mut O) -> Result<(), ProgramError> {
-        of_list(self.list.push(kind_of(found), block_of(found), out))
+        let (kind, block) = self.part_of(found);
+        of_list(self.list.push(kind, block, out))
     }
 
     fn let_go(&mut self) -> bool {
@@ -71,6 +101,13 @@ impl Sink for Blocks<'_> {
     }
 
     fn finish<O: Write>(&mut self, out: &mut O) -> Result<(), ProgramError> {
-        of_list(self.list.finish(out))
+        of_list(self.list.finish(out))?;
+        if !self.list.is_empty() {
+            return Ok(());
+        }
+        if !self.may_be_empty {
+            return Err(ProgramError::EmptyList);
+        }
+        of_list(self.list.begin(out))
     }
 }

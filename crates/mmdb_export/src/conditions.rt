@@ -1,7 +1,7 @@
 //! Conditions as a person writes them.
 use mmdb_arguments::NoRequest;
 use mmdb_choice::{Condition, Wanted, split_condition};
-use mmdb_layout::path_of;
+use mmdb_layout::{path_of, wanted_path};
 use mmdb_reader::PathElement;
 use std::alloc::{AllocError, Global};
 
@@ -99,6 +99,59 @@ fn add_conditions<'a>(
         add_condition(alloc, text, Wanted::NoneOf, conditions)?;
     }
     Ok(())
+}
+
+/// The value that a condition names, alone.
+#[derive(Drop)]
+pub(crate) struct Named<'a> {
+    /// The condition as it is written.
+    pub(crate) text: &'a str,
+    pub(crate) value: &'a str,
+    /// That the value stands at the end of the path.
+    pub(crate) condition: Condition<'a>,
+    /// Whether other values of the path serve as well, so that not all of them need be met.
+    pub(crate) is_alternative: bool,
+}
+
+impl Named<'_> {
+    /// Whether another value is named of the same path.
+    pub(crate) fn has_path_of(&self, other: &Named<'_>) -> bool {
+        self.condition.path.as_slice() == other.condition.path.as_slice()
+    }
+}
+
+// Adds the values that texts name.
+fn add_named<'a>(
+    alloc: Global,
+    texts: &[&'a str],
+    is_alternative: bool,
+    all: &mut Vec<Named<'a>>,
+) -> Result<(), NoRequest> {
+    for text in texts {
+        if let Some((path, value)) = split_condition(*text) {
+            let path = wanted_path(alloc, path)?;
+            let condition = condition_of(alloc, path, Wanted::OneOf, value)?;
+            all.push(Named {
+                text: *text,
+                value,
+                condition,
+                is_alternative,
+            })?;
+        }
+    }
+    Ok(())
+}
+
+/// The values that texts `PATH=VALUE` name, of networks that are wanted and that are not.
+pub(crate) fn named_values<'a>(
+    alloc: Global,
+    wheres: &[&'a str],
+    where_nots: &[&'a str],
+) -> Result<Vec<Named<'a>>, NoRequest> {
+    let mut all = Vec::new(alloc);
+    add_named(alloc, wheres, true, &mut all)?;
+    add_named(alloc, where_nots, false, &mut all)?;
+    Ok(all)
 }
 
 /// The conditions that texts `PATH=VALUE` spell: of one path several wanted values are alternatives.

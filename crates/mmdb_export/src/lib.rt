@@ -4,6 +4,7 @@
 mod blocks;
 mod chosen;
 mod conditions;
+mod missing;
 mod networks;
 mod rows;
 mod sink;

@@ -1,6 +1,7 @@
 //! The chosen networks of a range, written out.
 use crate::blocks::Blocks;
 use crate::chosen::{Export, networks_in};
+use crate::missing::are_values_met;
 use crate::rows::Rows;
 use crate::sink::Sink;
 use crate::task::{ExportTask, Shape, export_task};
@@ -8,7 +9,7 @@ use mmdb_arguments::ExportArguments;
 use mmdb_blocks::Kinds;
 use mmdb_choice::{Choice, Condition};
 use mmdb_console::{Console, DONE, FAILED, ProgramError};
-use mmdb_layout::{Database, Networks, open_database};
+use mmdb_layout::{Database, Networks, note_range, open_database};
 use mmdb_reader::MaxMindDbError;
 use std::alloc::{AllocError, Global};
 use std::io::Write;
@@ -118,9 +119,22 @@ fn export_chosen<'a, 'r, O: Write, E: Write>(
             export_to(networks, choice, kinds, rows, console)
         }
         Shape::List(syntax) => {
-            let blocks = Blocks::begin(alloc, *syntax, kinds, console.out);
+            let blocks = Blocks::new(alloc, *syntax, kinds, task.range, task.allow_empty);
             export_to(networks, choice, kinds, blocks, console)
         }
+    }
+}
+
+// Whether a list may be written by these conditions: rows may be.
+fn may_be_written<O: Write, E: Write>(
+    database: &Database,
+    task: &ExportTask<'_>,
+    choice: &mut Option<Choice<'_>>,
+    console: &mut Console<'_, O, E>,
+) -> Result<bool, ProgramError> {
+    match (&task.shape, choice) {
+        (Shape::List(_), Some(choice)) => are_values_met(database, task, choice, console),
+        _ => Ok(true),
     }
 }
 
@@ -130,11 +144,14 @@ fn export_database<'a, O: Write, E: Write>(
     task: &'a ExportTask<'a>,
     console: &mut Console<'_, O, E>,
 ) -> Result<u8, ProgramError> {
-    let networks = networks_in(console.alloc, database, task.range)?;
-    match choice_of(console.alloc, task.conditions.as_slice()) {
-        Ok(choice) => export_chosen(networks, choice, database.data_section(), task, console),
+    let mut choice = choice_of(console.alloc, task.conditions.as_slice())?;
+    if !may_be_written(database, task, &mut choice, console)? {
+        return Ok(FAILED);
+    }
+    match networks_in(console.alloc, database, task.range) {
+        Ok(networks) => export_chosen(networks, choice, database.data_section(), task, console),
         Err(error) => {
-            drop(networks);
+            drop(choice);
             Err(ProgramError::from(error))
         }
     }
@@ -166,6 +183,7 @@ pub fn export<R: Files, O: Write, E: Write>(
     console: &mut Console<'_, O, E>,
 ) -> Result<u8, ProgramError> {
     let task = export_task(console.alloc, arguments)?;
+    note_range(task.range, console);
     let done = export_file(rt, arguments.file, &task, console);
     drop(task);
     done

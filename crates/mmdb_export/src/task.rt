@@ -1,5 +1,5 @@
 //! What `export` is asked for.
-use crate::conditions::conditions_of;
+use crate::conditions::{Named, conditions_of, named_values};
 use mmdb_arguments::{ExportArguments, Format, NoRequest};
 use mmdb_blocks::{Kind, Kinds};
 use mmdb_choice::Condition;
@@ -22,8 +22,14 @@ pub(crate) enum Shape<'a> {
 pub(crate) struct ExportTask<'a> {
     pub(crate) range: Option<IpNetwork>,
     pub(crate) conditions: Vec<Condition<'a>>,
+    /// The values of the conditions, where a list is written.
+    pub(crate) named: Vec<Named<'a>>,
     pub(crate) kinds: Kinds,
     pub(crate) shape: Shape<'a>,
+    /// Whether a list may have no networks.
+    pub(crate) allow_empty: bool,
+    /// Whether a list is written even where no network has a value of a condition.
+    pub(crate) allow_missing: bool,
 }
 
 // How sets are named, in a format that has some.
@@ -73,11 +79,14 @@ pub(crate) fn export_task<'a>(
     alloc: Global,
     arguments: &'a ExportArguments<'a>,
 ) -> Result<ExportTask<'a>, NoRequest> {
-    let (wheres, where_nots) = (&arguments.wheres, &arguments.where_nots);
+    let (wheres, where_nots) = (arguments.wheres.as_slice(), arguments.where_nots.as_slice());
     Ok(ExportTask {
         range: range_of(alloc, arguments.range)?,
-        conditions: conditions_of(alloc, wheres.as_slice(), where_nots.as_slice())?,
+        conditions: conditions_of(alloc, wheres, where_nots)?,
+        named: named_values(alloc, wheres, where_nots)?,
         kinds: kinds_of(arguments.ipv4, arguments.ipv6),
         shape: shape_of(alloc, arguments)?,
+        allow_empty: arguments.allow_empty,
+        allow_missing: arguments.allow_missing,
     })
 }

@@ -10,4 +10,4 @@ pub use database::{Database, Found, Networks, open_database};
 pub use layout::{Fields, Layout, layout_of, line_of_cells, line_of_names, write_values};
 pub use mmdb_paths::path_of;
 pub use paths::{paths_of, wanted_path};
-pub use ranges::range_of;
+pub use ranges::{note_range, range_of};

@@ -51,6 +51,8 @@ pub struct List<'a> {
     kind: Option<Kind>,
     /// Whether a network of that kind was written.
     has_written: bool,
+    /// Whether what comes before all networks was written.
+    has_begun: bool,
     /// What a network's line is put together in. Its room is enough, so that no network takes memory.
     line: Vec<u8>,
 }
@@ -90,21 +92,33 @@ impl<'a> List<'a> {
             joiner: Joiner::new(alloc)?,
             kind: None,
             has_written: false,
+            has_begun: false,
             line: Vec::with_capacity(alloc, syntax.most_bytes())?,
         })
     }
 
-    /// Writes what stands before all networks.
-    pub fn begin<O: Write>(&self, out: &mut O) -> Result<(), ListError> {
+    /// Whether nothing was written yet. After `finish` the list has no networks then.
+    pub fn is_empty(&self) -> bool {
+        !self.has_begun
+    }
+
+    /// Writes what comes before all networks, once. The first network does that too, so that a list without networks writes
+    /// nothing.
+    pub fn begin<O: Write>(&mut self, out: &mut O) -> Result<(), ListError> {
+        if self.has_begun {
+            return Ok(());
+        }
         let text = self.syntax.beginning(self.alloc, self.kinds)?;
+        self.has_begun = true;
         put(text.as_bytes(), out)
     }
 
-    // Writes what stands before the first network of a kind.
-    fn open<O: Write>(&self, kind: Kind, out: &mut O) -> Result<(), ListError> {
+    // Writes what comes before the first network of a kind.
+    fn open<O: Write>(&mut self, kind: Kind, out: &mut O) -> Result<(), ListError> {
         if self.has_written {
             return Ok(());
         }
+        self.begin(out)?;
         let text = self.syntax.opening(self.alloc, kind)?;
         put(text.as_bytes(), out)
     }
