@@ -8,9 +8,12 @@ use mmdb_arguments::{DiffArguments, NoRequest};
 use mmdb_console::{Console, DIFFERENT, DONE, FAILED, ProgramError, Where};
 use mmdb_diff::{Comparison, Part, Side, Stretch, UnreadLeaf};
 use mmdb_equality::Offsets;
-use mmdb_layout::{Database, Layout, layout_of, note_range, range_of};
+use mmdb_layout::{
+    Database, FieldsMet, Layout, Networks, layout_of, networks_in, note_range, range_of,
+};
 use mmdb_reader::{IpNetwork, MaxMindDbError};
 use std::alloc::{AllocError, Global};
+use std::collections::HashSet;
 use std::io::Write;
 use std::net::{IpAddr, Ipv4Addr, Ipv6Addr};
 use std::rt::Files;
@@ -389,6 +392,45 @@ fn compare<'a, 'r, O: Write, E: Write>(
     done
 }
 
+// Looks at the records of a database for the fields that are shown, each once. An `Err` is of memory.
+fn look_at<'r>(
+    alloc: Global,
+    networks: Networks<'r>,
+    layout: &Layout<'_>,
+    met: &mut FieldsMet<'r>,
+) -> Result<(), AllocError> {
+    let mut offsets = HashSet::new(alloc);
+    for item in networks {
+        if met.are_all_met() {
+            return Ok(());
+        }
+        if let Ok(found) = item {
+            if offsets.insert(found.offset().unwrap_or(0))? {
+                met.look(&found, layout.paths());
+            }
+        }
+    }
+    Ok(())
+}
+
+// Says of fields that no record of either database has in a range.
+fn note_absent<O: Write, E: Write>(
+    task: &DiffTask<'_>,
+    databases: &TwoDatabases,
+    range: IpNetwork,
+    console: &mut Console<'_, O, E>,
+) -> Result<(), ProgramError> {
+    let alloc = console.alloc;
+    let mut met = FieldsMet::new(alloc, task.layout.names().len())?;
+    for database in [databases.newer(), databases.old()] {
+        if let Ok(networks) = networks_in(alloc, database, Some(range)) {
+            look_at(alloc, networks, &task.layout, &mut met)?;
+        }
+    }
+    met.note_absent(task.layout.names(), console);
+    Ok(())
+}
+
 // Compares two databases in a range, and answers the status.
 fn compare_range<'a, O: Write, E: Write>(
     databases: &TwoDatabases,
@@ -429,6 +471,7 @@ fn diff_databases<'a, O: Write, E: Write>(
         Some(range) => range,
         None => all_of(databases.old(), databases.newer())?,
     };
+    note_absent(task, databases, range, console)?;
     if databases.have_same_bytes()
         && are_all_readable(console.alloc, databases.old(), range, &task.layout)
     {

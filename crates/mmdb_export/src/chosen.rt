@@ -3,8 +3,8 @@ use crate::sink::{Sink, kind_of};
 use mmdb_blocks::Kinds;
 use mmdb_choice::Choice;
 use mmdb_console::{Console, ProgramError, Where};
-use mmdb_layout::{Database, Found, Networks};
-use mmdb_reader::{IpNetwork, MaxMindDbError, WithinOptions};
+use mmdb_layout::Found;
+use mmdb_reader::MaxMindDbError;
 use std::alloc::{AllocError, Global};
 use std::io::Write;
 
@@ -13,7 +13,7 @@ const MOST_WAITING: usize = 64;
 
 /// An export of the chosen networks.
 #[derive(Drop)]
-pub(crate) struct Export<'a, 'r, W: Sink> {
+pub(crate) struct Export<'a, 'r, W: Sink<'r>> {
     /// Which networks are chosen. None: all.
     choice: Option<Choice<'a>>,
     kinds: Kinds,
@@ -27,7 +27,7 @@ pub(crate) struct Export<'a, 'r, W: Sink> {
     pub(crate) faults: u64,
 }
 
-impl<'a, 'r, W: Sink> Export<'a, 'r, W> {
+impl<'a, 'r, W: Sink<'r>> Export<'a, 'r, W> {
     /// Of no network yet.
     pub(crate) fn new(
         alloc: Global,
@@ -83,7 +83,7 @@ impl<'a, 'r, W: Sink> Export<'a, 'r, W> {
     #[inline(always)]
     fn write_chosen<O: Write>(
         &mut self,
-        found: &Found<'_>,
+        found: &Found<'r>,
         kept: Option<bool>,
         out: &mut O,
     ) -> Result<(), ProgramError> {
@@ -107,7 +107,7 @@ impl<'a, 'r, W: Sink> Export<'a, 'r, W> {
     #[inline(always)]
     fn try_chosen<O: Write>(
         &mut self,
-        found: &Found<'_>,
+        found: &Found<'r>,
         kept: Option<bool>,
         out: &mut O,
     ) -> Result<(), ProgramError> {
@@ -124,7 +124,7 @@ impl<'a, 'r, W: Sink> Export<'a, 'r, W> {
     #[inline(never)]
     fn write_found<O: Write, E: Write>(
         &mut self,
-        found: &Found<'_>,
+        found: &Found<'r>,
         kept: Option<bool>,
         console: &mut Console<'_, O, E>,
     ) -> Result<(), ProgramError> {
@@ -229,6 +229,11 @@ impl<'a, 'r, W: Sink> Export<'a, 'r, W> {
         self.report_next(error, console)
     }
 
+    /// Says of fields that no record had.
+    pub(crate) fn note_absent<O: Write, E: Write>(&self, console: &mut Console<'_, O, E>) {
+        self.sink.note_absent(console);
+    }
+
     /// Writes what waits, and what stands behind the last network.
     pub(crate) fn finish<O: Write, E: Write>(
         &mut self,
@@ -236,17 +241,5 @@ impl<'a, 'r, W: Sink> Export<'a, 'r, W> {
     ) -> Result<(), ProgramError> {
         self.write_waiting(console)?;
         self.sink.finish(console.out)
-    }
-}
-
-/// The networks of a range, or all.
-pub(crate) fn networks_in(
-    alloc: Global,
-    database: &Database,
-    range: Option<IpNetwork>,
-) -> Result<Networks<'_>, MaxMindDbError> {
-    match range {
-        Some(range) => database.within(alloc, range, WithinOptions::default()),
-        None => database.networks(alloc, WithinOptions::default()),
     }
 }

@@ -1,5 +1,4 @@
 //! Values of conditions that no network has: a list by a value that is misspelt would have nothing, or too much.
-use crate::chosen::networks_in;
 use crate::conditions::Named;
 use crate::sink::kind_of;
 use crate::task::ExportTask;
@@ -7,7 +6,7 @@ use mmdb_blocks::Kinds;
 use mmdb_choice::Choice;
 use mmdb_console::{Console, ProgramError, Similar, line_of};
 use mmdb_json::compact;
-use mmdb_layout::{Database, Found, Networks};
+use mmdb_layout::{Database, Found, Networks, networks_in};
 use mmdb_reader::MaxMindDbError;
 use mmdb_value::Value;
 use std::alloc::{AllocError, Global};

@@ -1,6 +1,6 @@
 //! The chosen networks of a range, written out.
 use crate::blocks::Blocks;
-use crate::chosen::{Export, networks_in};
+use crate::chosen::Export;
 use crate::missing::are_values_met;
 use crate::rows::Rows;
 use crate::sink::Sink;
@@ -9,7 +9,7 @@ use mmdb_arguments::ExportArguments;
 use mmdb_blocks::Kinds;
 use mmdb_choice::{Choice, Condition};
 use mmdb_console::{Console, DONE, FAILED, ProgramError};
-use mmdb_layout::{Database, Networks, note_range, open_database};
+use mmdb_layout::{Database, Networks, networks_in, note_range, open_database};
 use mmdb_reader::MaxMindDbError;
 use std::alloc::{AllocError, Global};
 use std::io::Write;
@@ -30,9 +30,9 @@ fn report_faults<O: Write, E: Write>(
 
 // Reports a network that can't be read.
 #[inline(never)]
-fn report_unread<W: Sink, O: Write, E: Write>(
+fn report_unread<'r, W: Sink<'r>, O: Write, E: Write>(
     error: MaxMindDbError,
-    export: &mut Export<'_, '_, W>,
+    export: &mut Export<'_, 'r, W>,
     console: &mut Console<'_, O, E>,
 ) -> Result<(), ProgramError> {
     let reported = export.write_unread(&error, console);
@@ -41,7 +41,7 @@ fn report_unread<W: Sink, O: Write, E: Write>(
 }
 
 // Writes the chosen networks, and what stands behind them.
-fn export_all<'r, W: Sink, O: Write, E: Write>(
+fn export_all<'r, W: Sink<'r>, O: Write, E: Write>(
     networks: Networks<'r>,
     export: &mut Export<'_, 'r, W>,
     console: &mut Console<'_, O, E>,
@@ -67,13 +67,16 @@ fn choice_of<'a>(
 }
 
 // Writes the chosen networks, reports how many could not be read, and answers the status.
-fn export_with<'a, 'r, W: Sink, O: Write, E: Write>(
+fn export_with<'a, 'r, W: Sink<'r>, O: Write, E: Write>(
     networks: Networks<'r>,
     export: Export<'a, 'r, W>,
     console: &mut Console<'_, O, E>,
 ) -> Result<u8, ProgramError> {
     let mut export = export;
     let exported = export_all(networks, &mut export, console);
+    if exported.is_ok() {
+        export.note_absent(console);
+    }
     let faults = export.faults;
     drop(export);
     exported?;
@@ -81,7 +84,7 @@ fn export_with<'a, 'r, W: Sink, O: Write, E: Write>(
 }
 
 // Writes the chosen networks to a sink, if it could be begun.
-fn export_to<'a, 'r, W: Sink, O: Write, E: Write>(
+fn export_to<'a, 'r, W: Sink<'r>, O: Write, E: Write>(
     networks: Networks<'r>,
     choice: Option<Choice<'a>>,
     kinds: Kinds,

@@ -2,8 +2,8 @@
 use crate::blocks::block_of;
 use crate::sink::{Sink, kind_of};
 use mmdb_cache::Cache;
-use mmdb_console::{ProgramError, put};
-use mmdb_layout::{Found, Layout};
+use mmdb_console::{Console, ProgramError, put};
+use mmdb_layout::{FieldsMet, Found, Layout};
 use mmdb_reader::{IpNetwork, MaxMindDbError};
 use mmdb_texts::RecordTexts;
 use std::alloc::{AllocError, Global};
@@ -38,6 +38,8 @@ pub(crate) struct Rows<'a, 'r> {
     last_offset: Option<usize>,
     /// What a row is put together in. Its room is enough, so that no row takes memory.
     line: Vec<u8>,
+    /// Which fields the records have of which a row was made.
+    met: FieldsMet<'r>,
 }
 
 // Puts a row together with its network.
@@ -119,6 +121,7 @@ impl<'a, 'r> Rows<'a, 'r> {
         out: &mut O,
     ) -> Result<Rows<'a, 'r>, ProgramError> {
         let line = Vec::with_capacity(alloc, MOST_JOINED + NETWORK_BYTES)?;
+        let met = FieldsMet::new(alloc, layout.names().len())?;
         put_header(alloc, layout, out)?;
         Ok(Rows {
             alloc,
@@ -128,11 +131,12 @@ impl<'a, 'r> Rows<'a, 'r> {
             last: Vec::new(alloc),
             last_offset: None,
             line,
+            met,
         })
     }
 
     // Makes the last row anew, that of an answer.
-    fn make_last(&mut self, found: &Found<'_>) -> Result<(), MaxMindDbError> {
+    fn make_last(&mut self, found: &Found<'r>) -> Result<(), MaxMindDbError> {
         self.last_offset = None;
         match &mut self.texts {
             Some(texts) => self
@@ -141,6 +145,9 @@ impl<'a, 'r> Rows<'a, 'r> {
             None => self.last = self.layout.row(self.alloc, found)?,
         }
         self.last_offset = found.offset();
+        if !self.met.are_all_met() {
+            self.met.look(found, self.layout.paths());
+        }
         Ok(())
     }
 
@@ -160,7 +167,7 @@ impl<'a, 'r> Rows<'a, 'r> {
 
     // Makes the row of an answer.
     #[inline(never)]
-    fn make(&mut self, found: &Found<'_>) -> Result<(), MaxMindDbError> {
+    fn make(&mut self, found: &Found<'r>) -> Result<(), MaxMindDbError> {
         self.make_last(found)?;
         self.keep_last();
         Ok(())
@@ -195,9 +202,9 @@ impl<'a, 'r> Rows<'a, 'r> {
     }
 }
 
-impl Sink for Rows<'_, '_> {
+impl<'r> Sink<'r> for Rows<'_, 'r> {
     #[inline(always)]
-    fn take<O: Write>(&mut self, found: &Found<'_>, out: &mut O) -> Result<bool, ProgramError> {
+    fn take<O: Write>(&mut self, found: &Found<'r>, out: &mut O) -> Result<bool, ProgramError> {
         if !self.join_kept(found) {
             return Ok(false);
         }
@@ -207,7 +214,7 @@ impl Sink for Rows<'_, '_> {
         }
     }
 
-    fn put<O: Write>(&mut self, found: &Found<'_>, out: &mut O) -> Result<(), ProgramError> {
+    fn put<O: Write>(&mut self, found: &Found<'r>, out: &mut O) -> Result<(), ProgramError> {
         let network = found.network()?;
         let offset = found.offset();
         if let Some(offset) = offset {
@@ -232,6 +239,10 @@ impl Sink for Rows<'_, '_> {
             texts.clear();
         }
         true
+    }
+
+    fn note_absent<O: Write, E: Write>(&self, console: &mut Console<'_, O, E>) {
+        self.met.note_absent(self.layout.names(), console);
     }
 
     fn finish<O: Write>(&mut self, _out: &mut O) -> Result<(), ProgramError> {

@@ -1,6 +1,7 @@
 //! Databases whose bytes are those of a file.
 use mmdb_console::{Console, reported};
-use mmdb_reader::{LookupResult, Reader, Within};
+use mmdb_reader::{IpNetwork, LookupResult, MaxMindDbError, Reader, Within, WithinOptions};
+use std::alloc::Global;
 use std::io::Write;
 use std::rt::Files;
 
@@ -25,4 +26,16 @@ pub fn open_database<R: Files, O: Write, E: Write>(
         Reader::open_readfile(rt, console.alloc, file),
         console,
     )
+}
+
+/// The networks of a range, or all.
+pub fn networks_in(
+    alloc: Global,
+    database: &Database,
+    range: Option<IpNetwork>,
+) -> Result<Networks<'_>, MaxMindDbError> {
+    match range {
+        Some(range) => database.within(alloc, range, WithinOptions::default()),
+        None => database.networks(alloc, WithinOptions::default()),
+    }
 }

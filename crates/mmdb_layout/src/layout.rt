@@ -248,6 +248,30 @@ impl Layout<'_> {
         }
     }
 
+    // The fields, where not whole records are wanted.
+    fn fields(&self) -> Option<&Fields<'_>> {
+        match self {
+            Layout::Records => None,
+            Layout::Values(fields) | Layout::Cells(fields) => Some(fields),
+        }
+    }
+
+    /// The names of the fields, none where whole records are wanted.
+    pub fn names(&self) -> &[&str] {
+        match self.fields() {
+            Some(fields) => fields.names,
+            None => &[],
+        }
+    }
+
+    /// The paths of the fields, none where whole records are wanted.
+    pub fn paths(&self) -> &[Vec<PathElement<'_>>] {
+        match self.fields() {
+            Some(fields) => fields.paths.as_slice(),
+            None => &[],
+        }
+    }
+
     /// Whether a row has a whole record, so that `put_row` may make it of the texts of records.
     pub fn has_records(&self) -> bool {
         matches!(self, Layout::Records)

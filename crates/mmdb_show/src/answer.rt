@@ -4,7 +4,7 @@ use mmdb_arguments::{NoRequest, ShowArguments};
 use mmdb_console::{Console, DONE, FAILED, NOT_FOUND, ProgramError};
 use mmdb_found::write_found;
 use mmdb_json::TokenSink;
-use mmdb_layout::{Database, Found, open_database, paths_of};
+use mmdb_layout::{Database, FieldsMet, Found, open_database, paths_of};
 use mmdb_reader::{IpNetwork, MaxMindDbError, PathElement};
 use std::alloc::{AllocError, Global};
 use std::io::Write;
@@ -15,6 +15,7 @@ use std::rt::Files;
 #[derive(Drop)]
 struct ShowTask<'a> {
     addresses: &'a [IpAddr],
+    names: &'a [&'a str],
     paths: Vec<Vec<PathElement<'a>>>,
     lines: bool,
 }
@@ -26,6 +27,7 @@ fn show_task<'a>(
 ) -> Result<ShowTask<'a>, NoRequest> {
     Ok(ShowTask {
         addresses: arguments.addresses.as_slice(),
+        names: arguments.paths.as_slice(),
         paths: paths_of(alloc, arguments.paths.as_slice())?,
         lines: arguments.lines,
     })
@@ -226,7 +228,28 @@ fn show_all<O: Write, E: Write>(
     for address in task.addresses {
         status = status_after(status, show_one(database, task, *address, console)?);
     }
+    note_absent(database, task, console)?;
     Ok(status)
+}
+
+// Says of paths that lead to no value in any of the records that were shown.
+fn note_absent<O: Write, E: Write>(
+    database: &Database,
+    task: &ShowTask<'_>,
+    console: &mut Console<'_, O, E>,
+) -> Result<(), ProgramError> {
+    let mut met = FieldsMet::new(console.alloc, task.paths.len())?;
+    for address in task.addresses {
+        if met.are_all_met() {
+            return Ok(());
+        }
+        if let Ok(found) = database.lookup(*address) {
+            met.look(&found, task.paths.as_slice());
+        }
+    }
+    console.flush()?;
+    met.note_absent(task.names, console);
+    Ok(())
 }
 
 // Opens a file and shows what it has, and answers the status.

@@ -1,0 +1,170 @@
+//! Fields that no record has: a path that is misspelt gives empty cells without a word.
+use crate::database::Found;
+use mmdb_console::{Console, Similar, line_of};
+use mmdb_reader::{MaxMindDbError, PathElement};
+use mmdb_value::Value;
+use std::alloc::{AllocError, Global};
+use std::io::Write;
+
+/// Among the paths of how many records what was meant is looked for.
+const MOST_RECORDS: usize = 64;
+
+/// How many paths of a record are looked at.
+const MOST_PATHS: usize = 4096;
+
+/// Which fields the records have that were looked at, and the first of those records.
+#[derive(Drop)]
+pub struct FieldsMet<'r> {
+    alloc: Global,
+    are_met: Vec<bool>,
+    records: Vec<Found<'r>>,
+}
+
+/// A value of a record, and the path to it.
+#[derive(Drop)]
+struct Place<'v, 'de> {
+    path: String,
+    value: &'v Value<'de>,
+}
+
+// Whether a key has to stand in quotes in a path.
+fn needs_quotes(key: &str) -> bool {
+    let mut is_number = !key.is_empty();
+    for c in key.chars() {
+        if c == '.' {
+            return true;
+        }
+        is_number &= c.is_ascii_digit();
+    }
+    is_number
+}
+
+// The path one step on.
+fn path_with(alloc: Global, path: &str, step: &str) -> Result<String, AllocError> {
+    match (path.is_empty(), needs_quotes(step)) {
+        (true, false) => String::from_str(alloc, step),
+        (true, true) => format!(in alloc; "\"{step}\""),
+        (false, false) => format!(in alloc; "{path}.{step}"),
+        (false, true) => format!(in alloc; "{path}.\"{step}\""),
+    }
+}
+
+// Adds the places in a map or an array.
+fn add_places<'v, 'de>(
+    alloc: Global,
+    place: &Place<'v, 'de>,
+    places: &mut Vec<Place<'v, 'de>>,
+) -> Result<(), AllocError> {
+    let path = place.path.as_str();
+    match place.value {
+        Value::Map(pairs) => {
+            for (key, value) in pairs {
+                let path = path_with(alloc, path, *key)?;
+                places.push(Place { path, value })?;
+            }
+        }
+        Value::Array(items) => {
+            for (index, value) in items.iter().enumerate() {
+                let path = format!(in alloc; "{path}.{index}")?;
+                places.push(Place { path, value })?;
+            }
+        }
+        _ => {}
+    }
+    Ok(())
+}
+
+// Offers the paths to the values of a record.
+fn offer_paths(
+    alloc: Global,
+    record: &Value<'_>,
+    similar: &mut Similar<'_>,
+) -> Result<(), AllocError> {
+    let mut places = Vec::new(alloc);
+    places.push(Place {
+        path: String::new(alloc),
+        value: record,
+    })?;
+    for _ in 0..MOST_PATHS {
+        let Some(place) = places.pop() else {
+            return Ok(());
+        };
+        similar.offer(place.path.as_str())?;
+        add_places(alloc, &place, &mut places)?;
+    }
+    Ok(())
+}
+
+// Offers the paths of records. One that can't be read is passed.
+fn offer_records(
+    alloc: Global,
+    records: &[Found<'_>],
+    similar: &mut Similar<'_>,
+) -> Result<(), AllocError> {
+    for found in records {
+        let record: Result<Option<Value<'_>>, MaxMindDbError> = found.decode_path(alloc, &[]);
+        if let Ok(Some(record)) = &record {
+            offer_paths(alloc, record, similar)?;
+        }
+    }
+    Ok(())
+}
+
+/// What is said of a field that no record has, with a path of some records that may be meant.
+pub fn absent_text(alloc: Global, name: &str, records: &[Found<'_>]) -> Result<String, AllocError> {
+    let mut similar = Similar::new(alloc, name)?;
+    offer_records(alloc, records, &mut similar)?;
+    match similar.best() {
+        Some(best) => format!(in alloc; "mmdb: no record has {name}; did you mean {best}?"),
+        None => format!(in alloc; "mmdb: no record has {name}"),
+    }
+}
+
+// Whether a record has a value at a path. One that can't be read is reported where it is written.
+fn has_value(alloc: Global, found: &Found<'_>, path: &[PathElement<'_>]) -> bool {
+    let value: Result<Option<Value<'_>>, MaxMindDbError> = found.decode_path(alloc, path);
+    !matches!(value, Ok(None))
+}
+
+impl<'r> FieldsMet<'r> {
+    /// Nothing was looked at yet. An `Err` is of memory.
+    pub fn new(alloc: Global, fields: usize) -> Result<FieldsMet<'r>, AllocError> {
+        Ok(FieldsMet {
+            alloc,
+            are_met: vec![in alloc; false; fields]?,
+            records: Vec::new(alloc),
+        })
+    }
+
+    /// Whether each field is met.
+    #[inline(always)]
+    pub fn are_all_met(&self) -> bool {
+        self.are_met.iter().all(|is_met| *is_met)
+    }
+
+    /// Looks at a record, if there is one.
+    pub fn look(&mut self, found: &Found<'r>, paths: &[Vec<PathElement<'_>>]) {
+        if found.offset().is_none() {
+            return;
+        }
+        for (is_met, path) in self.are_met.iter_mut().zip(paths) {
+            *is_met = *is_met || has_value(self.alloc, found, path.as_slice());
+        }
+        if self.records.len() < MOST_RECORDS {
+            let _ = self.records.push(*found);
+        }
+    }
+
+    /// Says of each field that no record had, where records were looked at. It is left out where there is no memory.
+    pub fn note_absent<O: Write, E: Write>(&self, names: &[&str], console: &mut Console<'_, O, E>) {
+        if self.records.is_empty() {
+            return;
+        }
+        for (name, is_met) in names.iter().zip(&self.are_met) {
+            if !*is_met {
+                let text = absent_text(self.alloc, name, self.records.as_slice());
+                console.note(line_of(self.alloc, text));
+            }
+        }
+    }
+}
