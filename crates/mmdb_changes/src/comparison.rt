@@ -427,8 +427,7 @@ fn note_absent<O: Write, E: Write>(
             look_at(alloc, networks, &task.layout, &mut met)?;
         }
     }
-    met.note_absent(task.layout.names(), console);
-    Ok(())
+    met.note_absent(task.layout.names(), console)
 }
 
 // Compares two databases in a range, and answers the status.

@@ -100,7 +100,12 @@ impl<'r> Sink<'r> for Blocks<'_> {
         false
     }
 
-    fn note_absent<O: Write, E: Write>(&self, _console: &mut Console<'_, O, E>) {}
+    fn note_absent<O: Write, E: Write>(
+        &self,
+        _console: &mut Console<'_, O, E>,
+    ) -> Result<(), ProgramError> {
+        Ok(())
+    }
 
     fn finish<O: Write>(&mut self, out: &mut O) -> Result<(), ProgramError> {
         of_list(self.list.finish(out))?;

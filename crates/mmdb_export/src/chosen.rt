@@ -229,17 +229,13 @@ impl<'a, 'r, W: Sink<'r>> Export<'a, 'r, W> {
         self.report_next(error, console)
     }
 
-    /// Says of fields that no record had.
-    pub(crate) fn note_absent<O: Write, E: Write>(&self, console: &mut Console<'_, O, E>) {
-        self.sink.note_absent(console);
-    }
-
-    /// Writes what waits, and what stands behind the last network.
+    /// Writes what waits and what comes after the last network, and says of fields that no record had.
     pub(crate) fn finish<O: Write, E: Write>(
         &mut self,
         console: &mut Console<'_, O, E>,
     ) -> Result<(), ProgramError> {
         self.write_waiting(console)?;
-        self.sink.finish(console.out)
+        self.sink.finish(console.out)?;
+        self.sink.note_absent(console)
     }
 }

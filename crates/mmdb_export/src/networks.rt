@@ -74,9 +74,6 @@ fn export_with<'a, 'r, W: Sink<'r>, O: Write, E: Write>(
 ) -> Result<u8, ProgramError> {
     let mut export = export;
     let exported = export_all(networks, &mut export, console);
-    if exported.is_ok() {
-        export.note_absent(console);
-    }
     let faults = export.faults;
     drop(export);
     exported?;

@@ -241,8 +241,11 @@ impl<'r> Sink<'r> for Rows<'_, 'r> {
         true
     }
 
-    fn note_absent<O: Write, E: Write>(&self, console: &mut Console<'_, O, E>) {
-        self.met.note_absent(self.layout.names(), console);
+    fn note_absent<O: Write, E: Write>(
+        &self,
+        console: &mut Console<'_, O, E>,
+    ) -> Result<(), ProgramError> {
+        self.met.note_absent(self.layout.names(), console)
     }
 
     fn finish<O: Write>(&mut self, _out: &mut O) -> Result<(), ProgramError> {

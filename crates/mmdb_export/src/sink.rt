@@ -16,7 +16,10 @@ pub(crate) trait Sink<'r>: Drop {
     fn let_go(&mut self) -> bool;
 
     /// Says of fields that no record had.
-    fn note_absent<O: Write, E: Write>(&self, console: &mut Console<'_, O, E>);
+    fn note_absent<O: Write, E: Write>(
+        &self,
+        console: &mut Console<'_, O, E>,
+    ) -> Result<(), ProgramError>;
 
     /// Writes what stands behind the last network.
     fn finish<O: Write>(&mut self, out: &mut O) -> Result<(), ProgramError>;

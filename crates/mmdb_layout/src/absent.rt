@@ -1,6 +1,6 @@
 //! Fields that no record has: a path that is misspelt gives empty cells without a word.
 use crate::database::Found;
-use mmdb_console::{Console, Similar, line_of};
+use mmdb_console::{Console, ProgramError, Similar, line_of};
 use mmdb_reader::{MaxMindDbError, PathElement};
 use mmdb_value::Value;
 use std::alloc::{AllocError, Global};
@@ -155,16 +155,22 @@ impl<'r> FieldsMet<'r> {
         }
     }
 
-    /// Says of each field that no record had, where records were looked at. It is left out where there is no memory.
-    pub fn note_absent<O: Write, E: Write>(&self, names: &[&str], console: &mut Console<'_, O, E>) {
-        if self.records.is_empty() {
-            return;
+    /// Says of each field that no record had, where records were looked at, after what was written. An `Err` is `Write`.
+    pub fn note_absent<O: Write, E: Write>(
+        &self,
+        names: &[&str],
+        console: &mut Console<'_, O, E>,
+    ) -> Result<(), ProgramError> {
+        if self.records.is_empty() || self.are_all_met() {
+            return Ok(());
         }
+        console.flush()?;
         for (name, is_met) in names.iter().zip(&self.are_met) {
             if !*is_met {
                 let text = absent_text(self.alloc, name, self.records.as_slice());
                 console.note(line_of(self.alloc, text));
             }
         }
+        Ok(())
     }
 }

@@ -247,9 +247,7 @@ fn note_absent<O: Write, E: Write>(
             met.look(&found, task.paths.as_slice());
         }
     }
-    console.flush()?;
-    met.note_absent(task.names, console);
-    Ok(())
+    met.note_absent(task.names, console)
 }
 
 // Opens a file and shows what it has, and answers the status.
