@@ -258,10 +258,10 @@ impl Layout<'_> {
 
     /// The names of the fields, none where whole records are wanted.
     pub fn names(&self) -> &[&str] {
-        match self.fields() {
-            Some(fields) => fields.names,
-            None => &[],
-        }
+        let Some(fields) = self.fields() else {
+            return &[];
+        };
+        fields.names
     }
 
     /// The paths of the fields, none where whole records are wanted.
