@@ -51,6 +51,8 @@ const HELPS: &[(&[&str], &[&str])] = &[
             "--ipv4",
             "--ipv6",
             "--name",
+            "--allow-empty",
+            "--allow-missing",
             "Examples:\n  mmdb export ",
         ],
     ),

@@ -1,5 +1,5 @@
 //! Networks chosen by their records, and lists of the fewest blocks.
-use super::exports::{file_of_nodes, is_as_wanted};
+use super::exports::{file_of_nodes, is_as_wanted, lines_hold};
 use super::program::{assert_of, run_of};
 use mmdb_vectors::builder::{Field, changed_file, nodes_24};
 use std::alloc::Global;
@@ -36,6 +36,9 @@ pub(crate) const DAMAGED: &[(u32, u32)] = &[
 /// Words, standard output, and what each line of standard error has to hold.
 type Row<'a> = (&'a [&'a str], &'a str, &'a [&'a str]);
 
+/// What is said of a list without networks.
+const NONE: &[&str] = &["no network is chosen; --allow-empty writes an empty list"];
+
 #[rattlefmt::skip]
 const OF_WHOLE: &[Row<'static>] = &[
     (&["--where", "c.i=DE", "--format", "cidr"], "0.0.0.0/2\n96.0.0.0/3\n160.0.0.0/3\n192.0.0.0/2\n", &[]),
@@ -46,18 +49,64 @@ const OF_WHOLE: &[Row<'static>] = &[
         &[],
     ),
     // paths must all fit
-    (&["--where", "c.i=AT", "--where", "n=7", "--format", "cidr"], "", &[]),
+    (&["--where", "c.i=AT", "--where", "n=7", "--format", "cidr"], "", NONE),
     (&["--where", "c.i=AT", "--where", "n=true", "--format", "cidr"], "64.0.0.0/3\n", &[]),
     (&["--where-not", "c.i=DE", "--format", "cidr"], "64.0.0.0/3\n", &[]),
-    (&["--where-not", "c.i=DE", "--where-not", "c.i=AT", "--format", "cidr"], "", &[]),
-    (&["--where-not", "x=DE", "--format", "cidr"], "0.0.0.0/1\n160.0.0.0/3\n192.0.0.0/2\n", &[]),
+    (&["--where-not", "c.i=DE", "--where-not", "c.i=AT", "--format", "cidr"], "", NONE),
+    // a value that no network has may be misspelt
+    (
+        &["--where-not", "x=DE", "--format", "cidr"],
+        "",
+        &["no network has x=DE; --allow-missing goes on without it"],
+    ),
+    (
+        &["--where-not", "x=DE", "--format", "cidr", "--allow-missing"],
+        "0.0.0.0/1\n160.0.0.0/3\n192.0.0.0/2\n",
+        &[],
+    ),
+    (
+        &["--where", "c.i=de", "--format", "cidr"],
+        "",
+        &["no network has c.i=de (did you mean DE?); --allow-empty writes an empty list"],
+    ),
+    (
+        &["--where", "c.i=AT", "--where", "c.i=FR", "--format", "cidr"],
+        "",
+        &["no network has c.i=FR; --allow-missing goes on without it"],
+    ),
+    (
+        &["--where", "c.i=AT", "--where", "c.i=FR", "--format", "cidr", "--allow-missing"],
+        "64.0.0.0/3\n",
+        &[],
+    ),
+    // rows may be none
+    (&["--where", "c.i=de"], "", &[]),
     // neither a map nor what is not there is a text
-    (&["--where", "c={\"i\":\"DE\"}", "--format", "cidr"], "", &[]),
-    (&["--where", "x=", "--format", "cidr"], "", &[]),
+    (
+        &["--where", "c={\"i\":\"DE\"}", "--format", "cidr"],
+        "",
+        &["no network has c={\"i\":\"DE\"}; --allow-empty writes an empty list"],
+    ),
+    (
+        &["--where", "x=", "--format", "cidr"],
+        "",
+        &["no network has x=; --allow-empty writes an empty list"],
+    ),
     (&["--format", "cidr", "--ipv4"], "0.0.0.0/1\n160.0.0.0/3\n192.0.0.0/2\n", &[]),
-    (&["--format", "cidr", "--ipv6"], "", &[]),
+    (&["--format", "cidr", "--ipv6"], "", NONE),
+    (&["--format", "cidr", "--ipv6", "--allow-empty"], "", &[]),
     (&["--format", "cidr", "--ipv4", "--ipv6"], "0.0.0.0/1\n160.0.0.0/3\n192.0.0.0/2\n", &[]),
     (&["128.0.0.0/1", "--format", "cidr"], "160.0.0.0/3\n192.0.0.0/2\n", &[]),
+    // a list has no address outside the range, and a row the network as it is
+    (&["32.0.0.0/4", "--format", "cidr"], "32.0.0.0/4\n", &[]),
+    (&["0.0.0.0/0", "--format", "cidr"], "0.0.0.0/1\n160.0.0.0/3\n192.0.0.0/2\n", &[]),
+    (&["36.5.0.0/16", "--where", "c.i=DE", "--format", "cidr"], "36.5.0.0/16\n", &[]),
+    (
+        &["36.5.0.0/16", "--where", "c.i=AT", "--format", "cidr"],
+        "",
+        &["no network has c.i=AT; --allow-empty writes an empty list"],
+    ),
+    (&["36.5.0.0/16", "--field", "n"], "{\"network\":\"32.0.0.0/3\",\"n\":7}\n", &[]),
     // every format is of the chosen networks
     (&["--where", "c.i=AT", "--field", "n"], "{\"network\":\"64.0.0.0/3\",\"n\":true}\n", &[]),
     (&["--where", "n=true", "--field", "c.i", "--format", "csv"], "network,c.i\n64.0.0.0/3,AT\n", &[]),
@@ -77,9 +126,14 @@ add element inet mmdb blocked_ipv4 {
 ",
         &[],
     ),
-    // a set of nothing has no elements
+    // a set of nothing has no elements, and is written only where that is asked
     (
         &["--where", "c.i=FR", "--format", "nft", "--ipv4"],
+        "",
+        &["no network has c.i=FR; --allow-empty writes an empty list"],
+    ),
+    (
+        &["--where", "c.i=FR", "--format", "nft", "--ipv4", "--allow-empty"],
         "add table inet mmdb
 add set inet mmdb mmdb_ipv4 { type ipv4_addr; flags interval; }
 flush set inet mmdb mmdb_ipv4
@@ -102,7 +156,7 @@ add mmdb_ipv4 64.0.0.0/3
 const OF_DAMAGED: &[Row<'static>] = &[
     // a condition is on the value alone: what can't be read is reported, and not listed
     (
-        &["--where-not", "c=x", "--format", "cidr"],
+        &["--where-not", "c=x", "--format", "cidr", "--allow-missing"],
         "0.0.0.0/3\n64.0.0.0/2\n160.0.0.0/3\n",
         &["32.0.0.0/3: ", "a network behind 96.0.0.0/3: invalid database", "2 networks could not be read"],
     ),
@@ -168,7 +222,7 @@ add mmdb_ipv6 8000::/1
 ",
                 &[],
             ),
-            (&["--format", "cidr", "--ipv4"], "", &[]),
+            (&["--format", "cidr", "--ipv4"], "", NONE),
         ],
     ),
 ];
@@ -182,4 +236,87 @@ fn lists_of_all_addresses(rt: HostRuntime) {
         let bytes = bytes.expect(&rt, "a file");
         assert_rows(&rt, rt.alloc(), bytes.as_slice(), rows);
     }
+}
+
+/// Words of a run that is done, and what each line of standard error has to hold.
+const NOTED: &[(&[&str], &[&str])] = &[
+    // a field that no record has is named, with the one that may be meant
+    (
+        &["export", "here.mmdb", "--field", "c.j"],
+        &["mmdb: no record has c.j; did you mean c.i?"],
+    ),
+    (
+        &[
+            "export",
+            "here.mmdb",
+            "--field",
+            "c.i",
+            "--field",
+            "names",
+            "--format",
+            "csv",
+        ],
+        &["mmdb: no record has names"],
+    ),
+    (
+        &["export", "here.mmdb", "--field", "C.I"],
+        &["did you mean c.i?"],
+    ),
+    // of no record nothing is said
+    (
+        &["export", "here.mmdb", "128.0.0.0/3", "--field", "c.j"],
+        &[],
+    ),
+    (
+        &["export", "here.mmdb", "--where", "c.i=FR", "--field", "c.j"],
+        &[],
+    ),
+    // some record has it
+    (&["export", "here.mmdb", "--field", "c.i"], &[]),
+    (
+        &["diff", "here.mmdb", "here.mmdb", "--field", "c.j"],
+        &["no record has c.j; did you mean c.i?", "0 (0) added"],
+    ),
+    (
+        &["diff", "here.mmdb", "here.mmdb", "--field", "n"],
+        &["0 (0) added"],
+    ),
+    // a range with address bits after its prefix
+    (
+        &["export", "here.mmdb", "36.5.1.2/16"],
+        &["mmdb: 36.5.1.2/16 is read as 36.5.0.0/16"],
+    ),
+    (
+        &["diff", "here.mmdb", "here.mmdb", "36.5.1.2/16"],
+        &["36.5.1.2/16 is read as 36.5.0.0/16", "0 (0) added"],
+    ),
+    (&["export", "here.mmdb", "36.5.0.0/16"], &[]),
+];
+
+#[test]
+fn notes_on_fields_and_ranges(rt: HostRuntime) {
+    let bytes = file_of_nodes(&rt, rt.alloc(), WHOLE, b"\xC1\x07", DATA);
+    for (texts, message) in NOTED {
+        let run = run_of(rt.alloc(), bytes.as_slice(), texts, "");
+        let holds = run.status == 0 && lines_hold(run.err(), message);
+        assert_of(&rt, texts, &run, holds);
+    }
+}
+
+#[test]
+fn notes_on_shown_paths(rt: HostRuntime) {
+    let bytes = file_of_nodes(&rt, rt.alloc(), WHOLE, b"\xC1\x07", DATA);
+    let words = &[
+        "show",
+        "here.mmdb",
+        "1.1.1.1",
+        "64.0.0.1",
+        "--path",
+        "c.j",
+        "--path",
+        "n",
+    ];
+    let run = run_of(rt.alloc(), bytes.as_slice(), words, "");
+    let is_noted = lines_hold(run.err(), &["mmdb: no record has c.j; did you mean c.i?"]);
+    assert_of(&rt, words, &run, is_noted && run.status == 6);
 }
