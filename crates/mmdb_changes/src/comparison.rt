@@ -393,11 +393,11 @@ fn compare<'a, 'r, O: Write, E: Write>(
 }
 
 // Looks at the records of a database for the fields that are shown, each once. An `Err` is of memory.
-fn look_at<'r>(
+fn look_at(
     alloc: Global,
-    networks: Networks<'r>,
+    networks: Networks<'_>,
     layout: &Layout<'_>,
-    met: &mut FieldsMet<'r>,
+    met: &mut FieldsMet,
 ) -> Result<(), AllocError> {
     let mut offsets = HashSet::new(alloc);
     for item in networks {
@@ -427,7 +427,17 @@ fn note_absent<O: Write, E: Write>(
             look_at(alloc, networks, &task.layout, &mut met)?;
         }
     }
-    met.note_absent(task.layout.names(), console)
+    if met.is_nothing_absent() {
+        return Ok(());
+    }
+    match networks_in(alloc, databases.newer(), Some(range)) {
+        Ok(networks) => {
+            let (names, paths) = (task.layout.names(), task.layout.paths());
+            met.note_absent(names, paths, networks, console)
+        }
+        // it is reported where the databases are compared
+        Err(_) => Ok(()),
+    }
 }
 
 // Compares two databases in a range, and answers the status.

@@ -1,8 +1,8 @@
 //! Lists of the fewest blocks.
 use crate::sink::{Sink, kind_of};
 use mmdb_blocks::{Block, Kind, Kinds};
-use mmdb_console::{Console, ProgramError};
-use mmdb_layout::Found;
+use mmdb_console::ProgramError;
+use mmdb_layout::{FieldsMet, Found};
 use mmdb_lists::{List, ListError, Syntax, Taken};
 use mmdb_reader::IpNetwork;
 use std::alloc::Global;
@@ -80,9 +80,9 @@ impl<'a> Blocks<'a> {
     }
 }
 
-impl<'r> Sink<'r> for Blocks<'_> {
+impl Sink for Blocks<'_> {
     #[inline(always)]
-    fn take<O: Write>(&mut self, found: &Found<'r>, out: &mut O) -> Result<bool, ProgramError> {
+    fn take<O: Write>(&mut self, found: &Found<'_>, out: &mut O) -> Result<bool, ProgramError> {
         let (kind, block) = self.part_of(found);
         match self.list.take(kind, block) {
             Taken::Whole => Ok(true),
@@ -91,7 +91,7 @@ impl<'r> Sink<'r> for Blocks<'_> {
         }
     }
 
-    fn put<O: Write>(&mut self, found: &Found<'r>, out: &mut O) -> Result<(), ProgramError> {
+    fn put<O: Write>(&mut self, found: &Found<'_>, out: &mut O) -> Result<(), ProgramError> {
         let (kind, block) = self.part_of(found);
         of_list(self.list.push(kind, block, out))
     }
@@ -100,11 +100,8 @@ impl<'r> Sink<'r> for Blocks<'_> {
         false
     }
 
-    fn note_absent<O: Write, E: Write>(
-        &self,
-        _console: &mut Console<'_, O, E>,
-    ) -> Result<(), ProgramError> {
-        Ok(())
+    fn fields_met(&mut self) -> Option<&mut FieldsMet> {
+        None
     }
 
     fn finish<O: Write>(&mut self, out: &mut O) -> Result<(), ProgramError> {

@@ -13,11 +13,11 @@ const MOST_WAITING: usize = 64;
 
 /// An export of the chosen networks.
 #[derive(Drop)]
-pub(crate) struct Export<'a, 'r, W: Sink<'r>> {
+pub(crate) struct Export<'a, 'r, W: Sink> {
     /// Which networks are chosen. None: all.
     choice: Option<Choice<'a>>,
     kinds: Kinds,
-    sink: W,
+    pub(crate) sink: W,
     /// What was found in the last networks. What is kept of their records is looked for side by side, since each look
     /// waits for memory.
     waiting: Vec<Found<'r>>,
@@ -27,7 +27,7 @@ pub(crate) struct Export<'a, 'r, W: Sink<'r>> {
     pub(crate) faults: u64,
 }
 
-impl<'a, 'r, W: Sink<'r>> Export<'a, 'r, W> {
+impl<'a, 'r, W: Sink> Export<'a, 'r, W> {
     /// Of no network yet.
     pub(crate) fn new(
         alloc: Global,
@@ -83,7 +83,7 @@ impl<'a, 'r, W: Sink<'r>> Export<'a, 'r, W> {
     #[inline(always)]
     fn write_chosen<O: Write>(
         &mut self,
-        found: &Found<'r>,
+        found: &Found<'_>,
         kept: Option<bool>,
         out: &mut O,
     ) -> Result<(), ProgramError> {
@@ -107,7 +107,7 @@ impl<'a, 'r, W: Sink<'r>> Export<'a, 'r, W> {
     #[inline(always)]
     fn try_chosen<O: Write>(
         &mut self,
-        found: &Found<'r>,
+        found: &Found<'_>,
         kept: Option<bool>,
         out: &mut O,
     ) -> Result<(), ProgramError> {
@@ -124,7 +124,7 @@ impl<'a, 'r, W: Sink<'r>> Export<'a, 'r, W> {
     #[inline(never)]
     fn write_found<O: Write, E: Write>(
         &mut self,
-        found: &Found<'r>,
+        found: &Found<'_>,
         kept: Option<bool>,
         console: &mut Console<'_, O, E>,
     ) -> Result<(), ProgramError> {
@@ -229,13 +229,12 @@ impl<'a, 'r, W: Sink<'r>> Export<'a, 'r, W> {
         self.report_next(error, console)
     }
 
-    /// Writes what waits and what comes after the last network, and says of fields that no record had.
+    /// Writes what waits, and what stands behind the last network.
     pub(crate) fn finish<O: Write, E: Write>(
         &mut self,
         console: &mut Console<'_, O, E>,
     ) -> Result<(), ProgramError> {
         self.write_waiting(console)?;
-        self.sink.finish(console.out)?;
-        self.sink.note_absent(console)
+        self.sink.finish(console.out)
     }
 }

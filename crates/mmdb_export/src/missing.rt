@@ -93,8 +93,15 @@ impl<'t, 'a> Search<'t, 'a> {
     }
 
     // What lets the list be written without a value that no network has, unless it is given.
-    fn refused(&self, value: &Named<'_>, task: &ExportTask<'_>) -> Option<&'static str> {
-        if self.is_without_alternative(value) {
+    fn hint_for(
+        &self,
+        value: &Named<'_>,
+        is_met: bool,
+        task: &ExportTask<'_>,
+    ) -> Option<&'static str> {
+        if is_met {
+            None
+        } else if self.is_without_alternative(value) {
             (!task.allow_empty).then_some("--allow-empty writes an empty list")
         } else {
             (!task.allow_missing).then_some("--allow-missing goes on without it")
@@ -168,30 +175,34 @@ fn report_missing<O: Write, E: Write>(
     Ok(())
 }
 
-// Reports the values that no network has and without which the list is not written, the first of them by name.
+// Says how many values more are not named.
+fn note_more<O: Write, E: Write>(count: usize, console: &mut Console<'_, O, E>) {
+    let more = count.saturating_sub(MOST_NAMED);
+    if more > 0 {
+        console.note(format!(in console.alloc; "mmdb: and {more} values more\n"));
+    }
+}
+
+// Reports the values that no network has and without which the list is not written, the first of them by name, and answers
+// how many there are.
 fn report_refused<O: Write, E: Write>(
     database: &Database,
     task: &ExportTask<'_>,
     search: &Search<'_, '_>,
     console: &mut Console<'_, O, E>,
-) -> Result<u64, ProgramError> {
-    let mut count = 0;
+) -> Result<usize, ProgramError> {
+    let mut count = 0usize;
     for (named, is_met) in search.named.iter().zip(&search.are_met) {
-        if *is_met {
+        let Some(hint) = search.hint_for(named, *is_met, task) else {
             continue;
-        }
-        if let Some(hint) = search.refused(named, task) {
-            count += 1;
-            if count <= MOST_NAMED {
-                report_missing(database, task, named, hint, console)?;
-            }
+        };
+        count = count.saturating_add(1);
+        if count <= MOST_NAMED {
+            report_missing(database, task, named, hint, console)?;
         }
     }
-    if count > MOST_NAMED {
-        let more = count - MOST_NAMED;
-        console.note(format!(in console.alloc; "mmdb: and {more} values more\n"));
-    }
-    Ok(count as u64)
+    note_more(count, console);
+    Ok(count)
 }
 
 /// Whether networks of a range have all the values that a list's conditions name, or are allowed to lack them. Else those

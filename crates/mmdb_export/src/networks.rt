@@ -6,7 +6,6 @@ use crate::rows::Rows;
 use crate::sink::Sink;
 use crate::task::{ExportTask, Shape, export_task};
 use mmdb_arguments::ExportArguments;
-use mmdb_blocks::Kinds;
 use mmdb_choice::{Choice, Condition};
 use mmdb_console::{Console, DONE, FAILED, ProgramError};
 use mmdb_layout::{Database, Networks, networks_in, note_range, open_database};
@@ -30,9 +29,9 @@ fn report_faults<O: Write, E: Write>(
 
 // Reports a network that can't be read.
 #[inline(never)]
-fn report_unread<'r, W: Sink<'r>, O: Write, E: Write>(
+fn report_unread<W: Sink, O: Write, E: Write>(
     error: MaxMindDbError,
-    export: &mut Export<'_, 'r, W>,
+    export: &mut Export<'_, '_, W>,
     console: &mut Console<'_, O, E>,
 ) -> Result<(), ProgramError> {
     let reported = export.write_unread(&error, console);
@@ -41,7 +40,7 @@ fn report_unread<'r, W: Sink<'r>, O: Write, E: Write>(
 }
 
 // Writes the chosen networks, and what stands behind them.
-fn export_all<'r, W: Sink<'r>, O: Write, E: Write>(
+fn export_all<'r, W: Sink, O: Write, E: Write>(
     networks: Networks<'r>,
     export: &mut Export<'_, 'r, W>,
     console: &mut Console<'_, O, E>,
@@ -66,14 +65,36 @@ fn choice_of<'a>(
     Ok(Some(Choice::new(alloc, conditions)?))
 }
 
+// Says of fields that no record had.
+fn note_absent<W: Sink, O: Write, E: Write>(
+    database: &Database,
+    task: &ExportTask<'_>,
+    sink: &mut W,
+    console: &mut Console<'_, O, E>,
+) -> Result<(), ProgramError> {
+    let (Some(met), Shape::Rows(layout)) = (sink.fields_met(), &task.shape) else {
+        return Ok(());
+    };
+    if met.is_nothing_absent() {
+        return Ok(());
+    }
+    let networks = networks_in(console.alloc, database, task.range)?;
+    met.note_absent(layout.names(), layout.paths(), networks, console)
+}
+
 // Writes the chosen networks, reports how many could not be read, and answers the status.
-fn export_with<'a, 'r, W: Sink<'r>, O: Write, E: Write>(
+fn export_with<'a, 'r, W: Sink, O: Write, E: Write>(
+    database: &'r Database,
+    task: &'a ExportTask<'a>,
     networks: Networks<'r>,
     export: Export<'a, 'r, W>,
     console: &mut Console<'_, O, E>,
 ) -> Result<u8, ProgramError> {
     let mut export = export;
-    let exported = export_all(networks, &mut export, console);
+    let exported = match export_all(networks, &mut export, console) {
+        Ok(()) => note_absent(database, task, &mut export.sink, console),
+        Err(error) => Err(error),
+    };
     let faults = export.faults;
     drop(export);
     exported?;
@@ -81,16 +102,17 @@ fn export_with<'a, 'r, W: Sink<'r>, O: Write, E: Write>(
 }
 
 // Writes the chosen networks to a sink, if it could be begun.
-fn export_to<'a, 'r, W: Sink<'r>, O: Write, E: Write>(
+fn export_to<'a, 'r, W: Sink, O: Write, E: Write>(
+    database: &'r Database,
+    task: &'a ExportTask<'a>,
     networks: Networks<'r>,
     choice: Option<Choice<'a>>,
-    kinds: Kinds,
     sink: Result<W, ProgramError>,
     console: &mut Console<'_, O, E>,
 ) -> Result<u8, ProgramError> {
     match sink {
-        Ok(sink) => match Export::new(console.alloc, choice, kinds, sink) {
-            Ok(export) => export_with(networks, export, console),
+        Ok(sink) => match Export::new(console.alloc, choice, task.kinds, sink) {
+            Ok(export) => export_with(database, task, networks, export, console),
             Err(error) => {
                 drop(networks);
                 Err(ProgramError::from(error))
@@ -106,21 +128,21 @@ fn export_to<'a, 'r, W: Sink<'r>, O: Write, E: Write>(
 
 // Writes the networks that are chosen, as rows or as a list.
 fn export_chosen<'a, 'r, O: Write, E: Write>(
+    database: &'r Database,
+    task: &'a ExportTask<'a>,
     networks: Networks<'r>,
     choice: Option<Choice<'a>>,
-    section: &'r [u8],
-    task: &'a ExportTask<'a>,
     console: &mut Console<'_, O, E>,
 ) -> Result<u8, ProgramError> {
-    let (alloc, kinds) = (console.alloc, task.kinds);
+    let alloc = console.alloc;
     match &task.shape {
         Shape::Rows(layout) => {
-            let rows = Rows::begin(alloc, layout, section, console.out);
-            export_to(networks, choice, kinds, rows, console)
+            let rows = Rows::begin(alloc, layout, database.data_section(), console.out);
+            export_to(database, task, networks, choice, rows, console)
         }
         Shape::List(syntax) => {
-            let blocks = Blocks::new(alloc, *syntax, kinds, task.range, task.allow_empty);
-            export_to(networks, choice, kinds, blocks, console)
+            let blocks = Blocks::new(alloc, *syntax, task.kinds, task.range, task.allow_empty);
+            export_to(database, task, networks, choice, blocks, console)
         }
     }
 }
@@ -149,7 +171,7 @@ fn export_database<'a, O: Write, E: Write>(
         return Ok(FAILED);
     }
     match networks_in(console.alloc, database, task.range) {
-        Ok(networks) => export_chosen(networks, choice, database.data_section(), task, console),
+        Ok(networks) => export_chosen(database, task, networks, choice, console),
         Err(error) => {
             drop(choice);
             Err(ProgramError::from(error))

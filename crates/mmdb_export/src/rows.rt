@@ -2,7 +2,7 @@
 use crate::blocks::block_of;
 use crate::sink::{Sink, kind_of};
 use mmdb_cache::Cache;
-use mmdb_console::{Console, ProgramError, put};
+use mmdb_console::{ProgramError, put};
 use mmdb_layout::{FieldsMet, Found, Layout};
 use mmdb_reader::{IpNetwork, MaxMindDbError};
 use mmdb_texts::RecordTexts;
@@ -39,7 +39,7 @@ pub(crate) struct Rows<'a, 'r> {
     /// What a row is put together in. Its room is enough, so that no row takes memory.
     line: Vec<u8>,
     /// Which fields the records have of which a row was made.
-    met: FieldsMet<'r>,
+    met: FieldsMet,
 }
 
 // Puts a row together with its network.
@@ -136,7 +136,7 @@ impl<'a, 'r> Rows<'a, 'r> {
     }
 
     // Makes the last row anew, that of an answer.
-    fn make_last(&mut self, found: &Found<'r>) -> Result<(), MaxMindDbError> {
+    fn make_last(&mut self, found: &Found<'_>) -> Result<(), MaxMindDbError> {
         self.last_offset = None;
         match &mut self.texts {
             Some(texts) => self
@@ -167,7 +167,7 @@ impl<'a, 'r> Rows<'a, 'r> {
 
     // Makes the row of an answer.
     #[inline(never)]
-    fn make(&mut self, found: &Found<'r>) -> Result<(), MaxMindDbError> {
+    fn make(&mut self, found: &Found<'_>) -> Result<(), MaxMindDbError> {
         self.make_last(found)?;
         self.keep_last();
         Ok(())
@@ -202,9 +202,9 @@ impl<'a, 'r> Rows<'a, 'r> {
     }
 }
 
-impl<'r> Sink<'r> for Rows<'_, 'r> {
+impl Sink for Rows<'_, '_> {
     #[inline(always)]
-    fn take<O: Write>(&mut self, found: &Found<'r>, out: &mut O) -> Result<bool, ProgramError> {
+    fn take<O: Write>(&mut self, found: &Found<'_>, out: &mut O) -> Result<bool, ProgramError> {
         if !self.join_kept(found) {
             return Ok(false);
         }
@@ -214,7 +214,7 @@ impl<'r> Sink<'r> for Rows<'_, 'r> {
         }
     }
 
-    fn put<O: Write>(&mut self, found: &Found<'r>, out: &mut O) -> Result<(), ProgramError> {
+    fn put<O: Write>(&mut self, found: &Found<'_>, out: &mut O) -> Result<(), ProgramError> {
         let network = found.network()?;
         let offset = found.offset();
         if let Some(offset) = offset {
@@ -241,11 +241,8 @@ impl<'r> Sink<'r> for Rows<'_, 'r> {
         true
     }
 
-    fn note_absent<O: Write, E: Write>(
-        &self,
-        console: &mut Console<'_, O, E>,
-    ) -> Result<(), ProgramError> {
-        self.met.note_absent(self.layout.names(), console)
+    fn fields_met(&mut self) -> Option<&mut FieldsMet> {
+        Some(&mut self.met)
     }
 
     fn finish<O: Write>(&mut self, _out: &mut O) -> Result<(), ProgramError> {

@@ -1,5 +1,5 @@
 //! Fields that no record has: a path that is misspelt gives empty cells without a word.
-use crate::database::Found;
+use crate::database::{Found, Networks};
 use mmdb_console::{Console, ProgramError, Similar, line_of};
 use mmdb_reader::{MaxMindDbError, PathElement};
 use mmdb_value::Value;
@@ -12,12 +12,12 @@ const MOST_RECORDS: usize = 64;
 /// How many paths of a record are looked at.
 const MOST_PATHS: usize = 4096;
 
-/// Which fields the records have that were looked at, and the first of those records.
+/// Which fields the records have that were looked at.
 #[derive(Drop)]
-pub struct FieldsMet<'r> {
+pub struct FieldsMet {
     alloc: Global,
     are_met: Vec<bool>,
-    records: Vec<Found<'r>>,
+    has_looked: bool,
 }
 
 /// A value of a record, and the path to it.
@@ -110,8 +110,8 @@ fn offer_records(
     Ok(())
 }
 
-/// What is said of a field that no record has, with a path of some records that may be meant.
-pub fn absent_text(alloc: Global, name: &str, records: &[Found<'_>]) -> Result<String, AllocError> {
+// What is said of a field that no record has, with a path of some records that may be meant.
+fn absent_text(alloc: Global, name: &str, records: &[Found<'_>]) -> Result<String, AllocError> {
     let mut similar = Similar::new(alloc, name)?;
     offer_records(alloc, records, &mut similar)?;
     match similar.best() {
@@ -126,13 +126,31 @@ fn has_value(alloc: Global, found: &Found<'_>, path: &[PathElement<'_>]) -> bool
     !matches!(value, Ok(None))
 }
 
-impl<'r> FieldsMet<'r> {
+// The first records of networks, each once. An `Err` is of memory.
+fn first_records<'r>(alloc: Global, networks: Networks<'r>) -> Result<Vec<Found<'r>>, AllocError> {
+    let mut records: Vec<Found<'r>> = Vec::new(alloc);
+    for item in networks {
+        let Ok(found) = item else {
+            continue;
+        };
+        let offset = found.offset();
+        if !records.iter().any(|record| record.offset() == offset) {
+            records.push(found)?;
+        }
+        if records.len() >= MOST_RECORDS {
+            break;
+        }
+    }
+    Ok(records)
+}
+
+impl FieldsMet {
     /// Nothing was looked at yet. An `Err` is of memory.
-    pub fn new(alloc: Global, fields: usize) -> Result<FieldsMet<'r>, AllocError> {
+    pub fn new(alloc: Global, fields: usize) -> Result<FieldsMet, AllocError> {
         Ok(FieldsMet {
             alloc,
             are_met: vec![in alloc; false; fields]?,
-            records: Vec::new(alloc),
+            has_looked: false,
         })
     }
 
@@ -142,32 +160,39 @@ impl<'r> FieldsMet<'r> {
         self.are_met.iter().all(|is_met| *is_met)
     }
 
+    /// Whether no record was looked at, or each field is met.
+    pub fn is_nothing_absent(&self) -> bool {
+        !self.has_looked || self.are_all_met()
+    }
+
     /// Looks at a record, if there is one.
-    pub fn look(&mut self, found: &Found<'r>, paths: &[Vec<PathElement<'_>>]) {
+    pub fn look(&mut self, found: &Found<'_>, paths: &[Vec<PathElement<'_>>]) {
         if found.offset().is_none() {
             return;
         }
+        self.has_looked = true;
         for (is_met, path) in self.are_met.iter_mut().zip(paths) {
             *is_met = *is_met || has_value(self.alloc, found, path.as_slice());
         }
-        if self.records.len() < MOST_RECORDS {
-            let _ = self.records.push(*found);
-        }
     }
 
-    /// Says of each field that no record had, where records were looked at, after what was written. An `Err` is `Write`.
+    /// Says of each field that neither a record has that was looked at nor one of the first of these networks, with a path
+    /// of those that may be meant, after what was written. An `Err` is `Write` or `Memory`.
     pub fn note_absent<O: Write, E: Write>(
-        &self,
+        &mut self,
         names: &[&str],
+        paths: &[Vec<PathElement<'_>>],
+        networks: Networks<'_>,
         console: &mut Console<'_, O, E>,
     ) -> Result<(), ProgramError> {
-        if self.records.is_empty() || self.are_all_met() {
-            return Ok(());
+        let records = first_records(self.alloc, networks)?;
+        for found in &records {
+            self.look(found, paths);
         }
         console.flush()?;
         for (name, is_met) in names.iter().zip(&self.are_met) {
             if !*is_met {
-                let text = absent_text(self.alloc, name, self.records.as_slice());
+                let text = absent_text(self.alloc, name, records.as_slice());
                 console.note(line_of(self.alloc, text));
             }
         }
