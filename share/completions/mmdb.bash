@@ -26,8 +26,10 @@ _mmdb() {
   fi
   case $command in
     show) options='--path --lines' ;;
-    enrich) options='--column --delimiter --field --header --json --into' ;;
-    export) options='--field --format --where --where-not --ipv4 --ipv6 --name' ;;
+    enrich)
+      options='--column --delimiter --field --header --json --into --nulls --hop --anywhere --exact --no-quotes --strict --quiet'
+      ;;
+    export) options='--field --format --where --where-not --ipv4 --ipv6 --name --allow-empty --allow-missing' ;;
     diff) options='--field --format --exit-code' ;;
     build)
       options='--from --format --network-column --range-columns --type --types-like --equal --database-type --description'
@@ -45,7 +47,7 @@ _mmdb() {
     case $ended$word in
       --) ended=ended ;;
       *[\<\>]) at=$((at + 1)) ;;
-      --path | --column | --delimiter | --field | --format | --where | --where-not | --name | --into | --json | \
+      --path | --column | --delimiter | --field | --format | --where | --where-not | --name | --into | --json | --hop | \
         --from | --network-column | --range-columns | --type | --types-like | --equal | --database-type | --description | \
         --language | --build-epoch | --ip-version | --record-size | --reserved)
         if [ "$word$command" = --jsoninfo ]; then continue; fi
@@ -69,6 +71,7 @@ _mmdb() {
       return
       ;;
     --equal) _mmdb_offer 'last error'; return ;;
+    --hop) _mmdb_offer 'first last'; return ;;
     --ip-version) _mmdb_offer '6 4'; return ;;
     --record-size) _mmdb_offer '24 28 32'; return ;;
     --reserved) _mmdb_offer 'keep skip error'; return ;;

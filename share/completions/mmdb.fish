@@ -20,7 +20,7 @@ function __mmdb_wants_file
     for word in $words[3..-1]
         if test $value = yes
             set value no
-        else if contains -- $word --path --column --delimiter --field --format --where --where-not --name --into --from --network-column --range-columns --type --types-like --equal --database-type --description --language --build-epoch --ip-version --record-size --reserved; or test "$words[2]$word" = enrich--json
+        else if contains -- $word --path --column --delimiter --field --format --where --where-not --name --into --hop --from --network-column --range-columns --type --types-like --equal --database-type --description --language --build-epoch --ip-version --record-size --reserved; or test "$words[2]$word" = enrich--json
             set value yes
         else if not string match -q -- '-*' $word
             return 1
@@ -52,6 +52,13 @@ complete -c mmdb -n '__mmdb_is enrich' -l field -x -d 'A field to add'
 complete -c mmdb -n '__mmdb_is enrich' -l header -d 'The first line names the columns'
 complete -c mmdb -n '__mmdb_is enrich' -l json -x -d 'The path of the address in lines of JSON'
 complete -c mmdb -n '__mmdb_is enrich' -l into -x -d 'The name of the member that is added'
+complete -c mmdb -n '__mmdb_is enrich' -l nulls -d 'Lines without a record get the member too'
+complete -c mmdb -n '__mmdb_is enrich' -l hop -x -a 'first last' -d 'Which of several addresses in a cell'
+complete -c mmdb -n '__mmdb_is enrich' -l anywhere -d 'The first address anywhere in the line'
+complete -c mmdb -n '__mmdb_is enrich' -l exact -d 'A cell holds an address and nothing else'
+complete -c mmdb -n '__mmdb_is enrich' -l no-quotes -d 'Quotes mean nothing, and each line is a row'
+complete -c mmdb -n '__mmdb_is enrich' -l strict -d 'Status 1 where there is anything to warn of'
+complete -c mmdb -n '__mmdb_is enrich' -l quiet -d 'No notes on standard error'
 complete -c mmdb -n '__mmdb_is enrich' -s h -l help -d 'Print help'
 
 complete -c mmdb -n '__mmdb_is export' -l field -x -d 'Only the value at a path'
@@ -61,6 +68,8 @@ complete -c mmdb -n '__mmdb_is export' -l where-not -x -d 'No networks with this
 complete -c mmdb -n '__mmdb_is export' -l ipv4 -d 'Only IPv4 networks'
 complete -c mmdb -n '__mmdb_is export' -l ipv6 -d 'Only IPv6 networks'
 complete -c mmdb -n '__mmdb_is export' -l name -x -d 'How the sets of nft and ipset begin'
+complete -c mmdb -n '__mmdb_is export' -l allow-empty -d 'Write a list even where it has no network'
+complete -c mmdb -n '__mmdb_is export' -l allow-missing -d 'Write a list even where a value is not met'
 complete -c mmdb -n '__mmdb_is export' -s h -l help -d 'Print help'
 
 complete -c mmdb -n '__mmdb_is diff' -F

@@ -21,17 +21,22 @@ is a finite tree of valid text, but it may be one that can't be shown: with a ke
 that is no text, or that a pointer to a pointer leads to, or with more than
 65,536 values or 2 MiB of texts.";
 
-const ENRICH_EXAMPLE: &str = "Example:
-  mmdb enrich GeoLite2-City.mmdb --field country.iso_code --field city.names.en < log > log.tsv
+const ENRICH_EXAMPLE: &str = "Examples:
+  tail -F nginx/access.log | mmdb enrich GeoLite2-City.mmdb --field country.iso_code
+  mmdb enrich GeoLite2-City.mmdb --field country.iso_code < apache2/access.log
+  journalctl -fu ssh | mmdb enrich GeoLite2-City.mmdb --anywhere --field country.iso_code
+  mmdb enrich GeoLite2-City.mmdb --json client.ip --field country.iso_code < log.jsonl
+  mmdb enrich GeoLite2-City.mmdb --delimiter , --header --column ip --field city < log.csv
 
-Columns stand between tabs. A line without an address, or whose address has no
+Columns stand between tabs, and each line comes out before the next is waited
+for. The address is the first word of its column, alone, in brackets or quotes,
+with a port or a zone: 1.2.3.4:443, [2001:db8::1]:443, fe80::1%eth0. A blank, a
+comma or a semicolon ends it. A line without an address, or whose address has no
 record, gets empty columns. How many lines had a record, none, no address, or an
 error is said on standard error at the end. A text stands as it is, unless it
 has control characters; any other value is JSON. With --delimiter , the input is
-CSV: cells may be in quotes, and added cells are where they need them. The
-address is looked for in the first 65,536 bytes of a line.
-
-  mmdb enrich GeoLite2-City.mmdb --json client.ip --field country.iso_code < log.jsonl
+CSV: cells may be in quotes, and added cells are where they need them, unless with
+--no-quotes. The address is looked for in the first 65,536 bytes of a line.
 
 With --json a line that is an object gets an object of the fields as its last
 member, named by --into. A field is named by its path's last step, or by

@@ -36,7 +36,7 @@ const HELPS: &[(&[&str], &[&str])] = &[
             "--header",
             "--json",
             "--into",
-            "Example:\n  mmdb enrich ",
+            "Examples:\n  tail -F ",
         ],
     ),
     (
