@@ -97,6 +97,15 @@ Up to 20 lines that are wrong are named on standard error, and OUT stays as it
 was. OUT takes its name when it is whole, and only what is no file or a MaxMind
 DB file is replaced. SOURCE_DATE_EPOCH serves where there is no --build-epoch.";
 
+const INSTALL_EXAMPLE: &str = "Example:
+  mmdb install download/GeoLite2-City.mmdb /var/lib/GeoIP/GeoLite2-City.mmdb
+
+NEW takes the place of DEST only where it is whole and all its records can be
+read, its database type and IP version are those of DEST, and it is not older.
+DEST is the old file or the new one, whole, whatever fails; who has it open keeps
+the old one. Its mode is kept, of a symbolic link the target is replaced, and a
+missing DEST is made. Any reason against it is one line, and the status is 1.";
+
 /// An argument of a command: its name, what its value is called, its help, and what else there is to say.
 #[derive(Clone, Copy)]
 enum Argument {
@@ -300,92 +309,109 @@ const READING: &[Usage] = &[
 ];
 
 /// The commands that make files.
-const MAKING: &[Usage] = &[Usage {
-    name: "build",
-    about: "Make a MaxMind DB file of lines of JSON, CSV or TSV",
-    example: BUILD_EXAMPLE,
-    arguments: &[
-        Argument::Required("OUT", "The MaxMind DB file that is made or replaced"),
-        Argument::Needed("from", "FILE", "Where the lines are, - for standard input"),
-        Argument::Choice(
-            "format",
-            "FORMAT",
-            "What the lines are",
-            &["jsonl", "csv", "tsv"],
-        ),
-        Argument::Value(
-            "network-column",
-            "NAME",
-            "The column or member of the network, network if not given",
-        ),
-        Argument::Without(
-            "range-columns",
-            "FIRST,LAST",
-            "The columns or members of the first address and the last one",
-            &["network-column"],
-        ),
-        Argument::Values(
-            "type",
-            "PATH=TYPE",
-            "The type of the values at a path; may be repeated",
-        ),
-        Argument::Value(
-            "types-like",
-            "FILE",
-            "The types are those of the values at the same paths of this MaxMind DB file",
-        ),
-        Argument::Choice(
-            "equal",
-            "WHAT",
-            "Of equal networks the last counts, or they are an error",
-            &["last", "error"],
-        ),
-        Argument::Default(
-            "database-type",
-            "TYPE",
-            "The type of the database",
-            "Custom",
-        ),
-        Argument::Values(
-            "description",
-            "LANG=TEXT",
-            "A description in a language, en and the type if not given; may be repeated",
-        ),
-        Argument::Values(
-            "language",
-            "LANG",
-            "A language in which records have names; may be repeated",
-        ),
-        Argument::Value(
-            "build-epoch",
-            "SECONDS",
-            "When the file was built, in seconds since 1970, now if not given",
-        ),
-        Argument::Choice(
-            "ip-version",
-            "VERSION",
-            "6 for IPv4 and IPv6, 4 for IPv4 alone",
-            &["6", "4"],
-        ),
-        Argument::OneOf(
-            "record-size",
-            "BITS",
-            "The size of the tree's records, the least that serves if not given",
-            &["24", "28", "32"],
-        ),
-        Argument::Choice(
-            "reserved",
-            "WHAT",
-            "Networks in reserved ones are kept, skipped, or an error",
-            &["keep", "skip", "error"],
-        ),
-        Argument::Flag("skip-bad", "Leave out lines that are wrong, and count them"),
-        Argument::Flag(
-            "check",
-            "Read the file back, and compare every network with the lines",
-        ),
-    ],
-}];
+const MAKING: &[Usage] = &[
+    Usage {
+        name: "install",
+        about: "Put a file in the place of another one, after it was checked",
+        example: INSTALL_EXAMPLE,
+        arguments: &[
+            Argument::Required("NEW", "The MaxMind DB file that was downloaded"),
+            Argument::Required("DEST", "The MaxMind DB file that is replaced"),
+            Argument::Value(
+                "max-change",
+                "PERCENT",
+                "No more of the IPv4 addresses than this may have changed",
+            ),
+            Argument::Flag("dry-run", "Only say what would be done"),
+        ],
+    },
+    Usage {
+        name: "build",
+        about: "Make a MaxMind DB file of lines of JSON, CSV or TSV",
+        example: BUILD_EXAMPLE,
+        arguments: &[
+            Argument::Required("OUT", "The MaxMind DB file that is made or replaced"),
+            Argument::Needed("from", "FILE", "Where the lines are, - for standard input"),
+            Argument::Choice(
+                "format",
+                "FORMAT",
+                "What the lines are",
+                &["jsonl", "csv", "tsv"],
+            ),
+            Argument::Value(
+                "network-column",
+                "NAME",
+                "The column or member of the network, network if not given",
+            ),
+            Argument::Without(
+                "range-columns",
+                "FIRST,LAST",
+                "The columns or members of the first address and the last one",
+                &["network-column"],
+            ),
+            Argument::Values(
+                "type",
+                "PATH=TYPE",
+                "The type of the values at a path; may be repeated",
+            ),
+            Argument::Value(
+                "types-like",
+                "FILE",
+                "The types are those of the values at the same paths of this MaxMind DB file",
+            ),
+            Argument::Choice(
+                "equal",
+                "WHAT",
+                "Of equal networks the last counts, or they are an error",
+                &["last", "error"],
+            ),
+            Argument::Default(
+                "database-type",
+                "TYPE",
+                "The type of the database",
+                "Custom",
+            ),
+            Argument::Values(
+                "description",
+                "LANG=TEXT",
+                "A description in a language, en and the type if not given; may be repeated",
+            ),
+            Argument::Values(
+                "language",
+                "LANG",
+                "A language in which records have names; may be repeated",
+            ),
+            Argument::Value(
+                "build-epoch",
+                "SECONDS",
+                "When the file was built, in seconds since 1970, now if not given",
+            ),
+            Argument::Choice(
+                "ip-version",
+                "VERSION",
+                "6 for IPv4 and IPv6, 4 for IPv4 alone",
+                &["6", "4"],
+            ),
+            Argument::OneOf(
+                "record-size",
+                "BITS",
+                "The size of the tree's records, the least that serves if not given",
+                &["24", "28", "32"],
+            ),
+            Argument::Choice(
+                "reserved",
+                "WHAT",
+                "Networks in reserved ones are kept, skipped, or an error",
+                &["keep", "skip", "error"],
+            ),
+            Argument::Flag("skip-bad", "Leave out lines that are wrong, and count them"),
+            Argument::Flag(
+                "check",
+                "Read the file back, and compare every network with the lines",
+            ),
+        ],
+    },
+];
 
 // An argument in its place.
 fn positional<'a>(alloc: Global, name: &'a str, help: &'a str) -> Arg<'a> {

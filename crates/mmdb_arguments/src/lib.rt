@@ -9,6 +9,6 @@ mod shown;
 pub use rejected::{Message, NoRequest};
 pub use request::{
     BuildArguments, DiffArguments, EnrichArguments, ExportArguments, Format, Hop, InfoArguments,
-    Request, Reserved, RowFormat, ShowArguments, VerifyArguments, request_of,
+    InstallArguments, Request, Reserved, RowFormat, ShowArguments, VerifyArguments, request_of,
 };
 pub use shown::shown_text;

@@ -160,6 +160,16 @@ pub struct BuildArguments<'a> {
     pub check: bool,
 }
 
+/// The arguments of `install`.
+#[derive(Drop)]
+pub struct InstallArguments<'a> {
+    pub new: &'a str,
+    pub dest: &'a str,
+    /// A text that should be a number of percent.
+    pub max_change: Option<&'a str>,
+    pub dry_run: bool,
+}
+
 /// A command with its arguments.
 #[derive(Drop)]
 pub enum Request<'a> {
@@ -173,6 +183,8 @@ pub enum Request<'a> {
     Export(ExportArguments<'a>),
     /// What changed between two files.
     Diff(DiffArguments<'a>),
+    /// A file in the place of another one.
+    Install(InstallArguments<'a>),
     /// A file that is made of rows.
     Build(BuildArguments<'a>),
     /// Whether files are whole.
@@ -335,6 +347,15 @@ fn build<'a>(alloc: Global, matches: &ArgMatches<'a>) -> Result<Request<'a>, NoR
     }))
 }
 
+fn install<'a>(matches: &ArgMatches<'a>) -> Request<'a> {
+    Request::Install(InstallArguments {
+        new: matches.get_str("NEW").unwrap_or(""),
+        dest: matches.get_str("DEST").unwrap_or(""),
+        max_change: matches.get_str("max-change"),
+        dry_run: matches.get_flag("dry-run"),
+    })
+}
+
 fn verify<'a>(alloc: Global, matches: &ArgMatches<'a>) -> Result<Request<'a>, NoRequest> {
     let files = texts_of(alloc, matches, "FILE")?;
     Ok(Request::Verify(VerifyArguments { files }))
@@ -356,6 +377,8 @@ fn of_command<'a>(
         export(alloc, matches)
     } else if name == "diff" {
         diff(alloc, matches)
+    } else if name == "install" {
+        Ok(install(matches))
     } else if name == "build" {
         build(alloc, matches)
     } else {
