@@ -26,7 +26,7 @@ pub(crate) struct Gathering {
 // How many lines end in a row. Only in CSV there may be several.
 fn line_ends(rows: Rows, row: &[u8]) -> u64 {
     match rows {
-        Rows::Lines => 1,
+        Rows::Lines { .. } => 1,
         Rows::Csv { .. } => row.iter().filter(|byte| **byte == b'\n').count() as u64,
     }
 }

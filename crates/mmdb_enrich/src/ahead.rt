@@ -103,7 +103,7 @@ impl Ahead {
         let mut rest = bytes;
         let mut count = 0;
         for _ in 0..MOST {
-            let Some((row, after)) = first_row(Rows::Lines, rest) else {
+            let Some((row, after)) = first_row(Rows::Lines { delimiter: b'\t' }, rest) else {
                 return count;
             };
             count = self.note_row(count, rows, column, row);

@@ -28,7 +28,7 @@ pub struct Enrichment<'a, 'f, S: AsSlice<u8> + Drop> {
     pub alloc: Global,
     /// Where addresses are looked up.
     pub reader: &'a Reader<S>,
-    /// What is enriched: lines, of which tabs stand between the columns, or rows of CSV.
+    /// What is enriched: lines or rows of CSV.
     pub rows: Rows,
     /// The column of the address, from 0.
     pub column: usize,

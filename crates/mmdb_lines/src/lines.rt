@@ -1,7 +1,7 @@
 //! Rows with fields behind them.
 use crate::header::column_of;
 use crate::output::Output;
-use crate::task::{JsonTask, RowsTask, json_task, rows_task};
+use crate::task::{JsonTask, LINES, RowsTask, json_task, rows_task};
 use mmdb_arguments::EnrichArguments;
 use mmdb_console::{Console, DONE, FAILED, ProgramError, ProgressLine};
 use mmdb_enrich::{Enrichment, JsonEnrichment, JsonMemory, RowMemory};
@@ -106,7 +106,7 @@ fn enrich_objects<I: BufRead, O: Write, E: Write>(
     console: &mut Console<'_, O, E>,
 ) -> Result<u8, ProgramError> {
     let mut memory = JsonMemory::new(console.alloc)?;
-    let counts = copy_rows(Rows::Lines, enrichment, &mut memory, input, console);
+    let counts = copy_rows(LINES, enrichment, &mut memory, input, console);
     drop(memory);
     console.note(text_of_objects(console.alloc, counts?));
     Ok(DONE)

@@ -45,23 +45,32 @@ fn column_of<'a>(alloc: Global, text: &'a str, header: bool) -> Result<Column<'a
     }
 }
 
-// What rows are, by what stands between their cells: between those of a line tabs, else they are CSV.
-fn rows_of(alloc: Global, delimiter: Option<&str>) -> Result<Rows, NoRequest> {
+/// Lines of which tabs stand between the cells.
+pub(crate) const LINES: Rows = Rows::Lines { delimiter: b'\t' };
+
+// What rows are, by what stands between their cells: between those of a line tabs, or what is asked for where quotes mean
+// nothing; else they are CSV.
+fn rows_of(alloc: Global, delimiter: Option<&str>, no_quotes: bool) -> Result<Rows, NoRequest> {
     let Some(text) = delimiter else {
-        return Ok(Rows::Lines);
+        return Ok(LINES);
     };
     match text.as_bytes() {
-        b"\t" | b"\\t" => Ok(Rows::Lines),
-        [b'"' | b'\n' | b'\r'] => Err(NoRequest::bad_argument(
-            alloc,
-            "--delimiter",
-            "neither a quote nor a line break",
-        )),
+        b"\t" | b"\\t" => Ok(LINES),
+        [b'"'] if !no_quotes => Err(bad_delimiter(alloc)),
+        [b'\n' | b'\r'] => Err(bad_delimiter(alloc)),
+        [delimiter] if no_quotes => Ok(Rows::Lines {
+            delimiter: *delimiter,
+        }),
         [delimiter] => Ok(Rows::Csv {
             delimiter: *delimiter,
         }),
         _ => Err(NoRequest::bad_argument(alloc, text, "not one ASCII character")),
     }
+}
+
+// The error of a delimiter that can stand between no cells.
+fn bad_delimiter(alloc: Global) -> NoRequest {
+    NoRequest::bad_argument(alloc, "--delimiter", "neither a quote nor a line break")
 }
 
 // The last step of a path, as it is written. In quotes it is what stands between them.
@@ -146,7 +155,7 @@ pub(crate) fn rows_task<'a>(
         return Err(NoRequest::bad_argument(alloc, "--into", "needs a --json"));
     }
     let names = arguments.fields.as_slice();
-    let rows = rows_of(alloc, arguments.delimiter)?;
+    let rows = rows_of(alloc, arguments.delimiter, arguments.no_quotes)?;
     let column = column_of(alloc, arguments.column, arguments.header)?;
     if names.is_empty() {
         return Err(NoRequest::bad_argument(alloc, "enrich", "needs a --field"));

@@ -21,7 +21,7 @@ fn is_marked(alloc: Global, behind: usize, input: &[u8], want: &[u8]) -> bool {
     let (marks, mut seen) = (Marks(behind), Seen(0));
     let done = filter_rows(
         alloc,
-        Rows::Lines,
+        Rows::Lines { delimiter: b'\t' },
         &marks,
         &mut (),
         &mut input,

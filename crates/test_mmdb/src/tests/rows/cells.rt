@@ -18,10 +18,10 @@ type Row = (Rows, usize, &'static [u8], &'static [u8]);
 
 #[rattlefmt::skip]
 const ROWS: &[Row] = &[
-    (Rows::Lines, 0, b"200.0.0.1\n", b"200.0.0.1\ta\"b,c\n"),
-    (Rows::Lines, 1, b"x\t200.0.0.1\ty\r\n", b"x\t200.0.0.1\ty\ta\"b,c\r\n"),
-    (Rows::Lines, 0, b"\"200.0.0.1\"\n", b"\"200.0.0.1\"\t\n"),
-    (Rows::Lines, 2, b"a\tb\n", b"a\tb\t\n"),
+    (Rows::Lines { delimiter: b'\t' }, 0, b"200.0.0.1\n", b"200.0.0.1\ta\"b,c\n"),
+    (Rows::Lines { delimiter: b'\t' }, 1, b"x\t200.0.0.1\ty\r\n", b"x\t200.0.0.1\ty\ta\"b,c\r\n"),
+    (Rows::Lines { delimiter: b'\t' }, 0, b"\"200.0.0.1\"\n", b"\"200.0.0.1\"\t\n"),
+    (Rows::Lines { delimiter: b'\t' }, 2, b"a\tb\n", b"a\tb\t\n"),
     (CSV, 0, b"200.0.0.1\n", b"200.0.0.1,\"a\"\"b,c\"\n"),
     (CSV, 0, b"\"200.0.0.1\"\r\n", b"\"200.0.0.1\",\"a\"\"b,c\"\r\n"),
     (CSV, 0, b"1.1.1.1\nx", b"1.1.1.1,\nx,"),
@@ -125,7 +125,7 @@ fn is_cut(alloc: Global, reader: &Reader<&[u8]>, row: &(usize, &[u8], bool)) -> 
     is_enriched(
         alloc,
         reader,
-        Rows::Lines,
+        Rows::Lines { delimiter: b'\t' },
         1,
         input.as_slice(),
         want.as_slice(),

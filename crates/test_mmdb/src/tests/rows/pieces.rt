@@ -66,7 +66,10 @@ fn is_filtered(
 // Asserts the same for all steps, and for lines and CSV.
 fn assert_filtered(rt: &impl Abort, alloc: Global, row: &Row, input: &[u8], want: &[u8]) {
     for steps in STEPS {
-        for rows in [Rows::Lines, Rows::Csv { delimiter: b',' }] {
+        for rows in [
+            Rows::Lines { delimiter: b'\t' },
+            Rows::Csv { delimiter: b',' },
+        ] {
             let is_right = is_filtered(alloc, rows, *steps, input, want);
             assert!(rt; is_right, "{row:?} with {steps:?}");
         }
@@ -147,7 +150,7 @@ fn counted<R: BufRead + Drop>(rt: &impl Abort, alloc: Global, mut input: R) -> (
     let mut seen = Seen(0);
     let counts = filter_rows(
         alloc,
-        Rows::Lines,
+        Rows::Lines { delimiter: b'\t' },
         &Lengths,
         &mut (),
         &mut input,
