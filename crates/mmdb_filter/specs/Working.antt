@@ -9,7 +9,7 @@ use Rattle.mmdb_filter.specs.declared.rows.Position.{Position}
 use Rattle.mmdb_filter.specs.declared.rows.Position.TheVariants.{Cell, Plain, Quoted, Ended}
 
 abbrev pub total : Counts → ℕ
-total c = c.found + (c.absent + (c.unreadable + (c.malformed + c.rejected)))
+total c = c.found + (c.absent + (c.unreadable + (c.malformed + (c.rejected + c.occupied))))
 
 -- A row that has not ended in a chunk of less than 65,539 bytes ends with the input.
 abbrev pub EndsWithInput : Position → List ℕ → Option (List ℕ) → Type 0

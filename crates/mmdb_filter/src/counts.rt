@@ -14,6 +14,8 @@ pub enum Outcome {
     Malformed,
     /// The address, the record or a field failed.
     Failed,
+    /// It has what would be added already, and stays as it is.
+    Occupied,
 }
 
 /// How many lines fared so.
@@ -24,6 +26,7 @@ pub struct Counts {
     pub unreadable: u64,
     pub malformed: u64,
     pub rejected: u64,
+    pub occupied: u64,
 }
 
 impl Counts {
@@ -40,6 +43,7 @@ impl Counts {
             unreadable: 0,
             malformed: 0,
             rejected: 0,
+            occupied: 0,
         }
     }
 
@@ -55,6 +59,7 @@ impl Counts {
             Outcome::Unreadable => self.unreadable += 1,
             Outcome::Malformed => self.malformed += 1,
             Outcome::Failed => self.rejected += 1,
+            Outcome::Occupied => self.occupied += 1,
         }
     }
 }
