@@ -6,6 +6,8 @@ use Rattle.mmdb_reader.specs.File.{Database, data_section}
 use Rattle.mmdb_reader.specs.Lookup.{CanAsk, IsInvalidAt, Answers, outcome_at}
 use Rattle.mmdb_filter.specs.declared.counts.Outcome.{Outcome}
 use Rattle.mmdb_filter.specs.declared.counts.Outcome.TheVariants.{Found, Absent, Unreadable, Malformed, Failed}
+use Rattle.mmdb_addresses.specs.declared.readings.Reading.{Reading}
+use Rattle.mmdb_enrich.specs.Asked.{Asks}
 use Rattle.mmdb_enrich.specs.Fields.{IsMember, HasUnreadField}
 use Rattle.mmdb_objects.specs.Longer.{comma_behind}
 use Rattle.mmdb_objects.specs.Objects.{IsObject, LeadsToAddress, is_empty}
@@ -30,13 +32,13 @@ AddsMemberFor db name fields empty at address extra behind outcome =
     × (extra ≡ comma_behind empty ++ text) × (behind ≡ at) × (outcome ≡ Found)))
 
 -- Nothing is added to a line that is no object, or has no address.
-abbrev pub AddsMember : Database → List Step → List ℕ → List Field → List ℕ → Bool → List ℕ → ℕ → Outcome → Type 0
-AddsMember db path name fields text goes_on extra behind outcome =
+abbrev pub AddsMember : Database → Reading → List Step → List ℕ → List Field → List ℕ → Bool → List ℕ → ℕ → Outcome → Type 0
+AddsMember db reading path name fields text goes_on extra behind outcome =
     ((extra ≡ []) × (outcome ≡ Malformed) × ((members : Members) (at : ℕ) → ¬ IsObject text goes_on members at))
     ⊎ (((extra ≡ []) × (outcome ≡ Unreadable)
-    × ((members : Members) × (at : ℕ) × IsObject text goes_on members at × ((address : IpAddr) → ¬ LeadsToAddress path members address)))
-    ⊎ ((members : Members) × (at : ℕ) × (address : IpAddr) × IsObject text goes_on members at × LeadsToAddress path members address
-    × AddsMemberFor db name fields (is_empty members) at address extra behind outcome))
+    × ((members : Members) × (at : ℕ) × IsObject text goes_on members at × ((address : IpAddr) → ¬ LeadsToAddress reading path members address)))
+    ⊎ ((members : Members) × (at : ℕ) × (address asked : IpAddr) × IsObject text goes_on members at × LeadsToAddress reading path members address
+    × Asks db address asked × AddsMemberFor db name fields (is_empty members) at asked extra behind outcome))
 
 -- Bytes grow by a member, as the first or behind a comma; by nothing where a field can't be read.
 abbrev pub PutsMember : Line → List ℕ → Outcome → Added → List ℕ → List ℕ → Type 0

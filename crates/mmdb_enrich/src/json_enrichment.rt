@@ -3,9 +3,11 @@ ghost use Rattle.std.specs.Prelude.{◌≡◌, ◌≤◌, [], Some, IfOk, MatchO
 ghost use Rattle.mmdb_filter.specs.declared.counts.Outcome.TheVariants.{Found, Failed};
 ghost use Rattle.mmdb_enrich.specs.Members.{PutsMember};
 
+use crate::asked::asked_of;
 use crate::cache::{Cache, Kept};
 use crate::members::{Field, member_of};
 use json::Scratch;
+use mmdb_addresses::Reading;
 use mmdb_filter::{Added, Additions, Outcome};
 use mmdb_objects::{Line, ReadLine, Step, read_line};
 use mmdb_reader::{LookupResult, Reader};
@@ -19,6 +21,8 @@ pub struct JsonEnrichment<'a, 'f, S: AsSlice<u8> + Drop> {
     pub alloc: Global,
     /// Where addresses are looked up.
     pub reader: &'a Reader<S>,
+    /// Where in a string the address is.
+    pub reading: Reading,
     /// The path to the address in an object.
     pub path: Vec<Step<'f>>,
     /// The name of the member.
@@ -157,7 +161,7 @@ impl<'a, 'f, S: AsSlice<u8> + Drop> Additions for JsonEnrichment<'a, 'f, S> {
 
     type Memory = JsonMemory;
 
-    ghost adds = { λ e text goes_on extra behind outcome. AddsMember e.reader.now e.path.items
+    ghost adds = { λ e text goes_on extra behind outcome. AddsMember e.reader.now e.reading e.path.items
         e.name.now e.fields.items text goes_on extra behind outcome };
 
     ghost fits = { λ e memory.
@@ -171,8 +175,18 @@ impl<'a, 'f, S: AsSlice<u8> + Drop> Additions for JsonEnrichment<'a, 'f, S> {
         out: &mut Vec<u8>,
     ) -> io::Result<Added> {
         let path = self.path.as_slice();
-        match read_line(self.alloc, text, is_long, path, &mut memory.scratch)? {
-            ReadLine::Object(line) => Ok(self.put_address(&line, &mut memory.cache, out)?),
+        match read_line(
+            self.alloc,
+            self.reading,
+            text,
+            is_long,
+            path,
+            &mut memory.scratch,
+        )? {
+            ReadLine::Object(mut line) => {
+                line.address = asked_of(self.reader, line.address);
+                Ok(self.put_address(&line, &mut memory.cache, out)?)
+            }
             ReadLine::NoAddress => Ok(nothing(Outcome::Unreadable)),
             ReadLine::NoObject => Ok(nothing(Outcome::Malformed)),
         }

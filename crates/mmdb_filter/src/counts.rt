@@ -14,6 +14,8 @@ pub enum Outcome {
     Malformed,
     /// The address, the record or a field failed.
     Failed,
+    /// It has what would be added already, and stays as it is.
+    Occupied,
 }
 
 /// How many lines fared so.
@@ -24,6 +26,7 @@ pub struct Counts {
     pub unreadable: u64,
     pub malformed: u64,
     pub rejected: u64,
+    pub occupied: u64,
 }
 
 impl Counts {
@@ -39,6 +42,7 @@ impl Counts {
             unreadable: 0,
             malformed: 0,
             rejected: 0,
+            occupied: 0,
         }
     }
 
@@ -51,7 +55,8 @@ impl Counts {
             .checked_add(self.absent)?
             .checked_add(self.unreadable)?
             .checked_add(self.malformed)?
-            .checked_add(self.rejected)
+            .checked_add(self.rejected)?
+            .checked_add(self.occupied)
     }
 
     /// One line more.
@@ -66,6 +71,7 @@ impl Counts {
             Outcome::Unreadable => self.unreadable += 1,
             Outcome::Malformed => self.malformed += 1,
             Outcome::Failed => self.rejected += 1,
+            Outcome::Occupied => self.occupied += 1,
         }
     }
 }

@@ -7,6 +7,7 @@ use Rattle.json.specs.Token.{Token}
 use Rattle.mmdb_objects.specs.declared.step.Step.{Step}
 use Rattle.mmdb_objects.specs.declared.step.Step.TheVariants.{Key, Index}
 use Rattle.mmdb_objects.specs.Objects.{EndsWithBrace, text_along, is_empty}
+use Rattle.mmdb_addresses.specs.declared.readings.Reading.{Reading}
 use Rattle.mmdb_objects.specs.Objects.{ReadsLine}
 use Rattle.mmdb_objects.specs.Working.{ReadsValue}
 use Rattle.mmdb_objects.specs.declared.objects.ReadLine.{ReadLine}
@@ -28,19 +29,19 @@ next_is_none view old new (Some m) members next here =
     ap is_empty (sym is)
 
 -- a text that is some value
-pub text_read : (text : List ℕ) (path : List Step) (j : Json) (behind : ℕ) (line : ReadLine) → IsUtf8 text → EndsWithBrace text behind → document text ≡ Some j → ReadsValue j behind path line → ReadsLine text false path line
-text_read text path j behind NoObject utf8 ends value reads = λ members at is. reads members (some_json j (object members) (sym value ∙ is.value))
-text_read text path j behind NoAddress utf8 ends value reads =
+pub text_read : (reading : Reading) (text : List ℕ) (path : List Step) (j : Json) (behind : ℕ) (line : ReadLine) → IsUtf8 text → EndsWithBrace text behind → document text ≡ Some j → ReadsValue reading j behind path line → ReadsLine reading text false path line
+text_read reading text path j behind NoObject utf8 ends value reads = λ members at is. reads members (some_json j (object members) (sym value ∙ is.value))
+text_read reading text path j behind NoAddress utf8 ends value reads =
     let (members, is, none) = reads in
     (members, behind, record { whole = refl; utf8 = utf8; value = value ∙ ap Some is; ends = ends }, none)
-text_read text path j behind (Object line) utf8 ends value reads =
+text_read reading text path j behind (Object line) utf8 ends value reads =
     let (members, is, leads, empty, same) = reads in
     (members, record { whole = refl; utf8 = utf8; value = value ∙ ap Some is; ends = subst (EndsWithBrace text) (sym same) ends }, leads, empty)
 
-pub some_read : (text : List ℕ) (path : List Step) (behind : ℕ) (line : ReadLine) (value : Option Json) → document text ≡ value → is_some value ≡ true → IsUtf8 text → EndsWithBrace text behind
-    → ((j : Json) → document text ≡ Some j → ReadsValue j behind path line) → ReadsLine text false path line
-some_read text path behind line None is some utf8 ends reads = absurd (cc)
-some_read text path behind line (Some j) is some utf8 ends reads = text_read text path j behind line utf8 ends is (reads j is)
+pub some_read : (reading : Reading) (text : List ℕ) (path : List Step) (behind : ℕ) (line : ReadLine) (value : Option Json) → document text ≡ value → is_some value ≡ true → IsUtf8 text → EndsWithBrace text behind
+    → ((j : Json) → document text ≡ Some j → ReadsValue reading j behind path line) → ReadsLine reading text false path line
+some_read reading text path behind line None is some utf8 ends reads = absurd (cc)
+some_read reading text path behind line (Some j) is some utf8 ends reads = text_read reading text path j behind line utf8 ends is (reads j is)
 
 -- an object in which a path leads to a text has a member
 pub not_empty : (path : List Step) (members : Members) (found : List ℕ) → text_along path (object members) ≡ Some found → false ≡ is_empty members

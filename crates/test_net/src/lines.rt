@@ -1,6 +1,6 @@
 //! Addresses that texts spell, beside std's parser of them; lines of JSON; and what is kept of short answers.
 use json::Scratch;
-use mmdb_addresses::{AddressText, address_of, read_address};
+use mmdb_addresses::{AddressText, Reading, address_of, read_address};
 use mmdb_blocks::{Block, Kind, Kinds};
 use mmdb_cache::{Known, Table};
 use mmdb_objects::{Line, ReadLine, Step, read_line};
@@ -62,7 +62,9 @@ fn is_read_as_by_std(text: &str) -> bool {
         Some(copy) => copy.as_slice() == bytes,
         None => false,
     };
-    read_address(bytes).ok() == wanted && address_of(Some(bytes)) == wanted && is_copied
+    read_address(bytes).ok() == wanted
+        && address_of(Reading::Exact, Some(bytes)) == wanted
+        && is_copied
 }
 
 #[test]
@@ -70,7 +72,7 @@ fn addresses_as_std_reads_them(rt: HostRuntime) {
     for text in TEXTS {
         assert!(rt; is_read_as_by_std(*text), "{text:?}");
     }
-    assert!(rt; address_of(None).is_none());
+    assert!(rt; address_of(Reading::First, None).is_none());
 }
 
 /// A line, and what it is by the address at `client.ip`: no object, one without an address there, or with 1.2.3.4, how many
@@ -120,7 +122,14 @@ fn kind_of(alloc: Global, line: &str) -> Result<&'static str, AllocError> {
     let mut scratch = Scratch::new(alloc);
     let path = [Step::Key("client"), Step::Key("ip")];
     Ok(
-        match read_line(alloc, line.as_bytes(), false, &path, &mut scratch)? {
+        match read_line(
+            alloc,
+            Reading::First,
+            line.as_bytes(),
+            false,
+            &path,
+            &mut scratch,
+        )? {
             ReadLine::NoObject => "no object",
             ReadLine::NoAddress => "no address",
             ReadLine::Object(line) => text_of(&line),
