@@ -142,6 +142,7 @@ fn kind_of(alloc: Global, line: &str) -> Result<&'static str, AllocError> {
             line.as_bytes(),
             false,
             &path,
+            "geo",
             &mut scratch,
         )? {
             ReadLine::NoObject => "no object",
