@@ -4,7 +4,7 @@ use crate::rows::RowReader;
 use crate::taken::Taken;
 use crate::task::BuildTask;
 use mmdb_console::{ProgramError, ProgressLine};
-use mmdb_filter::{Progress, Rows};
+use mmdb_filter::Rows;
 use mmdb_input::{BadRow, Entry, InputError, Reason, RowRead, Types, read_row};
 use std::alloc::Global;
 use std::io::{BufRead, Write};

@@ -1,5 +1,5 @@
 -- How many lines fared so.
-use Rattle.std.specs.Prelude.{◌+◌}
+use Rattle.std.specs.Prelude.{ℕ, ◌+◌}
 use Rattle.mmdb_filter.specs.declared.counts.Counts.{Counts}
 use Rattle.mmdb_filter.specs.declared.counts.Outcome.{Outcome}
 use Rattle.mmdb_filter.specs.declared.counts.Outcome.TheVariants.{Found, Absent, Unreadable, Malformed, Failed, Occupied}
@@ -14,3 +14,7 @@ count_one c Unreadable = record c { unreadable = c.unreadable + 1 }
 count_one c Malformed = record c { malformed = c.malformed + 1 }
 count_one c Failed = record c { rejected = c.rejected + 1 }
 count_one c Occupied = record c { occupied = c.occupied + 1 }
+
+-- how many lines
+abbrev pub total : Counts → ℕ
+total c = c.found + (c.absent + (c.unreadable + (c.malformed + (c.rejected + c.occupied))))

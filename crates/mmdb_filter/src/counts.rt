@@ -1,5 +1,5 @@
 //! How lines fared.
-ghost use Rattle.std.specs.Prelude.{◌≡◌, ◌+◌, ◌<◌, ◌^◌};
+ghost use Rattle.std.specs.Prelude.{◌≡◌, ◌+◌, ◌<◌, ◌≤◌, ◌^◌, None, IfSome};
 
 /// How a line fared.
 #[derive(Clone, Copy, PartialEq, Eq)]
@@ -30,11 +30,10 @@ pub struct Counts {
 }
 
 impl Counts {
-    ghost use Rattle.mmdb_filter.specs.Counting.{nothing_counted, count_one};
-    ghost use Rattle.mmdb_filter.specs.Working.{total};
+    ghost use Rattle.mmdb_filter.specs.Counting.{nothing_counted, count_one, total};
 
     /// Of no line.
-    pub(crate) fn new() -> Counts
+    pub fn new() -> Counts
         ensures { result ≡ nothing_counted }
     {
         Counts {
@@ -45,6 +44,19 @@ impl Counts {
             rejected: 0,
             occupied: 0,
         }
+    }
+
+    /// How many lines, or none where they are 2^64 or more.
+    pub fn total(&self) -> Option<u64>
+        ensures some { IfSome result (λ lines. lines ≡ total self.now) }
+        ensures none { result ≡ None → 2 ^ 64 ≤ total self.now }
+    {
+        self.found
+            .checked_add(self.absent)?
+            .checked_add(self.unreadable)?
+            .checked_add(self.malformed)?
+            .checked_add(self.rejected)?
+            .checked_add(self.occupied)
     }
 
     /// One line more.

@@ -2,8 +2,11 @@
 #![tactic(auto)]
 
 mod header;
+mod input;
 mod lines;
+mod notes;
 mod output;
 mod task;
+mod watch;
 
 pub use lines::enrich;

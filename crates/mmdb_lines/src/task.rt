@@ -1,4 +1,5 @@
 //! What `enrich` is asked for.
+use crate::notes::Place;
 use mmdb_arguments::{EnrichArguments, NoRequest};
 use mmdb_enrich::Field;
 use mmdb_filter::Rows;
@@ -24,6 +25,19 @@ pub(crate) struct RowsTask<'a> {
     pub(crate) names: &'a [&'a str],
     pub(crate) paths: Vec<Vec<PathElement<'a>>>,
     pub(crate) header: bool,
+}
+
+impl RowsTask<'_> {
+    /// Where the address of a row is looked for.
+    pub(crate) fn place<'a>(&self, arguments: &EnrichArguments<'a>) -> Place<'a> {
+        if arguments.anywhere {
+            return Place::Anywhere;
+        }
+        Place::Column {
+            text: arguments.column,
+            rows: self.rows,
+        }
+    }
 }
 
 /// What `enrich` is asked for of lines of JSON: fields in them.

@@ -1,12 +1,12 @@
 //! Columns, addresses in them, and cells of CSV.
 use super::streams::{Seen, assert_at};
 use mmdb_enrich::{Enrichment, RowMemory};
-use mmdb_filter::{Rows, filter_rows, put_csv_cell};
+use mmdb_filter::{Counts, Live, Rows, filter_rows, put_csv_cell};
 use mmdb_reader::{PathElement, Reader};
 use mmdb_vectors::builder::{BASE_NODE, changed_file};
 use mmdb_vectors::section::section_of;
 use std::alloc::Global;
-use std::io::{BufRead, Write};
+use std::io::Write;
 
 /// Rows of CSV.
 pub(crate) const CSV: Rows = Rows::Csv { delimiter: b',' };
@@ -47,7 +47,7 @@ fn whole_record(alloc: Global) -> Vec<Vec<PathElement<'static>>> {
 }
 
 /// The filter with the record of the address in a column; whether it came to the end.
-pub(crate) fn enriched<I: BufRead, W: Write>(
+pub(crate) fn enriched<I: Live, W: Write>(
     alloc: Global,
     reader: &Reader<&[u8]>,
     rows: Rows,
@@ -70,6 +70,7 @@ pub(crate) fn enriched<I: BufRead, W: Write>(
         rows,
         &enrichment,
         &mut memory,
+        Counts::new(),
         input,
         out,
         &mut Seen(0),

@@ -1,10 +1,10 @@
 //! Rows around the length of a piece.
 use super::streams::{Chopped, Lengths, Seen, assert_holds, filtered};
 use mmdb_filter::laws::{count_clones_are_same, counts_equal_where_same};
-use mmdb_filter::{Counts, Rows, filter_rows};
+use mmdb_filter::{Counts, Live, Rows, filter_rows};
 use mmdb_vectors::section::section_of;
 use std::alloc::Global;
-use std::io::{self, BufRead, BufReader, Read, Write};
+use std::io::{self, BufReader, Read, Write};
 use std::process::Abort;
 
 /// How long a text is, what stands at its back, its end, and what is added.
@@ -145,19 +145,20 @@ impl Write for Counting {
 }
 
 // What the filter counts, how many bytes it writes, and the number of rows that was reported last.
-fn counted<R: BufRead + Drop>(rt: &impl Abort, alloc: Global, mut input: R) -> (Counts, u64, u64) {
+fn counted<R: Live + Drop>(rt: &impl Abort, alloc: Global, mut input: R) -> (Counts, u64, u64) {
     let mut out = Counting { bytes: 0 };
     let mut seen = Seen(0);
-    let counts = filter_rows(
+    let filtered = filter_rows(
         alloc,
         Rows::Lines { delimiter: b'\t' },
         &Lengths,
         &mut (),
+        Counts::new(),
         &mut input,
         &mut out,
         &mut seen,
     );
-    (counts.expect(rt, "counts"), out.bytes, seen.0)
+    (filtered.expect(rt, "counts").counts, out.bytes, seen.0)
 }
 
 #[test]
