@@ -1,5 +1,5 @@
 -- A line that gains a member: it is JSON again, the object that it was with one member more.
-use Rattle.std.specs.Prelude.{◌≡◌, ◌<◌, ◌-◌, ℕ, List, [], ◌∷◌, ◌++◌, Some, Bool, length, take, drop}
+use Rattle.std.specs.Prelude.{◌≡◌, ◌<◌, ℕ, List, [], ◌∷◌, ◌++◌, Some, Bool, false}
 use Rattle.std.specs.declared.net.ip_addr.IpAddr.{IpAddr}
 use Rattle.json.specs.Json.{Json, object, Members, no_members, member, max_depth, document}
 use Rattle.json.specs.Print.{print}
@@ -15,7 +15,7 @@ use Rattle.mmdb_enrich.specs.Fields.{AreValue}
 use Rattle.mmdb_enrich.specs.Members.{AddsMember}
 use Rattle.mmdb_objects.specs.Longer.{comma_behind, put_in, and_last}
 use Rattle.mmdb_objects.specs.declared.step.Step.{Step}
-use Rattle.mmdb_objects.specs.Objects.{LeadsToAddress, is_empty}
+use Rattle.mmdb_objects.specs.Objects.{LeadsToAddress, has_member, is_empty}
 use Rattle.mmdb_enrich.specs.declared.members.Field.{Field}
 
 -- for each field a member of its name: JSON that shows what stands along its path, or `null` where nothing does
@@ -32,6 +32,7 @@ pub record GainsMember (db : Database) (reading : Reading) (path : List Step) (n
     (line extra longer : List ℕ) : Type 0 where
   pub members : Members
   pub was : document line ≡ Some (object members)
+  pub fresh : has_member name members ≡ false
   pub address : IpAddr
   pub leads : LeadsToAddress reading path members address
   pub asked : IpAddr
@@ -47,13 +48,13 @@ pub record GainsMember (db : Database) (reading : Reading) (path : List Step) (n
 -- Where a member is added to a text, the text gains it.
 abbrev pub LongerTextIsJson : Type 0
 LongerTextIsJson =
-    (db : Database) (reading : Reading) (path : List Step) (name : List ℕ) (fields : List Field) (text : List ℕ) (goes_on : Bool)
-    (extra : List ℕ) (behind : ℕ) → AddsMember db reading path name fields text goes_on extra behind Found
+    (db : Database) (reading : Reading) (path : List Step) (nulls : Bool) (name : List ℕ) (fields : List Field) (text : List ℕ) (goes_on : Bool)
+    (extra : List ℕ) (behind : ℕ) → AddsMember db reading path nulls name fields text goes_on extra behind Found
     → GainsMember db reading path name fields text extra (put_in text extra behind)
 
 -- The same of a row with its end, as a filter writes it.
 abbrev pub LongerRowIsJson : Type 0
 LongerRowIsJson =
-    (db : Database) (reading : Reading) (path : List Step) (name : List ℕ) (fields : List Field) (row extra : List ℕ) (behind : ℕ)
-    → AddsMember db reading path name fields (seen_of row) (is_long row) extra behind Found
+    (db : Database) (reading : Reading) (path : List Step) (nulls : Bool) (name : List ℕ) (fields : List Field) (row extra : List ℕ) (behind : ℕ)
+    → AddsMember db reading path nulls name fields (seen_of row) (is_long row) extra behind Found
     → GainsMember db reading path name fields row extra (row_with row extra behind)

@@ -75,8 +75,8 @@ fn addresses_as_std_reads_them(rt: HostRuntime) {
     assert!(rt; address_of(Reading::First, None).is_none());
 }
 
-/// A line, and what it is by the address at `client.ip`: no object, one without an address there, or with 1.2.3.4, how many
-/// bytes stand from its last brace on and whether it has no member.
+/// A line, and what it is by the address at `client.ip`: no object, one without an address there, one with a member `geo`, or
+/// with 1.2.3.4, how many bytes stand from its last brace on.
 const LINES: &[(&str, &str)] = &[
     ("", "no object"),
     ("1", "no object"),
@@ -101,6 +101,14 @@ const LINES: &[(&str, &str)] = &[
     ),
     ("{\"client\":{\"ip\":\"1.2.3.\\u0034\"}}", "address 1"),
     (
+        "{\"client\":{\"ip\":\"1.2.3.4:80\",\"geo\":1}}",
+        "address 1",
+    ),
+    ("{\"geo\":1,\"client\":{\"ip\":\"1.2.3.4\"}}", "taken"),
+    ("{\"client\":{\"ip\":\"1.2.3.4\"},\"geo\":null}", "taken"),
+    ("{\"client\":{\"ip\":\"1.2.3.4\"},\"g\\u0065o\":1}", "taken"),
+    ("{\"client\":{\"ip\":\"1.2.3.4\"},\"geo2\":1}", "address 1"),
+    (
         "{\"a\":[1,{\"b\":null}],\"client\":{\"ip\":\"1.2.3.4\",\"c\":-0.5e1}}",
         "address 1",
     ),
@@ -108,7 +116,13 @@ const LINES: &[(&str, &str)] = &[
 
 // The line with an address as a text.
 fn text_of(line: &Line) -> &'static str {
-    let is_wanted = line.address == IpAddr::V4(Ipv4Addr::new(1, 2, 3, 4)) && !line.is_empty;
+    let Some(address) = line.address else {
+        return "no address";
+    };
+    if line.is_taken {
+        return "taken";
+    }
+    let is_wanted = address == IpAddr::V4(Ipv4Addr::new(1, 2, 3, 4)) && !line.is_empty;
     match line.behind {
         1 if is_wanted => "address 1",
         2 if is_wanted => "address 2",
@@ -128,10 +142,10 @@ fn kind_of(alloc: Global, line: &str) -> Result<&'static str, AllocError> {
             line.as_bytes(),
             false,
             &path,
+            "geo",
             &mut scratch,
         )? {
             ReadLine::NoObject => "no object",
-            ReadLine::NoAddress => "no address",
             ReadLine::Object(line) => text_of(&line),
         },
     )
