@@ -192,6 +192,7 @@ fn enrich_json<I: Live, O: Write, E: Write>(
         reading: task.reading,
         path: task.path,
         name: task.into,
+        nulls: task.nulls,
         fields: task.fields,
     };
     enrich_objects(&enrichment, input, passage, console)

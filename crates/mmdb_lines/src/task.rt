@@ -50,6 +50,8 @@ pub(crate) struct JsonTask<'a> {
     pub(crate) path: Vec<Step<'a>>,
     /// The name of the member that is added.
     pub(crate) into: &'a str,
+    /// Whether objects without a record get it too.
+    pub(crate) nulls: bool,
     pub(crate) fields: Vec<Field<'a>>,
 }
 
@@ -194,6 +196,7 @@ pub(crate) fn json_task<'a>(
         reading: reading_of(arguments),
         path: address_path(alloc, path)?,
         into,
+        nulls: arguments.nulls,
         fields: fields_of(alloc, arguments.fields.as_slice())?,
     })
 }
