@@ -66,6 +66,9 @@ pub trait Progress {
 
     /// The row behind so many stands between quotes where 65,539 bytes of it are read, or where the input ends.
     fn stays_quoted(&mut self, rows: u64);
+
+    /// The row behind so many has already what would be added.
+    fn is_occupied(&mut self, rows: u64);
 }
 
 /// Where a filter ended.
@@ -225,6 +228,9 @@ pub fn filter_rows<A: Additions, R: Live, W: Write, P: Progress>(
         )?;
         if is_quoted || position == Position::Quoted {
             progress.stays_quoted(passed);
+        }
+        if addition.outcome == Outcome::Occupied {
+            progress.is_occupied(passed);
         }
         counts.count(addition.outcome);
     }

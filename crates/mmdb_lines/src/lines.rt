@@ -6,7 +6,7 @@ use crate::output::Output;
 use crate::task::{JsonTask, LINES, RowsTask, json_task, rows_task};
 use crate::watch::Watch;
 use mmdb_arguments::EnrichArguments;
-use mmdb_console::{Console, FAILED, ProgramError, ProgressLine};
+use mmdb_console::{Console, FAILED, ProgramError, ProgressLine, line_of};
 use mmdb_enrich::{Enrichment, JsonEnrichment, JsonMemory, RowMemory};
 use mmdb_filter::{Additions, Counts, Filtered, Live, Rows, filter_rows};
 use mmdb_layout::{Database, open_database};
@@ -36,10 +36,29 @@ fn text_of_objects(alloc: Global, counts: Counts) -> Result<String, AllocError> 
         unreadable,
         malformed,
         rejected,
+        ..
     } = counts;
     format!(in alloc;
-        "mmdb: {found} lines with a record, {absent} without, {unreadable} without an address, {rejected} with an error, {malformed} not objects of JSON\n"
+        "mmdb: {found} lines with a record, {absent} without, {unreadable} without an address, {rejected} with an error, {malformed} not objects of JSON"
     )
+}
+
+// The same with those that have the member already, where there are some.
+fn text_of_members(
+    alloc: Global,
+    counts: Counts,
+    name: &str,
+    first: Option<u64>,
+) -> Result<String, AllocError> {
+    let mut text = text_of_objects(alloc, counts)?;
+    if let Some(first) = first {
+        let occupied = counts.occupied;
+        let more: String = format!(in alloc;
+            ", {occupied} with a member {name} already, the first in row {first}"
+        )?;
+        text.push_str(more.as_str())?;
+    }
+    line_of(alloc, Ok(text))
 }
 
 // What rows pass through, and what is said of them.
@@ -75,9 +94,7 @@ fn filter<A: Additions, I: Live, O: Write, E: Write>(
         alloc, rows, additions, memory, counts, input, &mut out, &mut watch,
     );
     watch.clear();
-    if watch.quoted > 0 {
-        passage.notes.warn();
-    }
+    passage.notes.add(watch.quoted, watch.occupied);
     out.of_filter(filtered)
 }
 
@@ -136,6 +153,7 @@ fn enrich_columns<I: Live, O: Write, E: Write>(
     let enrichment = Enrichment {
         alloc: console.alloc,
         reader: database,
+        reading: task.reading,
         rows: task.rows,
         column,
         paths: task.paths,
@@ -154,7 +172,8 @@ fn enrich_objects<I: Live, O: Write, E: Write>(
     let counts = copy_rows(LINES, enrichment, &mut memory, input, passage, console);
     drop(memory);
     let counts = counts?;
-    let text = text_of_objects(console.alloc, counts);
+    let first = passage.notes.occupied;
+    let text = text_of_members(console.alloc, counts, enrichment.name, first);
     Ok(passage.notes.finish(counts, text, console))
 }
 
@@ -170,8 +189,10 @@ fn enrich_json<I: Live, O: Write, E: Write>(
     let enrichment = JsonEnrichment {
         alloc: console.alloc,
         reader: database,
+        reading: task.reading,
         path: task.path,
         name: task.into,
+        nulls: task.nulls,
         fields: task.fields,
     };
     enrich_objects(&enrichment, input, passage, console)

@@ -25,6 +25,8 @@ pub(crate) struct Notes<'a> {
     has_said_no_address: bool,
     has_warned: bool,
     has_failed: bool,
+    /// The number of the first row that has already what would be added.
+    pub(crate) occupied: Option<u64>,
 }
 
 // What stands between cells, in words.
@@ -55,7 +57,7 @@ fn no_address(alloc: Global, place: Place<'_>) -> Result<String, AllocError> {
 
 // Whether rows passed, and none had an address.
 fn had_no_address(counts: Counts) -> bool {
-    let had = counts.found > 0 || counts.absent > 0 || counts.rejected > 0;
+    let had = counts.found > 0 || counts.absent > 0 || counts.rejected > 0 || counts.occupied > 0;
     !had && (counts.unreadable > 0 || counts.malformed > 0)
 }
 
@@ -68,6 +70,7 @@ impl<'a> Notes<'a> {
             has_said_no_address: false,
             has_warned: false,
             has_failed: false,
+            occupied: None,
         }
     }
 
@@ -76,9 +79,10 @@ impl<'a> Notes<'a> {
         self.is_quiet
     }
 
-    /// Something was warned of.
-    pub(crate) fn warn(&mut self) {
-        self.has_warned = true;
+    /// So many rows stay in quotes, and this one is the first that has already what would be added.
+    pub(crate) fn add(&mut self, quoted: u64, occupied: Option<u64>) {
+        self.has_warned |= quoted > 0;
+        self.occupied = self.occupied.or(occupied);
     }
 
     /// Says what is wrong with all rows that passed.
@@ -102,9 +106,7 @@ impl<'a> Notes<'a> {
         console: &mut Console<'_, O, E>,
     ) -> u8 {
         self.check(counts, console);
-        if had_no_address(counts) {
-            self.warn();
-        }
+        self.has_warned |= had_no_address(counts) || counts.occupied > 0;
         if !self.is_quiet {
             console.note(text);
         }

@@ -1,12 +1,13 @@
 //! What `enrich` is asked for.
 use crate::notes::Place;
-use mmdb_arguments::{EnrichArguments, NoRequest};
+use mmdb_addresses::Reading;
+use mmdb_arguments::{EnrichArguments, Hop, NoRequest};
 use mmdb_enrich::Field;
 use mmdb_filter::Rows;
 use mmdb_layout::{paths_of, wanted_path};
 use mmdb_objects::Step;
 use mmdb_reader::PathElement;
-use std::alloc::Global;
+use std::alloc::{AllocError, Global};
 
 /// A column of lines.
 #[derive(Clone, Copy)]
@@ -21,6 +22,7 @@ pub(crate) enum Column<'a> {
 #[derive(Drop)]
 pub(crate) struct RowsTask<'a> {
     pub(crate) rows: Rows,
+    pub(crate) reading: Reading,
     pub(crate) column: Column<'a>,
     pub(crate) names: &'a [&'a str],
     pub(crate) paths: Vec<Vec<PathElement<'a>>>,
@@ -43,10 +45,13 @@ impl RowsTask<'_> {
 /// What `enrich` is asked for of lines of JSON: fields in them.
 #[derive(Drop)]
 pub(crate) struct JsonTask<'a> {
+    pub(crate) reading: Reading,
     /// The path of the address in an object.
     pub(crate) path: Vec<Step<'a>>,
     /// The name of the member that is added.
     pub(crate) into: &'a str,
+    /// Whether objects without a record get it too.
+    pub(crate) nulls: bool,
     pub(crate) fields: Vec<Field<'a>>,
 }
 
@@ -82,6 +87,16 @@ fn rows_of(alloc: Global, delimiter: Option<&str>, no_quotes: bool) -> Result<Ro
     }
 }
 
+// Where in a cell, a string or a row the address is.
+fn reading_of(arguments: &EnrichArguments<'_>) -> Reading {
+    match arguments.hop {
+        _ if arguments.anywhere => Reading::Anywhere,
+        _ if arguments.exact => Reading::Exact,
+        Hop::First => Reading::First,
+        Hop::Last => Reading::Last,
+    }
+}
+
 // The error of a delimiter that can stand between no cells.
 fn bad_delimiter(alloc: Global) -> NoRequest {
     NoRequest::bad_argument(alloc, "--delimiter", "neither a quote nor a line break")
@@ -109,10 +124,34 @@ fn named_path(text: &str) -> (&str, &str) {
     }
 }
 
+// The error of a field whose name another one has.
+fn equal_name(alloc: Global, name: &str, text: &str, path: &str) -> NoRequest {
+    let wanted: Result<String, AllocError> = format!(in alloc;
+        "another field has the name {name} too; give one of them a name of its own, as NAME={path}"
+    );
+    match &wanted {
+        Ok(wanted) => NoRequest::bad_argument(alloc, text, wanted.as_str()),
+        Err(_) => NoRequest::Memory,
+    }
+}
+
+// Whether a field has this name.
+fn has_name(fields: &[Field<'_>], name: &str) -> bool {
+    for field in fields {
+        if field.name == name {
+            return true;
+        }
+    }
+    false
+}
+
 fn fields_of<'a>(alloc: Global, texts: &[&'a str]) -> Result<Vec<Field<'a>>, NoRequest> {
     let mut fields = Vec::new(alloc);
     for text in texts {
         let (name, path) = named_path(*text);
+        if has_name(fields.as_slice(), name) {
+            return Err(equal_name(alloc, name, *text, path));
+        }
         let path = wanted_path(alloc, path)?;
         fields.push(Field { name, path })?;
     }
@@ -154,8 +193,10 @@ pub(crate) fn json_task<'a>(
         return Err(NoRequest::bad_argument(alloc, "--into", "an empty name"));
     }
     Ok(JsonTask {
+        reading: reading_of(arguments),
         path: address_path(alloc, path)?,
         into,
+        nulls: arguments.nulls,
         fields: fields_of(alloc, arguments.fields.as_slice())?,
     })
 }
@@ -176,6 +217,7 @@ pub(crate) fn rows_task<'a>(
     }
     Ok(RowsTask {
         rows,
+        reading: reading_of(arguments),
         column,
         names,
         paths: paths_of(alloc, names)?,

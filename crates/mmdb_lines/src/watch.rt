@@ -19,6 +19,8 @@ pub(crate) struct Watch<'e, E: Write> {
     before: u64,
     /// How many rows stay in quotes.
     pub(crate) quoted: u64,
+    /// The number of the first row that has already what would be added.
+    pub(crate) occupied: Option<u64>,
 }
 
 impl<'e, E: Write> Watch<'e, E> {
@@ -36,7 +38,13 @@ impl<'e, E: Write> Watch<'e, E> {
             is_quiet,
             before,
             quoted: 0,
+            occupied: None,
         }
+    }
+
+    // The number of the row behind so many.
+    fn number(&self, rows: u64) -> u64 {
+        rows.saturating_add(self.before).saturating_add(1)
     }
 
     /// Takes what is shown on a terminal away again.
@@ -59,12 +67,18 @@ impl<'e, E: Write> Progress for Watch<'e, E> {
         if self.is_quiet || self.quoted > MOST_SAID {
             return;
         }
-        let row = rows.saturating_add(self.before).saturating_add(1);
+        let row = self.number(rows);
         self.line.note(line_of(
             self.alloc,
             format!(in self.alloc;
                 "mmdb: nothing closes a quote of row {row}, by the end of the input or within 65536 bytes; see --no-quotes"
             ),
         ));
+    }
+
+    fn is_occupied(&mut self, rows: u64) {
+        if self.occupied.is_none() {
+            self.occupied = Some(self.number(rows));
+        }
     }
 }

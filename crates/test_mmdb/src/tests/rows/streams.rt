@@ -166,6 +166,8 @@ impl Progress for Seen {
     }
 
     fn stays_quoted(&mut self, _rows: u64) {}
+
+    fn is_occupied(&mut self, _rows: u64) {}
 }
 
 /// The filter over an input in pieces of one size.
