@@ -16,6 +16,7 @@ use crate::asked::asked_of;
 use crate::cache::{Cache, Kept};
 use crate::cells::{put_blanks, put_cells};
 use crate::columns::cell_of;
+use crate::notes::{Notes, note_rejected};
 use crate::row_memory::RowMemory;
 use mmdb_addresses::{Reading, address_anywhere};
 use mmdb_filter::{Added, Additions, Outcome, Rows};
@@ -96,6 +97,16 @@ impl<'a, 'f, S: AsSlice<u8> + Drop> Enrichment<'a, 'f, S> {
     ghost use Rattle.mmdb_reader.specs.Found.{database_asked, leaf_of, offset_found};
     ghost use Rattle.mmdb_enrich.specs.Working.{AddsAtTo, AddsForTo};
 
+    // Notes a record that was read, or was not.
+    #[inline(never)]
+    fn note(&self, found: &LookupResult<'_, S>, offset: usize, are_read: bool, notes: &mut Notes) {
+        notes.note_record(offset);
+        for at in 0..self.paths.len() {
+            let path = self.paths[at].as_slice();
+            notes.note_field(self.alloc, found, at, path, are_read);
+        }
+    }
+
     // Adds the cells of a record that was not kept, and keeps them.
     #[inline(never)]
     fn put_record(
@@ -103,6 +114,7 @@ impl<'a, 'f, S: AsSlice<u8> + Drop> Enrichment<'a, 'f, S> {
         found: &LookupResult<'_, S>,
         offset: usize,
         cache: &mut Cache,
+        notes: &mut Notes,
         out: &mut Vec<u8>,
     ) -> Result<Outcome, AllocError>
         requires at { offset_found found.now ≡ Some offset }
@@ -116,6 +128,7 @@ impl<'a, 'f, S: AsSlice<u8> + Drop> Enrichment<'a, 'f, S> {
         let are_read = put_cells(self.alloc, self.rows, found, self.paths.as_slice(), out)?;
         let outcome = outcome_of(are_read);
         cache.keep(offset, &out.as_slice()[before..], outcome);
+        self.note(found, offset, are_read, notes);
         Ok(outcome)
     }
 
@@ -151,6 +164,7 @@ impl<'a, 'f, S: AsSlice<u8> + Drop> Enrichment<'a, 'f, S> {
         &self,
         asked: Asked,
         cache: &mut Cache,
+        notes: &mut Notes,
         out: &mut Vec<u8>,
     ) -> Result<Outcome, AllocError>
         requires kept { AreKeptFor self.now.reader.now self.now.rows self.now.paths cache.old }
@@ -160,6 +174,7 @@ impl<'a, 'f, S: AsSlice<u8> + Drop> Enrichment<'a, 'f, S> {
         ensures kept { AreKeptFor self.now.reader.now self.now.rows self.now.paths cache.new }
     {
         let Ok(found) = self.answer(asked) else {
+            note_rejected(self.alloc, self.reader, asked.address, notes);
             return self.put_none(Outcome::Failed, out);
         };
         let Some(offset) = found.offset() else {
@@ -167,7 +182,7 @@ impl<'a, 'f, S: AsSlice<u8> + Drop> Enrichment<'a, 'f, S> {
         };
         match cache.kept(offset) {
             Some(kept) => put_kept(kept, out),
-            None => self.put_record(&found, offset, cache, out),
+            None => self.put_record(&found, offset, cache, notes, out),
         }
     }
 
@@ -226,8 +241,9 @@ impl<'a, 'f, S: AsSlice<u8> + Drop> Additions for Enrichment<'a, 'f, S> {
         is_long: bool,
         out: &mut Vec<u8>,
     ) -> io::Result<Added> {
+        memory.notes.pass_row();
         let outcome = match self.asked_for(text, is_long, &mut memory.ahead) {
-            Some(asked) => self.put_address(asked, &mut memory.cache, out)?,
+            Some(asked) => self.put_address(asked, &mut memory.cache, &mut memory.notes, out)?,
             None => self.put_none(Outcome::Unreadable, out)?,
         };
         Ok(Added { outcome, behind: 0 })

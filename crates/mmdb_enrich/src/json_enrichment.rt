@@ -6,6 +6,7 @@ ghost use Rattle.mmdb_enrich.specs.Members.{PutsMember, PutsText};
 use crate::asked::asked_of;
 use crate::cache::{Cache, Kept};
 use crate::members::{Field, member_of, null_member};
+use crate::notes::{Notes, note_rejected};
 use json::Scratch;
 use mmdb_addresses::Reading;
 use mmdb_filter::{Added, Additions, Outcome};
@@ -39,6 +40,8 @@ pub struct JsonEnrichment<'a, 'f, S: AsSlice<u8> + Drop> {
 pub struct JsonMemory {
     scratch: Scratch,
     cache: Cache,
+    /// What is noted of the records that were read.
+    pub notes: Notes,
 }
 
 impl JsonMemory {
@@ -52,6 +55,7 @@ impl JsonMemory {
         Ok(JsonMemory {
             cache: Cache::new(alloc)?,
             scratch: Scratch::new(alloc),
+            notes: Notes::new(alloc),
         })
     }
 }
@@ -118,6 +122,16 @@ impl<'a, 'f, S: AsSlice<u8> + Drop> JsonEnrichment<'a, 'f, S> {
     ghost use Rattle.mmdb_enrich.specs.Wanted.{member as spec_member};
     ghost use Rattle.mmdb_enrich.specs.Working.{PutsMemberAt, PutsMemberFor, PutsNone, PutsToObject};
 
+    // Notes a record that was read, or was not.
+    #[inline(never)]
+    fn note(&self, found: &LookupResult<'_, S>, offset: usize, are_read: bool, notes: &mut Notes) {
+        notes.note_record(offset);
+        for at in 0..self.fields.len() {
+            let path = self.fields[at].path.as_slice();
+            notes.note_field(self.alloc, found, at, path, are_read);
+        }
+    }
+
     // Adds the member of a record that was not kept, and keeps it.
     #[inline(never)]
     fn put_record(
@@ -126,6 +140,7 @@ impl<'a, 'f, S: AsSlice<u8> + Drop> JsonEnrichment<'a, 'f, S> {
         offset: usize,
         line: &Line,
         cache: &mut Cache,
+        notes: &mut Notes,
         out: &mut Vec<u8>,
     ) -> Result<Added, AllocError>
         requires at { offset_found found.now ≡ Some offset }
@@ -140,6 +155,7 @@ impl<'a, 'f, S: AsSlice<u8> + Drop> JsonEnrichment<'a, 'f, S> {
         let member = member_of(self.alloc, found, self.name, self.fields.as_slice())?;
         let kept = kept_of(&member);
         cache.keep(offset, kept.cells, kept.outcome);
+        self.note(found, offset, kept.outcome == Outcome::Found, notes);
         put_member(line, kept, out)
     }
 
@@ -168,6 +184,7 @@ impl<'a, 'f, S: AsSlice<u8> + Drop> JsonEnrichment<'a, 'f, S> {
         line: &Line,
         address: IpAddr,
         cache: &mut Cache,
+        notes: &mut Notes,
         out: &mut Vec<u8>,
     ) -> Result<Added, AllocError>
         requires kept { AreKept
@@ -180,6 +197,7 @@ impl<'a, 'f, S: AsSlice<u8> + Drop> JsonEnrichment<'a, 'f, S> {
             (spec_member self.now.reader.now self.now.name.now self.now.fields.items) cache.new }
     {
         let Ok(found) = self.reader.lookup(address) else {
+            note_rejected(self.alloc, self.reader, address, notes);
             return Ok(nothing(Outcome::Failed));
         };
         let Some(offset) = found.offset() else {
@@ -187,7 +205,7 @@ impl<'a, 'f, S: AsSlice<u8> + Drop> JsonEnrichment<'a, 'f, S> {
         };
         match cache.kept(offset) {
             Some(kept) => put_member(line, kept, out),
-            None => self.put_record(&found, offset, line, cache, out),
+            None => self.put_record(&found, offset, line, cache, notes, out),
         }
     }
 
@@ -197,6 +215,7 @@ impl<'a, 'f, S: AsSlice<u8> + Drop> JsonEnrichment<'a, 'f, S> {
         &self,
         line: &Line,
         cache: &mut Cache,
+        notes: &mut Notes,
         out: &mut Vec<u8>,
     ) -> Result<Added, AllocError>
         requires kept { AreKept
@@ -212,7 +231,9 @@ impl<'a, 'f, S: AsSlice<u8> + Drop> JsonEnrichment<'a, 'f, S> {
             return Ok(nothing(Outcome::Occupied));
         }
         match line.address {
-            Some(address) => self.put_address(line, asked_of(self.reader, address), cache, out),
+            Some(address) => {
+                self.put_address(line, asked_of(self.reader, address), cache, notes, out)
+            }
             None => self.put_none(line, Outcome::Unreadable, out),
         }
     }
@@ -238,6 +259,7 @@ impl<'a, 'f, S: AsSlice<u8> + Drop> Additions for JsonEnrichment<'a, 'f, S> {
         is_long: bool,
         out: &mut Vec<u8>,
     ) -> io::Result<Added> {
+        memory.notes.pass_row();
         let path = self.path.as_slice();
         let scratch = &mut memory.scratch;
         match read_line(
@@ -249,7 +271,9 @@ impl<'a, 'f, S: AsSlice<u8> + Drop> Additions for JsonEnrichment<'a, 'f, S> {
             self.name,
             scratch,
         )? {
-            ReadLine::Object(line) => Ok(self.put_object(&line, &mut memory.cache, out)?),
+            ReadLine::Object(line) => {
+                Ok(self.put_object(&line, &mut memory.cache, &mut memory.notes, out)?)
+            }
             ReadLine::NoObject => Ok(nothing(Outcome::Malformed)),
         }
     }

@@ -7,13 +7,17 @@ ghost use Rattle.mmdb_enrich.specs.Wanted.{Wanted};
 
 use crate::ahead::Ahead;
 use crate::cache::Cache;
+use crate::notes::Notes;
 use std::alloc::{AllocError, Global};
 
-/// What is remembered from row to row: what was added for the last records, and the addresses of the rows ahead.
+/// What is remembered from row to row: what was added for the last records, the addresses of the rows ahead, and
+/// what is noted of records.
 #[derive(Drop)]
 pub struct RowMemory {
     pub(crate) cache: Cache,
     pub(crate) ahead: Ahead,
+    /// What is noted of the records that were read.
+    pub notes: Notes,
 }
 
 impl RowMemory {
@@ -25,6 +29,11 @@ impl RowMemory {
     {
         let cache = Cache::new(alloc)?;
         let ahead = Ahead::new();
-        Ok(RowMemory { cache, ahead })
+        let notes = Notes::new(alloc);
+        Ok(RowMemory {
+            cache,
+            ahead,
+            notes,
+        })
     }
 }
