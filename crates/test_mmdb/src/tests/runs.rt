@@ -320,7 +320,7 @@ const NESTED_LINES: &[Lines<'static>] = &[
     ),
     // a field that cannot be decoded
     (
-        &["enrich", "here.mmdb", "--json", "a", "--field", "\"a.b\".0", "--field", "\"a.b\".1.0"],
+        &["enrich", "here.mmdb", "--json", "a", "--field", "\"a.b\".0", "--field", "n=\"a.b\".1.0"],
         "{\"a\":\"200.0.0.1\"}\n",
         "{\"a\":\"200.0.0.1\"}\n",
         "0 lines with a record, 0 without, 0 without an address, 1 with an error",
@@ -345,7 +345,8 @@ const NO_JSON: &[Row<'static>] = &[
 fn assert_lines(rt: &impl Abort, alloc: Global, bytes: &[u8], rows: &[Lines<'_>]) {
     for (words, lines, written, message) in rows {
         let run = run_of(alloc, bytes, words, lines);
-        let holds = run.status == 0 && run.out() == *written && run.err().contains(message);
+        let status = u8::from(message.contains("1 with an error"));
+        let holds = run.status == status && run.out() == *written && run.err().contains(message);
         assert_of(rt, words, &run, holds);
     }
 }
@@ -368,6 +369,14 @@ const NOTES: &[Notes<'static>] = &[
         "mmdb: no object had an address at client.ip\nmmdb: 0 lines with a record, 0 without, 1 without an address, 0 with an error, 0 not objects of JSON\n",
     ),
     (&["enrich", "here.mmdb", "--field", "", "--quiet"], "none\n", 0, ""),
+    (
+        &["enrich", "here.mmdb", "--field", "", "--field", "a"], "200.0.0.1\n", 0,
+        "mmdb: no record has a\nmmdb: 1 lines with a record, 0 without, 0 without an address, 0 with an error\n",
+    ),
+    (
+        &["enrich", "here.mmdb", "--header", "--field", ""], "ip\n::1\n200.0.0.1\n", 1,
+        "mmdb: row 2: invalid input: cannot look up IPv6 address in IPv4-only database\nmmdb: 1 lines with a record, 0 without, 0 without an address, 1 with an error\n",
+    ),
     (
         &["enrich", "here.mmdb", "--delimiter", ",", "--field", ""], "1.1.1.1,a\n1.1.1.1,\"b\n1.1.1.1,c", 0,
         "mmdb: nothing closes a quote of row 2, by the end of the input or within 65536 bytes; see --no-quotes\nmmdb: 0 lines with a record, 2 without, 0 without an address, 0 with an error\n",
