@@ -1,1 +1,7 @@
+mod BracketLaws
+mod DottedLaws
+mod FindLaws
 mod OctetLaws
+mod PortLaws
+mod RunLaws
+mod WordLaws

@@ -2,9 +2,8 @@
 //!
 //! Most are of IPv4, whose octets have three digits at most, so these are read by steps of their own, which test no more
 //! than that needs. Any other text is left to the parser of `std`.
-ghost use Rattle.std.specs.Prelude.{◌≡◌, ◌+◌, ◌<◌, ◌≤◌, IfSome, length, get_or, option_map};
+ghost use Rattle.std.specs.Prelude.{◌≡◌, ◌+◌, ◌<◌, ◌≤◌, IfSome, length, get_or, take};
 ghost use Rattle.std.specs.Net.Grammar.{Parses, IsIpText, IsIpv4Text};
-ghost use Rattle.mmdb_addresses.specs.Addresses.{ReadsAddress};
 ghost use Rattle.mmdb_addresses.specs.Octets.{HasOctet, HasDotAndOctet};
 
 use std::net::{AddrParseError, IpAddr, Ipv4Addr};
@@ -81,18 +80,38 @@ fn octet_behind_dot(text: &[u8], from: usize) -> Option<Octet>
     }
 }
 
-// The address of IPv4 that a text spells, or none.
-fn read_dotted(text: &[u8]) -> Option<Ipv4Addr>
-    ensures { IfSome result (IsIpv4Text text.now) }
+/// An address of IPv4 that a text begins with, and where it ends.
+#[derive(Clone, Copy)]
+pub(crate) struct Front {
+    pub(crate) address: Ipv4Addr,
+    pub(crate) end: usize,
+}
+
+/// The address of IPv4 that a text begins with, or none.
+#[inline(always)]
+pub(crate) fn dotted_front(text: &[u8]) -> Option<Front>
+    ensures spelled { IfSome result (λ front. IsIpv4Text (take front.end text.now) front.address) }
+    ensures within { IfSome result (λ front. front.end ≤ length text.now) }
 {
     let a = octet_at(text, 0)?;
     let b = octet_behind_dot(text, a.end)?;
     let c = octet_behind_dot(text, b.end)?;
     let d = octet_behind_dot(text, c.end)?;
-    if d.end < text.len() {
+    Some(Front {
+        address: Ipv4Addr::new(a.value, b.value, c.value, d.value),
+        end: d.end,
+    })
+}
+
+// The address of IPv4 that a text spells, or none.
+fn read_dotted(text: &[u8]) -> Option<Ipv4Addr>
+    ensures { IfSome result (IsIpv4Text text.now) }
+{
+    let front = dotted_front(text)?;
+    if front.end < text.len() {
         return None;
     }
-    Some(Ipv4Addr::new(a.value, b.value, c.value, d.value))
+    Some(front.address)
 }
 
 /// The address that a text spells.
@@ -104,17 +123,4 @@ pub fn read_address(text: &[u8]) -> Result<IpAddr, AddrParseError>
         return Ok(IpAddr::V4(address));
     }
     IpAddr::parse_ascii(text)
-}
-
-/// The address that a text spells, where there is a text.
-pub fn address_of(text: Option<&[u8]>) -> Option<IpAddr>
-    ensures { ReadsAddress (option_map (λ s. s.now) text.entry) result }
-{
-    match text {
-        Some(text) => match read_address(text) {
-            Ok(address) => Some(address),
-            Err(_) => None,
-        },
-        None => None,
-    }
 }

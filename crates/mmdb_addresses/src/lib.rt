@@ -1,8 +1,16 @@
-//! Addresses that texts spell.
+//! Addresses that texts have.
 #![tactic(auto)]
 
 mod address_text;
 mod addresses;
+mod bytes;
+mod cells;
+mod readings;
+mod rows;
+mod words;
 
 pub use address_text::AddressText;
-pub use addresses::{address_of, read_address};
+pub use addresses::read_address;
+pub use cells::first_word;
+pub use readings::{Reading, address_in, address_of};
+pub use rows::address_anywhere;

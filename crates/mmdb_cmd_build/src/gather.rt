@@ -4,7 +4,7 @@ use crate::rows::RowReader;
 use crate::taken::Taken;
 use crate::task::BuildTask;
 use mmdb_console::{ProgramError, ProgressLine};
-use mmdb_filter::{Progress, Rows};
+use mmdb_filter::Rows;
 use mmdb_input::{BadRow, Entry, InputError, Reason, RowRead, Types, read_row};
 use std::alloc::Global;
 use std::io::{BufRead, Write};
@@ -26,7 +26,7 @@ pub(crate) struct Gathering {
 // How many lines end in a row. Only in CSV there may be several.
 fn line_ends(rows: Rows, row: &[u8]) -> u64 {
     match rows {
-        Rows::Lines => 1,
+        Rows::Lines { .. } => 1,
         Rows::Csv { .. } => row.iter().filter(|byte| **byte == b'\n').count() as u64,
     }
 }

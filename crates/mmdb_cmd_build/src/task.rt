@@ -52,7 +52,7 @@ impl BuildTask<'_> {
     /// Where rows end.
     pub(crate) fn rows(&self) -> Rows {
         match self.format {
-            RowFormat::JsonLines | RowFormat::Tsv => Rows::Lines,
+            RowFormat::JsonLines | RowFormat::Tsv => Rows::Lines { delimiter: b'\t' },
             RowFormat::Csv => Rows::Csv { delimiter: b',' },
         }
     }

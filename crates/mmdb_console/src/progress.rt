@@ -1,5 +1,4 @@
 //! How far a command is, on a terminal.
-use mmdb_filter::Progress;
 use std::alloc::{AllocError, Global};
 use std::io::Write;
 
@@ -25,17 +24,8 @@ impl<'e, E: Write> ProgressLine<'e, E> {
         }
     }
 
-    /// Takes the line away again.
-    pub fn clear(&mut self) {
-        if self.is_shown {
-            let _ = self.err.write_all(CLEARED);
-            self.is_shown = false;
-        }
-    }
-}
-
-impl<'e, E: Write> Progress for ProgressLine<'e, E> {
-    fn passed(&mut self, rows: u64) {
+    /// Shows how many rows passed.
+    pub fn passed(&mut self, rows: u64) {
         if !self.is_terminal {
             return;
         }
@@ -43,6 +33,22 @@ impl<'e, E: Write> Progress for ProgressLine<'e, E> {
         if let Ok(text) = text {
             let _ = self.err.write_all(text.as_bytes());
             self.is_shown = true;
+        }
+    }
+
+    /// Writes a text to standard error in the place of the line. It is left out where there is no memory for it.
+    pub fn note(&mut self, text: Result<String, AllocError>) {
+        self.clear();
+        if let Ok(text) = text {
+            let _ = self.err.write_all(text.as_bytes());
+        }
+    }
+
+    /// Takes the line away again.
+    pub fn clear(&mut self) {
+        if self.is_shown {
+            let _ = self.err.write_all(CLEARED);
+            self.is_shown = false;
         }
     }
 }

@@ -1,10 +1,12 @@
 -- What is added for an address.
-use Rattle.std.proofs.Common.{◌≡◌, ℕ, List, ◌++◌, Option, Some, None, Bool, IfSome, if◌then◌else◌, length, drop, refl, sym, ap, ◌∙◌, subst, inr}
+use Rattle.std.proofs.Common.{◌≡◌, ℕ, List, ◌++◌, Option, Some, None, Bool, IfSome, if◌then◌else◌, length, drop, refl, sym, ap, ◌∙◌, subst, ◌⊎◌, inl, inr}
 use Rattle.std.proofs.Math.Seq.{drop-append_seam}
 use Rattle.std.specs.Global.{Vec}
 use Rattle.std.specs.declared.net.ip_addr.IpAddr.{IpAddr}
+use Rattle.mmdb_format.specs.Error.{kind_of, OfInput, OfDatabase}
+use Rattle.mmdb_format.specs.declared.error.MaxMindDbError.{MaxMindDbError}
 use Rattle.mmdb_reader.specs.File.{Database, data_section}
-use Rattle.mmdb_reader.specs.Lookup.{Answers, outcome_at}
+use Rattle.mmdb_reader.specs.Lookup.{Answers, CanAsk, IsInvalidAt, outcome_at}
 use Rattle.mmdb_reader.specs.declared.path.PathElement.{PathElement}
 use Rattle.mmdb_filter.specs.declared.counts.Outcome.{Outcome}
 use Rattle.mmdb_filter.specs.declared.counts.Outcome.TheVariants.{Absent, Found, Failed}
@@ -33,3 +35,10 @@ behind old new added n e put = ap (λ k. drop k new) e ∙ ap (λ l. drop (lengt
 pub held : {A : Type 0} (o : Option A) (x : A) (P : A → Type 0) → o ≡ Some x → IfSome o P → P x
 held None x P e h = absurd (cc)
 held (Some y) x P e h = let same : y ≡ x = cc in subst P same h
+
+-- the lookup of an address fails
+pub rejected_added : (db : Database) (rows : Rows) (fields : Vec (Vec PathElement)) (address : IpAddr) (e : MaxMindDbError) (outcome : Outcome) (old new : Vec ℕ)
+    → (kind_of e ≡ OfInput) ⊎ (kind_of e ≡ OfDatabase) → (kind_of e ≡ OfInput → CanAsk db address → ⊥) → (kind_of e ≡ OfDatabase → IsInvalidAt db address)
+    → outcome ≡ Failed → new.items ≡ old.items ++ blanks rows (paths_of fields) → AddsForTo db rows fields (Some address) outcome old new
+rejected_added db rows fields address e outcome old new (inl is) ask at o put = (blanks rows (paths_of fields), inl (inl (ask is), refl, o), put)
+rejected_added db rows fields address e outcome old new (inr is) ask at o put = (blanks rows (paths_of fields), inl (inr (at is), refl, o), put)

@@ -9,7 +9,7 @@ use Rattle.mmdb_filter.specs.declared.rows.Rows.TheVariants.{Lines, Csv}
 use Rattle.mmdb_filter.specs.declared.rows.Position.TheVariants.{Cell, Plain, Quoted, Closing, Ended}
 use Rattle.mmdb_filter.proofs.TextLaws.{or_less}
 use Rattle.mmdb_enrich.specs.Columns.{cell_length}
-use Rattle.mmdb_enrich.proofs.ColumnLaws.{tab_at, no_tab_in}
+use Rattle.mmdb_enrich.proofs.ColumnLaws.{delimiter_at, no_delimiter_in}
 
 never : (b : Bool) → (b && false) ≡ false
 never true = refl
@@ -124,23 +124,23 @@ closed d at m text below is =
     omega (arith, on)
 
 -- of a line, which has no quotes
-no_tab : (b : Bool) → not (b || b) ≡ true → b ≡ true → ⊥
-no_tab true h e = cc
-no_tab false h e = cc
+no_end : (b : Bool) → not (b || b) ≡ true → b ≡ true → ⊥
+no_end true h e = cc
+no_end false h e = cc
 
-pub tab_from : (text : List ℕ) (n : ℕ) → n ≡ prefix_len (is_neither 9 9) text → cell_length Lines Cell text ≡ n
-tab_from text n is = at (or_less n (length text))
+pub line_cell : (d : ℕ) (text : List ℕ) (n : ℕ) → n ≡ prefix_len (is_neither d d) text → cell_length (Lines d) Cell text ≡ n
+line_cell d text n is = at (or_less n (length text))
   where
-    bare : (k : ℕ) → k < n → (get_or text k 0 == 9) ≡ true → ⊥
-    bare k below = no_tab (get_or text k 0 == 9) (prefix_len_passes (is_neither 9 9) text k 0 (omega arith))
+    bare : (k : ℕ) → k < n → (get_or text k 0 == d) ≡ true → ⊥
+    bare k below = no_end (get_or text k 0 == d) (prefix_len_passes (is_neither d d) text k 0 (omega arith))
 
-    at : (n < length text) ⊎ (length text ≤ n) → cell_length Lines Cell text ≡ n
+    at : (n < length text) ⊎ (length text ≤ n) → cell_length (Lines d) Cell text ≡ n
     at (inl l) =
-        let here : is_neither 9 9 (get_or text n 0) ≡ false = subst (λ k. is_neither 9 9 (get_or text k 0) ≡ false) (sym is) (prefix_len_stops (is_neither 9 9) text 0 (omega arith)) in
-        tab_at Cell n text refl l bare (one_of (get_or text n 0 == 9) here)
+        let here : is_neither d d (get_or text n 0) ≡ false = subst (λ k. is_neither d d (get_or text k 0) ≡ false) (sym is) (prefix_len_stops (is_neither d d) text 0 (omega arith)) in
+        delimiter_at d Cell n text refl l bare (one_of (get_or text n 0 == d) here)
     at (inr g) =
-        let all : length text ≡ n = omega (arith, prefix_len-le-length (is_neither 9 9) text) in
-        no_tab_in Cell text refl (λ k below. bare k (omega arith)) ∙ all
+        let all : length text ≡ n = omega (arith, prefix_len-le-length (is_neither d d) text) in
+        no_delimiter_in d Cell text refl (λ k below. bare k (omega arith)) ∙ all
 
 -- of CSV, where no quote begins it
 pub bare_cell : (d : ℕ) (text : List ℕ) (n : ℕ) → get_or text 0 0 ≢ 34 → n ≡ prefix_len (is_neither d d) text → n ≡ cell_length (Csv d) Cell text

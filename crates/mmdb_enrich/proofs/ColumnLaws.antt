@@ -53,31 +53,31 @@ unfolding cell_length
 cell_ends rows p xs at l = ap (cell_length rows p) (drop_all at xs l)
 
 -- of a line, in which nothing is quoted
-unquoted_on : (p : Position) (x : ℕ) → is_quoted p ≡ false → is_quoted (position_after Lines p x) ≡ false
+unquoted_on : (d : ℕ) (p : Position) (x : ℕ) → is_quoted p ≡ false → is_quoted (position_after (Lines d) p x) ≡ false
 unfolding position_after
-unquoted_on p x e = at (x == 10)
+unquoted_on d p x e = at (x == 10)
   where
     at : (b : Bool) → is_quoted (if b then Ended else p) ≡ false
     at true = refl
     at false = e
 
-no_tab : (x : ℕ) (p : Position) → ((x == 9) ≡ true → ⊥) → (x == 9 && not (is_quoted p)) ≡ false
-no_tab x p h = ap (λ b. b && not (is_quoted p)) (ne_eqb x 9 (λ e. h (eq-eqb x 9 e)))
+passes : (d x : ℕ) (p : Position) → ((x == d) ≡ true → ⊥) → (x == d && not (is_quoted p)) ≡ false
+passes d x p h = ap (λ b. b && not (is_quoted p)) (ne_eqb x d (λ e. h (eq-eqb x d e)))
 
-pub tab_at : (p : Position) (at : ℕ) (xs : List ℕ) → is_quoted p ≡ false → at < length xs → ((k : ℕ) → k < at → (get_or xs k 0 == 9) ≡ true → ⊥) → (get_or xs at 0 == 9) ≡ true → cell_length Lines p xs ≡ at
+pub delimiter_at : (d : ℕ) (p : Position) (at : ℕ) (xs : List ℕ) → is_quoted p ≡ false → at < length xs → ((k : ℕ) → k < at → (get_or xs k 0 == d) ≡ true → ⊥) → (get_or xs at 0 == d) ≡ true → cell_length (Lines d) p xs ≡ at
 unfolding cell_length
-tab_at p at [] q l h is = absurd (omega (arith, l))
-tab_at p zero (x ∷ xs) q l h is = ap (λ b. if b then 0 else suc (cell_length Lines (position_after Lines p x) xs)) (ap (λ b. b && not (is_quoted p)) is ∙ ap not q)
-tab_at p (suc at) (x ∷ xs) q l h is =
-    ap (λ b. if b then 0 else suc (cell_length Lines (position_after Lines p x) xs)) (no_tab x p (h 0 (omega arith)))
-    ∙ ap suc (tab_at (position_after Lines p x) at xs (unquoted_on p x q) (omega (arith, l)) (λ k below. h (suc k) (omega arith)) is)
+delimiter_at d p at [] q l h is = absurd (omega (arith, l))
+delimiter_at d p zero (x ∷ xs) q l h is = ap (λ b. if b then 0 else suc (cell_length (Lines d) (position_after (Lines d) p x) xs)) (ap (λ b. b && not (is_quoted p)) is ∙ ap not q)
+delimiter_at d p (suc at) (x ∷ xs) q l h is =
+    ap (λ b. if b then 0 else suc (cell_length (Lines d) (position_after (Lines d) p x) xs)) (passes d x p (h 0 (omega arith)))
+    ∙ ap suc (delimiter_at d (position_after (Lines d) p x) at xs (unquoted_on d p x q) (omega (arith, l)) (λ k below. h (suc k) (omega arith)) is)
 
-pub no_tab_in : (p : Position) (xs : List ℕ) → is_quoted p ≡ false → ((k : ℕ) → k < length xs → (get_or xs k 0 == 9) ≡ true → ⊥) → cell_length Lines p xs ≡ length xs
+pub no_delimiter_in : (d : ℕ) (p : Position) (xs : List ℕ) → is_quoted p ≡ false → ((k : ℕ) → k < length xs → (get_or xs k 0 == d) ≡ true → ⊥) → cell_length (Lines d) p xs ≡ length xs
 unfolding cell_length
-no_tab_in p [] q h = refl
-no_tab_in p (x ∷ xs) q h =
-    ap (λ b. if b then 0 else suc (cell_length Lines (position_after Lines p x) xs)) (no_tab x p (h 0 (omega arith)))
-    ∙ ap suc (no_tab_in (position_after Lines p x) xs (unquoted_on p x q) (λ k below. h (suc k) (omega arith)))
+no_delimiter_in d p [] q h = refl
+no_delimiter_in d p (x ∷ xs) q h =
+    ap (λ b. if b then 0 else suc (cell_length (Lines d) (position_after (Lines d) p x) xs)) (passes d x p (h 0 (omega arith)))
+    ∙ ap suc (no_delimiter_in d (position_after (Lines d) p x) xs (unquoted_on d p x q) (λ k below. h (suc k) (omega arith)))
 
 pub not_quoted : (p : Position) → p ≢ Quoted → is_quoted p ≡ false
 not_quoted Cell h = refl

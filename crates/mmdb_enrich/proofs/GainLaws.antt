@@ -1,5 +1,5 @@
 -- What is added to a line is the text of a member, so the longer line is JSON.
-use Rattle.std.proofs.Common.{◌≡◌, ℕ, ◌+◌, ◌-◌, ◌<◌, ◌≤◌, Bool, true, false, ◌&&◌, ◌==◌, nat_lt, if◌then◌else◌, List, [], ◌∷◌, ◌++◌, length, take, drop, get_or, Some, inl, inr, refl, sym, ap, ◌∙◌, subst, arith, take-append-drop, take-take, take_all, length-take-le, ltb-true, ltb-false, eqb-true}
+use Rattle.std.proofs.Common.{◌≡◌, ℕ, ◌+◌, ◌-◌, ◌<◌, ◌≤◌, Bool, true, false, ◌&&◌, ◌==◌, nat_lt, if◌then◌else◌, List, [], ◌∷◌, ◌++◌, length, take, drop, get_or, Some, None, inl, inr, refl, sym, ap, ◌∙◌, subst, arith, take-append-drop, take-take, take_all, length-take-le, ltb-true, ltb-false, eqb-true}
 use Rattle.std.proofs.lemmas.List.{drop_more, drop_all, drop-append-le}
 use Rattle.json.specs.Json.{Json, null, object, Members, no_members, member, max_depth, document}
 use Rattle.json.specs.Lex.{tokens}
@@ -12,6 +12,7 @@ use Rattle.mmdb_objects.specs.declared.step.Step.{Step}
 use Rattle.mmdb_filter.specs.Lines.{text_length, text_of, front_of, back_of, most_seen, seen_of, is_long, row_with}
 use Rattle.mmdb_filter.specs.declared.counts.Outcome.TheVariants.{Found}
 use Rattle.mmdb_filter.proofs.TextLaws.{text_within}
+use Rattle.mmdb_addresses.specs.declared.readings.Reading.{Reading}
 use Rattle.mmdb_enrich.specs.Fields.{AreValue, AreFields, member_tokens}
 use Rattle.mmdb_enrich.specs.Longer.{AreShown, GainsMember, LongerTextIsJson, LongerRowIsJson}
 use Rattle.mmdb_objects.specs.Longer.{put_in, and_last}
@@ -43,16 +44,19 @@ member_is name ts shown e = ap (λ l. key name ∷ begin_object ∷ l) (ap (λ l
 
 -- ---- of any line that holds such a text
 
-module _ (db : Database) (path : List Step) (name : List ℕ) (fields : List Field) (text : List ℕ) (goes_on : Bool) (extra : List ℕ) (behind : ℕ) (line longer : List ℕ)
+module _ (db : Database) (reading : Reading) (path : List Step) (nulls : Bool) (name : List ℕ) (fields : List Field) (text : List ℕ) (goes_on : Bool) (extra : List ℕ) (behind : ℕ) (line longer : List ℕ)
     (was : (ms : Members) → IsObject text goes_on ms behind → document line ≡ Some (object ms))
     (becomes : (ms shown : Members) → IsObject text goes_on ms behind → extra ≡ comma_behind (is_empty ms) ++ print (key name ∷ json_tokens (object shown))
     → tokens (print (key name ∷ json_tokens (object shown))) ≡ key name ∷ json_tokens (object shown) → depth (object shown) < max_depth → document longer ≡ Some (object (and_last ms name (object shown)))) where
-  gains : AddsMember db path name fields text goes_on extra behind Found → GainsMember db path name fields line extra longer
+  gains : AddsMember db reading path nulls name fields text goes_on extra behind Found → GainsMember db reading path name fields line extra longer
   gains (inl (none, other, why)) = absurd (cc)
-  gains (inr (inl (none, other, why))) = absurd (cc)
-  gains (inr (inr (_, _, _, _, _, inl (none, other, why)))) = absurd (cc)
-  gains (inr (inr (_, _, _, _, _, inr (inl (none, other, why))))) = absurd (cc)
-  gains (inr (inr (ms, at, address, of, leads, inr (inr (leaf, offset, put, answers, made, extra_is, same, outcome))))) =
+  gains (inr (_, _, _, inl (none, other, why))) = absurd (cc)
+  gains (inr (_, _, _, inr (_, None, None, _, _, (other, _)))) = absurd (cc)
+  gains (inr (_, _, _, inr (_, Some _, None, _, never, _))) = absurd never
+  gains (inr (_, _, _, inr (_, None, Some _, _, never, _))) = absurd never
+  gains (inr (_, _, _, inr (_, Some _, Some _, _, _, inl (none, other, why)))) = absurd (cc)
+  gains (inr (_, _, _, inr (_, Some _, Some _, _, _, inr (inl (other, why, none))))) = absurd (cc)
+  gains (inr (ms, at, of, inr (fresh, Some address, Some asked, leads, asks, inr (inr (leaf, offset, put, answers, made, extra_is, same, outcome))))) =
       let shown = shown_of fields (data_section db) offset made.0 made.1 in
       let here : IsObject text goes_on ms behind = subst (IsObject text goes_on ms) (sym same) of in
       let ts = key name ∷ json_tokens (object shown.0) in
@@ -62,8 +66,11 @@ module _ (db : Database) (path : List Step) (name : List ℕ) (fields : List Fie
       record {
         members = ms;
         was = was ms here;
+        fresh = fresh;
         address = address;
         leads = leads;
+        asked = asked;
+        asks = asks;
         leaf = leaf;
         offset = offset;
         answers = answers;
@@ -85,8 +92,8 @@ text_longer name text goes_on extra behind ms shown of added read shallow =
     ∙ object_longer (take n text) (drop n text) (drop n text) ms name (object shown) b b (ap document (take-append-drop n text) ∙ of.value) read shallow
 
 pub longer_text : LongerTextIsJson
-longer_text db path name fields text goes_on extra behind =
-    gains db path name fields text goes_on extra behind text (put_in text extra behind) (λ ms of. of.value) (text_longer name text goes_on extra behind)
+longer_text db reading path nulls name fields text goes_on extra behind =
+    gains db reading path nulls name fields text goes_on extra behind text (put_in text extra behind) (λ ms of. of.value) (text_longer name text goes_on extra behind)
 
 -- ---- of a row with its end
 
@@ -163,6 +170,6 @@ module _ (name row extra : List ℕ) (behind : ℕ) (ms : Members) (of : IsObjec
       ap document (λ i. sym c.front i ++ (added i ++ sym c.back i)) ∙ object_longer front back whole_back ms name (object shown) brace whole_brace seen_was read shallow
 
 pub longer_row : LongerRowIsJson
-longer_row db path name fields row extra behind =
-    gains db path name fields (seen_of row) (is_long row) extra behind row (row_with row extra behind)
+longer_row db reading path nulls name fields row extra behind =
+    gains db reading path nulls name fields (seen_of row) (is_long row) extra behind row (row_with row extra behind)
     (λ ms of. row_was name row extra behind ms of) (λ ms shown of. row_longer name row extra behind ms of shown)

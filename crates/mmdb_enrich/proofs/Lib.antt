@@ -4,5 +4,6 @@ pub mod KeptLaws
 pub mod ColumnLaws
 pub mod AddedLaws
 pub mod AheadLaws
+mod AskedLaws
 pub mod MemberLaws
 pub mod GainLaws

@@ -16,10 +16,11 @@ use Rattle.mmdb_filter.specs.declared.counts.Outcome.{Outcome}
 use Rattle.mmdb_filter.specs.declared.counts.Outcome.TheVariants.{Found, Absent, Failed}
 use Rattle.mmdb_filter.specs.declared.filter.Added.{Added}
 use Rattle.mmdb_enrich.specs.Cells.{read_at}
-use Rattle.mmdb_enrich.specs.Fields.{AreValue, AreFields, HasUnreadField, IsMember}
-use Rattle.mmdb_enrich.specs.Members.{HasUnreadMember, PutsMember}
+use Rattle.mmdb_enrich.specs.Fields.{AreValue, AreFields, HasUnreadField, IsMember, IsNullMember}
+use Rattle.mmdb_enrich.specs.Members.{HasUnreadMember, PutsMember, PutsText}
 use Rattle.mmdb_objects.specs.Longer.{comma_behind}
-use Rattle.mmdb_enrich.specs.Working.{PutsMemberFor}
+use Rattle.mmdb_enrich.specs.Working.{PutsMemberFor, PutsNone, PutsToObject}
+use Rattle.mmdb_enrich.specs.Asked.{AsksIfAny}
 use Rattle.mmdb_enrich.specs.Wanted.{MemberAt}
 use Rattle.mmdb_enrich.specs.declared.members.Field.{Field}
 use Rattle.mmdb_objects.specs.declared.objects.Line.{Line}
@@ -87,26 +88,38 @@ member_kept db asked name fields found offset (Some text) cells outcome same at 
     inl (subst (λ d. IsMember d name fields offset cells) same (subst (IsMember asked name fields offset) (sym kept.0) (some offset at)), kept.1)
 
 -- the member of the record of an address
-pub member_put : (db : Database) (name : List ℕ) (fields : List Field) (line : Line) (leaf : List Bool) (found : Option ℕ) (offset : ℕ) (text : List ℕ) (outcome : Outcome) (addition : Added) (old new : List ℕ)
-    → found ≡ Some offset → Answers db line.address leaf (outcome_at found) → MemberAt db name fields offset text outcome → PutsMember line text outcome addition old new → PutsMemberFor db name fields line addition old new
-member_put db name fields line leaf found offset text outcome addition old new at answers (inl (is, here)) puts =
-    let there = subst (λ f. Answers db line.address leaf (outcome_at f)) at answers in
+pub member_put : (db : Database) (nulls : Bool) (name : List ℕ) (fields : List Field) (line : Line) (address : IpAddr) (leaf : List Bool) (found : Option ℕ) (offset : ℕ) (text : List ℕ) (outcome : Outcome) (addition : Added) (old new : List ℕ)
+    → found ≡ Some offset → Answers db address leaf (outcome_at found) → MemberAt db name fields offset text outcome → PutsMember line text outcome addition old new → PutsMemberFor db nulls name fields line (Some address) addition old new
+member_put db nulls name fields line address leaf found offset text outcome addition old new at answers (inl (is, here)) puts =
+    let there = subst (λ f. Answers db address leaf (outcome_at f)) at answers in
     let (o, b, put) = subst (λ x. PutsMember line text x addition old new) here puts in
     (comma_behind line.is_empty ++ text, inr (inr (leaf, offset, text, there, is, refl, b, o)), put)
-member_put db name fields line leaf found offset text outcome addition old new at answers (inr (rejected, none, here)) puts =
-    let there = subst (λ f. Answers db line.address leaf (outcome_at f)) at answers in
+member_put db nulls name fields line address leaf found offset text outcome addition old new at answers (inr (rejected, none, here)) puts =
+    let there = subst (λ f. Answers db address leaf (outcome_at f)) at answers in
     let (o, b, put) = subst (λ x. PutsMember line text x addition old new) here puts in
     ([], inl (refl, o, inr (inr (leaf, offset, there, rejected))), put ∙ sym (append-nil old))
 
 -- no record
-pub absent_put : (db : Database) (name : List ℕ) (fields : List Field) (line : Line) (leaf : List Bool) (found : Option ℕ) (addition : Added) (old : List ℕ)
-    → found ≡ None → Answers db line.address leaf (outcome_at found) → addition.outcome ≡ Absent → PutsMemberFor db name fields line addition old old
-absent_put db name fields line leaf found addition old none answers o =
-    ([], inr (inl (refl, o, (leaf, subst (λ f. Answers db line.address leaf (outcome_at f)) none answers))), sym (append-nil old))
+pub absent_put : (db : Database) (nulls : Bool) (name : List ℕ) (fields : List Field) (line : Line) (address : IpAddr) (leaf : List Bool) (found : Option ℕ) (addition : Added) (old new : List ℕ)
+    → found ≡ None → Answers db address leaf (outcome_at found) → PutsNone nulls name fields line Absent addition old new → PutsMemberFor db nulls name fields line (Some address) addition old new
+absent_put db nulls name fields line address leaf found addition old new none answers (o, (extra, adds, put)) =
+    (extra, inr (inl (o, (leaf, subst (λ f. Answers db address leaf (outcome_at f)) none answers), adds)), put)
+
+-- a member of which each field is null, or nothing
+pub null_put : (name : List ℕ) (fields : List Field) (line : Line) (outcome : Outcome) (text : List ℕ) (addition : Added) (old new : List ℕ) → IsNullMember name fields text
+    → PutsText line text outcome addition old new → PutsNone true name fields line outcome addition old new
+null_put name fields line outcome text addition old new is (o, b, put) = (o, (comma_behind line.is_empty ++ text, (text, is, refl, b), put))
+
+pub nothing_put : (name : List ℕ) (fields : List Field) (line : Line) (outcome : Outcome) (addition : Added) (old : List ℕ) → addition.outcome ≡ outcome → PutsNone false name fields line outcome addition old old
+nothing_put name fields line outcome addition old o = (o, ([], refl, sym (append-nil old)))
+
+pub none_put : (nulls wanted : Bool) (name : List ℕ) (fields : List Field) (line : Line) (outcome : Outcome) (addition : Added) (old new : List ℕ) → nulls ≡ wanted
+    → PutsNone wanted name fields line outcome addition old new → PutsNone nulls name fields line outcome addition old new
+none_put nulls wanted name fields line outcome addition old new is puts = subst (λ b. PutsNone b name fields line outcome addition old new) (sym is) puts
 
 -- the lookup of the address fails
-pub rejected_put : (db : Database) (name : List ℕ) (fields : List Field) (line : Line) (addition : Added) (old : List ℕ) → HasUnreadMember db fields line.address → addition.outcome ≡ Failed → PutsMemberFor db name fields line addition old old
-rejected_put db name fields line addition old rejected o = ([], inl (refl, o, rejected), sym (append-nil old))
+pub rejected_put : (db : Database) (nulls : Bool) (name : List ℕ) (fields : List Field) (line : Line) (address : IpAddr) (addition : Added) (old : List ℕ) → HasUnreadMember db fields address → addition.outcome ≡ Failed → PutsMemberFor db nulls name fields line (Some address) addition old old
+rejected_put db nulls name fields line address addition old rejected o = ([], inl (refl, o, rejected), sym (append-nil old))
 
 -- as many bytes behind as behind the brace, or none
 pub behind_put : (line : Line) (text : List ℕ) (outcome : Outcome) (addition : Added) (old new : List ℕ) → (outcome ≡ Found) ⊎ (outcome ≡ Failed) → PutsMember line text outcome addition old new → addition.behind ≤ line.behind
@@ -120,3 +133,8 @@ pub address_rejected : (db : Database) (fields : List Field) (address : IpAddr) 
     → (kind_of e ≡ OfInput → CanAsk db address → ⊥) → (kind_of e ≡ OfDatabase → IsInvalidAt db address) → HasUnreadMember db fields address
 address_rejected db fields address e (inl is) ask at = inl (ask is)
 address_rejected db fields address e (inr is) ask at = inr (inl (at is))
+
+-- what an object is given by its address
+pub object_put : (db : Database) (nulls : Bool) (name : List ℕ) (fields : List Field) (line : Line) (asked : Option IpAddr) (addition : Added) (old new : List ℕ) → line.is_taken ≡ false
+    → AsksIfAny db line.address asked → PutsMemberFor db nulls name fields line asked addition old new → PutsToObject db nulls name fields line addition old new
+object_put db nulls name fields line asked addition old new free asks (extra, adds, put) = (extra, put, inr (free, asked, asks, adds))

@@ -1,5 +1,5 @@
 -- The cells of a record: for each path the text of the value to which it leads.
-use Rattle.std.specs.Prelude.{◌≡◌, ℕ, List, [], ◌∷◌, ◌++◌, Option, Some, None, Bool, true, false, ◌&&◌, nat_lt, is_some}
+use Rattle.std.specs.Prelude.{◌≡◌, ℕ, List, [], ◌∷◌, ◌++◌, Option, Some, None, Bool, true, false, not, ◌&&◌, ◌==◌, nat_lt, is_some}
 use Rattle.std.specs.Bool.{MatchBool}
 use Rattle.mmdb_format.specs.Contents.{text}
 use Rattle.mmdb_format.specs.Unfolding.{Tree, scalar}
@@ -12,14 +12,14 @@ use Rattle.mmdb_filter.specs.declared.rows.Rows.{Rows}
 use Rattle.mmdb_filter.specs.declared.rows.Rows.TheVariants.{Lines, Csv}
 use Rattle.mmdb_enrich.specs.Columns.{delimiter_of}
 
--- no byte is a control character
-abbrev pub is_plain : List ℕ → Bool
-is_plain [] = true
-is_plain (x ∷ xs) = nat_lt 31 x && is_plain xs
+-- no byte is a control character or the delimiter
+abbrev pub is_plain : ℕ → List ℕ → Bool
+is_plain delimiter [] = true
+is_plain delimiter (x ∷ xs) = nat_lt 31 x && not (x == delimiter) && is_plain delimiter xs
 
-abbrev pub is_plain_text : Tree → Bool
-is_plain_text (scalar (text x)) = is_plain x
-is_plain_text _ = false
+abbrev pub is_plain_text : ℕ → Tree → Bool
+is_plain_text delimiter (scalar (text x)) = is_plain delimiter x
+is_plain_text delimiter _ = false
 
 abbrev pub text_bytes : Tree → List ℕ
 text_bytes (scalar (text x)) = x
@@ -29,10 +29,10 @@ abbrev pub is_any_text : Tree → Bool
 is_any_text (scalar (text x)) = true
 is_any_text _ = false
 
--- In a line a text without control characters is its own cell, and any other value the JSON that shows it. In CSV a
+-- In a line a text without control characters and delimiters is its own cell, and any other value the JSON that shows it. In CSV a
 -- cell is any text, or the JSON.
 abbrev pub ShowsCell : Rows → Tree → List ℕ → Type 0
-ShowsCell Lines v cell = MatchBool (is_plain_text v) (cell ≡ text_bytes v) (IsCompact v cell)
+ShowsCell (Lines delimiter) v cell = MatchBool (is_plain_text delimiter v) (cell ≡ text_bytes v) (IsCompact v cell)
 ShowsCell (Csv delimiter) v cell = (value : List ℕ) × MatchBool (is_any_text v) (value ≡ text_bytes v) (IsCompact v value) × (cell ≡ csv_cell delimiter value)
 
 -- what is read along a path from the offset of a record

@@ -1,14 +1,14 @@
 -- The columns of a row.
-use Rattle.std.specs.Prelude.{◌≡◌, ℕ, zero, suc, ◌+◌, ◌-◌, List, [], ◌∷◌, length, take, drop, get_or, Option, Some, None, Bool, true, false, not, ◌&&◌, ◌==◌, nat_lt, if◌then◌else◌}
+use Rattle.std.specs.Prelude.{ℕ, zero, suc, ◌+◌, ◌-◌, List, [], ◌∷◌, length, take, drop, get_or, Option, Some, None, Bool, true, false, not, ◌&&◌, ◌==◌, nat_lt, if◌then◌else◌}
 use Rattle.mmdb_filter.specs.Rows.{position_after}
 use Rattle.mmdb_filter.specs.declared.rows.Rows.{Rows}
 use Rattle.mmdb_filter.specs.declared.rows.Rows.TheVariants.{Lines, Csv}
 use Rattle.mmdb_filter.specs.declared.rows.Position.{Position}
 use Rattle.mmdb_filter.specs.declared.rows.Position.TheVariants.{Cell, Quoted}
 
--- what stands between cells: tabs between those of a line
+-- what stands between cells
 abbrev pub delimiter_of : Rows → ℕ
-delimiter_of Lines = 9
+delimiter_of (Lines delimiter) = delimiter
 delimiter_of (Csv delimiter) = delimiter
 
 abbrev pub is_quoted : Position → Bool
@@ -33,5 +33,5 @@ unquoted cell =
     if nat_lt 1 (length cell) && (get_or cell 0 0 == 34) && (get_or cell (length cell - 1) 0 == 34) then take (length cell - 2) (drop 1 cell) else cell
 
 abbrev pub value_of : Rows → List ℕ → List ℕ
-value_of Lines cell = cell
+value_of (Lines delimiter) cell = cell
 value_of (Csv delimiter) cell = unquoted cell

@@ -2,7 +2,7 @@
 use Rattle.std.specs.Prelude.{◌≡◌, ◌⊎◌, ℕ, List, [], ◌∷◌, ◌++◌, Some, None, Bool}
 use Rattle.json.specs.Lex.{tokens as tokens_read}
 use Rattle.json.specs.Print.{print}
-use Rattle.json.specs.Token.{Token, key, begin_object, end_object}
+use Rattle.json.specs.Token.{Token, key, null, begin_object, end_object}
 use Rattle.mmdb_reader.specs.File.{Database, data_section}
 use Rattle.mmdb_reader.specs.declared.path.PathElement.{PathElement}
 use Rattle.mmdb_found.specs.Found.{WritesAlong}
@@ -19,6 +19,11 @@ AreFields [] s offset tokens = tokens ≡ []
 AreFields (field ∷ fields) s offset tokens =
     (value rest : List Token) × (tokens ≡ key field.name.now ∷ (value ++ rest)) × AreValue field.path.items s offset value × AreFields fields s offset rest
 
+-- for each field its name and `null`
+abbrev pub null_fields : List Field → List Token
+null_fields [] = []
+null_fields (field ∷ fields) = key field.name.now ∷ (null ∷ null_fields fields)
+
 -- the way to a field, or its value, can't be read
 abbrev pub HasUnreadField : List Field → List ℕ → ℕ → Type 0
 HasUnreadField [] s offset = ⊥
@@ -33,3 +38,7 @@ abbrev pub IsMember : Database → List ℕ → List Field → ℕ → List ℕ 
 IsMember db name fields offset text =
     (tokens : List Token) × AreFields fields (data_section db) offset tokens × (text ≡ print (member_tokens name tokens))
     × (tokens_read text ≡ member_tokens name tokens)
+
+-- the text of a member with fields that are all null; a reader gets its tokens back
+abbrev pub IsNullMember : List ℕ → List Field → List ℕ → Type 0
+IsNullMember name fields text = (text ≡ print (member_tokens name (null_fields fields))) × (tokens_read text ≡ member_tokens name (null_fields fields))

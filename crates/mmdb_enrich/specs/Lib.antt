@@ -1,6 +1,7 @@
 -- What has to be believed: what contracts of public items name.
 pub mod Columns
 pub mod Cells
+pub mod Asked
 pub mod Added
 pub mod Fields
 pub mod Members

@@ -1,5 +1,5 @@
 -- What contracts of private functions and proofs name.
-use Rattle.std.specs.Prelude.{◌≡◌, ℕ, List, ◌∷◌, ◌++◌, Option, Some, option_map, Bool, false, is_some, Result, Ok, Err}
+use Rattle.std.specs.Prelude.{◌≡◌, ◌⊎◌, ℕ, List, [], ◌∷◌, ◌++◌, Option, Some, option_map, Bool, true, false, is_some, Result, Ok, Err}
 use Rattle.mmdb_format.specs.Unfolding.{Tree}
 use Rattle.mmdb_format.specs.declared.error.MaxMindDbError.{MaxMindDbError}
 use Rattle.mmdb_decode.specs.Errors.{Fails}
@@ -18,7 +18,9 @@ use Rattle.mmdb_filter.specs.declared.counts.Outcome.{Outcome}
 use Rattle.mmdb_enrich.specs.Wanted.{MemberAt}
 use Rattle.mmdb_objects.specs.declared.objects.Line.{Line}
 use Rattle.mmdb_filter.specs.declared.filter.Added.{Added}
-use Rattle.mmdb_enrich.specs.Members.{AddsMemberFor, PutsMember}
+use Rattle.mmdb_enrich.specs.Members.{AddsMemberFor, AddsNone, PutsMember}
+use Rattle.mmdb_enrich.specs.Asked.{AsksIfAny}
+use Rattle.mmdb_filter.specs.declared.counts.Outcome.TheVariants.{Occupied}
 use Rattle.std.specs.Global.{Vec}
 use Rattle.mmdb_enrich.specs.Added.{AddsAt, AddsFor}
 use Rattle.mmdb_enrich.specs.Rows.{paths_of}
@@ -68,12 +70,25 @@ PutsMemberAt db name fields offset line addition old new =
     × PutsMember line text outcome addition old new
 
 -- Bytes grow by what is added to an object for its address.
-abbrev pub PutsMemberFor : Database → List ℕ → List Field → Line → Added → List ℕ → List ℕ → Type 0
-PutsMemberFor db name fields line addition old new =
-    (extra : List ℕ) × AddsMemberFor db name fields line.is_empty line.behind line.address extra addition.behind addition.outcome × (new ≡ old ++ extra)
+abbrev pub PutsMemberFor : Database → Bool → List ℕ → List Field → Line → Option IpAddr → Added → List ℕ → List ℕ → Type 0
+PutsMemberFor db nulls name fields line asked addition old new =
+    (extra : List ℕ) × AddsMemberFor db nulls name fields line.is_empty line.behind asked extra addition.behind addition.outcome × (new ≡ old ++ extra)
 
 abbrev pub AddsAtTo : Database → Rows → Vec (Vec PathElement) → Option ℕ → Outcome → Vec ℕ → Vec ℕ → Type 0
 AddsAtTo db rows fields offset outcome old new = (extra : List ℕ) × AddsAt db rows (paths_of fields) offset extra outcome × (new.items ≡ old.items ++ extra)
 
 abbrev pub AddsForTo : Database → Rows → Vec (Vec PathElement) → Option IpAddr → Outcome → Vec ℕ → Vec ℕ → Type 0
 AddsForTo db rows fields address outcome old new = (extra : List ℕ) × AddsFor db rows (paths_of fields) address extra outcome × (new.items ≡ old.items ++ extra)
+
+-- Bytes grow by what is added to an object without a record.
+abbrev pub PutsNone : Bool → List ℕ → List Field → Line → Outcome → Added → List ℕ → List ℕ → Type 0
+PutsNone nulls name fields line outcome addition old new =
+    (addition.outcome ≡ outcome) × ((extra : List ℕ) × AddsNone nulls name fields line.is_empty line.behind extra addition.behind × (new ≡ old ++ extra))
+
+-- Bytes grow by what is added to an object.
+abbrev pub PutsToObject : Database → Bool → List ℕ → List Field → Line → Added → List ℕ → List ℕ → Type 0
+PutsToObject db nulls name fields line addition old new =
+    (extra : List ℕ) × (new ≡ old ++ extra)
+    × (((extra ≡ []) × (addition.outcome ≡ Occupied) × (line.is_taken ≡ true))
+    ⊎ ((line.is_taken ≡ false) × (asked : Option IpAddr) × AsksIfAny db line.address asked
+    × AddsMemberFor db nulls name fields line.is_empty line.behind asked extra addition.behind addition.outcome))

@@ -4,9 +4,10 @@ ghost use Rattle.mmdb_reader.specs.File.{Database};
 ghost use Rattle.mmdb_reader.specs.Many.{IsFoundFor};
 ghost use Rattle.mmdb_enrich.specs.Ahead.{AreFound, AreSpelled, IsAhead};
 ghost use Rattle.mmdb_addresses.specs.Addresses.{ReadsAddress};
+ghost use Rattle.mmdb_addresses.specs.declared.readings.Reading.{Reading as SpecReading};
 
 use crate::columns::cell_of;
-use mmdb_addresses::{AddressText, read_address};
+use mmdb_addresses::{AddressText, Reading, address_in};
 use mmdb_filter::{Rows, first_row};
 use mmdb_reader::{FoundLeaf, Reader};
 use std::convert::AsSlice;
@@ -15,7 +16,7 @@ use std::net::{IpAddr, Ipv4Addr};
 /// Of how many rows addresses are remembered.
 const MOST: usize = 64;
 
-/// An address that a text spells, and where its walk ends if that was found before.
+/// An address in a text, and where its walk ends if that was found before.
 #[derive(Clone, Copy)]
 pub(crate) struct Asked {
     pub(crate) address: IpAddr,
@@ -50,7 +51,7 @@ fn find_first<S: AsSlice<u8> + Drop>(
 impl Ahead {
     /// Of no row.
     pub(crate) fn new() -> Ahead
-        ensures { (db : Database) → IsAhead db result }
+        ensures { (db : Database) (reading : SpecReading) → IsAhead db reading result }
     {
         Ahead {
             texts: [AddressText::none(); MOST],
@@ -61,18 +62,18 @@ impl Ahead {
         }
     }
 
-    // Notes an address behind so many, if the text spells one, and says how many there are.
+    // Notes an address behind so many, if the text has one, and says how many there are.
     #[inline(always)]
-    fn note(&mut self, count: usize, text: &[u8]) -> usize
+    fn note(&mut self, count: usize, reading: Reading, text: &[u8]) -> usize
         requires few { count < 64 }
-        requires spelled { AreSpelled self.old.texts self.old.addresses count }
+        requires spelled { AreSpelled reading self.old.texts self.old.addresses count }
         ensures few { result ≤ count + 1 }
-        ensures spelled { AreSpelled self.new.texts self.new.addresses result }
+        ensures spelled { AreSpelled reading self.new.texts self.new.addresses result }
     {
         let Some(copy) = AddressText::of(text) else {
             return count;
         };
-        let Ok(address) = read_address(text) else {
+        let Some(address) = address_in(reading, text) else {
             return count;
         };
         self.texts[count] = copy;
@@ -82,41 +83,48 @@ impl Ahead {
 
     // Notes the address of a row behind so many, if it has one, and says how many there are.
     #[inline(always)]
-    fn note_row(&mut self, count: usize, rows: Rows, column: usize, row: &[u8]) -> usize
+    fn note_row(
+        &mut self,
+        count: usize,
+        rows: Rows,
+        reading: Reading,
+        column: usize,
+        row: &[u8],
+    ) -> usize
         requires few { count < 64 }
-        requires spelled { AreSpelled self.old.texts self.old.addresses count }
+        requires spelled { AreSpelled reading self.old.texts self.old.addresses count }
         ensures few { result ≤ count + 1 }
-        ensures spelled { AreSpelled self.new.texts self.new.addresses result }
+        ensures spelled { AreSpelled reading self.new.texts self.new.addresses result }
     {
         match cell_of(rows, row, false, column) {
-            Some(text) => self.note(count, text),
+            Some(text) => self.note(count, reading, text),
             None => count,
         }
     }
 
     // Notes the addresses of the first lines of some bytes, and says how many there are. A row of more lines than one
     // may have none.
-    fn note_rows(&mut self, rows: Rows, column: usize, bytes: &[u8]) -> usize
+    fn note_rows(&mut self, rows: Rows, reading: Reading, column: usize, bytes: &[u8]) -> usize
         ensures few { result ≤ 64 }
-        ensures spelled { AreSpelled self.new.texts self.new.addresses result }
+        ensures spelled { AreSpelled reading self.new.texts self.new.addresses result }
     {
         let mut rest = bytes;
         let mut count = 0;
         for _ in 0..MOST {
-            let Some((row, after)) = first_row(Rows::Lines, rest) else {
+            let Some((row, after)) = first_row(Rows::Lines { delimiter: b'\t' }, rest) else {
                 return count;
             };
-            count = self.note_row(count, rows, column, row);
+            count = self.note_row(count, rows, reading, column, row);
             rest = after;
         }
         count
     }
 
     // Finds where the walks of the first addresses end, and has these ahead.
-    fn find<S: AsSlice<u8> + Drop>(&mut self, reader: &Reader<S>, count: usize)
+    fn find<S: AsSlice<u8> + Drop>(&mut self, reader: &Reader<S>, reading: Reading, count: usize)
         requires few { count ≤ 64 }
-        requires spelled { AreSpelled self.old.texts self.old.addresses count }
-        ensures { IsAhead reader.now self.new }
+        requires spelled { AreSpelled reading self.old.texts self.old.addresses count }
+        ensures { IsAhead reader.now reading self.new }
     {
         find_first(reader, &self.addresses[..count], &mut self.leaves);
         self.count = count;
@@ -128,24 +136,25 @@ impl Ahead {
         &mut self,
         reader: &Reader<S>,
         rows: Rows,
+        reading: Reading,
         column: usize,
         bytes: &[u8],
     )
-        ensures { IsAhead reader.now self.new }
+        ensures { IsAhead reader.now reading self.new }
     {
-        let count = self.note_rows(rows, column, bytes);
-        self.find(reader, count);
+        let count = self.note_rows(rows, reading, column, bytes);
+        self.find(reader, reading, count);
     }
 
     // Where the walk of the next address ends, if this is its text; then it is behind.
     #[inline(always)]
-    fn next(&mut self, text: &[u8]) -> Option<Asked>
+    fn next(&mut self, reading: Reading, text: &[u8]) -> Option<Asked>
         requires few { self.old.count ≤ 64 }
-        ensures spelled { (db : Database) → IsAhead db self.old
-            → IfSome result (λ asked. ReadsAddress (Some text.now) (Some asked.address)) }
-        ensures found { (db : Database) → IsAhead db self.old
+        ensures spelled { (db : Database) → IsAhead db reading self.old
+            → IfSome result (λ asked. ReadsAddress reading (Some text.now) (Some asked.address)) }
+        ensures found { (db : Database) → IsAhead db reading self.old
             → IfSome result (λ asked. IfSome asked.leaf (IsFoundFor db asked.address)) }
-        ensures kept { (db : Database) → IsAhead db self.old → IsAhead db self.new }
+        ensures kept { (db : Database) → IsAhead db reading self.old → IsAhead db reading self.new }
     {
         let at = self.next;
         if at >= self.count || self.texts[at].as_slice() != text {
@@ -158,25 +167,25 @@ impl Ahead {
         })
     }
 
-    /// The address that a text spells, and where its walk ends if it is the next one ahead.
+    /// The address in a text, and where its walk ends if it is the next one ahead.
     #[inline(always)]
-    pub(crate) fn read(&mut self, text: &[u8]) -> Option<Asked>
+    pub(crate) fn read(&mut self, reading: Reading, text: &[u8]) -> Option<Asked>
         requires few { self.old.count ≤ 64 }
-        ensures spelled { (db : Database) → IsAhead db self.old
-            → ReadsAddress (Some text.now) (option_map (λ asked. asked.address) result) }
-        ensures found { (db : Database) → IsAhead db self.old
+        ensures spelled { (db : Database) → IsAhead db reading self.old
+            → ReadsAddress reading (Some text.now) (option_map (λ asked. asked.address) result) }
+        ensures found { (db : Database) → IsAhead db reading self.old
             → IfSome result (λ asked. IfSome asked.leaf (IsFoundFor db asked.address)) }
-        ensures kept { (db : Database) → IsAhead db self.old → IsAhead db self.new }
+        ensures kept { (db : Database) → IsAhead db reading self.old → IsAhead db reading self.new }
     {
-        if let Some(asked) = self.next(text) {
+        if let Some(asked) = self.next(reading, text) {
             return Some(asked);
         }
-        match read_address(text) {
-            Ok(address) => Some(Asked {
+        match address_in(reading, text) {
+            Some(address) => Some(Asked {
                 address,
                 leaf: None,
             }),
-            Err(_) => None,
+            None => None,
         }
     }
 }

@@ -15,24 +15,30 @@ use mmdb_value::Value;
 use std::alloc::{AllocError, Global};
 use std::convert::AsSlice;
 
-// Whether no byte is a control character.
-fn is_plain(text: &[u8]) -> bool
-    ensures { result ≡ spec_is_plain text.now }
+// Whether no byte is a control character or the delimiter.
+fn is_plain(delimiter: u8, text: &[u8]) -> bool
+    ensures { result ≡ spec_is_plain delimiter text.now }
 {
     for at in 0..text.len() {
-        if text[at] < 32 {
+        if text[at] < 32 || text[at] == delimiter {
             return false;
         }
     }
     true
 }
 
-// Adds the cell of a value in a line: a text without control characters itself, any other value as JSON.
-fn put_line_value(alloc: Global, value: &Value<'_>, out: &mut Vec<u8>) -> Result<(), AllocError>
-    ensures { OnOk result (PutsShown Lines (value_tree value.now) out.old.items out.new.items) }
+// Adds the cell of a value in a line: a text without control characters and delimiters itself, any other value as JSON.
+fn put_line_value(
+    alloc: Global,
+    delimiter: u8,
+    value: &Value<'_>,
+    out: &mut Vec<u8>,
+) -> Result<(), AllocError>
+    ensures { OnOk result
+        (PutsShown (Lines delimiter) (value_tree value.now) out.old.items out.new.items) }
 {
     if let Value::String(text) = value
-        && is_plain(text.as_bytes())
+        && is_plain(delimiter, text.as_bytes())
     {
         return out.extend_from_slice(text.as_bytes());
     }
@@ -67,7 +73,7 @@ fn put_value(
     ensures { OnOk result (PutsShown rows (value_tree value.now) out.old.items out.new.items) }
 {
     match rows {
-        Rows::Lines => put_line_value(alloc, value, out),
+        Rows::Lines { delimiter } => put_line_value(alloc, delimiter, value, out),
         Rows::Csv { delimiter } => put_csv_value(alloc, delimiter, value, out),
     }
 }

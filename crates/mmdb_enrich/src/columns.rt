@@ -6,14 +6,13 @@ ghost use Rattle.mmdb_enrich.specs.Columns.{delimiter_of as spec_delimiter_of, c
 
 use mmdb_filter::{Rows, either_from, here_or_from};
 
-/// What stands between cells: tabs between those of a line.
+/// What stands between cells.
 #[inline(always)]
 pub fn delimiter_of(rows: Rows) -> u8
     ensures { result ≡ spec_delimiter_of rows }
 {
     match rows {
-        Rows::Lines => b'\t',
-        Rows::Csv { delimiter } => delimiter,
+        Rows::Lines { delimiter } | Rows::Csv { delimiter } => delimiter,
     }
 }
 
@@ -49,7 +48,7 @@ fn cell_length(rows: Rows, text: &[u8]) -> usize
     ensures within { result ≤ length text.now }
 {
     match rows {
-        Rows::Lines => either_from(text, 0, b'\t', b'\t'),
+        Rows::Lines { delimiter } => either_from(text, 0, delimiter, delimiter),
         Rows::Csv { delimiter } if begins_with_quote(text) => quoted_cell_length(delimiter, text),
         Rows::Csv { delimiter } => here_or_from(text, 0, delimiter, delimiter),
     }
@@ -81,7 +80,7 @@ fn value_of(rows: Rows, cell: &[u8]) -> &[u8]
     ensures { result.now ≡ spec_value_of rows cell.now }
 {
     let len = cell.len();
-    if rows != Rows::Lines && len > 1 && cell[0] == b'"' && cell[len - 1] == b'"' {
+    if matches!(rows, Rows::Csv { .. }) && len > 1 && cell[0] == b'"' && cell[len - 1] == b'"' {
         &cell[1..][..len - 2]
     } else {
         cell

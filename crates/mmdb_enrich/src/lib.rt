@@ -2,6 +2,7 @@
 #![tactic(auto)]
 
 mod ahead;
+mod asked;
 mod cache;
 mod cells;
 mod columns;
@@ -10,10 +11,12 @@ mod json_enrichment;
 mod kept_cells;
 pub mod laws;
 mod members;
+mod notes;
 mod row_memory;
 
 pub use columns::delimiter_of;
 pub use enrichment::Enrichment;
 pub use json_enrichment::{JsonEnrichment, JsonMemory};
 pub use members::Field;
+pub use notes::{Failure, Notes};
 pub use row_memory::RowMemory;

@@ -1,7 +1,7 @@
 //! The member that is added to an object.
-ghost use Rattle.std.specs.Prelude.{◌≡◌, ℕ, Some, OnOk, IfOk, IfErr, IfSome, IfNone};
+ghost use Rattle.std.specs.Prelude.{◌≡◌, ◌++◌, ℕ, Some, OnOk, IfOk, IfErr, IfSome, IfNone};
 ghost use Rattle.mmdb_reader.specs.Found.{database_asked, section_asked, offset_found};
-ghost use Rattle.mmdb_enrich.specs.Fields.{HasUnreadField, IsMember};
+ghost use Rattle.mmdb_enrich.specs.Fields.{HasUnreadField, IsMember, IsNullMember, null_fields};
 ghost use Rattle.mmdb_enrich.specs.Working.{PutsFields, PutsFieldsOf};
 ghost use Rattle.mmdb_format.specs.Error.{MemoryApart};
 
@@ -84,4 +84,33 @@ pub(crate) fn member_of<S: AsSlice<u8> + Drop>(
         Err(MaxMindDbError::Memory) => Err(AllocError),
         Err(_) => Ok(None),
     }
+}
+
+// Writes for each field its name and null.
+fn put_nulls(fields: &[Field<'_>], out: &mut Writer) -> Result<(), AllocError>
+    ensures fields { OnOk result (out.new.tokens ≡ out.old.tokens ++ null_fields fields.now) }
+    ensures before { out.new.before ≡ out.old.before }
+{
+    for at in 0..fields.len() {
+        let field = &fields[at];
+        out.token(Token::Key(field.name))?;
+        out.token(Token::Null)?;
+    }
+    Ok(())
+}
+
+/// The text of a member with every field null.
+pub(crate) fn null_member(
+    alloc: Global,
+    name: &str,
+    fields: &[Field<'_>],
+) -> Result<Vec<u8>, AllocError>
+    ensures { IfOk result (λ text. IsNullMember name.now fields.now text.items) }
+{
+    let mut out = Writer::new(Vec::with_capacity(alloc, 256)?);
+    out.token(Token::Key(name))?;
+    out.token(Token::BeginObject)?;
+    put_nulls(fields, &mut out)?;
+    out.token(Token::EndObject)?;
+    Ok(out.into_inner())
 }

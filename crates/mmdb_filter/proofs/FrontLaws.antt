@@ -1,8 +1,15 @@
 -- Known bytes that grow by a beginning of a text.
-use Rattle.std.proofs.Common.{ℕ, List, [], ◌++◌, Option, Result, Ok, Err, OnErr, OnOk, refl, sym, ap, ◌∙◌, append_assoc}
-use Rattle.std.specs.Io.KnownBytes.{Appends}
+use Rattle.std.proofs.Common.{ℕ, List, [], ◌++◌, Option, Result, Ok, Err, OnErr, OnOk, Some, None, refl, sym, ap, ◌∙◌, append_assoc}
+use Rattle.std.specs.Io.KnownBytes.{Appends, Keeps}
 use Rattle.std.proofs.KnownBytes.{Appends-nil, Appends-trans}
 use Rattle.mmdb_filter.specs.Lines.{AppendsFront}
+
+-- what was written was written out since
+pub appends_kept : (old now new : Option (List ℕ)) (text : List ℕ) → Appends old now text → Keeps now new → Appends old new text
+appends_kept None now new text a k = tt
+appends_kept (Some xs) None new text a k = absurd a
+appends_kept (Some xs) (Some ys) None text a k = absurd k
+appends_kept (Some xs) (Some ys) (Some zs) text a k = k ∙ a
 
 pub front_none : (old : Option (List ℕ)) (text : List ℕ) → AppendsFront old old text
 front_none old text = ([], text, refl, Appends-nil old)

@@ -66,31 +66,31 @@ goes_one rows p q at bytes ys xs l e g =
     (subst (λ t. Goes rows q t (get_or bytes at 0 ∷ []) (position_after rows q (get_or bytes at 0)) (drop (at + 1) bytes ++ ys)) (sym here) (goes_byte rows q (get_or bytes at 0) (drop (at + 1) bytes ++ ys) e)) in
     subst (λ t. Goes rows p xs t (position_after rows q (get_or bytes at 0)) (drop (at + 1) bytes ++ ys)) (sym (take_more bytes at 0 l)) further
 
-line_feed : (p : Position) (x : ℕ) → x ≡ 10 → position_after Lines p x ≡ Ended
+line_feed : (d : ℕ) (p : Position) (x : ℕ) → x ≡ 10 → position_after (Lines d) p x ≡ Ended
 unfolding position_after
-line_feed p x e = ap (λ b. if b then Ended else p) (eq-eqb x 10 e)
+line_feed d p x e = ap (λ b. if b then Ended else p) (eq-eqb x 10 e)
 
-no_line_feed : (p : Position) (x : ℕ) → ((x == 10) ≡ true → ⊥) → position_after Lines p x ≡ p
+no_line_feed : (d : ℕ) (p : Position) (x : ℕ) → ((x == 10) ≡ true → ⊥) → position_after (Lines d) p x ≡ p
 unfolding position_after
-no_line_feed p x h = ap (λ b. if b then Ended else p) (ne_eqb x 10 (λ e. h (eq-eqb x 10 e)))
+no_line_feed d p x h = ap (λ b. if b then Ended else p) (ne_eqb x 10 (λ e. h (eq-eqb x 10 e)))
 
 -- bytes that are no line feed
-pub goes_plain : (p : Position) (at : ℕ) (bytes ys : List ℕ) → is_ended p ≡ false → at ≤ length bytes → ((k : ℕ) → k < at → (get_or bytes k 0 == 10) ≡ true → ⊥)
-    → Goes Lines p (bytes ++ ys) (take at bytes) p (drop at bytes ++ ys)
-goes_plain p zero bytes ys e l h = goes_nowhere Lines p (bytes ++ ys)
-goes_plain p (suc at) bytes ys e l h =
-    let before = goes_plain p at bytes ys e (omega arith) (λ k below. h k (omega arith)) in
-    let one = goes_one Lines p p at bytes ys (bytes ++ ys) (omega arith) e before in
+pub goes_plain : (d : ℕ) (p : Position) (at : ℕ) (bytes ys : List ℕ) → is_ended p ≡ false → at ≤ length bytes → ((k : ℕ) → k < at → (get_or bytes k 0 == 10) ≡ true → ⊥)
+    → Goes (Lines d) p (bytes ++ ys) (take at bytes) p (drop at bytes ++ ys)
+goes_plain d p zero bytes ys e l h = goes_nowhere (Lines d) p (bytes ++ ys)
+goes_plain d p (suc at) bytes ys e l h =
+    let before = goes_plain d p at bytes ys e (omega arith) (λ k below. h k (omega arith)) in
+    let one = goes_one (Lines d) p p at bytes ys (bytes ++ ys) (omega arith) e before in
     let same : suc at ≡ at + 1 = omega arith in
-    subst (λ n. Goes Lines p (bytes ++ ys) (take n bytes) p (drop n bytes ++ ys)) (sym same)
-    (subst (λ q. Goes Lines p (bytes ++ ys) (take (at + 1) bytes) q (drop (at + 1) bytes ++ ys)) (no_line_feed p (get_or bytes at 0) (h at (omega arith))) one)
+    subst (λ n. Goes (Lines d) p (bytes ++ ys) (take n bytes) p (drop n bytes ++ ys)) (sym same)
+    (subst (λ q. Goes (Lines d) p (bytes ++ ys) (take (at + 1) bytes) q (drop (at + 1) bytes ++ ys)) (no_line_feed d p (get_or bytes at 0) (h at (omega arith))) one)
 
 -- and the line feed behind them
-pub goes_through : (p : Position) (at : ℕ) (bytes ys : List ℕ) → is_ended p ≡ false → at < length bytes → ((k : ℕ) → k < at → (get_or bytes k 0 == 10) ≡ true → ⊥) → (get_or bytes at 0 == 10) ≡ true
-    → Goes Lines p (bytes ++ ys) (take (at + 1) bytes) Ended (drop (at + 1) bytes ++ ys)
-goes_through p at bytes ys e l h is =
-    let before = goes_plain p at bytes ys e (omega arith) h in
-    subst (λ q. Goes Lines p (bytes ++ ys) (take (at + 1) bytes) q (drop (at + 1) bytes ++ ys)) (line_feed p (get_or bytes at 0) (eqb-true _ _ is)) (goes_one Lines p p at bytes ys (bytes ++ ys) l e before)
+pub goes_through : (d : ℕ) (p : Position) (at : ℕ) (bytes ys : List ℕ) → is_ended p ≡ false → at < length bytes → ((k : ℕ) → k < at → (get_or bytes k 0 == 10) ≡ true → ⊥) → (get_or bytes at 0 == 10) ≡ true
+    → Goes (Lines d) p (bytes ++ ys) (take (at + 1) bytes) Ended (drop (at + 1) bytes ++ ys)
+goes_through d p at bytes ys e l h is =
+    let before = goes_plain d p at bytes ys e (omega arith) h in
+    subst (λ q. Goes (Lines d) p (bytes ++ ys) (take (at + 1) bytes) q (drop (at + 1) bytes ++ ys)) (line_feed d p (get_or bytes at 0) (eqb-true _ _ is)) (goes_one (Lines d) p p at bytes ys (bytes ++ ys) l e before)
 
 -- the row that is first in some bytes
 pub goes_within : (rows : Rows) (p q : Position) (n : ℕ) (bytes : List ℕ) → ((ys : List ℕ) → Goes rows p (bytes ++ ys) (take n bytes) q (drop n bytes ++ ys)) → Goes rows p bytes (take n bytes) q (drop n bytes)

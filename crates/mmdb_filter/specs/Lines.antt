@@ -1,7 +1,7 @@
 -- What a filter over rows writes: each row whole, and before its last bytes what is added to it.
-use Rattle.std.specs.Prelude.{◌≡◌, ℕ, ◌-◌, ◌<◌, ◌≤◌, List, [], ◌∷◌, ◌++◌, length, take, drop, get_or, Option, IfSome, ◌&&◌, ◌==◌, nat_lt, if◌then◌else◌, Bool, true, false}
+use Rattle.std.specs.Prelude.{◌≡◌, ℕ, ◌-◌, ◌<◌, ◌≤◌, List, [], ◌∷◌, ◌++◌, length, take, drop, get_or, Option, Some, IfSome, ◌&&◌, ◌==◌, nat_lt, if◌then◌else◌, Bool, true}
 use Rattle.std.specs.Io.KnownBytes.{Appends}
-use Rattle.mmdb_filter.specs.Counting.{nothing_counted, count_one}
+use Rattle.mmdb_filter.specs.Counting.{count_one}
 use Rattle.mmdb_filter.specs.Rows.{row_from, rows_after}
 use Rattle.mmdb_filter.specs.declared.counts.Counts.{Counts}
 use Rattle.mmdb_filter.specs.declared.counts.Outcome.{Outcome}
@@ -56,13 +56,12 @@ StandsBehind text is_long behind = (behind ≤ length text) × (is_long ≡ true
 abbrev pub IsAdded : MayAdd → List ℕ → List ℕ → ℕ → Outcome → Type 0
 IsAdded Adds row extra behind outcome = Adds (seen_of row) (is_long row) extra behind outcome × StandsBehind (seen_of row) (is_long row) behind
 
--- These are the rows of the bytes, in order, each with what is added: all of them, or the first ones.
-abbrev pub AreLines : Rows → MayAdd → Bool → List Line → List ℕ → Type 0
-AreLines rows Adds true [] xs = xs ≡ []
-AreLines rows Adds false [] xs = Unit {0}
-AreLines rows Adds all (line ∷ lines) xs =
+-- These are the first rows of the bytes, in order, each with what is added, and this is left of the bytes.
+abbrev pub AreLines : Rows → MayAdd → List Line → List ℕ → List ℕ → Type 0
+AreLines rows Adds [] xs left = left ≡ xs
+AreLines rows Adds (line ∷ lines) xs left =
     (0 < length xs) × (line.bytes ≡ row_from rows Cell xs) × IsAdded Adds line.bytes line.extra line.behind line.outcome
-    × AreLines rows Adds all lines (rows_after rows Cell xs)
+    × AreLines rows Adds lines (rows_after rows Cell xs) left
 
 -- a row as it is written: what is added stands before its end, and before so many bytes of its text
 abbrev pub row_with : List ℕ → List ℕ → ℕ → List ℕ
@@ -81,13 +80,13 @@ counted counts (line ∷ lines) = counted (count_one counts line.outcome) lines
 abbrev pub AppendsFront : Option (List ℕ) → Option (List ℕ) → List ℕ → Type 0
 AppendsFront old new text = (front rest : List ℕ) × (text ≡ front ++ rest) × Appends old new front
 
--- Where the bytes of the input are known, known output grew by all of its rows, each with what is added, and the
--- counts are theirs.
-abbrev pub IsFiltered : Rows → MayAdd → Option (List ℕ) → Option (List ℕ) → Option (List ℕ) → Counts → Type 0
-IsFiltered rows Adds input old new counts =
-    IfSome input (λ xs. (lines : List Line) × AreLines rows Adds true lines xs × Appends old new (written lines) × (counts ≡ counted nothing_counted lines))
+-- Where the bytes of the input are known, it lost its first rows, known output grew by these, each with what is added,
+-- and the counts are those before with theirs.
+abbrev pub IsFiltered : Rows → MayAdd → Option (List ℕ) → Option (List ℕ) → Option (List ℕ) → Option (List ℕ) → Counts → Counts → Type 0
+IsFiltered rows Adds input left old new before counts =
+    IfSome input (λ xs. (ys : List ℕ) × (lines : List Line) × (left ≡ Some ys) × AreLines rows Adds lines xs ys × Appends old new (written lines) × (counts ≡ counted before lines))
 
 -- There known output grew by a beginning of its first rows, each with what is added.
 abbrev pub IsBegun : Rows → MayAdd → Option (List ℕ) → Option (List ℕ) → Option (List ℕ) → Type 0
 IsBegun rows Adds input old new =
-    IfSome input (λ xs. (lines : List Line) × AreLines rows Adds false lines xs × AppendsFront old new (written lines))
+    IfSome input (λ xs. (left : List ℕ) × (lines : List Line) × AreLines rows Adds lines xs left × AppendsFront old new (written lines))

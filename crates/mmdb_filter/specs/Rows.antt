@@ -17,7 +17,7 @@ opens_quotes _ = false
 
 -- the position one byte on
 unfoldable pub position_after : Rows → Position → ℕ → Position
-position_after Lines position x = if x == 10 then Ended else position
+position_after (Lines delimiter) position x = if x == 10 then Ended else position
 position_after (Csv delimiter) Quoted x = if x == 34 then Closing else Quoted
 position_after (Csv delimiter) position x =
     if x == 10 then Ended else (if x == delimiter then Cell else (if x == 34 && opens_quotes position then Quoted else Plain))

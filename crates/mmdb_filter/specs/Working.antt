@@ -1,15 +1,11 @@
 -- What contracts of private functions and proofs name.
-use Rattle.std.specs.Prelude.{ℕ, ◌+◌, ◌-◌, ◌≡◌, ◌≢◌, ◌<◌, List, ◌++◌, length, get_or, Option, Some, None, ◌==◌, nat_le, if◌then◌else◌}
-use Rattle.mmdb_filter.specs.declared.counts.Counts.{Counts}
+use Rattle.std.specs.Prelude.{ℕ, ◌-◌, ◌≡◌, ◌≢◌, ◌<◌, List, ◌++◌, length, get_or, Option, Some, None, ◌==◌, nat_le, if◌then◌else◌}
 use Rattle.std.specs.Io.KnownBytes.{Appends, IsAtEnd}
 use Rattle.mmdb_filter.specs.Rows.{row_from, rows_after}
 use Rattle.mmdb_filter.specs.Lines.{row_with, AppendsFront}
 use Rattle.mmdb_filter.specs.declared.rows.Rows.{Rows}
 use Rattle.mmdb_filter.specs.declared.rows.Position.{Position}
 use Rattle.mmdb_filter.specs.declared.rows.Position.TheVariants.{Cell, Plain, Quoted, Ended}
-
-abbrev pub total : Counts → ℕ
-total c = c.found + (c.absent + (c.unreadable + (c.malformed + c.rejected)))
 
 -- A row that has not ended in a chunk of less than 65,539 bytes ends with the input.
 abbrev pub EndsWithInput : Position → List ℕ → Option (List ℕ) → Type 0

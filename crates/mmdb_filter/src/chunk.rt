@@ -4,8 +4,9 @@ ghost use Rattle.std.specs.Io.KnownBytes.{Keeps, IsAtEnd};
 ghost use Rattle.mmdb_filter.specs.Rows.{GrowsAlong};
 ghost use Rattle.mmdb_filter.specs.declared.rows.Position.TheVariants as spec_position;
 
+use crate::live::{Live, flush_before_read};
 use crate::rows::{Position, Rows, scan};
-use std::io::{self, BufRead, ErrorKind};
+use std::io::{self, BufRead, ErrorKind, Write};
 
 /// How many bytes of a row are held at most.
 pub(crate) const CHUNK: usize = 65_539;
@@ -67,6 +68,40 @@ pub fn read_chunk<R: BufRead>(
         if now == Position::Ended || before >= CHUNK {
             return Ok(now);
         }
+        if let Some(next) = read_some(input, rows, now, chunk)? {
+            now = next;
+            if chunk.len() == before {
+                return Ok(now);
+            }
+        }
+    }
+    Err(io::Error::from(ErrorKind::TimedOut))
+}
+
+/// The same, and what is written to `out` is written out before each read of the input, which may wait.
+#[inline(always)]
+pub(crate) fn read_live<R: Live, W: Write>(
+    input: &mut R,
+    rows: Rows,
+    position: Position,
+    chunk: &mut Vec<u8>,
+    out: &mut W,
+) -> io::Result<Position>
+    ensures leads { IfOk result (λ next.
+        GrowsAlong rows position next chunk.old.items chunk.new.items
+        (R.remaining input.old) (R.remaining input.new)) }
+    ensures end { IfOk result (λ next. next ≢ spec_position.Ended
+        → length chunk.new.items < 65539
+        → OnSome (R.remaining input.old) (IsAtEnd (R.remaining input.new))) }
+    ensures kept { Keeps (W.contents out.old) (W.contents out.new) }
+{
+    let mut now = position;
+    for _ in 0..u64::MAX {
+        let before = chunk.len();
+        if now == Position::Ended || before >= CHUNK {
+            return Ok(now);
+        }
+        flush_before_read(input, out)?;
         if let Some(next) = read_some(input, rows, now, chunk)? {
             now = next;
             if chunk.len() == before {

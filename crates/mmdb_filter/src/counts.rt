@@ -1,5 +1,5 @@
 //! How lines fared.
-ghost use Rattle.std.specs.Prelude.{◌≡◌, ◌+◌, ◌<◌, ◌^◌};
+ghost use Rattle.std.specs.Prelude.{◌≡◌, ◌+◌, ◌<◌, ◌≤◌, ◌^◌, None, IfSome};
 
 /// How a line fared.
 #[derive(Clone, Copy, PartialEq, Eq)]
@@ -14,6 +14,8 @@ pub enum Outcome {
     Malformed,
     /// The address, the record or a field failed.
     Failed,
+    /// It has what would be added already, and stays as it is.
+    Occupied,
 }
 
 /// How many lines fared so.
@@ -24,14 +26,14 @@ pub struct Counts {
     pub unreadable: u64,
     pub malformed: u64,
     pub rejected: u64,
+    pub occupied: u64,
 }
 
 impl Counts {
-    ghost use Rattle.mmdb_filter.specs.Counting.{nothing_counted, count_one};
-    ghost use Rattle.mmdb_filter.specs.Working.{total};
+    ghost use Rattle.mmdb_filter.specs.Counting.{nothing_counted, count_one, total};
 
     /// Of no line.
-    pub(crate) fn new() -> Counts
+    pub fn new() -> Counts
         ensures { result ≡ nothing_counted }
     {
         Counts {
@@ -40,7 +42,21 @@ impl Counts {
             unreadable: 0,
             malformed: 0,
             rejected: 0,
+            occupied: 0,
         }
+    }
+
+    /// How many lines, or none where they are 2^64 or more.
+    pub fn total(&self) -> Option<u64>
+        ensures some { IfSome result (λ lines. lines ≡ total self.now) }
+        ensures none { result ≡ None → 2 ^ 64 ≤ total self.now }
+    {
+        self.found
+            .checked_add(self.absent)?
+            .checked_add(self.unreadable)?
+            .checked_add(self.malformed)?
+            .checked_add(self.rejected)?
+            .checked_add(self.occupied)
     }
 
     /// One line more.
@@ -55,6 +71,7 @@ impl Counts {
             Outcome::Unreadable => self.unreadable += 1,
             Outcome::Malformed => self.malformed += 1,
             Outcome::Failed => self.rejected += 1,
+            Outcome::Occupied => self.occupied += 1,
         }
     }
 }

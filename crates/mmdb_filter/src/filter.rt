@@ -6,13 +6,14 @@ ghost use Rattle.mmdb_filter.specs.Rows.{GrowsAlong};
 ghost use Rattle.mmdb_filter.specs.declared.counts.Outcome.{Outcome as SpecOutcome};
 ghost use Rattle.mmdb_filter.specs.declared.rows.Position.TheVariants.{Cell, Ended};
 
-use crate::chunk::read_chunk;
+use crate::chunk::read_live;
 use crate::counts::{Counts, Outcome};
+use crate::live::{Live, flush_before_read};
 use crate::pass::pass_on;
 use crate::rows::{Position, Rows};
 use crate::text::seen;
 use std::alloc::Global;
-use std::io::{self, BufRead, ErrorKind, Write};
+use std::io::{self, ErrorKind, Write};
 
 /// What was added to a row.
 #[derive(Clone, Copy)]
@@ -58,28 +59,57 @@ pub trait Additions {
         ensures { fits self.now memory.new };
 }
 
-/// Who is shown how far the filter is.
+/// Who is asked whether a filter goes on.
 pub trait Progress {
-    /// So many rows passed.
-    fn passed(&mut self, rows: u64);
+    /// The rows that passed fared so. Whether the filter goes on; else it ends before the next row.
+    fn passed(&mut self, counts: Counts) -> bool;
+
+    /// The row behind so many stands between quotes where 65,539 bytes of it are read, or where the input ends.
+    fn stays_quoted(&mut self, rows: u64);
+
+    /// The row behind so many has already what would be added.
+    fn is_occupied(&mut self, rows: u64);
 }
 
-/// After so many rows it is given how many passed.
+/// Where a filter ended.
+#[derive(Clone, Copy)]
+pub struct Filtered {
+    /// How the rows fared.
+    pub counts: Counts,
+    /// Whether that was the input's end; else it was asked to.
+    pub is_end: bool,
+}
+
+/// After so many rows it is asked first whether the filter goes on.
+const FIRST: u64 = 1_000;
+
+/// After each so many rows it is asked again.
 const STEP: u64 = 65_536;
+
+// After how many rows, of which so many passed, it is asked next.
+fn next_asked(passed: u64) -> u64 {
+    if passed < FIRST {
+        FIRST
+    } else {
+        (passed / STEP).saturating_add(1).saturating_mul(STEP)
+    }
+}
 
 /// After so many rows additions are shown what comes.
 const AHEAD: u64 = 64;
 
 // Shows additions the bytes that the input has at hand, before the first of each 64 rows, and says whether the input was
 // found to be at its end. It waits where the read of the row would, and fails as that would; where it was interrupted
-// nothing is shown.
-fn look_ahead<A: Additions, R: BufRead>(
+// nothing is shown. Before a read, what is written to `out` is written out.
+fn look_ahead<A: Additions, R: Live, W: Write>(
     additions: &A,
     memory: &mut A::Memory,
     passed: u64,
     input: &mut R,
+    out: &mut W,
 ) -> io::Result<bool>
     requires { A.fits additions.now memory.old }
+    ensures written { Keeps (W.contents out.old) (W.contents out.new) }
     ensures kept { OnOk result (Keeps (R.remaining input.old) (R.remaining input.new)) }
     ensures end { IfOk result (λ is_end. is_end ≡ true
         → OnSome (R.remaining input.old) (IsAtEnd (R.remaining input.new))) }
@@ -88,6 +118,7 @@ fn look_ahead<A: Additions, R: BufRead>(
     if passed % AHEAD != 0 {
         return Ok(false);
     }
+    flush_before_read(input, out)?;
     match input.fill_buf() {
         Ok(shown) => {
             additions.foresee(memory, shown);
@@ -106,15 +137,17 @@ fn look_ahead<A: Additions, R: BufRead>(
 // Appends the bytes of a row, or those of its first chunk, and says the position behind them. Additions may look ahead
 // first; an input that has come to its end then is not read again.
 #[inline(always)]
-fn begin_row<A: Additions, R: BufRead>(
+fn begin_row<A: Additions, R: Live, W: Write>(
     rows: Rows,
     additions: &A,
     memory: &mut A::Memory,
     passed: u64,
     input: &mut R,
     chunk: &mut Vec<u8>,
+    out: &mut W,
 ) -> io::Result<Position>
     requires { A.fits additions.now memory.old }
+    ensures written { Keeps (W.contents out.old) (W.contents out.new) }
     ensures leads { IfOk result (λ next.
         GrowsAlong rows Cell next chunk.old.items chunk.new.items
         (R.remaining input.old) (R.remaining input.new)) }
@@ -123,56 +156,82 @@ fn begin_row<A: Additions, R: BufRead>(
         → OnSome (R.remaining input.old) (IsAtEnd (R.remaining input.new))) }
     ensures fits { A.fits additions.now memory.new }
 {
-    if look_ahead(additions, memory, passed, input)? {
+    if look_ahead(additions, memory, passed, input, out)? {
         return Ok(Position::Cell);
     }
-    read_chunk(input, rows, Position::Cell, chunk)
+    read_live(input, rows, Position::Cell, chunk, out)
 }
 
-/// Copies all rows, with what is added to each before its last bytes, and counts how they fared. A last row without
-/// an end stays without. A long row passes in chunks. `out` is not flushed.
+/// Copies rows, with what is added to each before its last bytes, and counts how they fared, with those that were counted
+/// before. It ends at the input's end, or before a row where it is asked to; then the rows that are left may be filtered
+/// by another call. A last row without an end stays without. A long row passes in chunks. `out` is flushed before each
+/// read of the input, which may wait, and not at the end.
 ///
-/// An `Err` is of the input, the output or memory; a beginning of that was written then.
-pub fn filter_rows<A: Additions, R: BufRead, W: Write, P: Progress>(
+/// An `Err` is of the input, the output or memory, or there are 2^64 - 1 rows; a beginning of that was written then.
+pub fn filter_rows<A: Additions, R: Live, W: Write, P: Progress>(
     alloc: Global,
     rows: Rows,
     additions: &A,
     memory: &mut A::Memory,
+    before: Counts,
     input: &mut R,
     out: &mut W,
     progress: &mut P,
-) -> io::Result<Counts>
+) -> io::Result<Filtered>
     requires { A.fits additions.now memory.old }
-    ensures whole { IfOk result (IsFiltered rows (A.adds additions.now)
-        (R.remaining input.old) (W.contents out.old) (W.contents out.new)) }
+    ensures whole { IfOk result (λ filtered. IsFiltered rows (A.adds additions.now)
+        (R.remaining input.old) (R.remaining input.new)
+        (W.contents out.old) (W.contents out.new) before filtered.counts) }
+    ensures end { IfOk result (λ filtered. filtered.is_end ≡ true
+        → OnSome (R.remaining input.old) (IsAtEnd (R.remaining input.new))) }
     ensures begun { OnErr result (IsBegun rows (A.adds additions.now)
         (R.remaining input.old) (W.contents out.old) (W.contents out.new)) }
     ensures fits { A.fits additions.now memory.new }
 {
-    let mut counts = Counts::new();
+    let Some(first) = before.total() else {
+        return Err(io::Error::from(ErrorKind::FileTooLarge));
+    };
+    let mut counts = before;
+    let mut asked = next_asked(first);
     let mut chunk = Vec::new(alloc);
     let mut added = Vec::new(alloc);
-    for passed in 0..u64::MAX {
-        if passed % STEP == 0 && passed > 0 {
-            progress.passed(passed);
+    for passed in first..u64::MAX {
+        if passed == asked {
+            asked = next_asked(passed);
+            if !progress.passed(counts) {
+                return Ok(Filtered {
+                    counts,
+                    is_end: false,
+                });
+            }
         }
         chunk.clear();
-        let position = begin_row(rows, additions, memory, passed, input, &mut chunk)?;
+        let mut position = begin_row(rows, additions, memory, passed, input, &mut chunk, out)?;
         if chunk.is_empty() {
-            return Ok(counts);
+            return Ok(Filtered {
+                counts,
+                is_end: true,
+            });
         }
         added.clear();
         let (text, is_long) = seen(chunk.as_slice());
         let addition = additions.add(memory, text, is_long, &mut added)?;
+        let is_quoted = position == Position::Quoted;
         pass_on(
             input,
             rows,
-            position,
+            &mut position,
             &mut chunk,
             &mut added,
             addition.behind,
             out,
         )?;
+        if is_quoted || position == Position::Quoted {
+            progress.stays_quoted(passed);
+        }
+        if addition.outcome == Outcome::Occupied {
+            progress.is_occupied(passed);
+        }
         counts.count(addition.outcome);
     }
     Err(io::Error::from(ErrorKind::FileTooLarge))

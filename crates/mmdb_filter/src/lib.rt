@@ -5,6 +5,7 @@ mod chunk;
 mod counts;
 mod filter;
 pub mod laws;
+mod live;
 mod pass;
 mod put;
 mod quotes;
@@ -14,7 +15,8 @@ mod text;
 
 pub use chunk::read_chunk;
 pub use counts::{Counts, Outcome};
-pub use filter::{Added, Additions, Progress, filter_rows};
+pub use filter::{Added, Additions, Filtered, Progress, filter_rows};
+pub use live::Live;
 pub use quotes::put_csv_cell;
 pub use rows::{Position, Rows, first_row};
 pub use runs::{either_from, here_or_from};

@@ -5,10 +5,11 @@ ghost use Rattle.mmdb_filter.specs.Lines.{AppendsFront};
 ghost use Rattle.mmdb_filter.specs.Working.{EndsWithInput, Passes, PassesFront};
 ghost use Rattle.mmdb_filter.specs.declared.rows.Position.TheVariants as spec_position;
 
-use crate::chunk::{CHUNK, read_chunk};
+use crate::chunk::{CHUNK, read_live};
+use crate::live::Live;
 use crate::put::{put_all, put_row};
 use crate::rows::{Position, Rows};
-use std::io::{self, BufRead, ErrorKind, Write};
+use std::io::{self, ErrorKind, Write};
 
 // Writes all of a chunk but the last two bytes, in which the row's end may begin, and keeps those.
 #[inline(never)]
@@ -30,33 +31,34 @@ fn put_front<W: Write>(out: &mut W, chunk: &mut Vec<u8>) -> io::Result<()>
 }
 
 /// Writes a row, of which the first chunk was read, with what is added before its end and so many bytes of its
-/// text: none, where the row is longer. The rest of it passes in chunks. It is inlined, as
-/// what reads and writes a row is, since an `io::Result` is dear to hand back.
+/// text: none, where the row is longer. The rest of it passes in chunks. The position then stands behind the row. It is
+/// inlined, as what reads and writes a row is, since an `io::Result` is dear to hand back.
 #[inline(always)]
-pub(crate) fn pass_on<R: BufRead, W: Write>(
+pub(crate) fn pass_on<R: Live, W: Write>(
     input: &mut R,
     rows: Rows,
-    position: Position,
+    position: &mut Position,
     chunk: &mut Vec<u8>,
     added: &mut Vec<u8>,
     behind: usize,
     out: &mut W,
 ) -> io::Result<()>
     requires { 65539 ≤ length chunk.old.items → behind ≡ 0 }
-    ensures whole { EndsWithInput position chunk.old.items (R.remaining input.old)
-        → OnOk result (Passes rows position chunk.old.items added.old.items behind
+    ensures whole { EndsWithInput position.old chunk.old.items (R.remaining input.old)
+        → OnOk result (Passes rows position.old chunk.old.items added.old.items behind
         (R.remaining input.old) (R.remaining input.new) (W.contents out.old) (W.contents out.new)) }
-    ensures begun { EndsWithInput position chunk.old.items (R.remaining input.old)
-        → OnErr result (PassesFront rows position chunk.old.items added.old.items behind
+    ensures begun { EndsWithInput position.old chunk.old.items (R.remaining input.old)
+        → OnErr result (PassesFront rows position.old chunk.old.items added.old.items behind
         (R.remaining input.old) (W.contents out.old) (W.contents out.new)) }
 {
-    let mut now = position;
+    let mut now = *position;
     for _ in 0..u64::MAX {
         if now == Position::Ended || chunk.len() < CHUNK {
             return put_row(out, chunk, added, behind);
         }
         put_front(out, chunk)?;
-        now = read_chunk(input, rows, now, chunk)?;
+        now = read_live(input, rows, now, chunk, out)?;
+        *position = now;
     }
     Err(io::Error::from(ErrorKind::FileTooLarge))
 }

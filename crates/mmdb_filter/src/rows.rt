@@ -13,8 +13,11 @@ use memchr::memchr;
 /// What a row is. Each ends with a line feed, or with the text.
 #[derive(Clone, Copy, PartialEq, Eq)]
 pub enum Rows {
-    /// A line, whatever it holds.
-    Lines,
+    /// A line, whatever it holds: its cells have no quotes.
+    Lines {
+        /// What stands between cells.
+        delimiter: u8,
+    },
     /// A row of CSV, which a line feed between quotes does not end.
     Csv {
         /// What stands between cells.
@@ -45,8 +48,8 @@ impl Position {
         ensures { result ≡ position_after rows self byte }
     {
         match (rows, self) {
-            (Rows::Lines, _) if byte == b'\n' => Position::Ended,
-            (Rows::Lines, position) => position,
+            (Rows::Lines { .. }, _) if byte == b'\n' => Position::Ended,
+            (Rows::Lines { .. }, position) => position,
             (Rows::Csv { .. }, Position::Quoted) if byte == b'"' => Position::Closing,
             (Rows::Csv { .. }, Position::Quoted) => Position::Quoted,
             (Rows::Csv { .. }, _) if byte == b'\n' => Position::Ended,
@@ -149,7 +152,7 @@ pub(crate) fn scan(rows: Rows, position: Position, bytes: &[u8]) -> (usize, Posi
     ensures all { result.1 ≢ spec_position.Ended → result.0 ≡ length bytes.now }
 {
     match rows {
-        Rows::Lines => match memchr(b'\n', bytes) {
+        Rows::Lines { .. } => match memchr(b'\n', bytes) {
             Some(at) => (at + 1, Position::Ended),
             None => (bytes.len(), position),
         },

@@ -45,8 +45,8 @@ struct ValueColumn {
 fn cut(alloc: Global, rows: Rows, row: &[u8], cells: &mut ByteRecord) -> Result<(), InputError> {
     cells.clear();
     match rows {
-        Rows::Lines => {
-            for cell in row.split(|byte| *byte == b'\t') {
+        Rows::Lines { delimiter } => {
+            for cell in row.split(|byte| *byte == delimiter) {
                 cells.push_field(cell)?;
             }
             Ok(())
@@ -258,8 +258,7 @@ impl<'t> Cells<'t> {
             return None;
         };
         let delimiter = match self.rows {
-            Rows::Lines => b'\t',
-            Rows::Csv { delimiter } => delimiter,
+            Rows::Lines { delimiter } | Rows::Csv { delimiter } => delimiter,
         };
         let end = memchr(delimiter, row)?;
         row.split_at_checked(end)

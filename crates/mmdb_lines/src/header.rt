@@ -34,7 +34,7 @@ fn split_end(row: &[u8]) -> (&[u8], &'static [u8]) {
 fn put_name(rows: Rows, name: &str, row: &mut Vec<u8>) -> Result<(), AllocError> {
     row.push(delimiter_of(rows))?;
     match rows {
-        Rows::Lines => row.extend_from_slice(name.as_bytes()),
+        Rows::Lines { .. } => row.extend_from_slice(name.as_bytes()),
         Rows::Csv { delimiter } => put_csv_cell(delimiter, name.as_bytes(), row),
     }
 }
@@ -88,9 +88,9 @@ fn place_in(
 ) -> Result<Option<usize>, ProgramError> {
     let (cells, _) = split_end(header);
     match rows {
-        Rows::Lines => Ok(
+        Rows::Lines { delimiter } => Ok(
             cells
-                .split(|b| *b == b'\t')
+                .split(|b| *b == delimiter)
                 .position(|cell| cell == name.as_bytes()),
         ),
         Rows::Csv { delimiter } => place_in_csv(alloc, delimiter, cells, name),
@@ -129,8 +129,8 @@ fn push_columns(
     names: &mut String,
 ) -> Result<(), AllocError> {
     match rows {
-        Rows::Lines => {
-            for cell in row.split(|b| *b == b'\t') {
+        Rows::Lines { delimiter } => {
+            for cell in row.split(|b| *b == delimiter) {
                 push_column(alloc, cell, names)?;
             }
             Ok(())

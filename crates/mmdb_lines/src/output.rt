@@ -2,17 +2,20 @@
 use mmdb_console::ProgramError;
 use std::io::{self, ErrorKind, Write};
 
-/// An output that knows whether it failed. A filter of rows reports the error of a read or of a write alike.
+/// An output that knows whether it failed. A filter of rows reports the error of a read or of a write alike. What a filter
+/// flushes before each read goes out where the input is live.
 #[derive(Drop)]
 pub(crate) struct Output<'o, O: Write> {
     out: &'o mut O,
+    is_live: bool,
     has_failed: bool,
 }
 
 impl<'o, O: Write> Output<'o, O> {
-    pub(crate) fn new(out: &'o mut O) -> Output<'o, O> {
+    pub(crate) fn new(out: &'o mut O, is_live: bool) -> Output<'o, O> {
         Output {
             out,
+            is_live,
             has_failed: false,
         }
     }
@@ -47,6 +50,13 @@ impl<'o, O: Write> Write for Output<'o, O> {
     }
 
     fn flush(&mut self) -> io::Result<()> {
-        self.out.flush()
+        if !self.is_live {
+            return Ok(());
+        }
+        let flushed = self.out.flush();
+        if flushed.is_err() {
+            self.has_failed = true;
+        }
+        flushed
     }
 }

@@ -1,11 +1,14 @@
 //! What `enrich` is asked for.
-use mmdb_arguments::{EnrichArguments, NoRequest};
+use crate::fields::{Wanted, wanted_fields};
+use crate::notes::Place;
+use mmdb_addresses::Reading;
+use mmdb_arguments::{EnrichArguments, Hop, NoRequest};
 use mmdb_enrich::Field;
 use mmdb_filter::Rows;
 use mmdb_layout::{paths_of, wanted_path};
 use mmdb_objects::Step;
 use mmdb_reader::PathElement;
-use std::alloc::Global;
+use std::alloc::{AllocError, Global};
 
 /// A column of lines.
 #[derive(Clone, Copy)]
@@ -20,19 +23,36 @@ pub(crate) enum Column<'a> {
 #[derive(Drop)]
 pub(crate) struct RowsTask<'a> {
     pub(crate) rows: Rows,
+    pub(crate) reading: Reading,
     pub(crate) column: Column<'a>,
     pub(crate) names: &'a [&'a str],
     pub(crate) paths: Vec<Vec<PathElement<'a>>>,
     pub(crate) header: bool,
 }
 
+impl RowsTask<'_> {
+    /// Where the address of a row is looked for.
+    pub(crate) fn place<'a>(&self, arguments: &EnrichArguments<'a>) -> Place<'a> {
+        if arguments.anywhere {
+            return Place::Anywhere;
+        }
+        Place::Column {
+            text: arguments.column,
+            rows: self.rows,
+        }
+    }
+}
+
 /// What `enrich` is asked for of lines of JSON: fields in them.
 #[derive(Drop)]
 pub(crate) struct JsonTask<'a> {
+    pub(crate) reading: Reading,
     /// The path of the address in an object.
     pub(crate) path: Vec<Step<'a>>,
     /// The name of the member that is added.
     pub(crate) into: &'a str,
+    /// Whether objects without a record get it too.
+    pub(crate) nulls: bool,
     pub(crate) fields: Vec<Field<'a>>,
 }
 
@@ -45,23 +65,42 @@ fn column_of<'a>(alloc: Global, text: &'a str, header: bool) -> Result<Column<'a
     }
 }
 
-// What rows are, by what stands between their cells: between those of a line tabs, else they are CSV.
-fn rows_of(alloc: Global, delimiter: Option<&str>) -> Result<Rows, NoRequest> {
+/// Lines of which tabs stand between the cells.
+pub(crate) const LINES: Rows = Rows::Lines { delimiter: b'\t' };
+
+// What rows are, by what stands between their cells: between those of a line tabs, or what is asked for where quotes mean
+// nothing; else they are CSV.
+fn rows_of(alloc: Global, delimiter: Option<&str>, no_quotes: bool) -> Result<Rows, NoRequest> {
     let Some(text) = delimiter else {
-        return Ok(Rows::Lines);
+        return Ok(LINES);
     };
     match text.as_bytes() {
-        b"\t" | b"\\t" => Ok(Rows::Lines),
-        [b'"' | b'\n' | b'\r'] => Err(NoRequest::bad_argument(
-            alloc,
-            "--delimiter",
-            "neither a quote nor a line break",
-        )),
+        b"\t" | b"\\t" => Ok(LINES),
+        [b'"'] if !no_quotes => Err(bad_delimiter(alloc)),
+        [b'\n' | b'\r'] => Err(bad_delimiter(alloc)),
+        [delimiter] if no_quotes => Ok(Rows::Lines {
+            delimiter: *delimiter,
+        }),
         [delimiter] => Ok(Rows::Csv {
             delimiter: *delimiter,
         }),
         _ => Err(NoRequest::bad_argument(alloc, text, "not one ASCII character")),
     }
+}
+
+// Where in a cell, a string or a row the address is.
+fn reading_of(arguments: &EnrichArguments<'_>) -> Reading {
+    match arguments.hop {
+        _ if arguments.anywhere => Reading::Anywhere,
+        _ if arguments.exact => Reading::Exact,
+        Hop::First => Reading::First,
+        Hop::Last => Reading::Last,
+    }
+}
+
+// The error of a delimiter that can stand between no cells.
+fn bad_delimiter(alloc: Global) -> NoRequest {
+    NoRequest::bad_argument(alloc, "--delimiter", "neither a quote nor a line break")
 }
 
 // The last step of a path, as it is written. In quotes it is what stands between them.
@@ -86,14 +125,50 @@ fn named_path(text: &str) -> (&str, &str) {
     }
 }
 
+// The error of a field whose name another one has.
+fn equal_name(alloc: Global, name: &str, text: &str, path: &str) -> NoRequest {
+    let wanted: Result<String, AllocError> = format!(in alloc;
+        "another field has the name {name} too; give one of them a name of its own, as NAME={path}"
+    );
+    match &wanted {
+        Ok(wanted) => NoRequest::bad_argument(alloc, text, wanted.as_str()),
+        Err(_) => NoRequest::Memory,
+    }
+}
+
+// Whether a field has this name.
+fn has_name(fields: &[Field<'_>], name: &str) -> bool {
+    for field in fields {
+        if field.name == name {
+            return true;
+        }
+    }
+    false
+}
+
 fn fields_of<'a>(alloc: Global, texts: &[&'a str]) -> Result<Vec<Field<'a>>, NoRequest> {
     let mut fields = Vec::new(alloc);
     for text in texts {
         let (name, path) = named_path(*text);
+        if has_name(fields.as_slice(), name) {
+            return Err(equal_name(alloc, name, *text, path));
+        }
         let path = wanted_path(alloc, path)?;
         fields.push(Field { name, path })?;
     }
     Ok(fields)
+}
+
+/// The fields that members of objects are to have.
+pub(crate) fn wanted_members<'a>(
+    alloc: Global,
+    arguments: &EnrichArguments<'a>,
+) -> Result<Vec<Wanted<'a>>, NoRequest> {
+    let mut texts = Vec::new(alloc);
+    for text in &arguments.fields {
+        texts.push(named_path(*text).1)?;
+    }
+    wanted_fields(alloc, texts.as_slice())
 }
 
 // A step of the path of an address in an object: a key, or an index from the front.
@@ -131,8 +206,10 @@ pub(crate) fn json_task<'a>(
         return Err(NoRequest::bad_argument(alloc, "--into", "an empty name"));
     }
     Ok(JsonTask {
+        reading: reading_of(arguments),
         path: address_path(alloc, path)?,
         into,
+        nulls: arguments.nulls,
         fields: fields_of(alloc, arguments.fields.as_slice())?,
     })
 }
@@ -146,13 +223,14 @@ pub(crate) fn rows_task<'a>(
         return Err(NoRequest::bad_argument(alloc, "--into", "needs a --json"));
     }
     let names = arguments.fields.as_slice();
-    let rows = rows_of(alloc, arguments.delimiter)?;
+    let rows = rows_of(alloc, arguments.delimiter, arguments.no_quotes)?;
     let column = column_of(alloc, arguments.column, arguments.header)?;
     if names.is_empty() {
         return Err(NoRequest::bad_argument(alloc, "enrich", "needs a --field"));
     }
     Ok(RowsTask {
         rows,
+        reading: reading_of(arguments),
         column,
         names,
         paths: paths_of(alloc, names)?,

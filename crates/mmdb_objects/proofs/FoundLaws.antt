@@ -1,5 +1,5 @@
 -- What a pass over a text has found, from what it found in its parts.
-use Rattle.std.proofs.Common.{◌≡◌, ℕ, ◌+◌, ◌-◌, ◌<◌, ◌≤◌, ◌∷◌, Bool, true, false, cond, List, Option, None, Some, option_map, option_and_then, [], length, get_or, take, drop, arith, refl, sym, ap, ap₂, ◌∙◌, subst}
+use Rattle.std.proofs.Common.{◌≡◌, ℕ, ◌+◌, ◌-◌, ◌<◌, ◌≤◌, ◌∷◌, Bool, true, false, cond, List, Option, None, Some, option_map, option_and_then, is_some, ◌||◌, [], length, get_or, take, drop, arith, refl, sym, ap, ap₂, ◌∙◌, subst}
 use Rattle.std.proofs.lemmas.List.{take_all, drop_all}
 use Rattle.std.specs.Option.{IfSome}
 use Rattle.json.specs.Token.{Token}
@@ -11,7 +11,7 @@ use Rattle.std.specs.Str.{bytes_eq}
 use Rattle.mmdb_objects.specs.declared.step.Step.{Step}
 use Rattle.mmdb_objects.specs.declared.step.Step.TheVariants.{Key}
 use Rattle.mmdb_objects.specs.declared.one_pass.Followed.{Followed}
-use Rattle.mmdb_objects.specs.Objects.{text_along}
+use Rattle.mmdb_objects.specs.Objects.{text_along, has_member}
 use Rattle.json.specs.Lex.{Lexeme, token, comma, between, in_string, lex, Place, fresh, after_value, after_comma, may_begin, begins_colon, punctuate}
 use Rattle.json.specs.Json.{Json, Items, no_items, item, Members, no_members, member, value, if_last, document}
 use Rattle.json.specs.Json as json
@@ -205,3 +205,29 @@ whole_path path d name ms found some is leads = leads ∙ ap (λ p. text_along p
 -- a mark that closes, or one that does not
 pub mark_of : (text : List ℕ) (from at : ℕ) (b c : Bool) → b ≡ c → StandsBehind text from (cond b 125 44) at → StandsBehind text from (cond c 125 44) at
 mark_of text from at b c e stands = subst (λ x. StandsBehind text from (cond x 125 44) at) e stands
+
+-- ---- whether a name is taken
+
+taken_later : (o : Option Json) (j : Json) (b here : Bool) → (here || is_some (later_or o (cond b (Some j) None))) ≡ ((here || b) || is_some o)
+taken_later None j true true = refl
+taken_later None j true false = refl
+taken_later None j false true = refl
+taken_later None j false false = refl
+taken_later (Some i) j true true = refl
+taken_later (Some i) j true false = refl
+taken_later (Some i) j false true = refl
+taken_later (Some i) j false false = refl
+
+-- where a pass has come to a member, before other members
+pub taken_goes_on : (name k : List ℕ) (j : Json) (ms all : Members) (earlier now is : Bool) → is ≡ bytes_eq k name → now ≡ (earlier || is)
+    → has_member name all ≡ (earlier || has_member name (member k j ms)) → has_member name all ≡ (now || has_member name ms)
+taken_goes_on name k j ms all earlier now is same so_far e =
+    e ∙ taken_later (get_member name ms) j (bytes_eq k name) earlier ∙ ap (λ b. b || has_member name ms) (sym (so_far ∙ ap (λ b. earlier || b) same))
+
+none_more : (b c : Bool) → b ≡ (c || false) → c ≡ b
+none_more b true e = sym e
+none_more b false e = sym e
+
+pub taken_found : (name k : List ℕ) (j : Json) (all : Members) (earlier now is : Bool) → is ≡ bytes_eq k name → now ≡ (earlier || is)
+    → has_member name all ≡ (earlier || has_member name (member k j no_members)) → now ≡ has_member name all
+taken_found name k j all earlier now is same so_far e = none_more _ _ (taken_goes_on name k j no_members all earlier now is same so_far e)

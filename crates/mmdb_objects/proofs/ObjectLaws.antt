@@ -1,16 +1,16 @@
 -- What is known of a text that was read as a value, or was not.
-use Rattle.std.proofs.Common.{◌≡◌, ◌≢◌, ℕ, List, [], ◌∷◌, Option, Some, None, option_map, false, true, is_none, is_some, refl, subst, sym, ap, ◌∙◌}
+use Rattle.std.proofs.Common.{◌≡◌, ◌≢◌, ℕ, List, Option, Some, None, option_map, false, true, is_none, is_some, refl, subst, sym, ap, ◌∙◌}
 use Rattle.std.specs.Str.{IsUtf8}
-use Rattle.json.specs.Find.{BeginsWith, InMembers, NextMember, as_object}
-use Rattle.json.specs.Json.{Json, object, Members, no_members, member, document}
+use Rattle.json.specs.Find.{BeginsWith, Finds, InMembers, NextMember, as_object, get}
+use Rattle.json.specs.Json.{Json, object, Members, member, document}
 use Rattle.json.specs.Token.{Token}
 use Rattle.mmdb_objects.specs.declared.step.Step.{Step}
-use Rattle.mmdb_objects.specs.declared.step.Step.TheVariants.{Key, Index}
-use Rattle.mmdb_objects.specs.Objects.{EndsWithBrace, text_along, is_empty}
+use Rattle.mmdb_objects.specs.Objects.{EndsWithBrace, has_member, is_empty}
+use Rattle.mmdb_addresses.specs.declared.readings.Reading.{Reading}
 use Rattle.mmdb_objects.specs.Objects.{ReadsLine}
 use Rattle.mmdb_objects.specs.Working.{ReadsValue}
 use Rattle.mmdb_objects.specs.declared.objects.ReadLine.{ReadLine}
-use Rattle.mmdb_objects.specs.declared.objects.ReadLine.TheVariants.{NoObject, NoAddress, Object}
+use Rattle.mmdb_objects.specs.declared.objects.ReadLine.TheVariants.{NoObject, Object}
 
 some_json : (x y : Json) → ◌≡◌ {A = Option Json} (Some x) (Some y) → x ≡ y
 some_json x y e = cc
@@ -28,23 +28,21 @@ next_is_none view old new (Some m) members next here =
     ap is_empty (sym is)
 
 -- a text that is some value
-pub text_read : (text : List ℕ) (path : List Step) (j : Json) (behind : ℕ) (line : ReadLine) → IsUtf8 text → EndsWithBrace text behind → document text ≡ Some j → ReadsValue j behind path line → ReadsLine text false path line
-text_read text path j behind NoObject utf8 ends value reads = λ members at is. reads members (some_json j (object members) (sym value ∙ is.value))
-text_read text path j behind NoAddress utf8 ends value reads =
-    let (members, is, none) = reads in
-    (members, behind, record { whole = refl; utf8 = utf8; value = value ∙ ap Some is; ends = ends }, none)
-text_read text path j behind (Object line) utf8 ends value reads =
-    let (members, is, leads, empty, same) = reads in
-    (members, record { whole = refl; utf8 = utf8; value = value ∙ ap Some is; ends = subst (EndsWithBrace text) (sym same) ends }, leads, empty)
+pub text_read : (reading : Reading) (text : List ℕ) (path : List Step) (name : List ℕ) (j : Json) (behind : ℕ) (line : ReadLine) → IsUtf8 text → EndsWithBrace text behind → document text ≡ Some j → ReadsValue reading j behind path name line → ReadsLine reading text false path name line
+text_read reading text path name j behind NoObject utf8 ends value reads = λ members at is. reads members (some_json j (object members) (sym value ∙ is.value))
+text_read reading text path name j behind (Object line) utf8 ends value reads =
+    let (members, is, holds, same) = reads in
+    (members, record { whole = refl; utf8 = utf8; value = value ∙ ap Some is; ends = subst (EndsWithBrace text) (sym same) ends }, holds)
 
-pub some_read : (text : List ℕ) (path : List Step) (behind : ℕ) (line : ReadLine) (value : Option Json) → document text ≡ value → is_some value ≡ true → IsUtf8 text → EndsWithBrace text behind
-    → ((j : Json) → document text ≡ Some j → ReadsValue j behind path line) → ReadsLine text false path line
-some_read text path behind line None is some utf8 ends reads = absurd (cc)
-some_read text path behind line (Some j) is some utf8 ends reads = text_read text path j behind line utf8 ends is (reads j is)
+pub some_read : (reading : Reading) (text : List ℕ) (path : List Step) (name : List ℕ) (behind : ℕ) (line : ReadLine) (value : Option Json) → document text ≡ value → is_some value ≡ true → IsUtf8 text → EndsWithBrace text behind
+    → ((j : Json) → document text ≡ Some j → ReadsValue reading j behind path name line) → ReadsLine reading text false path name line
+some_read reading text path name behind line None is some utf8 ends reads = absurd (cc)
+some_read reading text path name behind line (Some j) is some utf8 ends reads = text_read reading text path name j behind line utf8 ends is (reads j is)
 
--- an object in which a path leads to a text has a member
-pub not_empty : (path : List Step) (members : Members) (found : List ℕ) → text_along path (object members) ≡ Some found → false ≡ is_empty members
-not_empty path (member k j ms) found e = refl
-not_empty [] no_members found e = absurd (cc)
-not_empty (Key name ∷ path) no_members found e = absurd (cc)
-not_empty (Index n ∷ path) no_members found e = absurd (cc)
+-- whether a member of this name was found
+pub taken_is : (name : List ℕ) (members : Members) (j : Json) (found : Option (List Token)) → j ≡ object members → Finds found (get name j) → is_some found ≡ has_member name members
+taken_is name members j found is finds = found_is found (get name j) finds ∙ ap (λ x. is_some (get name x)) is
+  where
+    found_is : (found : Option (List Token)) (value : Option Json) → Finds found value → is_some found ≡ is_some value
+    found_is None value none = ap is_some (sym none)
+    found_is (Some ts) value some = ap is_some (sym some.1)

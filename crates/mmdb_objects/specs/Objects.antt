@@ -1,14 +1,15 @@
 -- Lines that are objects of JSON, and the address that one has.
-use Rattle.std.specs.Prelude.{◌≡◌, ◌<◌, ◌≤◌, ◌-◌, ℕ, List, [], ◌∷◌, Option, Some, None, option_and_then, Bool, true, false, length, slice_index}
-use Rattle.std.specs.Net.Grammar.{IsIpText}
+use Rattle.std.specs.Prelude.{◌≡◌, ◌<◌, ◌≤◌, ◌-◌, ℕ, List, [], ◌∷◌, Option, Some, option_and_then, Bool, true, false, is_some, length, slice_index}
 use Rattle.std.specs.Str.{IsUtf8}
 use Rattle.std.specs.declared.net.ip_addr.IpAddr.{IpAddr}
-use Rattle.json.specs.Find.{get, at, as_str}
+use Rattle.json.specs.Find.{get, get_member, at, as_str}
 use Rattle.json.specs.Json.{Json, object, Members, no_members, member, document}
 use Rattle.json.specs.Word.{is_space}
+use Rattle.mmdb_addresses.specs.Addresses.{IsAddressIn, ReadsAddress}
+use Rattle.mmdb_addresses.specs.declared.readings.Reading.{Reading}
 use Rattle.mmdb_objects.specs.declared.objects.Line.{Line}
 use Rattle.mmdb_objects.specs.declared.objects.ReadLine.{ReadLine}
-use Rattle.mmdb_objects.specs.declared.objects.ReadLine.TheVariants.{NoObject, NoAddress, Object}
+use Rattle.mmdb_objects.specs.declared.objects.ReadLine.TheVariants.{NoObject, Object}
 use Rattle.mmdb_objects.specs.declared.step.Step.{Step}
 use Rattle.mmdb_objects.specs.declared.step.Step.TheVariants.{Key, Index}
 
@@ -36,18 +37,27 @@ pub record IsObject (text : List ℕ) (goes_on : Bool) (members : Members) (behi
   pub value : document text ≡ Some (object members)
   pub ends : EndsWithBrace text behind
 
--- In the object a path leads to a text that spells this address.
-abbrev pub LeadsToAddress : List Step → Members → IpAddr → Type 0
-LeadsToAddress path members address = (spelled : List ℕ) × (text_along path (object members) ≡ Some spelled) × IsIpText spelled address
+-- In the object a path leads to a text in which this address is.
+abbrev pub LeadsToAddress : Reading → List Step → Members → IpAddr → Type 0
+LeadsToAddress reading path members address = (text : List ℕ) × (text_along path (object members) ≡ Some text) × IsAddressIn reading text address
 
 abbrev pub is_empty : Members → Bool
 is_empty no_members = true
 is_empty (member _ _ _) = false
 
--- What a line is: an object in which the path leads to an address, an object in which it leads to none, or no object.
-abbrev pub ReadsLine : List ℕ → Bool → List Step → ReadLine → Type 0
-ReadsLine bytes goes_on path NoObject = (members : Members) (behind : ℕ) → ¬ IsObject bytes goes_on members behind
-ReadsLine bytes goes_on path NoAddress =
-    (members : Members) × (behind : ℕ) × IsObject bytes goes_on members behind × ((address : IpAddr) → ¬ LeadsToAddress path members address)
-ReadsLine bytes goes_on path (Object line) =
-    (members : Members) × IsObject bytes goes_on members line.behind × LeadsToAddress path members line.address × (line.is_empty ≡ is_empty members)
+-- whether a member has this name
+abbrev pub has_member : List ℕ → Members → Bool
+has_member name members = is_some (get_member name members)
+
+-- What a line has that is an object: the address in the text to which the path leads, or none; whether it has no member;
+-- and whether it has one of this name.
+pub record Holds (reading : Reading) (path : List Step) (name : List ℕ) (members : Members) (line : Line) : Type 0 where
+  pub address : ReadsAddress reading (text_along path (object members)) line.address
+  pub empty : line.is_empty ≡ is_empty members
+  pub taken : line.is_taken ≡ has_member name members
+
+-- What a line is: an object with what it holds, or no object.
+abbrev pub ReadsLine : Reading → List ℕ → Bool → List Step → List ℕ → ReadLine → Type 0
+ReadsLine reading bytes goes_on path name NoObject = (members : Members) (behind : ℕ) → ¬ IsObject bytes goes_on members behind
+ReadsLine reading bytes goes_on path name (Object line) =
+    (members : Members) × IsObject bytes goes_on members line.behind × Holds reading path name members line

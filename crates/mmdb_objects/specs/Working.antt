@@ -1,15 +1,28 @@
 -- What contracts of private functions and proofs name.
-use Rattle.std.specs.Prelude.{◌≡◌, ◌≢◌, ℕ, List}
-use Rattle.std.specs.declared.net.ip_addr.IpAddr.{IpAddr}
+use Rattle.std.specs.Prelude.{◌≡◌, ◌≢◌, ℕ, List, option_map, option_and_then}
+use Rattle.json.specs.Find.{get_member}
 use Rattle.json.specs.Json.{Json, object, Members}
-use Rattle.mmdb_objects.specs.Objects.{LeadsToAddress, is_empty}
+use Rattle.mmdb_addresses.specs.declared.readings.Reading.{Reading}
+use Rattle.mmdb_objects.specs.Objects.{Holds, has_member, is_empty, text_along}
 use Rattle.mmdb_objects.specs.declared.objects.ReadLine.{ReadLine}
-use Rattle.mmdb_objects.specs.declared.objects.ReadLine.TheVariants.{NoObject, NoAddress, Object}
+use Rattle.mmdb_objects.specs.declared.objects.ReadLine.TheVariants.{NoObject, Object}
+use Rattle.mmdb_objects.specs.declared.one_pass.Object.{Object as Found}
 use Rattle.mmdb_objects.specs.declared.step.Step.{Step}
 
 -- What a value is, from whose last brace on so many bytes stand.
-abbrev pub ReadsValue : Json → ℕ → List Step → ReadLine → Type 0
-ReadsValue j behind path NoObject = (members : Members) → j ≢ object members
-ReadsValue j behind path NoAddress = (members : Members) × (j ≡ object members) × ((address : IpAddr) → ¬ LeadsToAddress path members address)
-ReadsValue j behind path (Object line) =
-    (members : Members) × (j ≡ object members) × LeadsToAddress path members line.address × (line.is_empty ≡ is_empty members) × (line.behind ≡ behind)
+abbrev pub ReadsValue : Reading → Json → ℕ → List Step → List ℕ → ReadLine → Type 0
+ReadsValue reading j behind path name NoObject = (members : Members) → j ≢ object members
+ReadsValue reading j behind path name (Object line) = (members : Members) × (j ≡ object members) × Holds reading path name members line × (line.behind ≡ behind)
+
+-- What was found in an object: the text to which the path leads behind a member of this name, whether there is no member,
+-- and whether one has the other name.
+pub record HoldsMembers (name : List ℕ) (path : List Step) (other : List ℕ) (members : Members) (found : Found) : Type 0 where
+  pub text : option_map (λ s. s.now) found.text ≡ option_and_then (text_along path) (get_member name members)
+  pub empty : found.is_empty ≡ is_empty members
+  pub taken : found.is_taken ≡ has_member other members
+
+-- the same, where the path has the first name too
+pub record HoldsText (path : List Step) (other : List ℕ) (members : Members) (found : Found) : Type 0 where
+  pub text : option_map (λ s. s.now) found.text ≡ text_along path (object members)
+  pub empty : found.is_empty ≡ is_empty members
+  pub taken : found.is_taken ≡ has_member other members

@@ -7,28 +7,30 @@ ghost use Rattle.mmdb_objects.specs.Working.{ReadsValue};
 ghost use Rattle.mmdb_addresses.specs.Addresses.{ReadsAddress};
 
 use crate::lexemes::is_space;
-use crate::one_pass::text_in_object;
+use crate::one_pass::followed_object;
 use crate::step::Step;
 use json::{Element, Error, Scratch, Tape};
-use mmdb_addresses::{address_of, read_address};
+use mmdb_addresses::{Reading, address_in, address_of};
 use std::alloc::{AllocError, Global};
 use std::net::IpAddr;
 
-/// A line that is an object with an address.
+/// A line that is an object.
 #[derive(Clone, Copy)]
 pub struct Line {
-    pub address: IpAddr,
+    /// The address to which the path leads, if it leads to one.
+    pub address: Option<IpAddr>,
     /// How many bytes stand from the last brace on.
     pub behind: usize,
     /// Whether the object has no member.
     pub is_empty: bool,
+    /// Whether it has one of the name that is asked about.
+    pub is_taken: bool,
 }
 
 /// What a line is.
 #[derive(Clone, Copy)]
 pub enum ReadLine {
     NoObject,
-    NoAddress,
     Object(Line),
 }
 
@@ -75,93 +77,103 @@ fn text_along<'a>(value: &Element<'_, 'a>, path: &[Step<'_>]) -> Option<&'a str>
 }
 
 // The address that a path leads to.
-fn address_along(value: &Element<'_, '_>, path: &[Step<'_>]) -> Option<IpAddr>
+fn address_along(reading: Reading, value: &Element<'_, '_>, path: &[Step<'_>]) -> Option<IpAddr>
     ensures { (j : Json) → BeginsWith value.now j
-        → ReadsAddress (spec_text_along path.now j) result }
+        → ReadsAddress reading (spec_text_along path.now j) result }
 {
     match text_along(value, path) {
-        Some(text) => match read_address(text.as_bytes()) {
-            Ok(address) => Some(address),
-            Err(_) => None,
-        },
+        Some(text) => address_in(reading, text.as_bytes()),
         None => None,
     }
 }
 
 // What a value is of which so many bytes stand from the last brace on.
-fn line_of(value: &Element<'_, '_>, path: &[Step<'_>], behind: usize) -> ReadLine
-    ensures { (j : Json) → BeginsWith value.now j → ReadsValue j behind path.now result }
+fn line_of(
+    reading: Reading,
+    value: &Element<'_, '_>,
+    path: &[Step<'_>],
+    name: &str,
+    behind: usize,
+) -> ReadLine
+    ensures { (j : Json) → BeginsWith value.now j
+        → ReadsValue reading j behind path.now name.now result }
 {
     let Some(mut members) = value.members() else {
         return ReadLine::NoObject;
     };
     let is_empty = members.next().is_none();
-    match address_along(value, path) {
-        Some(address) => ReadLine::Object(Line {
-            address,
-            behind,
-            is_empty,
-        }),
-        None => ReadLine::NoAddress,
-    }
+    ReadLine::Object(Line {
+        address: address_along(reading, value, path),
+        behind,
+        is_empty,
+        is_taken: value.get(name).is_some(),
+    })
 }
 
 // What a text is of which so many bytes stand from the last brace on; none where one pass over it
 // does not say that.
-fn read_in_one_pass(text: &[u8], path: &[Step<'_>], behind: usize) -> Option<ReadLine>
+fn read_in_one_pass(
+    reading: Reading,
+    text: &[u8],
+    path: &[Step<'_>],
+    name: &str,
+    behind: usize,
+) -> Option<ReadLine>
     ensures { IfSome result (λ line. (j : Json) × (document text.now ≡ Some j)
-        × ReadsValue j behind path.now line) }
+        × ReadsValue reading j behind path.now name.now line) }
 {
-    let found = text_in_object(text, path)?;
-    match address_of(found) {
-        Some(address) => Some(ReadLine::Object(Line {
-            address,
-            behind,
-            is_empty: false,
-        })),
-        None => Some(ReadLine::NoAddress),
-    }
+    let object = followed_object(text, path, name)?;
+    Some(ReadLine::Object(Line {
+        address: address_of(reading, object.text),
+        behind,
+        is_empty: object.is_empty,
+        is_taken: object.is_taken,
+    }))
 }
 
 // What a text is of which so many bytes stand from the last brace on.
 fn read_text(
     alloc: Global,
+    reading: Reading,
     text: &[u8],
     path: &[Step<'_>],
+    name: &str,
     behind: usize,
     scratch: &mut Scratch,
 ) -> Result<ReadLine, AllocError>
     requires { EndsWithBrace text.now behind }
-    ensures { IfOk result (ReadsLine text.now false path.now) }
+    ensures { IfOk result (ReadsLine reading text.now false path.now name.now) }
 {
     let Ok(text) = str::from_utf8(text) else {
         return Ok(ReadLine::NoObject);
     };
-    if let Some(line) = read_in_one_pass(text.as_bytes(), path, behind) {
+    if let Some(line) = read_in_one_pass(reading, text.as_bytes(), path, name, behind) {
         return Ok(line);
     }
     match Tape::parse(text, scratch, Vec::new(alloc)) {
-        Ok(tape) => Ok(line_of(&tape.root(), path, behind)),
+        Ok(tape) => Ok(line_of(reading, &tape.root(), path, name, behind)),
         Err(Error::Invalid) => Ok(ReadLine::NoObject),
         Err(_) => Err(AllocError),
     }
 }
 
-/// What a line is: an object in which a path leads to an address, or not.
+/// What a line is: an object, with the address to which a path leads and whether a member has a name, or none.
 pub fn read_line(
     alloc: Global,
+    reading: Reading,
     text: &[u8],
     goes_on: bool,
     path: &[Step<'_>],
+    name: &str,
     scratch: &mut Scratch,
 ) -> Result<ReadLine, AllocError>
-    ensures { IfOk result (ReadsLine text.now goes_on path.now) }
+    ensures { IfOk result (ReadsLine reading text.now goes_on path.now name.now) }
 {
     if goes_on {
         return Ok(ReadLine::NoObject);
     }
     match last_brace(text) {
-        Some(behind) => read_text(alloc, text, path, behind, scratch),
+        Some(behind) => read_text(alloc, reading, text, path, name, behind, scratch),
         None => Ok(ReadLine::NoObject),
     }
 }

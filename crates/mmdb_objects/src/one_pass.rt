@@ -8,6 +8,7 @@ ghost use Rattle.json.specs.Find.{as_str, get_member};
 ghost use Rattle.json.specs.Json.{Json, Items, Members, object, document};
 ghost use Rattle.json.specs.Word.{head};
 ghost use Rattle.mmdb_objects.specs.Scanned.{StandsBehind, HasKey, HasValue, HasItems, HasMembers};
+ghost use Rattle.mmdb_objects.specs.Working.{HoldsMembers, HoldsText};
 ghost use Rattle.mmdb_objects.specs.Objects.{text_along};
 
 use crate::lexemes::{
@@ -324,11 +325,78 @@ fn follow_members<'a>(
     }
 }
 
-/// The text that a path leads to in the object that a text is. None where the text is no object,
-/// and where one pass over plain bytes does not say what it is.
-pub(crate) fn text_in_object<'a>(text: &'a [u8], path: &[Step<'_>]) -> Option<Option<&'a [u8]>>
-    ensures { IfSome result (λ found. (ms : Members) × (document text.now ≡ Some (object ms))
-        × (option_map (λ s. s.now) found ≡ text_along path.now (object ms))) }
+/// An object that was followed along a path.
+#[derive(Clone, Copy)]
+pub(crate) struct Object<'a> {
+    /// Where it ends.
+    end: usize,
+    /// The text that the path leads to.
+    pub(crate) text: Option<&'a [u8]>,
+    /// Whether it has no member.
+    pub(crate) is_empty: bool,
+    /// Whether it has a member of the name that is asked about.
+    pub(crate) is_taken: bool,
+}
+
+// Follows a path into the last member of this name, from behind the open brace of a whole object on, and sees whether a
+// member has another one.
+fn follow_object<'a>(
+    text: &'a [u8],
+    from: usize,
+    name: &str,
+    path: &[Step<'_>],
+    depth: usize,
+    other: &str,
+) -> Option<Object<'a>>
+    requires { from ≤ length text.now }
+    ensures bounds { IfSome result (λ f. f.end ≤ length text.now) }
+    ensures value { IfSome result (λ f. (ms : Members) × HasMembers text.now from f.end depth ms
+        × HoldsMembers name.now path.now other.now ms f) }
+{
+    let mut found = None;
+    let mut is_taken = false;
+    let mut at = space_end(text, from);
+    let byte = byte_at(text, at);
+    if byte == b'}' {
+        return Some(Object {
+            end: at + 1,
+            text: None,
+            is_empty: true,
+            is_taken: false,
+        });
+    }
+    if byte != b'"' {
+        return None;
+    }
+    loop {
+        let key = read_key(text, at)?;
+        let is_named = is_name(&text[at + 1..key.quote], name);
+        let is_other = is_name(&text[at + 1..key.quote], other);
+        is_taken = is_taken || is_other;
+        let member = follow_member(text, is_named, key.value, path, depth, found)?;
+        let next = behind_member(text, member.end)?;
+        if next.is_end {
+            return Some(Object {
+                end: next.at,
+                text: member.text,
+                is_empty: false,
+                is_taken,
+            });
+        }
+        found = member.text;
+        at = next.at;
+    }
+}
+
+/// The object that a text is, followed along a path. None where the text is no object, and where one pass over plain bytes
+/// does not say what it is.
+pub(crate) fn followed_object<'a>(
+    text: &'a [u8],
+    path: &[Step<'_>],
+    other: &str,
+) -> Option<Object<'a>>
+    ensures { IfSome result (λ f. (ms : Members) × (document text.now ≡ Some (object ms))
+        × HoldsText path.now other.now ms f) }
 {
     if path.is_empty() {
         return None;
@@ -340,9 +408,9 @@ pub(crate) fn text_in_object<'a>(text: &'a [u8], path: &[Step<'_>]) -> Option<Op
     if byte_at(text, from) != b'{' {
         return None;
     }
-    let object = follow_members(text, from + 1, name, &path[1..], MAX_DEPTH - 1)?;
+    let object = follow_object(text, from + 1, name, &path[1..], MAX_DEPTH - 1, other)?;
     if space_end(text, object.end) < text.len() {
         return None;
     }
-    Some(object.text)
+    Some(object)
 }

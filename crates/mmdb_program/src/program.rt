@@ -4,11 +4,12 @@ use mmdb_changes::diff;
 use mmdb_cmd_build::build;
 use mmdb_console::{BAD_ARGUMENTS, Console, DONE, FAILED, Io, NO_MEMORY, ProgramError};
 use mmdb_export::export;
+use mmdb_filter::Live;
 use mmdb_lines::enrich;
 use mmdb_show::{describe, show, verify};
 use std::alloc::Global;
 use std::env::Env;
-use std::io::{BufRead, Write};
+use std::io::Write;
 use std::rt::Files;
 use std::time::Clock;
 
@@ -69,7 +70,7 @@ fn status_of<O: Write, E: Write>(
 }
 
 // Does what is requested.
-fn done_of<R: Files + Env + Clock, I: BufRead, O: Write, E: Write>(
+fn done_of<R: Files + Env + Clock, I: Live, O: Write, E: Write>(
     rt: &R,
     request: &Request<'_>,
     input: &mut I,
@@ -87,7 +88,7 @@ fn done_of<R: Files + Env + Clock, I: BufRead, O: Write, E: Write>(
 }
 
 // Does what is requested, and answers the status.
-fn run_request<R: Files + Env + Clock, I: BufRead, O: Write, E: Write>(
+fn run_request<R: Files + Env + Clock, I: Live, O: Write, E: Write>(
     rt: &R,
     request: &Request<'_>,
     input: &mut I,
@@ -104,7 +105,7 @@ fn run_request<R: Files + Env + Clock, I: BufRead, O: Write, E: Write>(
 /// 0: done. 1: an error, which is reported on `errors` with the file, the stream or the argument. 2: a usage error; no file was opened,
 /// unless for a column that the first line has not. 6: an address has no record, or a path leads nowhere in it. 7: two
 /// files differ, where that was asked. Faults of `errors` change no status.
-pub fn run<R: Files + Env + Clock, I: BufRead, O: Write, E: Write>(
+pub fn run<R: Files + Env + Clock, I: Live, O: Write, E: Write>(
     rt: &R,
     alloc: Global,
     arguments: &[String],

@@ -9,4 +9,6 @@ mod lines;
 #[cfg(test)]
 mod networks;
 #[cfg(test)]
+mod readings;
+#[cfg(test)]
 mod texts;

@@ -1,6 +1,6 @@
 //! Addresses that texts spell, beside std's parser of them; lines of JSON; and what is kept of short answers.
 use json::Scratch;
-use mmdb_addresses::{AddressText, address_of, read_address};
+use mmdb_addresses::{AddressText, Reading, address_of, read_address};
 use mmdb_blocks::{Block, Kind, Kinds};
 use mmdb_cache::{Known, Table};
 use mmdb_objects::{Line, ReadLine, Step, read_line};
@@ -62,7 +62,9 @@ fn is_read_as_by_std(text: &str) -> bool {
         Some(copy) => copy.as_slice() == bytes,
         None => false,
     };
-    read_address(bytes).ok() == wanted && address_of(Some(bytes)) == wanted && is_copied
+    read_address(bytes).ok() == wanted
+        && address_of(Reading::Exact, Some(bytes)) == wanted
+        && is_copied
 }
 
 #[test]
@@ -70,11 +72,11 @@ fn addresses_as_std_reads_them(rt: HostRuntime) {
     for text in TEXTS {
         assert!(rt; is_read_as_by_std(*text), "{text:?}");
     }
-    assert!(rt; address_of(None).is_none());
+    assert!(rt; address_of(Reading::First, None).is_none());
 }
 
-/// A line, and what it is by the address at `client.ip`: no object, one without an address there, or with 1.2.3.4, how many
-/// bytes stand from its last brace on and whether it has no member.
+/// A line, and what it is by the address at `client.ip`: no object, one without an address there, one with a member `geo`, or
+/// with 1.2.3.4, how many bytes stand from its last brace on.
 const LINES: &[(&str, &str)] = &[
     ("", "no object"),
     ("1", "no object"),
@@ -99,6 +101,14 @@ const LINES: &[(&str, &str)] = &[
     ),
     ("{\"client\":{\"ip\":\"1.2.3.\\u0034\"}}", "address 1"),
     (
+        "{\"client\":{\"ip\":\"1.2.3.4:80\",\"geo\":1}}",
+        "address 1",
+    ),
+    ("{\"geo\":1,\"client\":{\"ip\":\"1.2.3.4\"}}", "taken"),
+    ("{\"client\":{\"ip\":\"1.2.3.4\"},\"geo\":null}", "taken"),
+    ("{\"client\":{\"ip\":\"1.2.3.4\"},\"g\\u0065o\":1}", "taken"),
+    ("{\"client\":{\"ip\":\"1.2.3.4\"},\"geo2\":1}", "address 1"),
+    (
         "{\"a\":[1,{\"b\":null}],\"client\":{\"ip\":\"1.2.3.4\",\"c\":-0.5e1}}",
         "address 1",
     ),
@@ -106,7 +116,13 @@ const LINES: &[(&str, &str)] = &[
 
 // The line with an address as a text.
 fn text_of(line: &Line) -> &'static str {
-    let is_wanted = line.address == IpAddr::V4(Ipv4Addr::new(1, 2, 3, 4)) && !line.is_empty;
+    let Some(address) = line.address else {
+        return "no address";
+    };
+    if line.is_taken {
+        return "taken";
+    }
+    let is_wanted = address == IpAddr::V4(Ipv4Addr::new(1, 2, 3, 4)) && !line.is_empty;
     match line.behind {
         1 if is_wanted => "address 1",
         2 if is_wanted => "address 2",
@@ -120,9 +136,16 @@ fn kind_of(alloc: Global, line: &str) -> Result<&'static str, AllocError> {
     let mut scratch = Scratch::new(alloc);
     let path = [Step::Key("client"), Step::Key("ip")];
     Ok(
-        match read_line(alloc, line.as_bytes(), false, &path, &mut scratch)? {
+        match read_line(
+            alloc,
+            Reading::First,
+            line.as_bytes(),
+            false,
+            &path,
+            "geo",
+            &mut scratch,
+        )? {
             ReadLine::NoObject => "no object",
-            ReadLine::NoAddress => "no address",
             ReadLine::Object(line) => text_of(&line),
         },
     )

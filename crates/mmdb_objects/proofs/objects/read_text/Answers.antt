@@ -12,5 +12,5 @@ returns-in-Ok-parse c =
     let same : c.in-Ok.text.now ≡ text = search rules in
     let some : is_some (document text) ≡ true = subst (λ t. is_some (document t) ≡ true) same c.in-Ok-parse.ensures.ok.1 in
     let root : c.root.result ≡ c.in-Ok-parse.tape = search rules in
-    some_read text c.args.path.now c.args.behind c.line_of.result (document text) refl some utf8 c.requires
+    some_read c.args.reading text c.args.path.now c.args.name.now c.args.behind c.line_of.result (document text) refl some utf8 c.requires
     (λ j is. c.line_of.ensures j (subst (λ t. BeginsWith t j) (sym root) (c.in-Ok-parse.ensures.value j (subst (λ t. document t ≡ Some j) (sym same) is))))

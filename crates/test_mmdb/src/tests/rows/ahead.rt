@@ -101,7 +101,7 @@ fn rows_looked_up_ahead(rt: HostRuntime) {
     let reader = Reader::from_source(rt.alloc(), bytes.as_slice()).expect(&rt, "a reader");
     assert_holds(
         &rt,
-        are_written(rt.alloc(), &reader, Rows::Lines, LINES),
+        are_written(rt.alloc(), &reader, Rows::Lines { delimiter: b'\t' }, LINES),
         "lines",
     );
     assert_holds(&rt, are_written(rt.alloc(), &reader, CSV, ROWS), "CSV");
@@ -181,7 +181,14 @@ fn is_prompt(alloc: Global, reader: &Reader<&[u8]>) -> bool {
         bytes: Vec::new(alloc),
         written: &written,
     };
-    let is_done = enriched(alloc, reader, Rows::Lines, 0, &mut typed, &mut out);
+    let is_done = enriched(
+        alloc,
+        reader,
+        Rows::Lines { delimiter: b'\t' },
+        0,
+        &mut typed,
+        &mut out,
+    );
     is_done && out.bytes.as_slice() == want.as_slice() && late.get().is_none()
 }
 

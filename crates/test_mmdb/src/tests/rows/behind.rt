@@ -1,6 +1,6 @@
 //! Additions before the last bytes of a text.
 use super::streams::{Marks, Seen, assert_at};
-use mmdb_filter::{Rows, filter_rows};
+use mmdb_filter::{Counts, Rows, filter_rows};
 use mmdb_vectors::section::section_of;
 use std::alloc::Global;
 
@@ -21,9 +21,10 @@ fn is_marked(alloc: Global, behind: usize, input: &[u8], want: &[u8]) -> bool {
     let (marks, mut seen) = (Marks(behind), Seen(0));
     let done = filter_rows(
         alloc,
-        Rows::Lines,
+        Rows::Lines { delimiter: b'\t' },
         &marks,
         &mut (),
+        Counts::new(),
         &mut input,
         &mut out,
         &mut seen,

@@ -1,12 +1,13 @@
 //! Columns, addresses in them, and cells of CSV.
 use super::streams::{Seen, assert_at};
+use mmdb_addresses::Reading;
 use mmdb_enrich::{Enrichment, RowMemory};
-use mmdb_filter::{Rows, filter_rows, put_csv_cell};
+use mmdb_filter::{Counts, Live, Rows, filter_rows, put_csv_cell};
 use mmdb_reader::{PathElement, Reader};
 use mmdb_vectors::builder::{BASE_NODE, changed_file};
 use mmdb_vectors::section::section_of;
 use std::alloc::Global;
-use std::io::{BufRead, Write};
+use std::io::Write;
 
 /// Rows of CSV.
 pub(crate) const CSV: Rows = Rows::Csv { delimiter: b',' };
@@ -18,10 +19,10 @@ type Row = (Rows, usize, &'static [u8], &'static [u8]);
 
 #[rattlefmt::skip]
 const ROWS: &[Row] = &[
-    (Rows::Lines, 0, b"200.0.0.1\n", b"200.0.0.1\ta\"b,c\n"),
-    (Rows::Lines, 1, b"x\t200.0.0.1\ty\r\n", b"x\t200.0.0.1\ty\ta\"b,c\r\n"),
-    (Rows::Lines, 0, b"\"200.0.0.1\"\n", b"\"200.0.0.1\"\t\n"),
-    (Rows::Lines, 2, b"a\tb\n", b"a\tb\t\n"),
+    (Rows::Lines { delimiter: b'\t' }, 0, b"200.0.0.1\n", b"200.0.0.1\ta\"b,c\n"),
+    (Rows::Lines { delimiter: b'\t' }, 1, b"x\t200.0.0.1\ty\r\n", b"x\t200.0.0.1\ty\ta\"b,c\r\n"),
+    (Rows::Lines { delimiter: b'\t' }, 0, b"\"200.0.0.1\"\n", b"\"200.0.0.1\"\t\n"),
+    (Rows::Lines { delimiter: b'\t' }, 2, b"a\tb\n", b"a\tb\t\n"),
     (CSV, 0, b"200.0.0.1\n", b"200.0.0.1,\"a\"\"b,c\"\n"),
     (CSV, 0, b"\"200.0.0.1\"\r\n", b"\"200.0.0.1\",\"a\"\"b,c\"\r\n"),
     (CSV, 0, b"1.1.1.1\nx", b"1.1.1.1,\nx,"),
@@ -47,7 +48,7 @@ fn whole_record(alloc: Global) -> Vec<Vec<PathElement<'static>>> {
 }
 
 /// The filter with the record of the address in a column; whether it came to the end.
-pub(crate) fn enriched<I: BufRead, W: Write>(
+pub(crate) fn enriched<I: Live, W: Write>(
     alloc: Global,
     reader: &Reader<&[u8]>,
     rows: Rows,
@@ -62,6 +63,7 @@ pub(crate) fn enriched<I: BufRead, W: Write>(
         alloc,
         reader,
         rows,
+        reading: Reading::First,
         column,
         paths: whole_record(alloc),
     };
@@ -70,6 +72,7 @@ pub(crate) fn enriched<I: BufRead, W: Write>(
         rows,
         &enrichment,
         &mut memory,
+        Counts::new(),
         input,
         out,
         &mut Seen(0),
@@ -125,7 +128,7 @@ fn is_cut(alloc: Global, reader: &Reader<&[u8]>, row: &(usize, &[u8], bool)) -> 
     is_enriched(
         alloc,
         reader,
-        Rows::Lines,
+        Rows::Lines { delimiter: b'\t' },
         1,
         input.as_slice(),
         want.as_slice(),

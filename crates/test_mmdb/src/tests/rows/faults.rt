@@ -42,7 +42,13 @@ fn is_right(failed: Option<ErrorKind>, out: &[u8], want: &[u8], reason: ErrorKin
 fn fails_at_read(rt: &impl Abort, alloc: Global, input: &[u8], want: &[u8], read: u32) -> bool {
     let mut out: Vec<u8> = Vec::new(alloc);
     let input = Chopped::new(input, 9000, read);
-    let failed = kind_of(filtered(alloc, Rows::Lines, input, 8192, &mut out));
+    let failed = kind_of(filtered(
+        alloc,
+        Rows::Lines { delimiter: b'\t' },
+        input,
+        8192,
+        &mut out,
+    ));
     let is_right = is_right(failed, out.as_slice(), want, ErrorKind::InvalidData);
     assert_at(rt, is_right, read as usize);
     failed.is_some()
@@ -90,7 +96,14 @@ fn assert_room(rt: &impl Abort, alloc: Global, input: &[u8], want: &[u8], room: 
         writes: 0,
     };
     let input = Chopped::new(input, 70_000, u32::MAX);
-    let is_done = filtered(alloc, Rows::Lines, input, 65_536, &mut out).is_ok();
+    let is_done = filtered(
+        alloc,
+        Rows::Lines { delimiter: b'\t' },
+        input,
+        65_536,
+        &mut out,
+    )
+    .is_ok();
     let is_right = is_done == (room == want.len())
         && out.bytes.as_slice() == &want[..room.min(want.len())];
     assert_at(rt, is_right, room);
@@ -113,7 +126,7 @@ fn with_budget(alloc: Global, input: &[u8], out: &mut Narrow, budget: usize) -> 
     let large = Hoard::of_large_blocks(alloc);
     let small = Hoard::of_all_but(alloc, budget);
     let input = Chopped::new(input, 70_000, u32::MAX);
-    let failed = kind_of(filtered(alloc, Rows::Lines, input, 4096, out));
+    let failed = kind_of(filtered(alloc, Rows::Lines { delimiter: b'\t' }, input, 4096, out));
     drop(small);
     drop(large);
     failed

@@ -1,10 +1,10 @@
 //! Rows around the length of a piece.
 use super::streams::{Chopped, Lengths, Seen, assert_holds, filtered};
 use mmdb_filter::laws::{count_clones_are_same, counts_equal_where_same};
-use mmdb_filter::{Counts, Rows, filter_rows};
+use mmdb_filter::{Counts, Live, Rows, filter_rows};
 use mmdb_vectors::section::section_of;
 use std::alloc::Global;
-use std::io::{self, BufRead, BufReader, Read, Write};
+use std::io::{self, BufReader, Read, Write};
 use std::process::Abort;
 
 /// How long a text is, what stands at its back, its end, and what is added.
@@ -66,7 +66,10 @@ fn is_filtered(
 // Asserts the same for all steps, and for lines and CSV.
 fn assert_filtered(rt: &impl Abort, alloc: Global, row: &Row, input: &[u8], want: &[u8]) {
     for steps in STEPS {
-        for rows in [Rows::Lines, Rows::Csv { delimiter: b',' }] {
+        for rows in [
+            Rows::Lines { delimiter: b'\t' },
+            Rows::Csv { delimiter: b',' },
+        ] {
             let is_right = is_filtered(alloc, rows, *steps, input, want);
             assert!(rt; is_right, "{row:?} with {steps:?}");
         }
@@ -142,19 +145,20 @@ impl Write for Counting {
 }
 
 // What the filter counts, how many bytes it writes, and the number of rows that was reported last.
-fn counted<R: BufRead + Drop>(rt: &impl Abort, alloc: Global, mut input: R) -> (Counts, u64, u64) {
+fn counted<R: Live + Drop>(rt: &impl Abort, alloc: Global, mut input: R) -> (Counts, u64, u64) {
     let mut out = Counting { bytes: 0 };
     let mut seen = Seen(0);
-    let counts = filter_rows(
+    let filtered = filter_rows(
         alloc,
-        Rows::Lines,
+        Rows::Lines { delimiter: b'\t' },
         &Lengths,
         &mut (),
+        Counts::new(),
         &mut input,
         &mut out,
         &mut seen,
     );
-    (counts.expect(rt, "counts"), out.bytes, seen.0)
+    (filtered.expect(rt, "counts").counts, out.bytes, seen.0)
 }
 
 #[test]
@@ -167,6 +171,7 @@ fn a_row_of_a_hundred_million_bytes(rt: HostRuntime) {
         unreadable: 0,
         malformed: 0,
         rejected: 1,
+        occupied: 0,
     };
     assert!(rt; counts == one, "{} rejected", counts.rejected);
     assert!(rt; bytes == 100_000_007, "{bytes}");

@@ -160,9 +160,14 @@ impl Additions for Marks {
 pub(crate) struct Seen(pub(crate) u64);
 
 impl Progress for Seen {
-    fn passed(&mut self, rows: u64) {
-        self.0 = rows;
+    fn passed(&mut self, counts: Counts) -> bool {
+        self.0 = counts.total().unwrap_or(0);
+        true
     }
+
+    fn stays_quoted(&mut self, _rows: u64) {}
+
+    fn is_occupied(&mut self, _rows: u64) {}
 }
 
 /// The filter over an input in pieces of one size.
@@ -174,13 +179,15 @@ pub(crate) fn filtered<W: Write>(
     out: &mut W,
 ) -> io::Result<Counts> {
     let mut reader = BufReader::with_capacity(alloc, capacity, input)?;
-    filter_rows(
+    let filtered = filter_rows(
         alloc,
         rows,
         &Lengths,
         &mut (),
+        Counts::new(),
         &mut reader,
         out,
         &mut Seen(0),
-    )
+    )?;
+    Ok(filtered.counts)
 }

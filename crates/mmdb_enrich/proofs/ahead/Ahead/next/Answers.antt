@@ -11,7 +11,7 @@ returns-clause-spelled c = λ db is.
     let copy = c.index-self-at.result in
     let there : slice_index_or ahead.texts ahead.next copy ≡ copy = search rules in
     let same : spelling copy ≡ c.args.text.now = search rules in
-    (c.args.text.now, refl, spelled_at ahead.texts ahead.addresses ahead.count ahead.next copy c.args.text.now (V4 (record { octets = [] })) below there same is.spelled)
+    (c.args.text.now, refl, spelled_at c.args.reading ahead.texts ahead.addresses ahead.count ahead.next copy c.args.text.now (V4 (record { octets = [] })) below there same is.spelled)
 
 pub returns-clause-found : goal.returns-clause-found
 returns-clause-found c = λ db is.

@@ -5,5 +5,5 @@ use Rattle.mmdb_enrich.proofs.ahead.Ahead.note_rows.Given as goal
 abbrev pub invariant-loop : goal.invariant-loop
 invariant-loop l = record {
   few : l.count ≤ l.counter;
-  spelled : AreSpelled l.self.texts l.self.addresses l.count;
+  spelled : AreSpelled l.reading l.self.texts l.self.addresses l.count;
 }

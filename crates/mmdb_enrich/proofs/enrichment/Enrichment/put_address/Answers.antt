@@ -4,8 +4,16 @@ use Rattle.mmdb_reader.specs.Found.{leaf_of, offset_found}
 use Rattle.mmdb_enrich.specs.Added.{AddsAt}
 use Rattle.mmdb_enrich.specs.Rows.{paths_of}
 use Rattle.mmdb_enrich.specs.Wanted.{cells}
-use Rattle.mmdb_enrich.proofs.AddedLaws.{found_added, absent_added}
+use Rattle.mmdb_enrich.proofs.AddedLaws.{found_added, absent_added, rejected_added}
 use Rattle.mmdb_enrich.proofs.enrichment.Enrichment.put_address.Goals as goal
+
+pub returns-in_default-clause-added : goal.returns-in_default-clause-added
+returns-in_default-clause-added g c =
+    let db = c.args.self.now.reader.now in
+    let why = c.in_default.ensures in
+    IfOk-weaker c.put_none.result _ _
+    (λ addition e. rejected_added db c.args.self.now.rows c.args.self.now.paths c.args.asked.address c.in_default.field-0 addition c.args.out.now c.put_none.new.out why.no_other why.of_input.0 why.of_database.0 e.0 e.1)
+    c.put_none.ensures
 
 pub returns-in_default-offset-clause-added : goal.returns-in_default-offset-clause-added
 returns-in_default-offset-clause-added g c =

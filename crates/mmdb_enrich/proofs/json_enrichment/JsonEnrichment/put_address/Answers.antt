@@ -11,13 +11,15 @@ returns-in_default-clause-added g c =
     let fields = c.args.self.now.fields.items in
     let line = c.args.line.now in
     let why = c.in_default.ensures in
-    rejected_put db c.args.self.now.name.now fields line c.nothing.result c.args.out.now.items (address_rejected db fields line.address c.in_default.field-0 why.no_other why.of_input.0 why.of_database.0) c.nothing.ensures.0
+    rejected_put db c.args.self.now.nulls c.args.self.now.name.now fields line c.args.address c.nothing.result c.args.out.now.items (address_rejected db fields c.args.address c.in_default.field-0 why.no_other why.of_input.0 why.of_database.0) c.nothing.ensures.0
 
 pub returns-in_default-offset-clause-added : goal.returns-in_default-offset-clause-added
 returns-in_default-offset-clause-added g c =
     let found = c.in-Ok.found in
     let none : offset_found found ≡ None = search rules in
-    absent_put c.args.self.now.reader.now c.args.self.now.name.now c.args.self.now.fields.items c.args.line.now (leaf_of found) (offset_found found) c.nothing-in_default-offset.result c.args.out.now.items none c.in-Ok.ensures.answered c.nothing-in_default-offset.ensures.0
+    IfOk-weaker c.put_none.result _ _
+    (λ addition puts. absent_put c.args.self.now.reader.now c.args.self.now.nulls c.args.self.now.name.now c.args.self.now.fields.items c.args.line.now c.args.address (leaf_of found) (offset_found found) addition c.args.out.now.items c.put_none.new.out.items none c.in-Ok.ensures.answered puts)
+    c.put_none.ensures.added
 
 pub returns-in-Some-kept-clause-added : goal.returns-in-Some-kept-clause-added
 returns-in-Some-kept-clause-added g c =
@@ -29,7 +31,7 @@ returns-in-Some-kept-clause-added g c =
     let there : offset_found found ≡ Some c.in-Some.offset = search rules in
     let is = c.in-Some-kept.ensures (member db name fields) c.requires.kept in
     IfOk-weaker c.put_member.result _ _
-    (λ addition puts. member_put db name fields c.args.line.now (leaf_of found) (offset_found found) c.in-Some.offset kept.cells.now kept.outcome addition c.args.out.now.items c.put_member.new.out.items there c.in-Ok.ensures.answered is puts)
+    (λ addition puts. member_put db c.args.self.now.nulls name fields c.args.line.now c.args.address (leaf_of found) (offset_found found) c.in-Some.offset kept.cells.now kept.outcome addition c.args.out.now.items c.put_member.new.out.items there c.in-Ok.ensures.answered is puts)
     c.put_member.ensures
 
 pub returns-in-None-clause-added : goal.returns-in-None-clause-added
@@ -40,5 +42,5 @@ returns-in-None-clause-added g c =
     IfOk-weaker c.put_record.result _ _
     (λ addition puts.
     let (text, outcome, is, grew) = puts in
-    member_put db c.args.self.now.name.now c.args.self.now.fields.items c.args.line.now (leaf_of found) (offset_found found) c.in-Some.offset text outcome addition c.args.out.now.items c.put_record.new.out.items there c.in-Ok.ensures.answered is grew)
+    member_put db c.args.self.now.nulls c.args.self.now.name.now c.args.self.now.fields.items c.args.line.now c.args.address (leaf_of found) (offset_found found) c.in-Some.offset text outcome addition c.args.out.now.items c.put_record.new.out.items there c.in-Ok.ensures.answered is grew)
     c.put_record.ensures.added

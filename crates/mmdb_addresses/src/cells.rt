@@ -1,0 +1,68 @@
+//! The address in a cell.
+ghost use Rattle.std.specs.Prelude.{◌≡◌};
+ghost use Rattle.mmdb_addresses.specs.Addresses.{Finds, IsAddressIn};
+ghost use Rattle.mmdb_addresses.specs.Cells.{first_word as spec_first_word, last_hop as spec_last_hop, unquoted as spec_unquoted, without_opening as spec_without_opening, without_closing as spec_without_closing};
+ghost use Rattle.mmdb_addresses.specs.declared.readings.Reading.TheVariants.{First, Last};
+
+use crate::bytes::{Kind, end_of};
+use crate::words::word_address;
+use std::net::IpAddr;
+
+/// The first word of a cell: behind blanks, up to a blank, a comma or a semicolon.
+pub fn first_word(cell: &[u8]) -> &[u8]
+    ensures { result.now ≡ spec_first_word cell.now }
+{
+    let from = end_of(Kind::Blank, cell, 0);
+    let end = end_of(Kind::InWord, cell, from);
+    &cell[from..end]
+}
+
+// What stands behind the last comma, or all.
+fn last_hop(cell: &[u8]) -> &[u8]
+    ensures { result.now ≡ spec_last_hop cell.now }
+{
+    let mut at = cell.len();
+    while at > 0 && cell[at - 1] != b',' {
+        at -= 1;
+    }
+    &cell[at..]
+}
+
+// A word without a double quote that it begins with.
+fn without_opening(word: &[u8]) -> &[u8]
+    ensures { result.now ≡ spec_without_opening word.now }
+{
+    if !word.is_empty() && word[0] == b'"' {
+        &word[1..]
+    } else {
+        word
+    }
+}
+
+// A word without a double quote that it ends with.
+fn without_closing(word: &[u8]) -> &[u8]
+    ensures { result.now ≡ spec_without_closing word.now }
+{
+    let len = word.len();
+    if len > 0 && word[len - 1] == b'"' {
+        &word[..len - 1]
+    } else {
+        word
+    }
+}
+
+/// The address of the first word of a cell.
+#[inline(never)]
+pub(crate) fn first_address(cell: &[u8]) -> Option<IpAddr>
+    ensures { Finds (IsAddressIn First cell.now) result }
+{
+    word_address(without_closing(without_opening(first_word(cell))))
+}
+
+/// The address of the first word behind the last comma of a cell.
+#[inline(never)]
+pub(crate) fn last_address(cell: &[u8]) -> Option<IpAddr>
+    ensures { Finds (IsAddressIn Last cell.now) result }
+{
+    first_address(last_hop(cell))
+}

@@ -1,0 +1,74 @@
+//! What an address is looked for in a text.
+ghost use Rattle.std.specs.Prelude.{IfSome, option_map};
+ghost use Rattle.mmdb_addresses.specs.declared.readings.Reading.TheVariants.{First};
+ghost use Rattle.mmdb_addresses.specs.Addresses.{Finds, IsAddressIn, ReadsAddress};
+
+use crate::addresses::{dotted_front, read_address};
+use crate::bytes::ends_word;
+use crate::cells::{first_address, last_address};
+use crate::rows::address_anywhere;
+use std::net::IpAddr;
+
+/// Where in a text an address is looked for.
+#[derive(Clone, Copy, PartialEq, Eq)]
+pub enum Reading {
+    /// The text is an address, and nothing else.
+    Exact,
+    /// It is the first word, with a port, a zone, brackets or quotes, or without.
+    First,
+    /// It is the first word behind the last comma, as of the hops of a request.
+    Last,
+    /// It stands anywhere; the first one counts.
+    Anywhere,
+}
+
+// The address of IPv4 that is the first word of a text, or none.
+#[inline(always)]
+fn dotted_word(text: &[u8]) -> Option<IpAddr>
+    ensures { IfSome result (IsAddressIn First text.now) }
+{
+    let front = dotted_front(text)?;
+    if front.end < text.len() && !ends_word(text[front.end]) {
+        return None;
+    }
+    Some(IpAddr::V4(front.address))
+}
+
+// The address in a text, read as any.
+#[inline(never)]
+fn any_address(reading: Reading, text: &[u8]) -> Option<IpAddr>
+    ensures { Finds (IsAddressIn reading text.now) result }
+{
+    match reading {
+        Reading::Exact => match read_address(text) {
+            Ok(address) => Some(address),
+            Err(_) => None,
+        },
+        Reading::First => first_address(text),
+        Reading::Last => last_address(text),
+        Reading::Anywhere => address_anywhere(text, false),
+    }
+}
+
+/// The address in a text. Most are the first word of it, and of IPv4, so these are read by steps of their own.
+#[inline(always)]
+pub fn address_in(reading: Reading, text: &[u8]) -> Option<IpAddr>
+    ensures { Finds (IsAddressIn reading text.now) result }
+{
+    if let Reading::First = reading
+        && let Some(address) = dotted_word(text)
+    {
+        return Some(address);
+    }
+    any_address(reading, text)
+}
+
+/// The address in a text, where there is a text.
+pub fn address_of(reading: Reading, text: Option<&[u8]>) -> Option<IpAddr>
+    ensures { ReadsAddress reading (option_map (λ s. s.now) text.entry) result }
+{
+    match text {
+        Some(text) => address_in(reading, text),
+        None => None,
+    }
+}

@@ -1,0 +1,72 @@
+//! The first address anywhere in a text.
+ghost use Rattle.std.specs.Prelude.{◌≡◌, ◌+◌, ◌<◌, ◌≤◌, Bool, Decides, length, take, drop, slice_range};
+ghost use Rattle.mmdb_addresses.specs.Addresses.{Finds};
+ghost use Rattle.mmdb_addresses.specs.Rows.{BeginsRun, FindsFirst, IsClosed, IsRun, StandsAt, is_behind_slash as spec_is_behind_slash, run_at, behind_run};
+
+use crate::bytes::{Kind, end_of, is_blank};
+use crate::words::plain_address;
+use std::net::IpAddr;
+
+// Whether a slash stands right before an index, and no other one before that.
+fn is_behind_slash(text: &[u8], at: usize) -> bool
+    requires { at ≤ length text.now }
+    ensures { result ≡ spec_is_behind_slash text.now at }
+{
+    at > 0 && text[at - 1] == b'/' && !(at > 1 && text[at - 2] == b'/')
+}
+
+// Whether a run ends with `.` or `:`, behind which a blank or the text's end stands.
+fn is_closed(run: &[u8], rest: &[u8]) -> bool
+    requires { 0 < length run.now }
+    ensures { Decides result (IsClosed run.now rest.now) }
+{
+    let last = run[run.len() - 1];
+    (last == b'.' || last == b':') && (rest.is_empty() || is_blank(rest[0]))
+}
+
+// The address that a run is, behind which the rest stands.
+fn run_address(run: &[u8], rest: &[u8]) -> Option<IpAddr>
+    requires { 0 < length run.now }
+    ensures { Finds (IsRun run.now rest.now) result }
+{
+    if let Some(address) = plain_address(run) {
+        return Some(address);
+    }
+    if is_closed(run, rest) {
+        plain_address(&run[..run.len() - 1])
+    } else {
+        None
+    }
+}
+
+// The address at an index where a run begins, which ends at another one.
+fn address_at(text: &[u8], goes_on: bool, at: usize, end: usize) -> Option<IpAddr>
+    requires begins { BeginsRun text.now at }
+    requires within { at < length text.now }
+    requires end { end ≡ at + length (run_at text.now at) }
+    ensures { Finds (StandsAt text.now goes_on at) result }
+{
+    if is_behind_slash(text, at) || (goes_on && end >= text.len()) {
+        return None;
+    }
+    run_address(&text[at..end], &text[end..])
+}
+
+/// The first address that stands anywhere in a text, which may go on behind what is seen of it.
+#[inline(never)]
+pub fn address_anywhere(text: &[u8], goes_on: bool) -> Option<IpAddr>
+    ensures { FindsFirst text.now goes_on result }
+{
+    let mut end = 0;
+    while end < text.len() {
+        let at = end_of(Kind::OffRun, text, end);
+        if at >= text.len() {
+            return None;
+        }
+        end = end_of(Kind::InRun, text, at);
+        if let Some(address) = address_at(text, goes_on, at, end) {
+            return Some(address);
+        }
+    }
+    None
+}
