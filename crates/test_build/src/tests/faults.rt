@@ -20,13 +20,33 @@ const WORDS: &[&str] = &[
     "--check",
 ];
 
-// A disk with an old file, rows, and what a run left that was killed.
+/// What runs left that have ended, one of them with the number of this one; what one has that is not at its end; and other
+/// files.
+const LEFT: &[&str] = &[
+    ".out.mmdb.tmp-5-1",
+    ".out.mmdb.tmp-42-2",
+    ".out.mmdb.tmp-7-3",
+    ".out.mmdb.tmp-5",
+    ".out.mmdb.tmp-5-x",
+    ".other.mmdb.tmp-5-1",
+];
+
+/// Which of them stay.
+const STAYING: &[&str] = &[
+    ".out.mmdb.tmp-7-3",
+    ".out.mmdb.tmp-5",
+    ".out.mmdb.tmp-5-x",
+    ".other.mmdb.tmp-5-1",
+];
+
+// A disk with an old file, rows, and what other runs have or left.
 fn disk_with(alloc: Global, fails_at: u32) -> Disk {
     let disk = Disk::new(alloc, fails_at, Some("7"));
     let _ = disk.put("out.mmdb", BASE_FILE);
     let _ = disk.put("rows", ROWS);
-    let _ = disk.put(".out.mmdb.tmp-5", b"left");
-    let _ = disk.put(".out.mmdb.tmp-x", b"another's");
+    for left in LEFT {
+        let _ = disk.put(left, b"left");
+    }
     disk
 }
 
@@ -35,7 +55,11 @@ fn without_fault(rt: &impl Abort, alloc: Global) -> (Vec<u8>, u32) {
     let disk = disk_with(alloc, u32::MAX);
     let run = run_on(alloc, &disk, WORDS, b"");
     assert!(rt; run.status == Some(0), "{}", run.err());
-    assert!(rt; disk.len() == 3, "a file is left");
+    assert!(rt; disk.len() == STAYING.len() + 2, "{} files", disk.len());
+    for name in STAYING {
+        assert!(rt; disk.get(name).is_some(), "{name} is removed");
+    }
+    assert!(rt; disk.mode() == 0o644, "the mode is {}", disk.mode());
     let made = disk.get("out.mmdb").expect(rt, "a file");
     assert!(rt; made.as_slice() != BASE_FILE, "the old file");
     (made, disk.calls())
