@@ -288,8 +288,9 @@ impl<'d> Files for DiskRuntime<'d> {
         if path == "./" {
             return self.opened("", Vec::new(self.disk.alloc));
         }
-        match self.disk.get(name_of(path)) {
-            Some(bytes) => self.opened(name_of(path), bytes),
+        let name = if path == LINK { TARGET } else { name_of(path) };
+        match self.disk.get(name) {
+            Some(bytes) => self.opened(name, bytes),
             None => Err(io::Error::from(ErrorKind::NotFound)),
         }
     }

@@ -65,12 +65,18 @@ fn without_fault(rt: &impl Abort, alloc: Global) -> (Vec<u8>, u32) {
     (made, disk.calls())
 }
 
-// Asserts that the file is the old one or the new one, and the new one where all is said to be done.
+// Asserts that the file is the new one where all is said to be done, and else the old one.
 fn assert_whole(rt: &impl Abort, run: &Run, file: &[u8], made: &[u8]) {
-    let is_new = file == made;
-    assert!(rt; is_new || file == BASE_FILE, "neither file: {}", run.err());
-    assert!(rt; is_new || run.status != Some(0), "not done");
+    let wanted = if run.status == Some(0) {
+        made
+    } else {
+        BASE_FILE
+    };
+    assert!(rt; file == wanted, "another file: {}", run.err());
 }
+
+/// How many calls there are behind the one that gives the file its name: those that bring the name to the disk.
+const LAST_CALLS: u32 = 2;
 
 #[test]
 fn calls_that_fail_in_turn(rt: HostRuntime) {
@@ -81,7 +87,11 @@ fn calls_that_fail_in_turn(rt: HostRuntime) {
         let disk = disk_with(alloc, fails_at);
         let run = run_on(alloc, &disk, WORDS, b"");
         let file = disk.get("out.mmdb").expect(&rt, "a file");
-        assert_whole(&rt, &run, &file, &made);
+        if fails_at < calls.saturating_sub(LAST_CALLS) {
+            assert_whole(&rt, &run, &file, &made);
+        } else {
+            assert!(rt; run.status == Some(1) && file == made, "{}", run.err());
+        }
         if run.status == Some(1) {
             failed = failed.saturating_add(1);
             assert!(rt; run.err().contains("mmdb: "), "nothing is said");
@@ -108,7 +118,7 @@ fn what_is_no_database_stays(rt: HostRuntime) {
 /// By how many bytes budgets differ, and how many there are.
 const STEP: usize = 16_384;
 
-const BUDGETS: usize = 200;
+const BUDGETS: usize = 20;
 
 // A run with so much memory.
 fn with_budget(alloc: Global, disk: &Disk, budget: usize) -> Run {
