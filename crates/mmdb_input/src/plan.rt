@@ -44,6 +44,12 @@ struct Member<'p, 'a> {
     parts: Vec<Part<'p, 'a>>,
 }
 
+// The parts whose paths begin with an index, without it.
+#[derive(Drop)]
+struct Item<'p, 'a> {
+    parts: Vec<Part<'p, 'a>>,
+}
+
 // The error of a part that leads into another one's value, or beside its keys or indexes.
 fn in_another(alloc: Global, part: &Part<'_, '_>) -> InputError {
     InputError::at(alloc, part.name, Reason::InAnother)
@@ -91,17 +97,19 @@ fn members_of<'p, 'a>(
 fn items_of<'p, 'a>(
     alloc: Global,
     parts: &[Part<'p, 'a>],
-) -> Result<Vec<Vec<Part<'p, 'a>>>, InputError> {
-    let mut items = Vec::new(alloc);
+) -> Result<Vec<Item<'p, 'a>>, InputError> {
+    let mut items: Vec<Item<'p, 'a>> = Vec::new(alloc);
     for _ in parts {
-        items.push(Vec::new(alloc))?;
+        items.push(Item {
+            parts: Vec::new(alloc),
+        })?;
     }
     for part in parts {
         let [PathElement::Index(index), path @ ..] = part.path else {
             return Err(in_another(alloc, part));
         };
         match items.get_mut(*index) {
-            Some(item) => item.push(Part { path, ..*part })?,
+            Some(item) => item.parts.push(Part { path, ..*part })?,
             None => return Err(in_another(alloc, part)),
         }
     }
@@ -133,9 +141,9 @@ fn plan_of_array<'p, 'a>(
     let mut plans = Vec::new(alloc);
     let mut is_at_end = false;
     for item in &items_of(alloc, parts)? {
-        match item.first() {
+        match item.parts.first() {
             Some(part) if is_at_end => return Err(in_another(alloc, part)),
-            Some(_) => plans.push(plan_of_parts(alloc, item, steps)?)?,
+            Some(_) => plans.push(plan_of_parts(alloc, &item.parts, steps)?)?,
             None => is_at_end = true,
         }
     }
