@@ -120,20 +120,23 @@ fn first_integer<'a>(text: &str, kinds: &[Kind]) -> Option<Value<'a>> {
     None
 }
 
-// Whether the digits of a number of single precision, as they are shown again, are the number that a text spells.
-fn is_shown_so(text: &str, float: Float) -> bool {
+// The number of double precision that the digits spell by which a text is shown again as a number of single precision.
+fn shown_again(text: &str) -> Option<f64> {
+    let single: f32 = fast_float::parse(text).ok()?;
     let mut buffer = ryu::Buffer::new();
-    let shown = buffer.format_finite(f32::from_bits(float.bits));
-    match (double_of(text), double_of(shown)) {
-        (Some(wanted), Some(shown)) => { f64::from_bits(wanted.bits) == f64::from_bits(shown.bits) }
-        _ => false,
-    }
+    fast_float::parse(buffer.format(single)).ok()
+}
+
+// Whether a text is shown again as the same number, where it is one of single precision.
+fn is_single(text: &str) -> bool {
+    let wanted: Option<f64> = fast_float::parse(text).ok();
+    wanted == shown_again(text)
 }
 
 // Whether a value is just what a text spells.
 fn is_exact(text: &str, value: &Value<'_>) -> bool {
     match value {
-        Value::Float(float) => is_shown_so(text, *float),
+        Value::Float(_) => is_single(text),
         _ => true,
     }
 }
