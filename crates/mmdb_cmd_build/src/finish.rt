@@ -77,17 +77,6 @@ fn report_nothing<O: Write, E: Write>(task: &BuildTask<'_>, console: &mut Consol
     );
 }
 
-// A number that no other run has: the nanoseconds of the time.
-fn number_now<R: Clock>(rt: &R) -> u64 {
-    match rt.since_1970() {
-        Ok(time) => time
-            .as_secs()
-            .wrapping_mul(1_000_000_000)
-            .wrapping_add(u64::from(time.subsec_nanos())),
-        Err(_) => 0,
-    }
-}
-
 // An address by its number, as one network.
 fn text_of_number(alloc: Global, number: u128) -> Result<String, AllocError> {
     let kind = if number < 1 << 32 {
@@ -198,7 +187,7 @@ fn make<R: Files + Clock, O: Write, E: Write>(
     console: &mut Console<'_, O, E>,
 ) -> Result<u8, ProgramError> {
     let summary = summary_of(console.alloc, &bytes)?;
-    let made = make_file(rt, console.alloc, task.out, number_now(rt), &bytes);
+    let made = make_file(rt, console.alloc, task.out, &bytes);
     drop(bytes);
     match made {
         Ok(made) => check_and_put(rt, task, made, summary, kept, console),

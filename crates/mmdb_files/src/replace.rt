@@ -5,6 +5,7 @@ use std::fs::{File, OpenFile, OpenOptions, Permissions};
 use std::io::{self, ErrorKind, Write};
 use std::os::unix::fs::{OpenOptionsExt, PermissionsExt};
 use std::rt::Files;
+use std::time::Clock;
 
 /// How many names are tried for the file that is made beside.
 const MOST_NAMES: u64 = 1000;
@@ -101,6 +102,17 @@ fn fill<F: Write + OpenFile + Drop>(file: F, mode: Option<u32>, bytes: &[u8]) ->
     file.sync_all()
 }
 
+// A number that no other run has: the nanoseconds of the time.
+fn number_now<R: Clock>(rt: &R) -> u64 {
+    match rt.since_1970() {
+        Ok(time) => time
+            .as_secs()
+            .wrapping_mul(1_000_000_000)
+            .wrapping_add(u64::from(time.subsec_nanos())),
+        Err(_) => 0,
+    }
+}
+
 // Makes the file of bytes under the first number from this one on that is free, and answers its path. Nothing stays of it where
 // that fails.
 fn make_beside<R: Files>(
@@ -132,15 +144,13 @@ fn make_beside<R: Files>(
     Err(io::Error::from(ErrorKind::AlreadyExists))
 }
 
-/// Makes a file of bytes beside the one at a path, `.NAME.tmp-PROCESS-NUMBER`, that can take its place: who may read, write and run
-/// it may do so with the new one. Of a link it is the file that it leads to. What calls for this path left that were killed is
-/// removed first: files whose process has ended. Two calls are to come with two numbers, as the time is one, so that none
-/// takes the file of another.
-pub fn make_file<R: Files>(
+/// Makes a file of bytes beside the one at a path, `.NAME.tmp-PROCESS-TIME`, that can take its place: who may read, write and run it
+/// may do so with the new one. Of a link it is the file that it leads to. What calls for this path left that were killed is
+/// removed first: files whose process has ended.
+pub fn make_file<R: Files + Clock>(
     rt: &R,
     alloc: Global,
     path: &str,
-    number: u64,
     bytes: &[u8],
 ) -> io::Result<MadeFile> {
     let target = target_of(rt, alloc, path)?;
@@ -157,7 +167,7 @@ pub fn make_file<R: Files>(
     }
     let process = process.unwrap_or(0);
     let beside: String = format!(in alloc; "{folder}{beside}{process}-")?;
-    let path = make_beside(rt, alloc, beside.as_str(), number, mode, bytes)?;
+    let path = make_beside(rt, alloc, beside.as_str(), number_now(rt), mode, bytes)?;
     Ok(MadeFile {
         path,
         folder,
@@ -169,12 +179,11 @@ pub fn make_file<R: Files>(
 /// the disk. So whatever happens the path leads to what was there or to all of the bytes.
 ///
 /// On an `Err` what was there is there still, unless the folder alone could not be brought to the disk.
-pub fn replace_file<R: Files>(
+pub fn replace_file<R: Files + Clock>(
     rt: &R,
     alloc: Global,
     path: &str,
-    number: u64,
     bytes: &[u8],
 ) -> io::Result<()> {
-    make_file(rt, alloc, path, number, bytes)?.take_place(rt)
+    make_file(rt, alloc, path, bytes)?.take_place(rt)
 }

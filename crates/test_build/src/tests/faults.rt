@@ -116,9 +116,9 @@ fn what_is_no_database_stays(rt: HostRuntime) {
 }
 
 /// By how many bytes budgets differ, and how many there are.
-const STEP: usize = 16_384;
+const STEP: usize = 32_768;
 
-const BUDGETS: usize = 20;
+const BUDGETS: usize = 100;
 
 // A run with so much memory.
 fn with_budget(alloc: Global, disk: &Disk, budget: usize) -> Run {
