@@ -76,7 +76,7 @@ _mmdb() {
     --record-size) _mmdb_offer '24 28 32'; return ;;
     --reserved) _mmdb_offer 'keep skip error'; return ;;
     --network-column | --range-columns | --type | --database-type | --description | --language | --build-epoch) return ;;
-    --from | --types-like) return ;;
+    --from | --types-like) _mmdb_files; return ;;
     --path | --column | --delimiter | --field | --where | --where-not | --name | --into) return ;;
     --json) if [ "$command" = enrich ]; then return; fi ;;
   esac

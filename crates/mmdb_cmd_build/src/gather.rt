@@ -4,8 +4,7 @@ use crate::rows::RowReader;
 use crate::taken::Taken;
 use crate::task::BuildTask;
 use mmdb_console::{ProgramError, ProgressLine};
-use mmdb_filter::Rows;
-use mmdb_input::{BadRow, Entry, InputError, Reason, RowRead, Types, read_row};
+use mmdb_input::{Entry, InputError, Reason, RowRead, Types, read_row};
 use std::alloc::Global;
 use std::io::{BufRead, Write};
 
@@ -23,11 +22,15 @@ pub(crate) struct Gathering {
     pub(crate) has_no_header: bool,
 }
 
-// How many lines end in a row. Only in CSV there may be several.
-fn line_ends(rows: Rows, row: &[u8]) -> u64 {
-    match rows {
-        Rows::Lines { .. } => 1,
-        Rows::Csv { .. } => row.iter().filter(|byte| **byte == b'\n').count() as u64,
+/// What some editors put before a text.
+const BYTE_ORDER_MARK: &[u8] = b"\xEF\xBB\xBF";
+
+// The bytes of a row, of the first one without a byte order mark.
+fn text_of_row(line: u64, row: &[u8]) -> &[u8] {
+    if line == 1 {
+        row.strip_prefix(BYTE_ORDER_MARK).unwrap_or(row)
+    } else {
+        row
     }
 }
 
@@ -47,7 +50,6 @@ impl Gathering {
     // Takes what a row says.
     fn take(
         &mut self,
-        task: &BuildTask<'_>,
         line: u64,
         entry: Result<Option<Entry>, InputError>,
     ) -> Result<(), ProgramError> {
@@ -58,7 +60,7 @@ impl Gathering {
         let Some(entry) = entry else {
             return Ok(());
         };
-        match self.taken.take(task, entry, line) {
+        match self.taken.take(entry) {
             Ok(()) => Ok(()),
             Err(error) => self.note(line, error),
         }
@@ -75,22 +77,15 @@ impl Gathering {
         read: RowRead,
         row: &[u8],
     ) -> Result<(), ProgramError> {
-        let entry = if read == RowRead::TooLong {
-            Err(InputError::from(Reason::TooLong))
-        } else {
-            reader.entry(alloc, task, types, row, &mut self.taken)
+        let entry = match read {
+            RowRead::TooLong => Err(InputError::from(Reason::TooLong)),
+            RowRead::Unclosed => Err(InputError::from(Reason::Unclosed)),
+            RowRead::Whole | RowRead::End => {
+                let row = text_of_row(line, row);
+                reader.entry(alloc, task, types, row, &mut self.taken)
+            }
         };
-        self.take(task, line, entry)
-    }
-
-    // Notes the networks that stand twice, where that is an error.
-    fn note_equal(&mut self, alloc: Global) -> Result<(), ProgramError> {
-        let lines = self.taken.equal_lines(alloc)?;
-        for line in &lines {
-            let reason = Reason::Equal;
-            self.bad.add(*line, BadRow { at: None, reason })?;
-        }
-        Ok(())
+        self.take(line, entry)
     }
 
     /// Gathers all rows of an input. An `Err` is of the input, or of memory.
@@ -104,12 +99,13 @@ impl Gathering {
     ) -> Result<(), ProgramError> {
         let mut reader = RowReader::new(alloc, task, types)?;
         let mut row = Vec::new(alloc);
-        let mut line = 1u64;
+        let mut ended = 0u64;
         for passed in 0..u64::MAX {
             if passed % STEP == 0 && passed > 0 {
                 progress.passed(passed);
             }
-            let read = read_row(alloc, input, task.rows(), &mut row)?;
+            let line = ended.saturating_add(1);
+            let read = read_row(alloc, input, task.rows(), &mut row, &mut ended)?;
             if read == RowRead::End {
                 break;
             }
@@ -118,8 +114,7 @@ impl Gathering {
             if self.has_no_header || self.is_too_large {
                 break;
             }
-            line = line.saturating_add(line_ends(task.rows(), &row));
         }
-        self.note_equal(alloc)
+        Ok(())
     }
 }

@@ -4,9 +4,11 @@
 mod bad_rows;
 mod check;
 mod command;
+mod finish;
 mod gather;
 mod kept;
 mod like;
+mod notes;
 mod pieces;
 mod reserved;
 mod rows;

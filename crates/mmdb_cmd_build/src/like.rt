@@ -1,4 +1,5 @@
 //! The types of values: those of a database, and those that are named.
+use crate::notes::note;
 use crate::task::BuildTask;
 use mmdb_console::{Console, ProgramError};
 use mmdb_input::Types;
@@ -54,9 +55,12 @@ fn set_named(alloc: Global, task: &BuildTask<'_>, types: &mut Types) -> Result<(
 fn note_several<O: Write, E: Write>(file: &str, types: &Types, console: &mut Console<'_, O, E>) {
     let several = types.several();
     if several > 0 {
-        console.note(format!(in console.alloc;
-            "mmdb: {file}: at {several} paths values that JSON shows alike have several types; the first that has a value is taken\n"
-        ));
+        note(
+            console,
+            format!(in console.alloc;
+                "mmdb: {file}: at {several} paths values that JSON shows alike have several types; the first that has a value just so is taken"
+            ),
+        );
     }
 }
 

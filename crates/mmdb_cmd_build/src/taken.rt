@@ -9,15 +9,24 @@ use mmdb_net::IpNetwork;
 use mmdb_value::Value;
 use mmdb_writer::{IpVersion, Row, ValueError, WriteError, Writer};
 use std::alloc::{AllocError, Global};
+use std::collections::HashSet;
 
 /// A range has at most two networks for each bit of its addresses.
 const MOST_NETWORKS: u32 = 256;
 
-/// A network that was met, and its line.
-#[derive(Clone, Copy)]
+/// A network that was taken.
+#[derive(Clone, Copy, PartialEq, Eq, Hash)]
 struct Met {
-    block: Block,
-    line: u64,
+    first: u128,
+    prefix: u8,
+}
+
+// A network, to be looked for.
+fn met_of(block: Block) -> Met {
+    Met {
+        first: block.first,
+        prefix: block.prefix,
+    }
 }
 
 /// What was taken of rows: the file in the making, and how many networks there are.
@@ -26,11 +35,14 @@ pub(crate) struct Taken {
     pub(crate) writer: Writer,
     /// How many networks were taken.
     pub(crate) networks: u64,
+    /// Whether one of them has a value.
+    pub(crate) has_value: bool,
     /// How many of them lie in reserved ones, or were left out since they do.
     pub(crate) reserved: u64,
     is_ipv4_alone: bool,
+    reserved_are: Reserved,
     /// The networks, where equal ones are an error.
-    met: Option<Vec<Met>>,
+    met: Option<HashSet<Met>>,
     /// What the rows said, where it is to be compared with the file.
     pub(crate) kept: Option<Kept>,
 }
@@ -58,6 +70,13 @@ fn error_of(error: WriteError) -> InputError {
 }
 
 impl Values for Taken {
+    fn check(&self, place: Place) -> Result<(), Reason> {
+        match place {
+            Place::Network(network) => self.check_network(network),
+            Place::Range(range) => self.check_range(range),
+        }
+    }
+
     fn add(&mut self, alloc: Global, value: &Value<'_>) -> Result<usize, InputError> {
         match self.writer.add_value(alloc, value) {
             Ok(index) => {
@@ -80,10 +99,12 @@ impl Taken {
         Taken {
             writer,
             networks: 0,
+            has_value: false,
             reserved: 0,
             is_ipv4_alone: version == IpVersion::V4,
+            reserved_are: task.reserved,
             met: if task.equal_is_error {
-                Some(Vec::new(alloc))
+                Some(HashSet::new(alloc))
             } else {
                 None
             },
@@ -111,106 +132,84 @@ impl Taken {
         }
     }
 
+    // Whether an earlier line has a network, where that is an error.
+    fn is_met(&self, network: IpNetwork) -> bool {
+        match &self.met {
+            Some(met) => met.contains(&met_of(Block::of_network(network))),
+            None => false,
+        }
+    }
+
     // Whether a network may be taken.
-    fn check(&self, task: &BuildTask<'_>, network: IpNetwork) -> Result<(), Reason> {
+    fn check_network(&self, network: IpNetwork) -> Result<(), Reason> {
         if self.is_ipv4_alone && matches!(network, IpNetwork::V6(_)) {
             Err(Reason::Ipv6)
-        } else if task.reserved == Reserved::Error && is_reserved(network) {
+        } else if self.reserved_are == Reserved::Error && is_reserved(network) {
             Err(Reason::Reserved)
+        } else if self.is_met(network) {
+            Err(Reason::Equal)
         } else {
             Ok(())
         }
     }
 
-    // Notes a network and its line, where equal ones are an error.
-    fn note(&mut self, block: Block, line: u64) -> Result<(), AllocError> {
-        match &mut self.met {
-            Some(met) => Ok(met.push(Met { block, line })?),
-            None => Ok(()),
-        }
-    }
-
-    // Takes a network.
-    fn put(
-        &mut self,
-        task: &BuildTask<'_>,
-        network: IpNetwork,
-        value: Option<usize>,
-        line: u64,
-    ) -> Result<(), InputError> {
-        if is_reserved(network) {
-            self.reserved = self.reserved.saturating_add(1);
-            if task.reserved == Reserved::Skip {
-                return Ok(());
-            }
-        }
-        let block = Block::of_network(network);
-        self.note(block, line)?;
-        self.keep_row(block, value)?;
-        self.networks = self.networks.saturating_add(1);
-        match self.writer.add_row(Row { network, value }) {
-            Ok(()) => Ok(()),
-            Err(error) => Err(error_of(error)),
-        }
-    }
-
-    // Takes the networks of a range, all or none.
-    fn put_range(
-        &mut self,
-        task: &BuildTask<'_>,
-        range: AddressRange,
-        value: Option<usize>,
-        line: u64,
-    ) -> Result<(), InputError> {
-        let mut checked = range.networks();
+    // Whether all networks of a range may be taken.
+    fn check_range(&self, range: AddressRange) -> Result<(), Reason> {
+        let mut networks = range.networks();
         for _ in 0..MOST_NETWORKS {
-            match checked.next_network() {
-                Some(network) => self.check(task, network)?,
-                None => break,
-            }
-        }
-        let mut taken = range.networks();
-        for _ in 0..MOST_NETWORKS {
-            match taken.next_network() {
-                Some(network) => self.put(task, network, value, line)?,
+            match networks.next_network() {
+                Some(network) => self.check_network(network)?,
                 None => break,
             }
         }
         Ok(())
     }
 
-    /// Takes what the row of a line says.
-    pub(crate) fn take(
-        &mut self,
-        task: &BuildTask<'_>,
-        entry: Entry,
-        line: u64,
-    ) -> Result<(), InputError> {
-        match entry.place {
-            Place::Network(network) => {
-                self.check(task, network)?;
-                self.put(task, network, entry.value, line)
+    // Notes a network, where equal ones are an error.
+    fn note(&mut self, block: Block) -> Result<(), AllocError> {
+        if let Some(met) = &mut self.met {
+            met.insert(met_of(block))?;
+        }
+        Ok(())
+    }
+
+    // Takes a network, unless it lies in a reserved one and those are skipped.
+    fn put(&mut self, network: IpNetwork, value: Option<usize>) -> Result<(), InputError> {
+        if is_reserved(network) {
+            self.reserved = self.reserved.saturating_add(1);
+            if self.reserved_are == Reserved::Skip {
+                return Ok(());
             }
-            Place::Range(range) => self.put_range(task, range, entry.value, line),
+        }
+        let block = Block::of_network(network);
+        self.note(block)?;
+        self.keep_row(block, value)?;
+        self.networks = self.networks.saturating_add(1);
+        self.has_value = self.has_value || value.is_some();
+        match self.writer.add_row(Row { network, value }) {
+            Ok(()) => Ok(()),
+            Err(error) => Err(error_of(error)),
         }
     }
 
-    /// The lines whose networks an earlier one has, where they are an error; the list of networks is given back.
-    pub(crate) fn equal_lines(&mut self, alloc: Global) -> Result<Vec<u64>, AllocError> {
-        let mut lines = Vec::new(alloc);
-        let Some(met) = self.met.take() else {
-            return Ok(lines);
-        };
-        let mut met = met;
-        met.sort_by_key(|met| (met.block.first, met.block.prefix))?;
-        let mut before: Option<Block> = None;
-        for met in &met {
-            if before == Some(met.block) {
-                lines.push(met.line)?;
+    // Takes the networks of a range.
+    fn put_range(&mut self, range: AddressRange, value: Option<usize>) -> Result<(), InputError> {
+        let mut networks = range.networks();
+        for _ in 0..MOST_NETWORKS {
+            match networks.next_network() {
+                Some(network) => self.put(network, value)?,
+                None => break,
             }
-            before = Some(met.block);
         }
-        lines.sort_unstable();
-        Ok(lines)
+        Ok(())
+    }
+
+    /// Takes what a row says: all its networks or none, but for those in reserved ones that are skipped.
+    pub(crate) fn take(&mut self, entry: Entry) -> Result<(), InputError> {
+        self.check(entry.place)?;
+        match entry.place {
+            Place::Network(network) => self.put(network, entry.value),
+            Place::Range(range) => self.put_range(range, entry.value),
+        }
     }
 }

@@ -2,13 +2,13 @@
 use mmdb_arguments::{BuildArguments, NoRequest, Reserved, RowFormat};
 use mmdb_filter::Rows;
 use mmdb_format::kind::Kind;
-use mmdb_input::{Columns, type_of};
+use mmdb_input::{Columns, RANGE, RECORD, type_of};
 use mmdb_layout::wanted_path;
 use mmdb_reader::PathElement;
 use mmdb_writer::{IpVersion, Options, RecordSize};
 use std::alloc::{AllocError, Global};
 use std::collections::BTreeMap;
-use std::env::Env;
+use std::env::{Env, FillError};
 use std::time::Clock;
 
 /// The variable whose seconds serve where none are given.
@@ -39,6 +39,9 @@ pub(crate) struct BuildTask<'a> {
 /// The name of standard input.
 pub(crate) const STANDARD_INPUT: &str = "-";
 
+/// The name that standard output has elsewhere.
+const STANDARD_OUTPUT: &str = "-";
+
 impl BuildTask<'_> {
     /// What reports call the file of the rows.
     pub(crate) fn from_name(&self) -> &str {
@@ -58,13 +61,32 @@ impl BuildTask<'_> {
     }
 }
 
+// Rejects the name of a column of addresses that has something else in lines of JSON.
+fn check_name<'a>(
+    alloc: Global,
+    format: RowFormat,
+    name: &'a str,
+    others: &[&str],
+) -> Result<&'a str, NoRequest> {
+    if format == RowFormat::JsonLines && others.contains(&name) {
+        let wanted = "in lines of JSON a member of this name has something else";
+        return Err(NoRequest::bad_argument(alloc, name, wanted));
+    }
+    Ok(name)
+}
+
 // The columns of addresses.
 fn columns_of<'a>(alloc: Global, arguments: &BuildArguments<'a>) -> Result<Columns<'a>, NoRequest> {
+    let format = arguments.format;
     let Some(names) = arguments.range_columns else {
-        return Ok(Columns::Network(arguments.network_column.unwrap_or("network")));
+        let name = arguments.network_column.unwrap_or("network");
+        return Ok(Columns::Network(check_name(alloc, format, name, &[RANGE, RECORD])?));
     };
     match names.split_once(',') {
-        Some((first, last)) if first != last => Ok(Columns::Range(first, last)),
+        Some((first, last)) if first != last => Ok(Columns::Range(
+            check_name(alloc, format, first, &[RECORD])?,
+            check_name(alloc, format, last, &[RECORD])?,
+        )),
         _ => Err(NoRequest::bad_argument(alloc, names, "not two names with a comma between them")),
     }
 }
@@ -105,7 +127,8 @@ fn seconds_outside<R: Env + Clock>(rt: &R, alloc: Global) -> Result<u64, NoReque
             let text = str::from_utf8(&buffer[..len]).unwrap_or("");
             seconds_of(alloc, EPOCH, text)
         }
-        Err(_) => Ok(match rt.since_1970() {
+        Err(FillError::TooLong) => seconds_of(alloc, EPOCH, ""),
+        Err(FillError::NotPresent) => Ok(match rt.since_1970() {
             Ok(time) => time.as_secs(),
             Err(_) => 1,
         }),
@@ -206,6 +229,9 @@ pub(crate) fn build_task<'a>(
     alloc: Global,
     arguments: &BuildArguments<'a>,
 ) -> Result<BuildTask<'a>, NoRequest> {
+    if arguments.out == STANDARD_OUTPUT {
+        return Err(NoRequest::bad_argument(alloc, "OUT", "it can't be standard output"));
+    }
     let columns = columns_of(alloc, arguments)?;
     let types = typed_paths(alloc, &arguments.types)?;
     Ok(BuildTask {

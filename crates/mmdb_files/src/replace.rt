@@ -1,83 +1,26 @@
 //! Files that take another one's place.
-use std::alloc::{AllocError, Global};
-use std::fs::{File, OpenFile};
-use std::io::{self, ErrorKind, Read, Write};
+use crate::beside::{remove_left, split_path, this_process};
+use std::alloc::Global;
+use std::fs::{File, OpenFile, OpenOptions, Permissions};
+use std::io::{self, ErrorKind, Write};
+use std::os::unix::fs::{OpenOptionsExt, PermissionsExt};
 use std::rt::Files;
+use std::time::Clock;
 
 /// How many names are tried for the file that is made beside.
 const MOST_NAMES: u64 = 1000;
 
-/// A file by the folder that it is in and its name there.
-#[derive(Clone, Copy)]
-struct Named<'a> {
-    folder: &'a str,
-    name: &'a str,
-}
+/// Who may read, write and run a file.
+const MODE_BITS: u32 = 0o777;
 
-// A path as a folder and a name.
-fn split_path(path: &str) -> Named<'_> {
-    match path.rsplit_once('/') {
-        Some((folder, name)) => Named { folder, name },
-        None => Named {
-            folder: ".",
-            name: path,
-        },
-    }
-}
-
-impl Named<'_> {
-    // The path of the folder, with a slash behind it.
-    fn folder_path(&self, alloc: Global) -> Result<String, AllocError> {
-        let folder = self.folder;
-        format!(in alloc; "{folder}/")
-    }
-
-    // How the names begin of the files that are made beside this one.
-    fn beside(&self, alloc: Global) -> Result<String, AllocError> {
-        let name = self.name;
-        format!(in alloc; ".{name}.tmp-")
-    }
-}
-
-// Whether a name is one of those that begin so, with a number behind.
-fn is_beside(name: &[u8], beside: &str) -> bool {
-    match name.strip_prefix(beside.as_bytes()) {
-        Some(number) => !number.is_empty() && number.iter().all(|byte| byte.is_ascii_digit()),
-        None => false,
-    }
-}
-
-// The names of a folder, each with a byte 0 behind it.
-fn names_in<R: Files>(rt: &R, alloc: Global, folder: &str) -> io::Result<Vec<u8>> {
-    let mut opened = rt.open_dir(folder)?;
-    let mut names = Vec::new(alloc);
-    opened.read_to_end(&mut names)?;
-    Ok(names)
-}
-
-// Removes a file of a folder, whose name is UTF-8.
-fn remove_in<R: Files>(rt: &R, alloc: Global, folder: &str, name: &[u8]) -> io::Result<()> {
-    let name = str::from_utf8(name).unwrap_or("");
-    let path: String = format!(in alloc; "{folder}{name}")?;
-    rt.remove_file(path.as_str())
-}
-
-// Removes what runs left that were killed. It is not needed, so that it fails is no error.
-fn remove_left<R: Files>(rt: &R, alloc: Global, folder: &str, beside: &str) {
-    if let Ok(names) = names_in(rt, alloc, folder) {
-        for name in names.split(|byte| *byte == 0) {
-            if is_beside(name, beside) {
-                let _ = remove_in(rt, alloc, folder, name);
-            }
-        }
-    }
-}
-
-// Writes bytes to a file and waits until they are on the disk.
-fn fill<F: Write + OpenFile>(file: &mut F, bytes: &[u8]) -> io::Result<()> {
-    file.write_all(bytes)?;
-    file.flush()?;
-    file.sync_all()
+/// A new file beside another one, whole and on the disk, that can take its place.
+#[derive(Drop)]
+pub struct MadeFile {
+    path: String,
+    // The folder that both are in, with a slash behind it.
+    folder: String,
+    // Whose place it takes.
+    target: String,
 }
 
 // Waits until the names of a folder are on the disk.
@@ -86,41 +29,110 @@ fn sync_folder<R: Files>(rt: &R, folder: &str) -> io::Result<()> {
     opened.sync_all()
 }
 
-// Makes a new file of these bytes, which gets the other name when it is whole.
-fn fill_and_rename<R: Files>(
-    rt: &R,
-    file: R::File,
-    made: &str,
-    path: &str,
-    bytes: &[u8],
-) -> io::Result<()> {
-    let mut file = file;
-    let filled = fill(&mut file, bytes);
-    drop(file);
-    filled?;
-    rt.rename(made, path)
+impl MadeFile {
+    /// Its own path, until it takes the other one's place.
+    pub fn path(&self) -> &str {
+        self.path.as_str()
+    }
+
+    /// Gives it the other one's name, and waits until that is on the disk. On an `Err` what was there is there still, and this
+    /// file is removed, unless the folder alone could not be brought to the disk.
+    pub fn take_place<R: Files>(self, rt: &R) -> io::Result<()> {
+        if let Err(error) = rt.rename(self.path.as_str(), self.target.as_str()) {
+            let _ = rt.remove_file(self.path.as_str());
+            return Err(error);
+        }
+        sync_folder(rt, self.folder.as_str())
+    }
+
+    /// Removes it, so that what was there stays.
+    pub fn remove<R: Files>(self, rt: &R) {
+        let _ = rt.remove_file(self.path.as_str());
+    }
 }
 
-// Makes the file beside the other, under the first number from this one on that is free, and renames it. Nothing stays of it
-// where that fails.
-fn make_and_rename<R: Files>(
+// The path that a link leads to in the end, of anything else its own.
+fn target_of<R: Files>(rt: &R, alloc: Global, path: &str) -> io::Result<String> {
+    let is_link = match rt.symlink_metadata(path) {
+        Ok(found) => found.is_symlink(),
+        Err(error) => {
+            if error.kind() != ErrorKind::NotFound {
+                return Err(error);
+            }
+            false
+        }
+    };
+    if is_link {
+        Ok(rt.canonicalize(alloc, path)?.into_string())
+    } else {
+        Ok(String::from_str(alloc, path)?)
+    }
+}
+
+// Who may read, write and run the file at a path, none where there is none.
+fn mode_of<R: Files>(rt: &R, path: &str) -> io::Result<Option<u32>> {
+    match rt.metadata(path) {
+        Ok(found) => Ok(Some(found.permissions().mode() & MODE_BITS)),
+        Err(error) => if error.kind() == ErrorKind::NotFound {
+            Ok(None)
+        } else {
+            Err(error)
+        },
+    }
+}
+
+// Makes a file that was not there, for whom the other one is.
+fn new_file<R: Files>(rt: &R, path: &str, mode: Option<u32>) -> io::Result<R::File> {
+    let mut options = OpenOptions::new();
+    options.read(true).write(true).create_new(true);
+    if let Some(mode) = mode {
+        options.mode(mode);
+    }
+    options.open(rt, path)
+}
+
+// Writes bytes to a file and waits until they are on the disk.
+fn fill<F: Write + OpenFile + Drop>(file: F, mode: Option<u32>, bytes: &[u8]) -> io::Result<()> {
+    let mut file = file;
+    if let Some(mode) = mode {
+        file.set_permissions(Permissions::from_mode(mode))?;
+    }
+    file.write_all(bytes)?;
+    file.flush()?;
+    file.sync_all()
+}
+
+// A number that no other run has: the nanoseconds of the time.
+fn number_now<R: Clock>(rt: &R) -> u64 {
+    match rt.since_1970() {
+        Ok(time) => time
+            .as_secs()
+            .wrapping_mul(1_000_000_000)
+            .wrapping_add(u64::from(time.subsec_nanos())),
+        Err(_) => 0,
+    }
+}
+
+// Makes the file of bytes under the first number from this one on that is free, and answers its path. Nothing stays of it where
+// that fails.
+fn make_beside<R: Files>(
     rt: &R,
     alloc: Global,
     beside: &str,
     number: u64,
-    path: &str,
+    mode: Option<u32>,
     bytes: &[u8],
-) -> io::Result<()> {
+) -> io::Result<String> {
     for more in 0..MOST_NAMES {
         let number = number.wrapping_add(more);
-        let made: String = format!(in alloc; "{beside}{number}")?;
-        match File::create_new(rt, made.as_str()) {
+        let path: String = format!(in alloc; "{beside}{number}")?;
+        match new_file(rt, path.as_str(), mode) {
             Ok(file) => {
-                let done = fill_and_rename(rt, file, made.as_str(), path, bytes);
-                if done.is_err() {
-                    let _ = rt.remove_file(made.as_str());
+                if let Err(error) = fill(file, mode, bytes) {
+                    let _ = rt.remove_file(path.as_str());
+                    return Err(error);
                 }
-                return done;
+                return Ok(path);
             }
             Err(error) => {
                 if error.kind() != ErrorKind::AlreadyExists {
@@ -132,28 +144,46 @@ fn make_and_rename<R: Files>(
     Err(io::Error::from(ErrorKind::AlreadyExists))
 }
 
-/// Puts bytes into the file at a path, whole: they are written to a file beside it, `.NAME.tmp-NUMBER`, which takes its name
-/// when it is on the disk. So whatever happens the path leads to what was there or to all of the bytes. What an earlier call
-/// for this path left that was killed is removed first. Two runs are to come with two numbers, as the time is one, so that
-/// none takes the file of the other.
-///
-/// On an `Err` what was there is there still, unless the folder alone could not be brought to the disk. A link is replaced, and
-/// not what it leads to.
-pub fn replace_file<R: Files>(
+/// Makes a file of bytes beside the one at a path, `.NAME.tmp-PROCESS-TIME`, that can take its place: who may read, write and run it
+/// may do so with the new one. Of a link it is the file that it leads to. What calls for this path left that were killed is
+/// removed first: files whose process has ended.
+pub fn make_file<R: Files + Clock>(
     rt: &R,
     alloc: Global,
     path: &str,
-    number: u64,
     bytes: &[u8],
-) -> io::Result<()> {
-    let named = split_path(path);
+) -> io::Result<MadeFile> {
+    let target = target_of(rt, alloc, path)?;
+    let named = split_path(target.as_str());
     if named.name.is_empty() {
         return Err(io::Error::from(ErrorKind::IsADirectory));
     }
     let folder = named.folder_path(alloc)?;
     let beside = named.beside(alloc)?;
-    remove_left(rt, alloc, folder.as_str(), beside.as_str());
-    let beside: String = format!(in alloc; "{folder}{beside}")?;
-    make_and_rename(rt, alloc, beside.as_str(), number, path, bytes)?;
-    sync_folder(rt, folder.as_str())
+    let mode = mode_of(rt, target.as_str())?;
+    let process = this_process(rt, alloc);
+    if let Some(this) = process {
+        remove_left(rt, alloc, folder.as_str(), beside.as_str(), this);
+    }
+    let process = process.unwrap_or(0);
+    let beside: String = format!(in alloc; "{folder}{beside}{process}-")?;
+    let path = make_beside(rt, alloc, beside.as_str(), number_now(rt), mode, bytes)?;
+    Ok(MadeFile {
+        path,
+        folder,
+        target,
+    })
+}
+
+/// Puts bytes into the file at a path, whole: [`make_file`] writes them to a file beside it, which takes its name when it is on
+/// the disk. So whatever happens the path leads to what was there or to all of the bytes.
+///
+/// On an `Err` what was there is there still, unless the folder alone could not be brought to the disk.
+pub fn replace_file<R: Files + Clock>(
+    rt: &R,
+    alloc: Global,
+    path: &str,
+    bytes: &[u8],
+) -> io::Result<()> {
+    make_file(rt, alloc, path, bytes)?.take_place(rt)
 }

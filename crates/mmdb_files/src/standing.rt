@@ -18,8 +18,12 @@ pub enum Standing {
     Nothing,
     /// A file with the marker of a MaxMind DB file.
     Database,
-    /// Something else.
+    /// Another file.
     Other,
+    /// A folder, a pipe, a device or the like, or a name that no file can have.
+    NoFile,
+    /// A link that leads nowhere.
+    DeadLink,
 }
 
 // The bytes at the end of a file.
@@ -31,22 +35,40 @@ fn read_end<F: Read + Seek>(alloc: Global, file: &mut F) -> io::Result<Vec<u8>> 
     Ok(bytes)
 }
 
-/// What stands at a path. Of a file no more than the last 131,072 bytes are read.
-pub fn standing_of<R: Files>(rt: &R, alloc: Global, path: &str) -> io::Result<Standing> {
-    let mut file = match File::open(rt, path) {
-        Ok(file) => file,
-        Err(error) => {
-            return if error.kind() == ErrorKind::NotFound {
-                Ok(Standing::Nothing)
-            } else {
-                Err(error)
-            };
-        }
-    };
+// Whether an error says that there is nothing.
+fn is_missing(error: &io::Error) -> bool {
+    error.kind() == ErrorKind::NotFound
+}
+
+// What stands at a path that leads to nothing.
+fn nothing_at<R: Files>(rt: &R, path: &str) -> io::Result<Standing> {
+    match rt.symlink_metadata(path) {
+        Ok(_) => Ok(Standing::DeadLink),
+        Err(error) if is_missing(&error) => Ok(Standing::Nothing),
+        Err(error) => Err(error),
+    }
+}
+
+// What a file is.
+fn kind_of_file<R: Files>(rt: &R, alloc: Global, path: &str) -> io::Result<Standing> {
+    let mut file = File::open(rt, path)?;
     let end = read_end(alloc, &mut file)?;
     if memmem::find(&end, MARKER).is_some() {
         Ok(Standing::Database)
     } else {
         Ok(Standing::Other)
+    }
+}
+
+/// What stands at a path. Of a file no more than the last 131,072 bytes are read, and what is no file is not opened.
+pub fn standing_of<R: Files>(rt: &R, alloc: Global, path: &str) -> io::Result<Standing> {
+    if path.is_empty() || path.ends_with('/') {
+        return Ok(Standing::NoFile);
+    }
+    match rt.metadata(path) {
+        Ok(found) if found.is_file() => kind_of_file(rt, alloc, path),
+        Ok(_) => Ok(Standing::NoFile),
+        Err(error) if is_missing(&error) => nothing_at(rt, path),
+        Err(error) => Err(error),
     }
 }

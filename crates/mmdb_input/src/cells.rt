@@ -1,34 +1,42 @@
 //! Rows of cells below a header.
 use crate::columns::Columns;
 use crate::entry::{Entry, Place, Values};
-use crate::error::{InputError, Reason};
+use crate::error::{InputError, Reason, named};
 use crate::known::KnownTexts;
 use crate::networks::{address_of, network_of};
-use crate::plan::{MOST_COLUMNS, Plan, add_assembled, column_path, plan_of};
+use crate::plan::{MOST_COLUMNS, NamedPath, Plan, add_assembled, column_path, plan_of};
 use crate::range::AddressRange;
-use crate::scalars::cell_value;
+use crate::scalars::{Source, text_value};
 use crate::types::Types;
 use bumpalo::Bump;
 use csv::{ByteRecord, ReaderBuilder};
-use memchr::memchr;
-use mmdb_filter::Rows;
-use mmdb_reader::PathElement;
+use memchr::{memchr, memchr2};
+use mmdb_filter::{Position, Rows};
+use mmdb_net::IpNetwork;
 use mmdb_value::Value;
 use std::alloc::Global;
+use std::net::IpAddr;
 
-/// Which cells have a row's addresses.
+/// A column of addresses: its cell, and its name.
 #[derive(Clone, Copy)]
-enum PlaceCells {
-    Network(usize),
-    Range(usize, usize),
+struct PlaceColumn<'t> {
+    cell: usize,
+    name: &'t str,
 }
 
-impl PlaceCells {
+/// Which columns have a row's addresses.
+#[derive(Clone, Copy)]
+enum PlaceColumns<'t> {
+    Network(PlaceColumn<'t>),
+    Range(PlaceColumn<'t>, PlaceColumn<'t>),
+}
+
+impl PlaceColumns<'_> {
     // Whether a cell has addresses.
     fn has(self, cell: usize) -> bool {
         match self {
-            PlaceCells::Network(network) => cell == network,
-            PlaceCells::Range(first, last) => cell == first || cell == last,
+            PlaceColumns::Network(network) => cell == network.cell,
+            PlaceColumns::Range(first, last) => cell == first.cell || cell == last.cell,
         }
     }
 }
@@ -41,6 +49,47 @@ struct ValueColumn {
     node: Option<usize>,
 }
 
+// What is wrong with the quotes of a row of CSV, or with a carriage return that does not end it.
+fn check_quotes(rows: Rows, row: &[u8]) -> Result<(), Reason> {
+    let mut now = Position::Cell;
+    for byte in row {
+        let next = now.after(rows, *byte);
+        if *byte == b'\r' && next != Position::Quoted {
+            return Err(Reason::LoneReturn);
+        }
+        if now == Position::Closing && next == Position::Plain {
+            return Err(Reason::BehindQuote);
+        }
+        now = next;
+    }
+    if now == Position::Quoted {
+        Err(Reason::Unclosed)
+    } else {
+        Ok(())
+    }
+}
+
+// Cuts the cells of a row of CSV, in place of others.
+fn cut_csv(
+    alloc: Global,
+    delimiter: u8,
+    row: &[u8],
+    cells: &mut ByteRecord,
+) -> Result<(), InputError> {
+    let row = row.strip_suffix(b"\r").unwrap_or(row);
+    if memchr2(b'"', b'\r', row).is_some() {
+        check_quotes(Rows::Csv { delimiter }, row)?;
+    }
+    let mut builder = ReaderBuilder::new();
+    builder.has_headers(false).delimiter(delimiter);
+    let mut reader = builder.from_reader(alloc, row);
+    if reader.read_byte_record(cells).is_err() {
+        // of a first record, and of bytes at hand
+        return Err(InputError::Memory);
+    }
+    Ok(())
+}
+
 // Cuts the cells of a row, in place of others.
 fn cut(alloc: Global, rows: Rows, row: &[u8], cells: &mut ByteRecord) -> Result<(), InputError> {
     cells.clear();
@@ -51,16 +100,7 @@ fn cut(alloc: Global, rows: Rows, row: &[u8], cells: &mut ByteRecord) -> Result<
             }
             Ok(())
         }
-        Rows::Csv { delimiter } => {
-            let mut builder = ReaderBuilder::new();
-            builder.has_headers(false).delimiter(delimiter);
-            let mut reader = builder.from_reader(alloc, row);
-            if reader.read_byte_record(cells).is_err() {
-                // of a first record, and of bytes at hand
-                return Err(InputError::Memory);
-            }
-            Ok(())
-        }
+        Rows::Csv { delimiter } => cut_csv(alloc, delimiter, row, cells),
     }
 }
 
@@ -75,8 +115,23 @@ fn text_at(cells: &ByteRecord, cell: usize) -> Result<&str, Reason> {
     }
 }
 
-// The place of the column of a name.
-fn place_of(alloc: Global, header: &ByteRecord, name: &str) -> Result<usize, InputError> {
+// The name of a column in the header.
+fn name_at(alloc: Global, header: &ByteRecord, cell: usize) -> Result<&str, InputError> {
+    match text_at(header, cell) {
+        Ok(name) => Ok(name),
+        Err(reason) => {
+            let at: String = format!(in alloc; "column {}", cell.saturating_add(1))?;
+            Err(InputError::at(alloc, at.as_str(), reason))
+        }
+    }
+}
+
+// The column of addresses of a name.
+fn place_of<'t>(
+    alloc: Global,
+    header: &ByteRecord,
+    name: &'t str,
+) -> Result<PlaceColumn<'t>, InputError> {
     let mut found = None;
     for (place, cell) in header.iter().enumerate() {
         if cell == name.as_bytes() {
@@ -87,20 +142,20 @@ fn place_of(alloc: Global, header: &ByteRecord, name: &str) -> Result<usize, Inp
         }
     }
     match found {
-        Some(place) => Ok(place),
+        Some(cell) => Ok(PlaceColumn { cell, name }),
         None => Err(InputError::at(alloc, name, Reason::NoSuchColumn)),
     }
 }
 
-// Which cells have addresses.
-fn place_cells(
+// Which columns have addresses.
+fn place_columns<'t>(
     alloc: Global,
     header: &ByteRecord,
-    columns: Columns<'_>,
-) -> Result<PlaceCells, InputError> {
+    columns: Columns<'t>,
+) -> Result<PlaceColumns<'t>, InputError> {
     Ok(match columns {
-        Columns::Network(name) => PlaceCells::Network(place_of(alloc, header, name)?),
-        Columns::Range(first, last) => PlaceCells::Range(
+        Columns::Network(name) => PlaceColumns::Network(place_of(alloc, header, name)?),
+        Columns::Range(first, last) => PlaceColumns::Range(
             place_of(alloc, header, first)?,
             place_of(alloc, header, last)?,
         ),
@@ -111,12 +166,12 @@ fn place_cells(
 fn paths_in<'h>(
     alloc: Global,
     header: &'h ByteRecord,
-    place: PlaceCells,
-) -> Result<Vec<Vec<PathElement<'h>>>, InputError> {
+    place: PlaceColumns<'_>,
+) -> Result<Vec<NamedPath<'h>>, InputError> {
     let mut paths = Vec::new(alloc);
     for cell in 0..header.len() {
         if !place.has(cell) {
-            paths.push(column_path(alloc, text_at(header, cell)?)?)?;
+            paths.push(column_path(alloc, name_at(alloc, header, cell)?)?)?;
         }
     }
     Ok(paths)
@@ -126,8 +181,8 @@ fn paths_in<'h>(
 fn value_columns(
     alloc: Global,
     header: &ByteRecord,
-    place: PlaceCells,
-    paths: &[Vec<PathElement<'_>>],
+    place: PlaceColumns<'_>,
+    paths: &[NamedPath<'_>],
     types: &Types,
 ) -> Result<Vec<ValueColumn>, InputError> {
     let mut columns = Vec::new(alloc);
@@ -136,25 +191,42 @@ fn value_columns(
         if place.has(cell) {
             continue;
         }
-        if let Some(path) = left.next() {
+        if let Some(named) = left.next() {
             columns.push(ValueColumn {
                 cell,
-                name: String::from_str(alloc, text_at(header, cell)?)?,
-                node: types.find(path),
+                name: String::from_str(alloc, name_at(alloc, header, cell)?)?,
+                node: types.find(&named.path),
             })?;
         }
     }
     Ok(columns)
 }
 
+// The network of a cell.
+fn network_in(cells: &ByteRecord, cell: usize) -> Result<IpNetwork, Reason> {
+    network_of(text_at(cells, cell)?)
+}
+
+// The address of a cell.
+fn address_in(cells: &ByteRecord, cell: usize) -> Result<IpAddr, Reason> {
+    address_of(text_at(cells, cell)?)
+}
+
 // The addresses of a row.
-fn place_in(cells: &ByteRecord, place: PlaceCells) -> Result<Place, Reason> {
+fn place_in(
+    alloc: Global,
+    cells: &ByteRecord,
+    place: PlaceColumns<'_>,
+) -> Result<Place, InputError> {
     match place {
-        PlaceCells::Network(network) => Ok(Place::Network(network_of(text_at(cells, network)?)?)),
-        PlaceCells::Range(first, last) => {
-            let first = address_of(text_at(cells, first)?)?;
-            let last = address_of(text_at(cells, last)?)?;
-            Ok(Place::Range(AddressRange::new(first, last)?))
+        PlaceColumns::Network(PlaceColumn { cell, name }) => {
+            Ok(Place::Network(named(alloc, name, network_in(cells, cell))?))
+        }
+        PlaceColumns::Range(first, last) => {
+            let from = named(alloc, first.name, address_in(cells, first.cell))?;
+            let to = named(alloc, last.name, address_in(cells, last.cell))?;
+            let range = named(alloc, first.name, AddressRange::new(from, to))?;
+            Ok(Place::Range(range))
         }
     }
 }
@@ -171,7 +243,8 @@ fn value_in<'a>(
     if text.is_empty() {
         return Ok(None);
     }
-    Ok(Some(cell_value(alloc, text, types.kinds(column.node), arena)?))
+    let kinds = types.kinds(column.node);
+    Ok(Some(text_value(alloc, text, Source::Cell, kinds, arena)?))
 }
 
 // The values of a row's cells.
@@ -211,9 +284,8 @@ fn add_record<V: Values>(
 #[derive(Drop)]
 pub struct Cells<'t> {
     rows: Rows,
-    names: Columns<'t>,
     types: &'t Types,
-    place: PlaceCells,
+    place: PlaceColumns<'t>,
     width: usize,
     columns: Vec<ValueColumn>,
     plan: Plan,
@@ -235,13 +307,12 @@ impl<'t> Cells<'t> {
         if cells.len() > MOST_COLUMNS {
             return Err(InputError::from(Reason::TooManyColumns));
         }
-        let place = place_cells(alloc, &cells, names)?;
+        let place = place_columns(alloc, &cells, names)?;
         let paths = paths_in(alloc, &cells, place)?;
         let columns = value_columns(alloc, &cells, place, &paths, types)?;
         let plan = plan_of(alloc, &paths)?;
         Ok(Cells {
             rows,
-            names,
             types,
             place,
             width: cells.len(),
@@ -254,7 +325,7 @@ impl<'t> Cells<'t> {
 
     // The network that a row begins with, and what stands behind its cell.
     fn split<'l>(&self, row: &'l [u8]) -> Option<(&'l [u8], &'l [u8])> {
-        let PlaceCells::Network(0) = self.place else {
+        let PlaceColumns::Network(PlaceColumn { cell: 0, .. }) = self.place else {
             return None;
         };
         let delimiter = match self.rows {
@@ -275,12 +346,6 @@ impl<'t> Cells<'t> {
         })
     }
 
-    // The error of what is wrong with a row's addresses.
-    fn wrong_place(&self, alloc: Global, reason: Reason) -> InputError {
-        let (Columns::Network(name) | Columns::Range(name, _)) = self.names;
-        InputError::at(alloc, name, reason)
-    }
-
     // What a row says.
     fn read<V: Values>(
         &mut self,
@@ -295,10 +360,8 @@ impl<'t> Cells<'t> {
         if self.cells.len() != self.width {
             return Err(InputError::from(Reason::WrongCells));
         }
-        let place = match place_in(&self.cells, self.place) {
-            Ok(place) => place,
-            Err(reason) => return Err(self.wrong_place(alloc, reason)),
-        };
+        let place = place_in(alloc, &self.cells, self.place)?;
+        values.check(place)?;
         let value = add_record(
             alloc,
             &self.cells,

@@ -1,5 +1,5 @@
 //! What a row says.
-use crate::error::InputError;
+use crate::error::{InputError, Reason};
 use crate::range::AddressRange;
 use mmdb_net::IpNetwork;
 use mmdb_value::Value;
@@ -21,6 +21,9 @@ pub struct Entry {
 
 /// What takes values.
 pub trait Values {
+    /// Whether a row of these addresses may be taken. It is asked before the row's value is added.
+    fn check(&self, place: Place) -> Result<(), Reason>;
+
     /// Takes a value, and answers an index that stands for it.
     fn add(&mut self, alloc: Global, value: &Value<'_>) -> Result<usize, InputError>;
 }

@@ -9,6 +9,9 @@ use std::fmt;
 #[derive(Clone, Copy, Debug, PartialEq, Eq)]
 pub enum Reason {
     TooLong,
+    Unclosed,
+    BehindQuote,
+    LoneReturn,
     NotUtf8,
     Nul,
     NotJson,
@@ -47,6 +50,9 @@ impl Reason {
     fn text(self) -> &'static str {
         match self {
             Reason::TooLong => "has more than 4194304 bytes",
+            Reason::Unclosed => "has a quote that nothing closes",
+            Reason::BehindQuote => "has text behind a closing quote",
+            Reason::LoneReturn => "has a carriage return without a line feed, outside of quotes",
             Reason::NotUtf8 => "not UTF-8",
             Reason::Nul => "has a NUL byte",
             Reason::NotJson => "not JSON, or nested more than 128 deep",
@@ -137,6 +143,14 @@ impl fmt::Display for BadRow {
     }
 }
 
+/// What is got, or an error of something in a column or at a path.
+pub(crate) fn named<T>(alloc: Global, at: &str, got: Result<T, Reason>) -> Result<T, InputError> {
+    match got {
+        Ok(value) => Ok(value),
+        Err(reason) => Err(InputError::at(alloc, at, reason)),
+    }
+}
+
 /// Why a row gives no entry.
 #[derive(Debug, Drop)]
 pub enum InputError {
@@ -153,6 +167,16 @@ impl InputError {
     #[cold]
     pub(crate) fn at(alloc: Global, at: &str, reason: Reason) -> InputError {
         with_place(String::from_str(alloc, at), reason)
+    }
+
+    /// The same error, seen from the array that has it at this index.
+    #[cold]
+    pub(crate) fn below_index(self, alloc: Global, index: usize) -> InputError {
+        let key: Result<String, AllocError> = format!(in alloc; "{index}");
+        match key {
+            Ok(key) => self.below(alloc, key.as_str()),
+            Err(_) => InputError::Memory,
+        }
     }
 
     /// The same error, seen from the value that has it under this key.

@@ -1,10 +1,10 @@
 //! Lines of JSON.
 use crate::columns::Columns;
 use crate::entry::{Entry, Place, Values};
-use crate::error::{InputError, Reason};
+use crate::error::{InputError, Reason, named};
 use crate::known::KnownTexts;
 use crate::networks::{address_of, network_of};
-use crate::plan::{MOST_COLUMNS, Plan, add_assembled, column_path, plan_of};
+use crate::plan::{MOST_COLUMNS, NamedPath, Plan, add_assembled, column_path, plan_of};
 use crate::range::AddressRange;
 use crate::types::Types;
 use crate::values::value_of;
@@ -14,12 +14,13 @@ use memchr::memchr;
 use mmdb_reader::PathElement;
 use mmdb_value::Value;
 use std::alloc::{AllocError, Global};
+use std::net::IpAddr;
 
 /// The member that has a range in place of a network.
-const RANGE: &str = "range";
+pub const RANGE: &str = "range";
 
 /// The member that has the whole record.
-const RECORD: &str = "record";
+pub const RECORD: &str = "record";
 
 // What stands before the network in a line that begins with it, where its member's name needs no escapes.
 fn front_of(alloc: Global, columns: Columns<'_>) -> Result<Option<Vec<u8>>, AllocError> {
@@ -47,10 +48,7 @@ fn text_of<'a>(alloc: Global, name: &str, shown: &json::Value<'a>) -> Result<&'a
 // The network of a member.
 fn network_in(alloc: Global, name: &str, shown: &json::Value<'_>) -> Result<Place, InputError> {
     let text = text_of(alloc, name, shown)?;
-    match network_of(text) {
-        Ok(network) => Ok(Place::Network(network)),
-        Err(reason) => Err(InputError::at(alloc, name, reason)),
-    }
+    Ok(Place::Network(named(alloc, name, network_of(text))?))
 }
 
 // The range from one address to another.
@@ -67,9 +65,14 @@ fn range_in(alloc: Global, shown: &json::Value<'_>) -> Result<Place, InputError>
         }
         _ => Err(Reason::NotARange),
     };
-    match range {
-        Ok(place) => Ok(place),
-        Err(reason) => Err(InputError::at(alloc, RANGE, reason)),
+    named(alloc, RANGE, range)
+}
+
+// The address that a member is.
+fn address_in(shown: &json::Value<'_>) -> Result<IpAddr, Reason> {
+    match shown {
+        json::Value::String(text) => address_of(*text),
+        _ => Err(Reason::NotAnAddress),
     }
 }
 
@@ -80,16 +83,13 @@ fn range_of_two(
     last: &str,
     object: &json::Value<'_>,
 ) -> Result<Place, InputError> {
-    match (object.get(first), object.get(last)) {
-        (Some(json::Value::String(from)), Some(json::Value::String(to))) => {
-            match range_between(*from, *to) {
-                Ok(place) => Ok(place),
-                Err(reason) => Err(InputError::at(alloc, first, reason)),
-            }
-        }
-        (Some(_), Some(_)) => Err(InputError::at(alloc, first, Reason::NotAnAddress)),
-        _ => Err(InputError::from(Reason::NoNetwork)),
-    }
+    let (Some(from), Some(to)) = (object.get(first), object.get(last)) else {
+        return Err(InputError::from(Reason::NoNetwork));
+    };
+    let from = named(alloc, first, address_in(from))?;
+    let to = named(alloc, last, address_in(to))?;
+    let range = named(alloc, first, AddressRange::new(from, to))?;
+    Ok(Place::Range(range))
 }
 
 // The addresses that an object is of.
@@ -139,7 +139,7 @@ fn others_in<'m, 'a>(
 fn paths_in<'a>(
     alloc: Global,
     others: &[(&'a str, &json::Value<'a>)],
-) -> Result<Vec<Vec<PathElement<'a>>>, InputError> {
+) -> Result<Vec<NamedPath<'a>>, InputError> {
     let mut paths = Vec::new(alloc);
     for other in others {
         paths.push(column_path(alloc, other.0)?)?;
@@ -165,13 +165,13 @@ fn value_at<'a>(
 fn values_in<'a>(
     alloc: Global,
     others: &[(&'a str, &json::Value<'a>)],
-    paths: &[Vec<PathElement<'_>>],
+    paths: &[NamedPath<'_>],
     types: &Types,
     arena: &'a Bump,
 ) -> Result<Vec<Option<Value<'a>>>, InputError> {
     let mut values = Vec::new(alloc);
-    for (other, path) in others.iter().zip(paths) {
-        match value_at(alloc, other.1, types, path, arena) {
+    for (other, named) in others.iter().zip(paths) {
+        match value_at(alloc, other.1, types, &named.path, arena) {
             Ok(value) => values.push(value)?,
             Err(error) => return Err(error.below(alloc, other.0)),
         }
@@ -238,6 +238,7 @@ fn entry_in<'a, V: Values>(
         return Err(InputError::from(Reason::NotAnObject));
     };
     let place = place_in(alloc, columns, object)?;
+    values.check(place)?;
     let others = others_in(alloc, columns, members)?;
     let value = match (object.get(RECORD), others.first()) {
         (Some(record), None) => add_record(alloc, record, types, arena, values)?,

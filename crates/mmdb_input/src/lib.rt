@@ -19,7 +19,7 @@ pub use cells::Cells;
 pub use columns::Columns;
 pub use entry::{Entry, Place, Values};
 pub use error::{BadRow, InputError, Reason};
-pub use json_lines::JsonLines;
+pub use json_lines::{JsonLines, RANGE, RECORD};
 pub use networks::network_of;
 pub use range::{AddressRange, RangeNetworks};
 pub use rows::{MOST_ROW, RowRead, read_row};

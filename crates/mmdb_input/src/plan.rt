@@ -5,6 +5,7 @@ use mmdb_paths::path_of;
 use mmdb_reader::PathElement;
 use mmdb_value::Value;
 use std::alloc::Global;
+use std::collections::BTreeMap;
 
 /// How many columns there may be.
 pub(crate) const MOST_COLUMNS: usize = 1000;
@@ -21,31 +22,98 @@ pub(crate) enum Plan {
     Array(Vec<Plan>),
 }
 
+/// The name of a column, and the path that it spells.
+#[derive(Drop)]
+pub(crate) struct NamedPath<'a> {
+    name: &'a str,
+    pub(crate) path: Vec<PathElement<'a>>,
+}
+
 // A column, and what is left of its path.
 #[derive(Clone, Copy)]
 struct Part<'p, 'a> {
     column: usize,
+    name: &'a str,
     path: &'p [PathElement<'a>],
 }
 
-// The parts whose paths begin with a step, without it.
-fn parts_below<'p, 'a>(
+// A key, and the parts whose paths begin with it, without it.
+#[derive(Drop)]
+struct Member<'p, 'a> {
+    key: &'a str,
+    parts: Vec<Part<'p, 'a>>,
+}
+
+// The parts whose paths begin with an index, without it.
+#[derive(Drop)]
+struct Item<'p, 'a> {
+    parts: Vec<Part<'p, 'a>>,
+}
+
+// The error of a part that leads into another one's value, or beside its keys or indexes.
+fn in_another(alloc: Global, part: &Part<'_, '_>) -> InputError {
+    InputError::at(alloc, part.name, Reason::InAnother)
+}
+
+// The place of the member of a key, which is made where there is none.
+fn member_place<'p, 'a>(
+    alloc: Global,
+    key: &'a str,
+    places: &mut BTreeMap<String, usize>,
+    members: &mut Vec<Member<'p, 'a>>,
+) -> Result<usize, InputError> {
+    if let Some(place) = places.get(key) {
+        return Ok(*place);
+    }
+    let place = members.len();
+    places.insert(String::from_str(alloc, key)?, place)?;
+    members.push(Member {
+        key,
+        parts: Vec::new(alloc),
+    })?;
+    Ok(place)
+}
+
+// The members of a map, in the order in which the parts name them first.
+fn members_of<'p, 'a>(
     alloc: Global,
     parts: &[Part<'p, 'a>],
-    step: PathElement<'a>,
-) -> Result<Vec<Part<'p, 'a>>, InputError> {
-    let mut below = Vec::new(alloc);
+) -> Result<Vec<Member<'p, 'a>>, InputError> {
+    let mut places = BTreeMap::new(alloc);
+    let mut members: Vec<Member<'p, 'a>> = Vec::new(alloc);
     for part in parts {
-        if let [first, path @ ..] = part.path {
-            if *first == step {
-                below.push(Part {
-                    column: part.column,
-                    path,
-                })?;
-            }
+        let [PathElement::Key(key), path @ ..] = part.path else {
+            return Err(in_another(alloc, part));
+        };
+        let place = member_place(alloc, *key, &mut places, &mut members)?;
+        if let Some(member) = members.get_mut(place) {
+            member.parts.push(Part { path, ..*part })?;
         }
     }
-    Ok(below)
+    Ok(members)
+}
+
+// The items of an array, of which those behind the last may have no parts.
+fn items_of<'p, 'a>(
+    alloc: Global,
+    parts: &[Part<'p, 'a>],
+) -> Result<Vec<Item<'p, 'a>>, InputError> {
+    let mut items: Vec<Item<'p, 'a>> = Vec::new(alloc);
+    for _ in parts {
+        items.push(Item {
+            parts: Vec::new(alloc),
+        })?;
+    }
+    for part in parts {
+        let [PathElement::Index(index), path @ ..] = part.path else {
+            return Err(in_another(alloc, part));
+        };
+        match items.get_mut(*index) {
+            Some(item) => item.parts.push(Part { path, ..*part })?,
+            None => return Err(in_another(alloc, part)),
+        }
+    }
+    Ok(items)
 }
 
 // The plan of a map.
@@ -55,20 +123,12 @@ fn plan_of_map<'p, 'a>(
     parts: &[Part<'p, 'a>],
     steps: usize,
 ) -> Result<Plan, InputError> {
-    let mut members: Vec<(String, Plan)> = Vec::new(alloc);
-    for part in parts {
-        let Some(PathElement::Key(key)) = part.path.first() else {
-            return Err(InputError::from(Reason::InAnother));
-        };
-        if members.iter().any(|member| member.0.as_str() == *key) {
-            continue;
-        }
-        let below = parts_below(alloc, parts, PathElement::Key(*key))?;
-        let plan = plan_of_parts(alloc, &below, steps)?;
-        let key = String::from_str(alloc, *key)?;
-        members.push((key, plan))?;
+    let mut plans: Vec<(String, Plan)> = Vec::new(alloc);
+    for member in &members_of(alloc, parts)? {
+        let plan = plan_of_parts(alloc, &member.parts, steps)?;
+        plans.push((String::from_str(alloc, member.key)?, plan))?;
     }
-    Ok(Plan::Map(members))
+    Ok(Plan::Map(plans))
 }
 
 // The plan of an array.
@@ -78,21 +138,16 @@ fn plan_of_array<'p, 'a>(
     parts: &[Part<'p, 'a>],
     steps: usize,
 ) -> Result<Plan, InputError> {
-    let mut items = Vec::new(alloc);
-    let mut taken = 0usize;
-    for index in 0..parts.len() {
-        let below = parts_below(alloc, parts, PathElement::Index(index))?;
-        if below.is_empty() {
-            break;
+    let mut plans = Vec::new(alloc);
+    let mut is_at_end = false;
+    for item in &items_of(alloc, parts)? {
+        match item.parts.first() {
+            Some(part) if is_at_end => return Err(in_another(alloc, part)),
+            Some(_) => plans.push(plan_of_parts(alloc, &item.parts, steps)?)?,
+            None => is_at_end = true,
         }
-        taken = taken.saturating_add(below.len());
-        items.push(plan_of_parts(alloc, &below, steps)?)?;
     }
-    if taken == parts.len() {
-        Ok(Plan::Array(items))
-    } else {
-        Err(InputError::from(Reason::InAnother))
-    }
+    Ok(Plan::Array(plans))
 }
 
 // The plan of parts of which there is at least one, whose paths may have so many steps.
@@ -102,40 +157,22 @@ fn plan_of_parts<'p, 'a>(
     parts: &[Part<'p, 'a>],
     steps: usize,
 ) -> Result<Plan, InputError> {
-    match (parts, steps) {
-        ([Part { column, path: [] }], _) => Ok(Plan::Column(*column)),
-        (_, 0) => Err(InputError::from(Reason::TooDeep)),
-        (
-            [
-                Part {
-                    path: [PathElement::Key(_), ..],
-                    ..
-                },
-                ..
-            ],
-            _,
-        ) => { plan_of_map(alloc, parts, steps - 1) }
-        (
-            [
-                Part {
-                    path: [PathElement::Index(_), ..],
-                    ..
-                },
-                ..
-            ],
-            _,
-        ) => { plan_of_array(alloc, parts, steps - 1) }
-        _ => Err(InputError::from(Reason::InAnother)),
+    let Some((first, others)) = parts.split_first() else {
+        return Ok(Plan::Map(Vec::new(alloc)));
+    };
+    match (first.path, others, steps) {
+        ([], [], _) => Ok(Plan::Column(first.column)),
+        ([], [other, ..], _) => Err(in_another(alloc, other)),
+        (_, _, 0) => Err(InputError::at(alloc, first.name, Reason::TooDeep)),
+        ([PathElement::Key(_), ..], _, _) => plan_of_map(alloc, parts, steps - 1),
+        ([_, ..], _, _) => plan_of_array(alloc, parts, steps - 1),
     }
 }
 
 /// The path that a column's name spells, without an index from the end.
-pub(crate) fn column_path<'a>(
-    alloc: Global,
-    name: &'a str,
-) -> Result<Vec<PathElement<'a>>, InputError> {
+pub(crate) fn column_path<'a>(alloc: Global, name: &'a str) -> Result<NamedPath<'a>, InputError> {
     match path_of(alloc, name)? {
-        Some(path) if !path.iter().any(is_from_end) => Ok(path),
+        Some(path) if !path.iter().any(is_from_end) => Ok(NamedPath { name, path }),
         _ => Err(InputError::at(alloc, name, Reason::NotAPath)),
     }
 }
@@ -146,15 +183,13 @@ fn is_from_end(step: &PathElement<'_>) -> bool {
 }
 
 /// How a record is put together of the values at these paths.
-pub(crate) fn plan_of(alloc: Global, paths: &[Vec<PathElement<'_>>]) -> Result<Plan, InputError> {
-    if paths.is_empty() {
-        return Ok(Plan::Map(Vec::new(alloc)));
-    }
+pub(crate) fn plan_of(alloc: Global, paths: &[NamedPath<'_>]) -> Result<Plan, InputError> {
     let mut parts = Vec::new(alloc);
-    for (column, path) in paths.iter().enumerate() {
+    for (column, named) in paths.iter().enumerate() {
         parts.push(Part {
             column,
-            path: path.as_slice(),
+            name: named.name,
+            path: named.path.as_slice(),
         })?;
     }
     plan_of_parts(alloc, &parts, MOST_STEPS)
@@ -169,8 +204,10 @@ fn assembled_map<'a>(
 ) -> Result<Option<Value<'a>>, InputError> {
     let mut pairs = Vec::new(alloc);
     for member in members {
-        if let Some(value) = assembled(alloc, &member.1, values)? {
-            pairs.push((member.0.as_str(), value))?;
+        match assembled(alloc, &member.1, values) {
+            Ok(Some(value)) => pairs.push((member.0.as_str(), value))?,
+            Ok(None) => {}
+            Err(error) => return Err(error.below(alloc, member.0.as_str())),
         }
     }
     Ok(if pairs.is_empty() {
@@ -189,15 +226,16 @@ fn assembled_array<'a>(
 ) -> Result<Option<Value<'a>>, InputError> {
     let mut all = Vec::new(alloc);
     let mut is_at_end = false;
-    for item in items {
-        match assembled(alloc, item, values)? {
-            Some(value) => {
+    for (index, item) in items.iter().enumerate() {
+        match assembled(alloc, item, values) {
+            Ok(Some(value)) => {
                 if is_at_end {
-                    return Err(InputError::from(Reason::Gap));
+                    return Err(InputError::from(Reason::Gap).below_index(alloc, index));
                 }
                 all.push(value)?;
             }
-            None => is_at_end = true,
+            Ok(None) => is_at_end = true,
+            Err(error) => return Err(error.below_index(alloc, index)),
         }
     }
     Ok(if all.is_empty() {

@@ -13,6 +13,8 @@ pub enum RowRead {
     Whole,
     /// A row of more bytes than one may have, of which the first ones are at hand. The others were passed over.
     TooLong,
+    /// What is behind a quote that nothing closes, up to the end of the input.
+    Unclosed,
     /// Nothing: the input is at its end.
     End,
 }
@@ -26,6 +28,25 @@ fn append(row: &mut Vec<u8>, chunk: &[u8]) -> io::Result<bool> {
     Ok(true)
 }
 
+// How many lines end in some bytes of a row. Only in CSV there may be several.
+fn line_ends(rows: Rows, bytes: &[u8]) -> u64 {
+    match rows {
+        Rows::Lines { .. } => u64::from(bytes.last() == Some(&b'\n')),
+        Rows::Csv { .. } => bytes.iter().filter(|byte| **byte == b'\n').count() as u64,
+    }
+}
+
+// What a row is that ends here.
+fn read_of(position: Position, is_whole: bool) -> RowRead {
+    if position == Position::Quoted {
+        RowRead::Unclosed
+    } else if is_whole {
+        RowRead::Whole
+    } else {
+        RowRead::TooLong
+    }
+}
+
 // Reads the rest of a row whose first chunk is at hand.
 fn read_rest<I: BufRead>(
     alloc: Global,
@@ -33,6 +54,7 @@ fn read_rest<I: BufRead>(
     rows: Rows,
     position: Position,
     row: &mut Vec<u8>,
+    lines: &mut u64,
 ) -> io::Result<RowRead> {
     let mut chunk = Vec::new(alloc);
     let mut is_whole = true;
@@ -41,32 +63,31 @@ fn read_rest<I: BufRead>(
         chunk.clear();
         now = read_chunk(input, rows, now, &mut chunk)?;
         is_whole = is_whole && append(row, &chunk)?;
+        *lines = lines.saturating_add(line_ends(rows, &chunk));
         if chunk.is_empty() || now == Position::Ended {
-            return Ok(if is_whole {
-                RowRead::Whole
-            } else {
-                RowRead::TooLong
-            });
+            return Ok(read_of(now, is_whole));
         }
     }
     Err(io::Error::from(ErrorKind::FileTooLarge))
 }
 
-/// Reads the next row in place of another one, with its end.
+/// Reads the next row in place of another one, with its end, and adds to `lines` how many lines end in it.
 #[inline(always)]
 pub fn read_row<I: BufRead>(
     alloc: Global,
     input: &mut I,
     rows: Rows,
     row: &mut Vec<u8>,
+    lines: &mut u64,
 ) -> io::Result<RowRead> {
     row.clear();
     let position = read_chunk(input, rows, Position::Cell, row)?;
+    *lines = lines.saturating_add(line_ends(rows, row));
     if row.is_empty() {
         Ok(RowRead::End)
     } else if position == Position::Ended {
         Ok(RowRead::Whole)
     } else {
-        read_rest(alloc, input, rows, position, row)
+        read_rest(alloc, input, rows, position, row, lines)
     }
 }

@@ -87,19 +87,83 @@ fn is_double(text: &str) -> bool {
         .any(|byte| matches!(*byte, b'.' | b'e' | b'E'))
 }
 
-// The first number that a text spells in one of these types.
-fn first_number<'a>(text: &str, kinds: &[Kind]) -> Option<Value<'a>> {
+// Whether a text is an integer as one writes it, without a plus or zeros in front.
+fn is_integer(text: &str) -> bool {
+    let digits = text.strip_prefix('-').unwrap_or(text).as_bytes();
+    match digits {
+        [] => false,
+        [b'0', ..] => text == "0",
+        _ => digits.iter().all(|byte| byte.is_ascii_digit()),
+    }
+}
+
+// Whether values of a type are integers.
+fn has_integers(kind: Kind) -> bool {
+    matches!(
+        kind,
+        Kind::I32 | Kind::U16 | Kind::U32 | Kind::U64 | Kind::U128
+    )
+}
+
+// The integer that a text spells, of the first of the types of integers among these that has it.
+fn first_integer<'a>(text: &str, kinds: &[Kind]) -> Option<Value<'a>> {
+    if !is_integer(text) {
+        return None;
+    }
     for kind in kinds {
-        if let Some(value) = number_as(text, *kind) {
-            return Some(value);
+        if has_integers(*kind) {
+            if let Some(value) = number_as(text, *kind) {
+                return Some(value);
+            }
         }
     }
     None
 }
 
-/// The value of a number as JSON writes it, of the first of these types that has it. Where there is none, one with a point or
-/// an exponent is a double, and any other the least of uint32, uint64, uint128 and int32 that has it.
+// The number of double precision that the digits spell by which a text is shown again as a number of single precision.
+fn shown_again(text: &str) -> Option<f64> {
+    let single: f32 = fast_float::parse(text).ok()?;
+    let mut buffer = ryu::Buffer::new();
+    fast_float::parse(buffer.format(single)).ok()
+}
+
+// Whether a text is shown again as the same number, where it is one of single precision.
+fn is_single(text: &str) -> bool {
+    let wanted: Option<f64> = fast_float::parse(text).ok();
+    wanted == shown_again(text)
+}
+
+// Whether a value is just what a text spells.
+fn is_exact(text: &str, value: &Value<'_>) -> bool {
+    match value {
+        Value::Float(_) => is_single(text),
+        _ => true,
+    }
+}
+
+// The number that a text spells, of the first of these types that has it just so, else of the first that has it.
+fn first_number<'a>(text: &str, kinds: &[Kind]) -> Option<Value<'a>> {
+    let mut rounded = None;
+    for kind in kinds {
+        if let Some(value) = number_as(text, *kind) {
+            if is_exact(text, &value) {
+                return Some(value);
+            }
+            if rounded.is_none() {
+                rounded = Some(value);
+            }
+        }
+    }
+    rounded
+}
+
+/// The value of a number as JSON writes it, of the first of these types that has it just so; for an integer types of integers
+/// come first. Where there is none, one with a point or an exponent is a double, and any other the least of uint32, uint64,
+/// uint128 and int32 that has it.
 pub(crate) fn number_value<'a>(text: &str, kinds: &[Kind]) -> Result<Value<'a>, Reason> {
+    if let Some(value) = first_integer(text, kinds) {
+        return Ok(value);
+    }
     let found = match kinds {
         [] if is_double(text) => first_number(text, &[Kind::Double]),
         [] => first_number(text, INTEGERS),
@@ -114,11 +178,14 @@ pub(crate) fn number_value<'a>(text: &str, kinds: &[Kind]) -> Result<Value<'a>, 
 
 /// The value of `null`: where a double or a float is wanted the number that is none, which is shown so again.
 pub(crate) fn null_value<'a>(kinds: &[Kind]) -> Result<Value<'a>, Reason> {
-    match kinds {
-        [Kind::Double, ..] => Ok(Value::Double(Double { bits: 0x7FF8 << 48 })),
-        [Kind::Float, ..] => Ok(Value::Float(Float { bits: 0x7FC0 << 16 })),
-        _ => Err(Reason::Null),
+    for kind in kinds {
+        match kind {
+            Kind::Double => return Ok(Value::Double(Double { bits: 0x7FF8 << 48 })),
+            Kind::Float => return Ok(Value::Float(Float { bits: 0x7FC0 << 16 })),
+            _ => {}
+        }
     }
+    Err(Reason::Null)
 }
 
 /// The value of a truth value, unless another type is wanted.
@@ -142,67 +209,72 @@ fn bytes_of<'a>(
     }
 }
 
-// What a text is in a type of texts.
+/// Where a text is from.
+#[derive(Clone, Copy, PartialEq, Eq)]
+pub(crate) enum Source {
+    /// It is a string of JSON.
+    Json,
+    /// It is a cell, in which all values are texts.
+    Cell,
+}
+
+// What a text is in a type.
 fn text_as<'a>(
     alloc: Global,
     text: &'a str,
-    kind: Kind,
-    arena: &'a Bump,
-) -> Result<Option<Value<'a>>, InputError> {
-    match kind {
-        Kind::Text => Ok(Some(Value::String(text))),
-        Kind::Bytes => bytes_of(alloc, text, arena),
-        _ => Ok(None),
-    }
-}
-
-/// The value of a text, of the first of these types that has it: bytes are base64. Where there is none it is a text.
-pub(crate) fn text_value<'a>(
-    alloc: Global,
-    text: &'a str,
-    kinds: &[Kind],
-    arena: &'a Bump,
-) -> Result<Value<'a>, InputError> {
-    for kind in kinds {
-        if let Some(value) = text_as(alloc, text, *kind, arena)? {
-            return Ok(value);
-        }
-    }
-    match kinds {
-        [] => Ok(Value::String(text)),
-        [kind, ..] => Err(InputError::from(Reason::NotOf(*kind))),
-    }
-}
-
-// What a cell is in a type.
-fn cell_as<'a>(
-    alloc: Global,
-    text: &'a str,
+    source: Source,
     kind: Kind,
     arena: &'a Bump,
 ) -> Result<Option<Value<'a>>, InputError> {
     match (kind, text) {
-        (Kind::Text | Kind::Bytes, _) => text_as(alloc, text, kind, arena),
+        (Kind::Text, _) => Ok(Some(Value::String(text))),
+        (Kind::Bytes, _) => bytes_of(alloc, text, arena),
+        _ if source == Source::Json => Ok(None),
         (Kind::Bool, "true") => Ok(Some(Value::Bool(true))),
         (Kind::Bool, "false") => Ok(Some(Value::Bool(false))),
         _ => Ok(number_as(text, kind)),
     }
 }
 
-/// The value of a cell, of the first of these types that has it. Where there is none it is a text.
-pub(crate) fn cell_value<'a>(
+// What a text is in the first of these types that has it just so, else in the first that has it.
+fn first_text<'a>(
     alloc: Global,
     text: &'a str,
+    source: Source,
+    kinds: &[Kind],
+    arena: &'a Bump,
+) -> Result<Option<Value<'a>>, InputError> {
+    let mut rounded = None;
+    for kind in kinds {
+        if let Some(value) = text_as(alloc, text, source, *kind, arena)? {
+            if is_exact(text, &value) {
+                return Ok(Some(value));
+            }
+            if rounded.is_none() {
+                rounded = Some(value);
+            }
+        }
+    }
+    Ok(rounded)
+}
+
+/// The value of a text, of the first of these types that has it just so: bytes are base64. In a cell types of integers come
+/// first for an integer. Where there is no type it is a text.
+pub(crate) fn text_value<'a>(
+    alloc: Global,
+    text: &'a str,
+    source: Source,
     kinds: &[Kind],
     arena: &'a Bump,
 ) -> Result<Value<'a>, InputError> {
-    for kind in kinds {
-        if let Some(value) = cell_as(alloc, text, *kind, arena)? {
+    if source == Source::Cell {
+        if let Some(value) = first_integer(text, kinds) {
             return Ok(value);
         }
     }
-    match kinds {
-        [] => Ok(Value::String(text)),
-        [kind, ..] => Err(InputError::from(Reason::NotOf(*kind))),
+    match (first_text(alloc, text, source, kinds, arena)?, kinds) {
+        (Some(value), _) => Ok(value),
+        (None, []) => Ok(Value::String(text)),
+        (None, [kind, ..]) => Err(InputError::from(Reason::NotOf(*kind))),
     }
 }

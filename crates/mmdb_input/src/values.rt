@@ -1,6 +1,6 @@
 //! Values of JSON as values of this format.
 use crate::error::{InputError, Reason};
-use crate::scalars::{bool_value, null_value, number_value, text_value};
+use crate::scalars::{Source, bool_value, null_value, number_value, text_value};
 use crate::types::Types;
 use bumpalo::Bump;
 use mmdb_format::kind::Kind;
@@ -28,7 +28,7 @@ pub(crate) fn value_of<'a>(
         json::Value::Null => Ok(null_value(kinds)?),
         json::Value::Bool(truth) => Ok(bool_value(*truth, kinds)?),
         json::Value::Number(text) => Ok(number_value(*text, kinds)?),
-        json::Value::String(text) => text_value(alloc, *text, kinds, arena),
+        json::Value::String(text) => text_value(alloc, *text, Source::Json, kinds, arena),
         json::Value::Array(items) => {
             check_container(kinds, Kind::Array)?;
             let below = types.items(node);

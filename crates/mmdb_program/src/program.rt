@@ -2,6 +2,7 @@
 use mmdb_arguments::{Message, NoRequest, Request, request_of};
 use mmdb_changes::diff;
 use mmdb_cmd_build::build;
+use mmdb_cmd_install::install;
 use mmdb_console::{BAD_ARGUMENTS, Console, DONE, FAILED, Io, NO_MEMORY, ProgramError};
 use mmdb_export::export;
 use mmdb_filter::Live;
@@ -45,6 +46,7 @@ fn subject_of<'a>(request: &Request<'a>) -> &'a str {
         Request::Enrich(arguments) => arguments.file,
         Request::Export(arguments) => arguments.file,
         Request::Diff(_) => "diff",
+        Request::Install(arguments) => arguments.dest,
         Request::Build(arguments) => arguments.out,
         Request::Verify(_) => "verify",
     }
@@ -82,6 +84,7 @@ fn done_of<R: Files + Env + Clock, I: Live, O: Write, E: Write>(
         Request::Enrich(arguments) => enrich(rt, arguments, input, console),
         Request::Export(arguments) => export(rt, arguments, console),
         Request::Diff(arguments) => diff(rt, arguments, console),
+        Request::Install(arguments) => install(rt, arguments, console),
         Request::Build(arguments) => build(rt, arguments, input, console),
         Request::Verify(arguments) => verify(rt, arguments, console),
     }

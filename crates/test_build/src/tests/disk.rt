@@ -2,8 +2,10 @@
 use std::alloc::{AllocError, Allocator, Global};
 use std::cell::{Cell, RefCell};
 use std::env::{Env, FillError};
-use std::fs::{Metadata, OpenFile, OpenOptions};
+use std::fs::{Metadata, OpenFile, OpenOptions, Permissions};
 use std::io::{self, ErrorKind, Read, Seek, SeekFrom, Write};
+use std::os::unix::fs::PermissionsExt;
+use std::path::PathBuf;
 use std::rt::Files;
 use std::time::{Clock, Duration};
 
@@ -14,6 +16,23 @@ struct Named {
     bytes: Vec<u8>,
 }
 
+/// The name of a link to `out.mmdb`.
+pub(crate) const LINK: &str = "link.mmdb";
+
+/// The name of a link that leads nowhere.
+pub(crate) const DEAD_LINK: &str = "dead.mmdb";
+
+/// The name of a pipe.
+pub(crate) const PIPE: &str = "pipe";
+
+/// Where a link leads.
+const TARGET: &str = "out.mmdb";
+
+/// The number of the process that runs, and that of another one.
+const THIS_PROCESS: &str = "42";
+
+const OTHER_PROCESS: &str = "/proc/7";
+
 /// Files in one folder, the current one. The call number `fails_at` of all that may fail does.
 #[derive(Drop)]
 pub(crate) struct Disk {
@@ -23,6 +42,8 @@ pub(crate) struct Disk {
     fails_at: u32,
     /// What `SOURCE_DATE_EPOCH` has, if it is there.
     epoch: Option<&'static str>,
+    /// Who may read, write and run the file for which that was set last.
+    mode: Cell<u32>,
 }
 
 // The name of a path in the current folder.
@@ -55,7 +76,13 @@ impl Disk {
             calls: Cell::new(0),
             fails_at,
             epoch,
+            mode: Cell::new(0),
         }
+    }
+
+    /// Who may read, write and run the file for which that was set last; 0 where it was set for none.
+    pub(crate) fn mode(&self) -> u32 {
+        self.mode.get()
     }
 
     /// How many calls there were.
@@ -130,6 +157,18 @@ impl Disk {
         Ok(names)
     }
 
+    // What a name of a file has, of a link what it leads to.
+    fn metadata(&self, name: &str) -> io::Result<Metadata> {
+        if name == PIPE || name == OTHER_PROCESS {
+            return Ok(Metadata::of_dir());
+        }
+        let name = if name == LINK { TARGET } else { name };
+        match self.get(name) {
+            Some(bytes) => Ok(Metadata::of_file(bytes.len() as u64)),
+            None => Err(io::Error::from(ErrorKind::NotFound)),
+        }
+    }
+
     /// How many files there are.
     pub(crate) fn len(&self) -> usize {
         match self.files.try_borrow() {
@@ -196,6 +235,12 @@ impl OpenFile for DiskFile<'_> {
         Err(failed())
     }
 
+    fn set_permissions(&self, permissions: Permissions) -> io::Result<()> {
+        self.disk.count()?;
+        self.disk.mode.set(permissions.mode());
+        Ok(())
+    }
+
     fn set_len(&self, _size: u64) -> io::Result<()> {
         Err(failed())
     }
@@ -243,8 +288,9 @@ impl<'d> Files for DiskRuntime<'d> {
         if path == "./" {
             return self.opened("", Vec::new(self.disk.alloc));
         }
-        match self.disk.get(name_of(path)) {
-            Some(bytes) => self.opened(name_of(path), bytes),
+        let name = if path == LINK { TARGET } else { name_of(path) };
+        match self.disk.get(name) {
+            Some(bytes) => self.opened(name, bytes),
             None => Err(io::Error::from(ErrorKind::NotFound)),
         }
     }
@@ -255,12 +301,35 @@ impl<'d> Files for DiskRuntime<'d> {
         self.opened("", names)
     }
 
-    fn metadata(&self, _path: &str) -> io::Result<Metadata> {
-        Err(failed())
+    fn metadata(&self, path: &str) -> io::Result<Metadata> {
+        self.disk.count()?;
+        self.disk.metadata(name_of(path))
     }
 
-    fn symlink_metadata(&self, _path: &str) -> io::Result<Metadata> {
-        Err(failed())
+    fn symlink_metadata(&self, path: &str) -> io::Result<Metadata> {
+        self.disk.count()?;
+        match path {
+            LINK | DEAD_LINK => Ok(Metadata::of_symlink(1)),
+            _ => self.disk.metadata(name_of(path)),
+        }
+    }
+
+    fn canonicalize<B: Allocator>(&self, alloc: B, path: &str) -> io::Result<PathBuf<B>> {
+        self.disk.count()?;
+        if path == LINK {
+            Ok(PathBuf::from_str(alloc, TARGET)?)
+        } else {
+            Err(io::Error::from(ErrorKind::NotFound))
+        }
+    }
+
+    fn read_link<B: Allocator>(&self, alloc: B, path: &str) -> io::Result<PathBuf<B>> {
+        self.disk.count()?;
+        if path == "/proc/self" {
+            Ok(PathBuf::from_str(alloc, THIS_PROCESS)?)
+        } else {
+            Err(io::Error::from(ErrorKind::NotFound))
+        }
     }
 
     fn copy(&self, _from: &str, _to: &str) -> io::Result<u64> {

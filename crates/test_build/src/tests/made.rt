@@ -1,8 +1,9 @@
 //! Files that are made, read by the library.
-use super::disk::Disk;
+use super::disk::{Disk, LINK};
 use super::run::run_on;
 use mmdb_reader::{MaxMindDbError, Reader};
 use mmdb_value::Value;
+use mmdb_vectors::base::BASE_FILE;
 use std::alloc::Global;
 use std::net::IpAddr;
 use std::process::Abort;
@@ -141,6 +142,53 @@ const CASES: &[Case] = &[
             ("10.0.0.0", "10.0.0.0/7 String(\"b\")"),
         ],
     },
+    // equal networks are errors in the order of the lines, and are left out whole
+    Case {
+        options: &["--equal", "error", "--skip-bad"],
+        rows: "{\"network\":\"1.0.0.0/24\",\"record\":\"a\"}\n{\"network\":\"1.0.0.0/24\",\"record\":\"b\"}\n{\"range\":[\"1.0.0.0\",\"1.0.1.127\"],\"record\":\"c\"}\n{\"network\":\"1.0.1.0/25\",\"record\":\"d\"}\n",
+        answers: &[
+            ("1.0.0.9", "1.0.0.0/24 String(\"a\")"),
+            ("1.0.1.9", "1.0.1.0/25 String(\"d\")"),
+        ],
+    },
+    // a block of a range that lies in a reserved network is skipped
+    Case {
+        options: &["--reserved", "skip"],
+        rows: "{\"range\":[\"9.255.255.254\",\"10.0.0.3\"],\"record\":7}\n{\"range\":[\"126.0.0.0\",\"127.255.255.255\"],\"record\":8}\n",
+        answers: &[
+            ("9.255.255.255", "9.255.255.254/31 U32(7)"),
+            ("10.0.0.1", NONE),
+            ("127.0.0.1", "126.0.0.0/7 U32(8)"),
+        ],
+    },
+    // a byte order mark before the first row
+    Case {
+        options: &[],
+        rows: "\u{feff}{\"network\":\"1.0.0.0/8\",\"record\":7}\n",
+        answers: &[("1.1.1.1", "1.0.0.0/8 U32(7)")],
+    },
+    Case {
+        options: &["--format", "tsv"],
+        rows: "\u{feff}network\ta\n1.0.0.0/8\tx\n",
+        answers: &[("1.1.1.1", "1.0.0.0/8 Map([(\"a\", String(\"x\"))])")],
+    },
+    Case {
+        options: &["--format", "csv"],
+        rows: "\u{feff}\"network\",a\r\n1.0.0.0/8,x\r",
+        answers: &[("1.1.1.1", "1.0.0.0/8 Map([(\"a\", String(\"x\"))])")],
+    },
+    // names that have another meaning in lines of JSON alone
+    Case {
+        options: &["--format", "csv", "--network-column", "record"],
+        rows: "record,range\n1.0.0.0/8,x\n",
+        answers: &[("1.1.1.1", "1.0.0.0/8 Map([(\"range\", String(\"x\"))])")],
+    },
+    // a range between quoted cells that hold line ends
+    Case {
+        options: &["--format", "csv", "--range-columns", "a,b"],
+        rows: "b,\"c\",a\n1.0.0.1,\"x\ry\n\",1.0.0.0\n",
+        answers: &[("1.0.0.1", "1.0.0.0/31 Map([(\"c\", String(\"x\\ry\\n\"))])")],
+    },
 ];
 
 // The network and the record of an address.
@@ -221,6 +269,74 @@ fn types_are_those_of_a_file(rt: HostRuntime) {
     assert!(rt; run.status == Some(0), "{}", run.err());
     let second = disk.get("out.mmdb").expect(&rt, "a file");
     assert!(rt; first == second, "other bytes");
+}
+
+/// Rows with a double, an integer, and a text at one path, and what they are then.
+const SEVERAL: (&str, &[(&str, &str)]) = (
+    "{\"network\":\"1.0.0.0/8\",\"record\":1.5}\n{\"network\":\"2.0.0.0/8\",\"record\":1}\n{\"network\":\"3.0.0.0/8\",\"record\":\"1\"}\n{\"network\":\"4.0.0.0/8\",\"record\":-1}\n",
+    &[
+        (
+            "1.1.1.1",
+            "1.0.0.0/8 Double(Double { bits: 4609434218613702656 })",
+        ),
+        ("2.1.1.1", "2.0.0.0/8 U32(1)"),
+        ("3.1.1.1", "3.0.0.0/8 String(\"1\")"),
+        ("4.1.1.1", "4.0.0.0/8 I32(-1)"),
+    ],
+);
+
+#[test]
+fn values_at_a_path_may_have_several_types(rt: HostRuntime) {
+    let alloc = rt.alloc();
+    let disk = Disk::new(alloc, u32::MAX, Some("5"));
+    for options in [&[][..], &["--types-like", "out.mmdb"][..]] {
+        let words = words_with(alloc, options);
+        let run = run_on(alloc, &disk, &words, SEVERAL.0.as_bytes());
+        assert!(rt; run.status == Some(0), "{}", run.err());
+        let file = disk.get("out.mmdb").expect(&rt, "a file");
+        assert_answers(&rt, alloc, &file, SEVERAL.1);
+    }
+}
+
+#[test]
+fn a_link_stays(rt: HostRuntime) {
+    let alloc = rt.alloc();
+    let disk = Disk::new(alloc, u32::MAX, None);
+    let _ = disk.put("out.mmdb", BASE_FILE);
+    let words = &["mmdb", "build", LINK, "--from", "-"];
+    let run = run_on(alloc, &disk, words, TYPED.0.as_bytes());
+    assert!(rt; run.status == Some(0), "{}", run.err());
+    let file = disk.get("out.mmdb").expect(&rt, "a file");
+    assert!(rt;
+        file.as_slice() != BASE_FILE && disk.len() == 1,
+        "not replaced"
+    );
+}
+
+/// Options, rows, and all that is said of them.
+const SAID: &[(&[&str], &str, &str)] = &[(
+    &["--equal", "error"],
+    "{\"network\":\"1.0.0.0/8\",\"record\":1}\nx\n{\"range\":[\"1.0.0.0\",\"2.255.255.255\"],\"record\":1}\n{\"network\":\"2.0.0.0/8\",\"record\":1}\n{\"network\":\"1.0.0.0/8\",\"record\":1}\ny\n",
+    "mmdb: standard input:2: not JSON, or nested more than 128 deep
+mmdb: standard input:3: a network that another line has too
+mmdb: standard input:5: a network that another line has too
+mmdb: standard input:6: not JSON, or nested more than 128 deep
+mmdb: standard input: 4 lines are wrong\n",
+)];
+
+#[test]
+fn all_is_said_in_the_order_of_the_lines(rt: HostRuntime) {
+    let alloc = rt.alloc();
+    for (options, rows, said) in SAID {
+        let disk = Disk::new(alloc, u32::MAX, None);
+        let words = words_with(alloc, options);
+        let run = run_on(alloc, &disk, &words, rows.as_bytes());
+        assert!(rt;
+            run.status == Some(1) && run.err() == *said,
+            "{}",
+            run.err()
+        );
+    }
 }
 
 /// Options, and what metadata have then.

@@ -1,0 +1,271 @@
+//! Files that take another one's place.
+use super::disk::{DEAD_LINK, Disk, LINK, PIPE};
+use super::run::{Run, install_on, run_on};
+use mmdb_cmd_install::InstallArguments;
+use std::alloc::Global;
+use std::process::Abort;
+
+/// Lines of which the file is made that is there.
+const OLD: &[u8] =
+    b"{\"network\":\"1.0.0.0/8\",\"record\":{\"a\":1}}\n{\"network\":\"2.0.0.0/8\",\"record\":{\"a\":2}}\n";
+
+/// Options and lines of which a file is made, the most that may have changed, and why it does not take the other one's place;
+/// none where it does.
+struct Case {
+    options: &'static [&'static str],
+    rows: &'static str,
+    max_change: Option<&'static str>,
+    said: Option<&'static str>,
+}
+
+const CASES: &[Case] = &[
+    Case {
+        options: &["--build-epoch", "7"],
+        rows: "{\"network\":\"3.0.0.0/8\",\"record\":{\"a\":1}}\n",
+        max_change: None,
+        said: None,
+    },
+    Case {
+        options: &["--build-epoch", "6"],
+        rows: "{\"network\":\"3.0.0.0/8\",\"record\":{\"a\":1}}\n",
+        max_change: None,
+        said: Some("it was built at 6, before 7"),
+    },
+    Case {
+        options: &["--database-type", "Other"],
+        rows: "{\"network\":\"3.0.0.0/8\",\"record\":{\"a\":1}}\n",
+        max_change: None,
+        said: Some("its type is Other, not Custom"),
+    },
+    Case {
+        options: &["--ip-version", "4"],
+        rows: "{\"network\":\"3.0.0.0/8\",\"record\":{\"a\":1}}\n",
+        max_change: None,
+        said: Some("its IP version is 4, not 6"),
+    },
+    // equal records at other places of the files, and addresses of IPv6, which do not count
+    Case {
+        options: &[],
+        rows: "{\"network\":\"2.0.0.0/8\",\"record\":{\"a\":2}}\n{\"network\":\"1.0.0.0/8\",\"record\":{\"a\":1}}\n{\"network\":\"abcd::/16\",\"record\":{\"a\":1}}\n",
+        max_change: Some("0"),
+        said: None,
+    },
+    // a quarter of 2.0.0.0/8 has another record, and 3.0.0.0/9 one at all: 12,582,912 of 41,943,040 addresses, 30 percent
+    Case {
+        options: &[],
+        rows: "{\"network\":\"1.0.0.0/8\",\"record\":{\"a\":1}}\n{\"network\":\"2.0.0.0/8\",\"record\":{\"a\":2}}\n{\"network\":\"2.0.0.0/10\",\"record\":{\"a\":3}}\n{\"network\":\"3.0.0.0/9\",\"record\":{\"a\":1}}\n",
+        max_change: Some("29.999"),
+        said: Some("12582912 of 41943040 IPv4 addresses with a record changed, more than may"),
+    },
+    Case {
+        options: &[],
+        rows: "{\"network\":\"1.0.0.0/8\",\"record\":{\"a\":1}}\n{\"network\":\"2.0.0.0/8\",\"record\":{\"a\":2}}\n{\"network\":\"2.0.0.0/10\",\"record\":{\"a\":3}}\n{\"network\":\"3.0.0.0/9\",\"record\":{\"a\":1}}\n",
+        max_change: Some("30"),
+        said: None,
+    },
+    // one that has nothing of what was there
+    Case {
+        options: &[],
+        rows: "{\"network\":\"2.0.0.0/8\",\"record\":{\"a\":2}}\n",
+        max_change: Some("49"),
+        said: Some("16777216 of 33554432 IPv4 addresses with a record changed, more than may"),
+    },
+];
+
+// Makes a file on a disk, and puts it under another name.
+fn make(rt: &impl Abort, alloc: Global, disk: &Disk, options: &[&str], rows: &[u8], name: &str) {
+    let mut words = Vec::new(alloc);
+    let _ = words.extend_from_slice(&["mmdb", "build", "made.mmdb", "--from", "-"]);
+    let _ = words.extend_from_slice(options);
+    let run = run_on(alloc, disk, &words, rows);
+    assert!(rt; run.status == Some(0), "{}", run.err());
+    let file = disk.get("made.mmdb").expect(rt, "a file");
+    let _ = disk.put(name, &file);
+}
+
+// A disk with an old file and a new one.
+fn disk_with(rt: &impl Abort, alloc: Global, options: &[&str], rows: &[u8]) -> Disk {
+    let disk = Disk::new(alloc, u32::MAX, Some("7"));
+    make(rt, alloc, &disk, &[], OLD, "out.mmdb");
+    make(rt, alloc, &disk, options, rows, "new.mmdb");
+    disk
+}
+
+// Whether two files have the same bytes.
+fn are_same(disk: &Disk, one: &str, other: &str) -> bool {
+    match (disk.get(one), disk.get(other)) {
+        (Some(one), Some(other)) => one == other,
+        _ => false,
+    }
+}
+
+// What is asked for.
+fn arguments<'a>(dest: &'a str, max_change: Option<&'a str>, dry_run: bool) -> InstallArguments<'a> {
+    InstallArguments {
+        new: "new.mmdb",
+        dest,
+        max_change,
+        dry_run,
+    }
+}
+
+// Asserts that a file took the other one's place, or that it did not and why.
+fn assert_done(rt: &impl Abort, alloc: Global, disk: &Disk, run: &Run, said: Option<&str>) {
+    let is_new = are_same(disk, "out.mmdb", "new.mmdb");
+    let wanted: String = match said {
+        Some(said) => format!(in alloc; "mmdb: new.mmdb: {said}\n").expect(rt, "a text"),
+        None => String::from_str(alloc, "").expect(rt, "a text"),
+    };
+    let is_right = if said.is_some() {
+        run.status == Some(1) && !is_new && run.err() == wanted.as_str()
+    } else {
+        run.status == Some(0) && is_new
+    };
+    assert!(rt; is_right, "{wanted}{}", run.err());
+}
+
+#[test]
+fn reasons_against_a_file_are_named(rt: HostRuntime) {
+    let alloc = rt.alloc();
+    for case in CASES {
+        let disk = disk_with(&rt, alloc, case.options, case.rows.as_bytes());
+        let run = install_on(alloc, &disk, &arguments("out.mmdb", case.max_change, false));
+        assert_done(&rt, alloc, &disk, &run, case.said);
+    }
+}
+
+#[test]
+fn a_dry_run_changes_nothing(rt: HostRuntime) {
+    let alloc = rt.alloc();
+    for case in CASES {
+        let disk = disk_with(&rt, alloc, case.options, case.rows.as_bytes());
+        make(&rt, alloc, &disk, &[], OLD, "old.mmdb");
+        let run = install_on(alloc, &disk, &arguments("out.mmdb", case.max_change, true));
+        let status = if case.said.is_some() { 1 } else { 0 };
+        assert!(rt;
+            run.status == Some(status) && are_same(&disk, "out.mmdb", "old.mmdb"),
+            "{}",
+            run.err()
+        );
+    }
+}
+
+/// Other files that are to be installed, at which paths, the status, and what is said.
+const OTHERS: &[(&[u8], &str, Option<u8>, &str)] = &[
+    (b"no database", "out.mmdb", Some(1), "mmdb: new.mmdb: not a MaxMind DB file\n"),
+    (
+        b"\xAB\xCD\xEFMaxMind.com\xE0",
+        "out.mmdb",
+        Some(1),
+        "mmdb: new.mmdb: ",
+    ),
+    (b"", PIPE, Some(1), "mmdb: pipe: not a file\n"),
+    (b"", DEAD_LINK, Some(1), "mmdb: dead.mmdb: a link that leads nowhere\n"),
+    (b"", "rows", Some(1), "mmdb: rows: not a MaxMind DB file\n"),
+];
+
+#[test]
+fn what_is_no_database_is_not_installed(rt: HostRuntime) {
+    let alloc = rt.alloc();
+    for (bytes, dest, status, said) in OTHERS {
+        let disk = disk_with(&rt, alloc, &[], OLD);
+        let _ = disk.put("rows", OLD);
+        let _ = disk.put("new.mmdb", bytes);
+        let run = install_on(alloc, &disk, &arguments(dest, None, false));
+        assert!(rt;
+            run.status == *status
+                && run.err().starts_with(said)
+                && run.err().split('\n').count() == 2
+                && are_same(&disk, "out.mmdb", "made.mmdb"),
+            "{said}: {}",
+            run.err()
+        );
+    }
+}
+
+#[test]
+fn a_missing_file_is_made_and_the_same_bytes_change_nothing(rt: HostRuntime) {
+    let alloc = rt.alloc();
+    let disk = disk_with(&rt, alloc, &[], OLD);
+    let run = install_on(alloc, &disk, &arguments("there.mmdb", Some("0"), false));
+    assert!(rt;
+        run.status == Some(0) && are_same(&disk, "there.mmdb", "new.mmdb"),
+        "{}",
+        run.err()
+    );
+    let run = install_on(alloc, &disk, &arguments("there.mmdb", Some("0"), false));
+    assert!(rt;
+        run.status == Some(0)
+            && run.err() == "mmdb: there.mmdb has these bytes already\n",
+        "{}",
+        run.err()
+    );
+}
+
+#[test]
+fn what_a_link_leads_to_is_replaced(rt: HostRuntime) {
+    let alloc = rt.alloc();
+    let disk = disk_with(&rt, alloc, &[], b"{\"network\":\"3.0.0.0/8\",\"record\":1}\n");
+    let run = install_on(alloc, &disk, &arguments(LINK, None, false));
+    assert!(rt;
+        run.status == Some(0) && are_same(&disk, "out.mmdb", "new.mmdb") && disk.mode() == 0o644,
+        "{}",
+        run.err()
+    );
+    assert!(rt; disk.get(LINK).is_none(), "the link is gone");
+}
+
+/// Shares that are none.
+const NO_SHARES: &[&str] = &["", "-1", "101", "100.001", "1.2345", ".5", "1.", "1e1", "x"];
+
+#[test]
+fn shares_that_are_none_are_rejected(rt: HostRuntime) {
+    let disk = Disk::new(rt.alloc(), u32::MAX, None);
+    for share in NO_SHARES {
+        let run = install_on(rt.alloc(), &disk, &arguments("out.mmdb", Some(*share), false));
+        assert!(rt;
+            run.status == None && !run.is_memory && disk.calls() == 0,
+            "{share}: {}",
+            run.err()
+        );
+    }
+}
+
+/// How many calls there are behind the one that gives the file its name: those that bring the name to the disk.
+const LAST_CALLS: u32 = 2;
+
+// A disk with files at hand, of which one call fails.
+fn faulty(alloc: Global, files: &Disk, fails_at: u32) -> Disk {
+    let disk = Disk::new(alloc, fails_at, None);
+    for name in ["out.mmdb", "new.mmdb"] {
+        if let Some(bytes) = files.get(name) {
+            let _ = disk.put(name, &bytes);
+        }
+    }
+    let _ = disk.put(".out.mmdb.tmp-5-1", b"left");
+    disk
+}
+
+#[test]
+fn calls_that_fail_leave_one_of_the_two_files(rt: HostRuntime) {
+    let alloc = rt.alloc();
+    let rows = b"{\"network\":\"3.0.0.0/8\",\"record\":1}\n";
+    let files = disk_with(&rt, alloc, &[], rows);
+    let asked = arguments("out.mmdb", Some("100"), false);
+    let disk = faulty(alloc, &files, u32::MAX);
+    let run = install_on(alloc, &disk, &asked);
+    assert!(rt; run.status == Some(0) && disk.len() == 2, "{}", run.err());
+    let mut failed = 0u32;
+    for fails_at in 0..disk.calls() {
+        let faulty = faulty(alloc, &files, fails_at);
+        let run = install_on(alloc, &faulty, &asked);
+        let is_new = are_same(&faulty, "out.mmdb", "new.mmdb");
+        let is_last = fails_at >= disk.calls().saturating_sub(LAST_CALLS);
+        let is_right = is_new == (run.status == Some(0) || is_last);
+        assert!(rt; is_right && faulty.get("out.mmdb").is_some(), "{}", run.err());
+        if run.status == Some(1) {
+            failed = failed.saturating_add(1);
+        }
+    }
+    assert!(rt; failed > 10, "{failed} of {} runs failed", disk.calls());
+}
