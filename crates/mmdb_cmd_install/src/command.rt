@@ -1,8 +1,7 @@
 //! A MaxMind DB file that takes another one's place.
-use crate::arguments::InstallArguments;
 use crate::change::change_between;
 use crate::percent::{Percent, percent_of};
-use mmdb_arguments::NoRequest;
+use mmdb_arguments::{InstallArguments, NoRequest};
 use mmdb_console::{Console, DONE, FAILED, ProgramError, line_of, reported};
 use mmdb_files::{Standing, replace_file, standing_of};
 use mmdb_reader::{MaxMindDbError, Metadata, Reader};

@@ -1,10 +1,8 @@
 //! The command `install`: a MaxMind DB file that takes another one's place.
 #![tactic(auto)]
 
-mod arguments;
 mod change;
 mod command;
 mod percent;
 
-pub use arguments::InstallArguments;
 pub use command::install;
