@@ -1,6 +1,7 @@
 //! The command `enrich`: lines with fields of records behind them.
 #![tactic(auto)]
 
+mod fields;
 mod header;
 mod input;
 mod lines;

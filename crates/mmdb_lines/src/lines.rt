@@ -1,9 +1,10 @@
 //! Rows with fields behind them.
+use crate::fields::wanted_fields;
 use crate::header::column_of;
 use crate::input::{copy_mark, is_live};
-use crate::notes::{Notes, Place};
+use crate::notes::{Notes, Place, Remembering};
 use crate::output::Output;
-use crate::task::{JsonTask, LINES, RowsTask, json_task, rows_task};
+use crate::task::{JsonTask, LINES, RowsTask, json_task, rows_task, wanted_members};
 use crate::watch::Watch;
 use mmdb_arguments::EnrichArguments;
 use mmdb_console::{Console, FAILED, ProgramError, ProgressLine, line_of};
@@ -65,8 +66,6 @@ fn text_of_members(
 #[derive(Drop)]
 struct Passage<'n, 'a> {
     is_live: bool,
-    /// How many rows are before the first one that is enriched.
-    before: u64,
     notes: &'n mut Notes<'a>,
 }
 
@@ -88,7 +87,13 @@ fn filter<A: Additions, I: Live, O: Write, E: Write>(
 {
     let alloc = console.alloc;
     let line = ProgressLine::new(alloc, console.terminals.errors, console.errors);
-    let mut watch = Watch::new(alloc, line, stops, passage.notes.is_quiet(), passage.before);
+    let mut watch = Watch::new(
+        alloc,
+        line,
+        stops,
+        passage.notes.is_quiet(),
+        passage.notes.before,
+    );
     let mut out = Output::new(console.out, passage.is_live);
     let filtered = filter_rows(
         alloc, rows, additions, memory, counts, input, &mut out, &mut watch,
@@ -103,10 +108,13 @@ fn copy_rows<A: Additions, I: Live, O: Write, E: Write>(
     rows: Rows,
     additions: &A,
     memory: &mut A::Memory,
+    database: &Database,
     input: &mut I,
     passage: &mut Passage<'_, '_>,
     console: &mut Console<'_, O, E>,
 ) -> Result<Counts, ProgramError>
+where
+    A::Memory: Remembering,
     requires { A.fits additions.now memory.old }
 {
     let first = Counts::new();
@@ -115,13 +123,19 @@ fn copy_rows<A: Additions, I: Live, O: Write, E: Write>(
     )?;
     if !filtered.is_end {
         let counts = filtered.counts;
-        passage.notes.check(counts, console);
+        passage
+            .notes
+            .check(counts, memory.records(), database, console);
         filtered = filter(
             rows, additions, memory, counts, false, input, passage, console,
         )?;
     }
     console.flush()?;
-    Ok(filtered.counts)
+    let counts = filtered.counts;
+    passage
+        .notes
+        .finish(counts, memory.records(), database, console);
+    Ok(counts)
 }
 
 // Copies rows with fields behind each, and reports how they fared.
@@ -133,11 +147,20 @@ fn enrich_rows<I: Live, O: Write, E: Write>(
 ) -> Result<u8, ProgramError> {
     let mut memory = RowMemory::new(console.alloc)?;
     let rows = enrichment.rows;
-    let counts = copy_rows(rows, enrichment, &mut memory, input, passage, console);
+    let database = enrichment.reader;
+    let counts = copy_rows(
+        rows,
+        enrichment,
+        &mut memory,
+        database,
+        input,
+        passage,
+        console,
+    );
     drop(memory);
     let counts = counts?;
     let text = text_of_rows(console.alloc, counts);
-    Ok(passage.notes.finish(counts, text, console))
+    Ok(passage.notes.end(counts, text, console))
 }
 
 // Copies rows with fields behind each, and reports how they fared.
@@ -169,12 +192,21 @@ fn enrich_objects<I: Live, O: Write, E: Write>(
     console: &mut Console<'_, O, E>,
 ) -> Result<u8, ProgramError> {
     let mut memory = JsonMemory::new(console.alloc)?;
-    let counts = copy_rows(LINES, enrichment, &mut memory, input, passage, console);
+    let database = enrichment.reader;
+    let counts = copy_rows(
+        LINES,
+        enrichment,
+        &mut memory,
+        database,
+        input,
+        passage,
+        console,
+    );
     drop(memory);
     let counts = counts?;
     let first = passage.notes.occupied;
     let text = text_of_members(console.alloc, counts, enrichment.name, first);
-    Ok(passage.notes.finish(counts, text, console))
+    Ok(passage.notes.end(counts, text, console))
 }
 
 // Copies lines with a member more in each object, and reports how they fared.
@@ -254,20 +286,21 @@ pub fn enrich<R: Files, I: Live, O: Write, E: Write>(
     match arguments.json {
         Some(path) => {
             let task = json_task(console.alloc, path, arguments)?;
-            let mut notes = Notes::new(Place::Member(path), arguments);
+            let fields = wanted_members(console.alloc, arguments)?;
+            let mut notes = Notes::new(Place::Member(path), fields, 0, arguments);
             let mut passage = Passage {
                 is_live: is_live(rt),
-                before: 0,
                 notes: &mut notes,
             };
             enrich_json_of(rt, arguments.file, task, input, &mut passage, console)
         }
         None => {
             let task = rows_task(console.alloc, arguments)?;
-            let mut notes = Notes::new(task.place(arguments), arguments);
+            let fields = wanted_fields(console.alloc, arguments.fields.as_slice())?;
+            let before = u64::from(task.header);
+            let mut notes = Notes::new(task.place(arguments), fields, before, arguments);
             let mut passage = Passage {
                 is_live: is_live(rt),
-                before: u64::from(task.header),
                 notes: &mut notes,
             };
             enrich_columns_of(rt, arguments.file, task, input, &mut passage, console)

@@ -1,7 +1,10 @@
 //! What is said of rows besides how they fared.
+use crate::fields::{Wanted, text_of_missing};
 use mmdb_arguments::EnrichArguments;
 use mmdb_console::{Console, DONE, FAILED, line_of};
+use mmdb_enrich::{JsonMemory, Notes as Records, RowMemory};
 use mmdb_filter::{Counts, Rows};
+use mmdb_layout::Database;
 use std::alloc::{AllocError, Global};
 use std::io::Write;
 
@@ -16,15 +19,36 @@ pub(crate) enum Place<'a> {
     Member(&'a str),
 }
 
+/// Who remembers what was amiss with records.
+pub(crate) trait Remembering {
+    fn records(&self) -> &Records;
+}
+
+impl Remembering for RowMemory {
+    fn records(&self) -> &Records {
+        &self.notes
+    }
+}
+
+impl Remembering for JsonMemory {
+    fn records(&self) -> &Records {
+        &self.notes
+    }
+}
+
 /// What is said of rows, and whether some of it is a failure.
 #[derive(Drop)]
 pub(crate) struct Notes<'a> {
     place: Place<'a>,
+    fields: Vec<Wanted<'a>>,
     is_quiet: bool,
     is_strict: bool,
+    /// How many rows are before the first one that is enriched.
+    pub(crate) before: u64,
     has_said_no_address: bool,
     has_warned: bool,
-    has_failed: bool,
+    /// How many failures are said.
+    failures: usize,
     /// The number of the first row that has already what would be added.
     pub(crate) occupied: Option<u64>,
 }
@@ -61,15 +85,28 @@ fn had_no_address(counts: Counts) -> bool {
     !had && (counts.unreadable > 0 || counts.malformed > 0)
 }
 
+// Whether a record had a value at a field.
+fn is_met(records: &Records, field: usize) -> bool {
+    field < records.met.len() && records.met[field]
+}
+
 impl<'a> Notes<'a> {
-    pub(crate) fn new(place: Place<'a>, arguments: &EnrichArguments<'_>) -> Notes<'a> {
+    /// Nothing is said yet of rows behind so many others.
+    pub(crate) fn new(
+        place: Place<'a>,
+        fields: Vec<Wanted<'a>>,
+        before: u64,
+        arguments: &EnrichArguments<'_>,
+    ) -> Notes<'a> {
         Notes {
             place,
+            fields,
             is_quiet: arguments.quiet && !arguments.strict,
             is_strict: arguments.strict,
+            before,
             has_said_no_address: false,
             has_warned: false,
-            has_failed: false,
+            failures: 0,
             occupied: None,
         }
     }
@@ -85,32 +122,105 @@ impl<'a> Notes<'a> {
         self.occupied = self.occupied.or(occupied);
     }
 
-    /// Says what is wrong with all rows that passed.
+    // Says that no row had an address, once.
+    fn say_no_address<O: Write, E: Write>(&mut self, console: &mut Console<'_, O, E>) {
+        if !self.has_said_no_address {
+            self.has_said_no_address = true;
+            console.note(line_of(console.alloc, no_address(console.alloc, self.place)));
+        }
+    }
+
+    // Says which fields no record has, each once.
+    fn say_missing<O: Write, E: Write>(
+        &mut self,
+        records: &Records,
+        database: &Database,
+        console: &mut Console<'_, O, E>,
+    ) {
+        let alloc = console.alloc;
+        for at in 0..self.fields.len() {
+            let field = &mut self.fields[at];
+            if !field.is_said && !is_met(records, at) {
+                field.is_said = true;
+                let offsets = records.records.as_slice();
+                console.note(line_of(alloc, text_of_missing(alloc, field, database, offsets)));
+            }
+        }
+    }
+
+    // Says why the records of the first rows that failed can't be read, each once.
+    fn say_failures<O: Write, E: Write>(
+        &mut self,
+        records: &Records,
+        console: &mut Console<'_, O, E>,
+    ) {
+        for at in self.failures..records.failures.len() {
+            let failure = &records.failures[at];
+            let row = failure.row.saturating_add(self.before);
+            let cause = failure.cause.as_str();
+            console.note(line_of(
+                console.alloc,
+                format!(in console.alloc; "mmdb: row {row}: {cause}"),
+            ));
+        }
+        self.failures = records.failures.len();
+    }
+
+    /// Says what is amiss with all rows that passed, and was not said.
     pub(crate) fn check<O: Write, E: Write>(
         &mut self,
         counts: Counts,
+        records: &Records,
+        database: &Database,
         console: &mut Console<'_, O, E>,
     ) {
-        if self.is_quiet || self.has_said_no_address || !had_no_address(counts) {
+        self.say_failures(records, console);
+        if self.is_quiet {
             return;
         }
-        self.has_said_no_address = true;
-        console.note(line_of(console.alloc, no_address(console.alloc, self.place)));
+        if had_no_address(counts) {
+            self.say_no_address(console);
+        }
+        if counts.found > 0 {
+            self.say_missing(records, database, console);
+        }
     }
 
-    /// The same of all rows of the input, and how they fared.
+    // Whether a record was found, and none has one of the fields.
+    fn has_missing(&self, counts: Counts, records: &Records) -> bool {
+        for at in 0..self.fields.len() {
+            if counts.found > 0 && !is_met(records, at) {
+                return true;
+            }
+        }
+        false
+    }
+
+    /// The same of all rows of the input, and whether something of it is a failure.
     pub(crate) fn finish<O: Write, E: Write>(
         &mut self,
+        counts: Counts,
+        records: &Records,
+        database: &Database,
+        console: &mut Console<'_, O, E>,
+    ) {
+        self.check(counts, records, database, console);
+        self.has_warned |= had_no_address(counts)
+            || counts.occupied > 0
+            || self.has_missing(counts, records);
+    }
+
+    /// Says how the rows fared, and answers the status.
+    pub(crate) fn end<O: Write, E: Write>(
+        &self,
         counts: Counts,
         text: Result<String, AllocError>,
         console: &mut Console<'_, O, E>,
     ) -> u8 {
-        self.check(counts, console);
-        self.has_warned |= had_no_address(counts) || counts.occupied > 0;
         if !self.is_quiet {
             console.note(text);
         }
-        if self.has_failed || self.is_strict && self.has_warned {
+        if counts.rejected > 0 || self.is_strict && self.has_warned {
             FAILED
         } else {
             DONE

@@ -1,4 +1,5 @@
 //! What `enrich` is asked for.
+use crate::fields::{Wanted, wanted_fields};
 use crate::notes::Place;
 use mmdb_addresses::Reading;
 use mmdb_arguments::{EnrichArguments, Hop, NoRequest};
@@ -156,6 +157,18 @@ fn fields_of<'a>(alloc: Global, texts: &[&'a str]) -> Result<Vec<Field<'a>>, NoR
         fields.push(Field { name, path })?;
     }
     Ok(fields)
+}
+
+/// The fields that members of objects are to have.
+pub(crate) fn wanted_members<'a>(
+    alloc: Global,
+    arguments: &EnrichArguments<'a>,
+) -> Result<Vec<Wanted<'a>>, NoRequest> {
+    let mut texts = Vec::new(alloc);
+    for text in &arguments.fields {
+        texts.push(named_path(*text).1)?;
+    }
+    wanted_fields(alloc, texts.as_slice())
 }
 
 // A step of the path of an address in an object: a key, or an index from the front.

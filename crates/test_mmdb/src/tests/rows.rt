@@ -3,6 +3,7 @@
 mod ahead;
 mod behind;
 mod cells;
+mod ends;
 mod faults;
 mod pieces;
 mod quotes;

@@ -98,7 +98,7 @@ const LINES: &[Lines<'static>] = &[
         "2 lines with a record, 1 without, 2 without an address, 1 with an error",
     ),
     (
-        &["enrich", "here.mmdb", "--column", "2", "--field", "", "--field", "a"],
+        &["enrich", "here.mmdb", "--column", "2", "--exact", "--field", "", "--field", "a"],
         "200.0.0.1\na\t200.0.0.1\tb\na\t200.0.0.1 \n",
         "200.0.0.1\t\t\na\t200.0.0.1\tb\tx\t\na\t200.0.0.1 \t\t\n",
         "0 lines with a record, 0 without, 2 without an address, 1 with an error",
@@ -110,6 +110,28 @@ const LINES: &[Lines<'static>] = &[
         "1 lines with a record, 0 without, 0 without an address, 0 with an error",
     ),
     (&["enrich", "here.mmdb", "--field", ""], "", "", "0 lines with a record, 0 without, 0 without"),
+    // cells that quotes mean nothing in; a cell that has a delimiter
+    (
+        &["enrich", "here.mmdb", "--no-quotes", "--delimiter", " ", "--column", "3", "--field", ""],
+        "a \"b 200.0.0.1 c\na b 1.1.1.1\n",
+        "a \"b 200.0.0.1 c x\na b 1.1.1.1 \n",
+        "1 lines with a record, 1 without",
+    ),
+    (
+        &["enrich", "here.mmdb", "--no-quotes", "--delimiter", "x", "--field", ""],
+        "200.0.0.1\n",
+        "200.0.0.1x\"x\"\n",
+        "1 lines with a record",
+    ),
+    // a mark at the beginning is no part of the first cell or name; anywhere else it is text
+    (&["enrich", "here.mmdb", "--field", ""], "\u{feff}200.0.0.1\n", "\u{feff}200.0.0.1\tx\n", "1 lines with a record"),
+    (&["enrich", "here.mmdb", "--exact", "--field", ""], "1.1.1.1\n\u{feff}200.0.0.1\n", "1.1.1.1\t\n\u{feff}200.0.0.1\t\n", "1 without an address"),
+    (
+        &["enrich", "here.mmdb", "--delimiter", ",", "--header", "--column", "ip", "--field", ""],
+        "\u{feff}\"ip\",b\n200.0.0.1,c\n",
+        "\u{feff}\"ip\",b,\n200.0.0.1,c,x\n",
+        "1 lines with a record",
+    ),
     // nothing in, nothing out; a carriage return alone ends no header
     (&["enrich", "here.mmdb", "--header", "--field", "a"], "", "", "0 lines with a record, 0 without, 0 without"),
     (&["enrich", "here.mmdb", "--header", "--field", "a"], "ip\r", "ip\r\ta", "0 lines with a record, 0 without, 0 without"),
@@ -231,6 +253,8 @@ const OBJECTS: &[(&str, &str, &str)] = &[
     ("{\"a\":\"200.0.0.1\"}\r\n", "{\"a\":\"200.0.0.1\",\"geo\":{\"r\":\"x\"}}\r\n", "1 lines with a record"),
     ("{\"b\":\"}\",\"a\":\"200.0.0.1\"}", "{\"b\":\"}\",\"a\":\"200.0.0.1\",\"geo\":{\"r\":\"x\"}}", "1 lines with a record"),
     ("{\"a\":\"1.1.1.1\",\"a\":\"200.0.0.1\"}", "{\"a\":\"1.1.1.1\",\"a\":\"200.0.0.1\",\"geo\":{\"r\":\"x\"}}", "1 lines with a record"),
+    // a mark at the beginning
+    ("\u{feff}{\"a\":\"200.0.0.1\"}\n", "\u{feff}{\"a\":\"200.0.0.1\",\"geo\":{\"r\":\"x\"}}\n", "1 lines with a record"),
     // keys and texts with escapes; the last of equal keys counts, also where it has no text
     ("{\"\\u0061\":\"200.0.0\\u002e1\"}\n", "{\"\\u0061\":\"200.0.0\\u002e1\",\"geo\":{\"r\":\"x\"}}\n", "1 lines with a record"),
     ("{\"a\":\"200.0.0.1\",\"a\":2}\n{\"a\":\"200.0.0.1\",\"a\":{}}\n", "{\"a\":\"200.0.0.1\",\"a\":2}\n{\"a\":\"200.0.0.1\",\"a\":{}}\n", "2 without an address"),
@@ -296,7 +320,7 @@ const NESTED_LINES: &[Lines<'static>] = &[
     ),
     // a field that cannot be decoded
     (
-        &["enrich", "here.mmdb", "--json", "a", "--field", "\"a.b\".0", "--field", "\"a.b\".1.0"],
+        &["enrich", "here.mmdb", "--json", "a", "--field", "\"a.b\".0", "--field", "n=\"a.b\".1.0"],
         "{\"a\":\"200.0.0.1\"}\n",
         "{\"a\":\"200.0.0.1\"}\n",
         "0 lines with a record, 0 without, 0 without an address, 1 with an error",
@@ -309,6 +333,7 @@ const NO_JSON: &[Row<'static>] = &[
     (&["enrich", "gone.mmdb", "--json", "a.\"b"], 2, "", "a.\"b: not a path"),
     (&["enrich", "gone.mmdb", "--json", "a.-1"], 2, "", "a.-1: an index from the end"),
     (&["enrich", "gone.mmdb", "--json", "a", "--field", "n=a.\"b"], 2, "", "a.\"b: not a path"),
+    (&["enrich", "gone.mmdb", "--json", "a", "--field", "a.en", "--field", "b.en"], 2, "", "b.en: another field has the name en too; give one of them a name of its own, as NAME=b.en"),
     (&["enrich", "gone.mmdb", "--json", "a", "--into", ""], 2, "", "--into: an empty name"),
     (&["enrich", "gone.mmdb", "--into", "geo"], 2, "", "--into: needs a --json"),
     (&["enrich", "gone.mmdb", "--json", "a", "--column", "1"], 2, "", "--column"),
@@ -320,8 +345,58 @@ const NO_JSON: &[Row<'static>] = &[
 fn assert_lines(rt: &impl Abort, alloc: Global, bytes: &[u8], rows: &[Lines<'_>]) {
     for (words, lines, written, message) in rows {
         let run = run_of(alloc, bytes, words, lines);
-        let holds = run.status == 0 && run.out() == *written && run.err().contains(message);
+        let status = u8::from(message.contains("1 with an error"));
+        let holds = run.status == status && run.out() == *written && run.err().contains(message);
         assert_of(rt, words, &run, holds);
+    }
+}
+
+/// Arguments, lines, the status, and all that is said of them.
+type Notes<'a> = (&'a [&'a str], &'a str, u8, &'a str);
+
+#[rattlefmt::skip]
+const NOTES: &[Notes<'static>] = &[
+    (
+        &["enrich", "here.mmdb", "--field", ""], "none\n\n", 0,
+        "mmdb: no line had an address in column 1; columns are separated by tabs here: see --delimiter, --anywhere\nmmdb: 0 lines with a record, 0 without, 2 without an address, 0 with an error\n",
+    ),
+    (
+        &["enrich", "here.mmdb", "--header", "--column", "b", "--delimiter", ",", "--field", "", "--strict"], "a,b\n1.1.1.1,c\n", 1,
+        "mmdb: no line had an address in column b; columns are separated by commas here: see --delimiter, --anywhere\nmmdb: 0 lines with a record, 0 without, 1 without an address, 0 with an error\n",
+    ),
+    (
+        &["enrich", "here.mmdb", "--json", "client.ip", "--strict"], "{\"ip\":\"1.1.1.1\"}\n", 1,
+        "mmdb: no object had an address at client.ip\nmmdb: 0 lines with a record, 0 without, 1 without an address, 0 with an error, 0 not objects of JSON\n",
+    ),
+    (&["enrich", "here.mmdb", "--field", "", "--quiet"], "none\n", 0, ""),
+    (
+        &["enrich", "here.mmdb", "--field", "", "--field", "a"], "200.0.0.1\n", 0,
+        "mmdb: no record has a\nmmdb: 1 lines with a record, 0 without, 0 without an address, 0 with an error\n",
+    ),
+    (
+        &["enrich", "here.mmdb", "--header", "--field", ""], "ip\n::1\n200.0.0.1\n", 1,
+        "mmdb: row 2: invalid input: cannot look up IPv6 address in IPv4-only database\nmmdb: 1 lines with a record, 0 without, 0 without an address, 1 with an error\n",
+    ),
+    (
+        &["enrich", "here.mmdb", "--delimiter", ",", "--field", ""], "1.1.1.1,a\n1.1.1.1,\"b\n1.1.1.1,c", 0,
+        "mmdb: nothing closes a quote of row 2, by the end of the input or within 65536 bytes; see --no-quotes\nmmdb: 0 lines with a record, 2 without, 0 without an address, 0 with an error\n",
+    ),
+    (
+        &["enrich", "here.mmdb", "--header", "--delimiter", ",", "--field", "", "--strict", "--quiet"], "a\n1.1.1.1,\"b", 1,
+        "mmdb: nothing closes a quote of row 2, by the end of the input or within 65536 bytes; see --no-quotes\nmmdb: 0 lines with a record, 1 without, 0 without an address, 0 with an error\n",
+    ),
+];
+
+#[test]
+fn lines_with_notes(rt: HostRuntime) {
+    for (words, lines, status, said) in NOTES {
+        let run = run_of(rt.alloc(), BASE_FILE, words, lines);
+        assert_of(
+            &rt,
+            words,
+            &run,
+            run.status == *status && run.err() == *said,
+        );
     }
 }
 

@@ -1,5 +1,6 @@
 //! Columns, addresses in them, and cells of CSV.
 use super::streams::{Seen, assert_at};
+use mmdb_addresses::Reading;
 use mmdb_enrich::{Enrichment, RowMemory};
 use mmdb_filter::{Counts, Live, Rows, filter_rows, put_csv_cell};
 use mmdb_reader::{PathElement, Reader};
@@ -62,6 +63,7 @@ pub(crate) fn enriched<I: Live, W: Write>(
         alloc,
         reader,
         rows,
+        reading: Reading::First,
         column,
         paths: whole_record(alloc),
     };

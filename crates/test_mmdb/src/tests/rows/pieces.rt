@@ -171,6 +171,7 @@ fn a_row_of_a_hundred_million_bytes(rt: HostRuntime) {
         unreadable: 0,
         malformed: 0,
         rejected: 1,
+        occupied: 0,
     };
     assert!(rt; counts == one, "{} rejected", counts.rejected);
     assert!(rt; bytes == 100_000_007, "{bytes}");
