@@ -8,8 +8,8 @@ use crate::bytes::{Kind, end_of};
 use crate::words::word_address;
 use std::net::IpAddr;
 
-/// The first word of a cell: behind blanks, up to a blank, a comma or a semicolon.
-pub fn first_word(cell: &[u8]) -> &[u8]
+// The first word of a cell: behind blanks, up to a blank, a comma or a semicolon.
+fn first_word(cell: &[u8]) -> &[u8]
     ensures { result.now ≡ spec_first_word cell.now }
 {
     let from = end_of(Kind::Blank, cell, 0);

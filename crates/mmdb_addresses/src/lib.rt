@@ -11,6 +11,5 @@ mod words;
 
 pub use address_text::AddressText;
 pub use addresses::read_address;
-pub use cells::first_word;
 pub use readings::{Reading, address_in, address_of};
 pub use rows::address_anywhere;

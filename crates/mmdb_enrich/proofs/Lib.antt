@@ -6,4 +6,5 @@ pub mod AddedLaws
 pub mod AheadLaws
 mod AskedLaws
 pub mod MemberLaws
+mod PartLaws
 pub mod GainLaws

@@ -6,7 +6,7 @@ ghost use Rattle.mmdb_enrich.specs.Ahead.{AreFound, AreSpelled, IsAhead};
 ghost use Rattle.mmdb_addresses.specs.Addresses.{ReadsAddress};
 ghost use Rattle.mmdb_addresses.specs.declared.readings.Reading.{Reading as SpecReading};
 
-use crate::columns::cell_of;
+use crate::parts::part_of;
 use mmdb_addresses::{AddressText, Reading, address_in};
 use mmdb_filter::{Rows, first_row};
 use mmdb_reader::{FoundLeaf, Reader};
@@ -96,7 +96,7 @@ impl Ahead {
         ensures few { result ≤ count + 1 }
         ensures spelled { AreSpelled reading self.new.texts self.new.addresses result }
     {
-        match cell_of(rows, row, false, column) {
+        match part_of(rows, reading, row, false, column) {
             Some(text) => self.note(count, reading, text),
             None => count,
         }

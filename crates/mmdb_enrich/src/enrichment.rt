@@ -15,8 +15,8 @@ use crate::ahead::{Ahead, Asked};
 use crate::asked::asked_of;
 use crate::cache::{Cache, Kept};
 use crate::cells::{put_blanks, put_cells};
-use crate::columns::cell_of;
 use crate::notes::{Notes, note_rejected};
+use crate::parts::part_of;
 use crate::row_memory::RowMemory;
 use mmdb_addresses::{Reading, address_anywhere};
 use mmdb_filter::{Added, Additions, Outcome, Rows};
@@ -199,7 +199,7 @@ impl<'a, 'f, S: AsSlice<u8> + Drop> Enrichment<'a, 'f, S> {
         if let Reading::Anywhere = self.reading {
             return address_in_row(text, is_long);
         }
-        match cell_of(self.rows, text, is_long, self.column) {
+        match part_of(self.rows, self.reading, text, is_long, self.column) {
             Some(cell) => ahead.read(self.reading, cell),
             None => None,
         }

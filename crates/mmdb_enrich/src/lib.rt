@@ -12,6 +12,7 @@ mod kept_cells;
 pub mod laws;
 mod members;
 mod notes;
+mod parts;
 mod row_memory;
 
 pub use columns::delimiter_of;

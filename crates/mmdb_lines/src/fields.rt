@@ -88,6 +88,22 @@ fn step_on<'v, 'd>(
     }
 }
 
+// Adds the path in a value that may be meant by another, and says whether there is one.
+fn add_path(
+    alloc: Global,
+    path: &[PathElement<'_>],
+    value: &Value<'_>,
+    text: &mut String,
+) -> Result<bool, AllocError> {
+    let Some((step, rest)) = path.split_first() else {
+        return Ok(true);
+    };
+    match step_on(alloc, step, value, text)? {
+        Some(next) => add_path(alloc, rest, next, text),
+        None => Ok(false),
+    }
+}
+
 // The path in a value that may be meant by another.
 fn path_in(
     alloc: Global,
@@ -95,14 +111,11 @@ fn path_in(
     value: &Value<'_>,
 ) -> Result<Option<String>, AllocError> {
     let mut text = String::new(alloc);
-    let mut now = value;
-    for step in path {
-        match step_on(alloc, step, now, &mut text)? {
-            Some(next) => now = next,
-            None => return Ok(None),
-        }
+    if add_path(alloc, path, value, &mut text)? {
+        Ok(Some(text))
+    } else {
+        Ok(None)
     }
-    Ok(Some(text))
 }
 
 // The path in the record at an offset that may be meant by another, or none where it can't be read.

@@ -285,7 +285,7 @@ pub fn enrich<R: Files, I: Live, O: Write, E: Write>(
 ) -> Result<u8, ProgramError> {
     match arguments.json {
         Some(path) => {
-            let task = json_task(console.alloc, path, arguments)?;
+            let task = json_task(console.alloc, path, &*arguments)?;
             let fields = wanted_members(console.alloc, arguments)?;
             let mut notes = Notes::new(Place::Member(path), fields, 0, arguments);
             let mut passage = Passage {
@@ -295,7 +295,7 @@ pub fn enrich<R: Files, I: Live, O: Write, E: Write>(
             enrich_json_of(rt, arguments.file, task, input, &mut passage, console)
         }
         None => {
-            let task = rows_task(console.alloc, arguments)?;
+            let task = rows_task(console.alloc, &*arguments)?;
             let fields = wanted_fields(console.alloc, arguments.fields.as_slice())?;
             let before = u64::from(task.header);
             let mut notes = Notes::new(task.place(arguments), fields, before, arguments);

@@ -138,8 +138,7 @@ impl<'a> Notes<'a> {
         console: &mut Console<'_, O, E>,
     ) {
         let alloc = console.alloc;
-        for at in 0..self.fields.len() {
-            let field = &mut self.fields[at];
+        for (at, field) in self.fields.iter_mut().enumerate() {
             if !field.is_said && !is_met(records, at) {
                 field.is_said = true;
                 let offsets = records.records.as_slice();

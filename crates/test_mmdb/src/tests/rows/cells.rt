@@ -63,7 +63,7 @@ pub(crate) fn enriched<I: Live, W: Write>(
         alloc,
         reader,
         rows,
-        reading: Reading::First,
+        reading: Reading::Exact,
         column,
         paths: whole_record(alloc),
     };

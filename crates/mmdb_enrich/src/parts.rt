@@ -1,0 +1,73 @@
+//! What is read of a row.
+ghost use Rattle.std.specs.Prelude.{◌≡◌, Option, Some, IfSome, option_map, take};
+ghost use Rattle.std.specs.declared.net.ip_addr.IpAddr.{IpAddr as SpecIpAddr};
+ghost use Rattle.mmdb_addresses.specs.Addresses.{ReadsAddress};
+ghost use Rattle.mmdb_addresses.specs.Cells.{first_word};
+ghost use Rattle.mmdb_filter.specs.declared.rows.Position.TheVariants.{Cell};
+ghost use Rattle.mmdb_filter.specs.declared.rows.Rows.TheVariants.{Lines};
+ghost use Rattle.mmdb_enrich.specs.Columns.{cell_length, column_of, value_of};
+
+use crate::columns::cell_of;
+use mmdb_addresses::Reading;
+use mmdb_filter::{Rows, either_from};
+
+// The front of a line that has the first word of its first cell, up to a space or the delimiter. None where a blank stands
+// first.
+#[inline(always)]
+fn front_of(delimiter: u8, line: &[u8]) -> Option<&[u8]>
+    ensures { IfSome result (λ front. first_word front.now
+        ≡ first_word (take (cell_length (Lines delimiter) Cell line.now) line.now)) }
+{
+    let end = either_from(line, 0, delimiter, b' ');
+    if end == 0 || line[0] == b'\t' {
+        return None;
+    }
+    Some(&line[..end])
+}
+
+// The front of a row, where the first word of the first cell is read in a line.
+#[inline(always)]
+fn front_read(
+    rows: Rows,
+    reading: Reading,
+    row: &[u8],
+    goes_on: bool,
+    column: usize,
+) -> Option<&[u8]>
+    ensures { IfSome result (λ front. (found : Option SpecIpAddr)
+        → ReadsAddress reading (Some front.now) found
+        → ReadsAddress reading
+        (option_map (value_of rows) (column_of rows goes_on column row.now)) found) }
+{
+    let Rows::Lines { delimiter } = rows else {
+        return None;
+    };
+    let Reading::First = reading else {
+        return None;
+    };
+    if column > 0 || goes_on {
+        return None;
+    }
+    front_of(delimiter, row)
+}
+
+/// What is read of the cell of a column: what it holds, or of a line's first cell the front that has its first word, since
+/// all of the line may be one cell.
+#[inline(always)]
+pub(crate) fn part_of(
+    rows: Rows,
+    reading: Reading,
+    row: &[u8],
+    goes_on: bool,
+    column: usize,
+) -> Option<&[u8]>
+    ensures { (found : Option SpecIpAddr)
+        → ReadsAddress reading (option_map (λ s. s.now) result) found
+        → ReadsAddress reading
+        (option_map (value_of rows) (column_of rows goes_on column row.now)) found }
+{
+    if let Some(front) = front_read(rows, reading, row, goes_on, column) {
+        return Some(front);
+    }
+    cell_of(rows, row, goes_on, column)
+}
