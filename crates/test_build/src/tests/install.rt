@@ -100,7 +100,11 @@ fn are_same(disk: &Disk, one: &str, other: &str) -> bool {
 }
 
 // What is asked for.
-fn arguments<'a>(dest: &'a str, max_change: Option<&'a str>, dry_run: bool) -> InstallArguments<'a> {
+fn arguments<'a>(
+    dest: &'a str,
+    max_change: Option<&'a str>,
+    dry_run: bool,
+) -> InstallArguments<'a> {
     InstallArguments {
         new: "new.mmdb",
         dest,
@@ -152,7 +156,12 @@ fn a_dry_run_changes_nothing(rt: HostRuntime) {
 
 /// Other files that are to be installed, at which paths, the status, and what is said.
 const OTHERS: &[(&[u8], &str, Option<u8>, &str)] = &[
-    (b"no database", "out.mmdb", Some(1), "mmdb: new.mmdb: not a MaxMind DB file\n"),
+    (
+        b"no database",
+        "out.mmdb",
+        Some(1),
+        "mmdb: new.mmdb: not a MaxMind DB file\n",
+    ),
     (
         b"\xAB\xCD\xEFMaxMind.com\xE0",
         "out.mmdb",
@@ -160,7 +169,12 @@ const OTHERS: &[(&[u8], &str, Option<u8>, &str)] = &[
         "mmdb: new.mmdb: ",
     ),
     (b"", PIPE, Some(1), "mmdb: pipe: not a file\n"),
-    (b"", DEAD_LINK, Some(1), "mmdb: dead.mmdb: a link that leads nowhere\n"),
+    (
+        b"",
+        DEAD_LINK,
+        Some(1),
+        "mmdb: dead.mmdb: a link that leads nowhere\n",
+    ),
     (b"", "rows", Some(1), "mmdb: rows: not a MaxMind DB file\n"),
 ];
 
@@ -195,8 +209,7 @@ fn a_missing_file_is_made_and_the_same_bytes_change_nothing(rt: HostRuntime) {
     );
     let run = install_on(alloc, &disk, &arguments("there.mmdb", Some("0"), false));
     assert!(rt;
-        run.status == Some(0)
-            && run.err() == "mmdb: there.mmdb has these bytes already\n",
+        run.status == Some(0) && run.err() == "mmdb: there.mmdb has these bytes already\n",
         "{}",
         run.err()
     );
@@ -205,7 +218,12 @@ fn a_missing_file_is_made_and_the_same_bytes_change_nothing(rt: HostRuntime) {
 #[test]
 fn what_a_link_leads_to_is_replaced(rt: HostRuntime) {
     let alloc = rt.alloc();
-    let disk = disk_with(&rt, alloc, &[], b"{\"network\":\"3.0.0.0/8\",\"record\":1}\n");
+    let disk = disk_with(
+        &rt,
+        alloc,
+        &[],
+        b"{\"network\":\"3.0.0.0/8\",\"record\":1}\n",
+    );
     let run = install_on(alloc, &disk, &arguments(LINK, None, false));
     assert!(rt;
         run.status == Some(0) && are_same(&disk, "out.mmdb", "new.mmdb") && disk.mode() == 0o644,
@@ -222,7 +240,11 @@ const NO_SHARES: &[&str] = &["", "-1", "101", "100.001", "1.2345", ".5", "1.", "
 fn shares_that_are_none_are_rejected(rt: HostRuntime) {
     let disk = Disk::new(rt.alloc(), u32::MAX, None);
     for share in NO_SHARES {
-        let run = install_on(rt.alloc(), &disk, &arguments("out.mmdb", Some(*share), false));
+        let run = install_on(
+            rt.alloc(),
+            &disk,
+            &arguments("out.mmdb", Some(*share), false),
+        );
         assert!(rt;
             run.status == None && !run.is_memory && disk.calls() == 0,
             "{share}: {}",
@@ -262,7 +284,11 @@ fn calls_that_fail_leave_one_of_the_two_files(rt: HostRuntime) {
         let is_new = are_same(&faulty, "out.mmdb", "new.mmdb");
         let is_last = fails_at >= disk.calls().saturating_sub(LAST_CALLS);
         let is_right = is_new == (run.status == Some(0) || is_last);
-        assert!(rt; is_right && faulty.get("out.mmdb").is_some(), "{}", run.err());
+        assert!(rt;
+            is_right && faulty.get("out.mmdb").is_some(),
+            "{}",
+            run.err()
+        );
         if run.status == Some(1) {
             failed = failed.saturating_add(1);
         }
