@@ -1,5 +1,5 @@
 //! Two databases that are read from files.
-use mmdb_console::{Console, reported};
+use mmdb_console::{Console, opened};
 use mmdb_layout::{Database, open_database};
 use mmdb_reader::{MaxMindDbError, Reader};
 use std::io::Write;
@@ -39,7 +39,7 @@ fn with_other<R: Files, O: Write, E: Write>(
     other: Result<Option<Database>, MaxMindDbError>,
     console: &mut Console<'_, O, E>,
 ) -> Option<TwoDatabases> {
-    match reported(rt, file, other, console) {
+    match opened(rt, file, other, console) {
         Some(other) => Some(TwoDatabases { old, other }),
         None => {
             drop(old);

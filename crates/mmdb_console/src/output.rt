@@ -117,9 +117,8 @@ impl<'c, O: Write, E: Write> Console<'c, O, E> {
     }
 }
 
-/// What was got of a file, or none where there is an error, which is reported: with how it is unpacked, where it is packed.
-pub fn reported<R: Files, T: Drop, O: Write, E: Write>(
-    rt: &R,
+/// What was got of a file, or none where there is an error, which is reported.
+pub fn reported<T: Drop, O: Write, E: Write>(
     file: &str,
     got: Result<T, MaxMindDbError>,
     console: &mut Console<'_, O, E>,
@@ -128,12 +127,24 @@ pub fn reported<R: Files, T: Drop, O: Write, E: Write>(
         Ok(value) => Some(value),
         Err(error) => {
             console.report(file, &error);
-            let is_no_database = matches!(error, MaxMindDbError::InvalidDatabase { .. });
             drop(error);
-            if is_no_database {
-                note_archive(rt, file, console);
-            }
             None
         }
     }
+}
+
+/// The database of a file, or none where there is an error, which is reported: with how the file is unpacked, where it is
+/// packed.
+pub fn opened<R: Files, T: Drop, O: Write, E: Write>(
+    rt: &R,
+    file: &str,
+    got: Result<T, MaxMindDbError>,
+    console: &mut Console<'_, O, E>,
+) -> Option<T> {
+    let is_no_database = matches!(got, Err(MaxMindDbError::InvalidDatabase { .. }));
+    let database = reported(file, got, console);
+    if is_no_database {
+        note_archive(rt, file, console);
+    }
+    database
 }

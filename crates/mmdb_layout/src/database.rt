@@ -1,5 +1,5 @@
 //! Databases whose bytes are those of a file.
-use mmdb_console::{Console, reported};
+use mmdb_console::{Console, opened};
 use mmdb_reader::{IpNetwork, LookupResult, MaxMindDbError, Reader, Within, WithinOptions};
 use std::alloc::Global;
 use std::io::Write;
@@ -20,7 +20,7 @@ pub fn open_database<R: Files, O: Write, E: Write>(
     file: &str,
     console: &mut Console<'_, O, E>,
 ) -> Option<Database> {
-    reported(
+    opened(
         rt,
         file,
         Reader::open_readfile(rt, console.alloc, file),

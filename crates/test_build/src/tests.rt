@@ -1,5 +1,6 @@
 mod bad;
 mod disk;
 mod faults;
+mod install;
 mod made;
 mod run;

@@ -1,7 +1,8 @@
 //! The command on a disk in memory.
 use super::disk::{Disk, DiskRuntime};
-use mmdb_arguments::{NoRequest, Request, request_of};
+use mmdb_arguments::{InstallArguments, NoRequest, Request, request_of};
 use mmdb_cmd_build::build;
+use mmdb_cmd_install::install;
 use mmdb_console::{Console, ProgramError, Terminals};
 use mmdb_vectors::words::words_of;
 use std::alloc::Global;
@@ -88,4 +89,21 @@ pub(crate) fn run_on(alloc: Global, disk: &Disk, texts: &[&str], input: &[u8]) -
             }
         }
     }
+}
+
+/// The command `install` over a disk.
+pub(crate) fn install_on(alloc: Global, disk: &Disk, arguments: &InstallArguments<'_>) -> Run {
+    let mut out: Vec<u8> = Vec::new(alloc);
+    let mut reported: Vec<u8> = Vec::new(alloc);
+    let mut console = Console {
+        alloc,
+        terminals: Terminals {
+            output: false,
+            errors: false,
+        },
+        out: &mut out,
+        errors: &mut reported,
+    };
+    let done = install(&DiskRuntime { disk }, arguments, &mut console);
+    run_of(done, reported)
 }
