@@ -41,8 +41,11 @@ impl Remembering for JsonMemory {
 pub(crate) struct Notes<'a> {
     place: Place<'a>,
     fields: Vec<Wanted<'a>>,
+    /// Whether it is left out what is amiss but sets no status.
     is_quiet: bool,
     is_strict: bool,
+    /// Whether it is said how rows fared.
+    says_counts: bool,
     /// How many rows are before the first one that is enriched.
     pub(crate) before: u64,
     has_said_no_address: bool,
@@ -103,6 +106,7 @@ impl<'a> Notes<'a> {
             fields,
             is_quiet: arguments.quiet && !arguments.strict,
             is_strict: arguments.strict,
+            says_counts: !arguments.quiet,
             before,
             has_said_no_address: false,
             has_warned: false,
@@ -216,7 +220,7 @@ impl<'a> Notes<'a> {
         text: Result<String, AllocError>,
         console: &mut Console<'_, O, E>,
     ) -> u8 {
-        if !self.is_quiet {
+        if self.says_counts {
             console.note(text);
         }
         if counts.rejected > 0 || self.is_strict && self.has_warned {

@@ -379,7 +379,7 @@ const NOTES: &[Notes<'static>] = &[
     ),
     (
         &["enrich", "here.mmdb", "--header", "--delimiter", ",", "--field", "", "--strict", "--quiet"], "a\n1.1.1.1,\"b", 1,
-        "mmdb: nothing closes a quote of row 2, by the end of the input or within 65536 bytes; see --no-quotes\nmmdb: 0 lines with a record, 1 without, 0 without an address, 0 with an error\n",
+        "mmdb: nothing closes a quote of row 2, by the end of the input or within 65536 bytes; see --no-quotes\n",
     ),
 ];
 
