@@ -370,10 +370,6 @@ const NOTES: &[Notes<'static>] = &[
     ),
     (&["enrich", "here.mmdb", "--field", "", "--quiet"], "none\n", 0, ""),
     (
-        &["enrich", "here.mmdb", "--field", "", "--field", "a"], "200.0.0.1\n", 0,
-        "mmdb: no record has a\nmmdb: 1 lines with a record, 0 without, 0 without an address, 0 with an error\n",
-    ),
-    (
         &["enrich", "here.mmdb", "--header", "--field", ""], "ip\n::1\n200.0.0.1\n", 1,
         "mmdb: row 2: invalid input: cannot look up IPv6 address in IPv4-only database\nmmdb: 1 lines with a record, 0 without, 0 without an address, 1 with an error\n",
     ),
