@@ -5,6 +5,7 @@ mod arguments;
 mod change;
 mod command;
 mod percent;
+mod readable;
 
 pub use arguments::InstallArguments;
 pub use command::install;
