@@ -1,6 +1,7 @@
 //! A MaxMind DB file that takes another one's place.
 use crate::change::change_between;
 use crate::percent::{Percent, percent_of};
+use crate::readable::read_all;
 use mmdb_arguments::{InstallArguments, NoRequest};
 use mmdb_console::{Console, DONE, FAILED, ProgramError, line_of, reported};
 use mmdb_files::{Standing, replace_file, standing_of};
@@ -214,14 +215,17 @@ fn replace<R: Files + Clock, O: Write, E: Write>(
     }
 }
 
-// The database of bytes, verified; none where it is not whole, which is reported.
+// The database of bytes, verified; none where it is not whole, or a record can't be read, which is reported.
 fn verified<'b, O: Write, E: Write>(
     file: &str,
     bytes: &'b [u8],
     console: &mut Console<'_, O, E>,
 ) -> Option<Reader<&'b [u8]>> {
     let reader = reported(file, Reader::from_source(console.alloc, bytes), console)?;
-    let whole = reader.verify(console.alloc);
+    let whole = match reader.verify(console.alloc) {
+        Ok(()) => read_all(console.alloc, &reader),
+        Err(error) => Err(error),
+    };
     if reported(file, whole, console).is_some() {
         Some(reader)
     } else {
@@ -248,7 +252,7 @@ fn install_bytes<R: Files + Clock, O: Write, E: Write>(
 }
 
 /// Puts a MaxMind DB file in the place of another one, or where there is none, says so, and answers the status. Before that it is
-/// verified, and compared with what is there: it has the same type and kind of addresses, is not older, and not more addresses
+/// verified, all its records are read, and it is compared with what is there: it has the same type and kind of addresses, is not older, and not more addresses
 /// of IPv4 changed than may. Why it is not done is reported, and then what is there stays. An `Err` where an argument is not
 /// what is wanted in its place, before any file is opened, or out of memory.
 pub fn install<R: Files + Clock, O: Write, E: Write>(

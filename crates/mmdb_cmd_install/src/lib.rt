@@ -4,5 +4,6 @@
 mod change;
 mod command;
 mod percent;
+mod readable;
 
 pub use command::install;

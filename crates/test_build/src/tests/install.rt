@@ -197,6 +197,42 @@ fn what_is_no_database_is_not_installed(rt: HostRuntime) {
     }
 }
 
+// Puts bytes in the place of others of the same number, where these stand first.
+fn patch(rt: &impl Abort, bytes: &mut Vec<u8>, old: &[u8], new: &[u8]) {
+    let at = bytes
+        .windows(old.len())
+        .position(|window| window == old)
+        .expect(rt, "the bytes");
+    for (index, byte) in new.iter().enumerate() {
+        if let Some(place) = bytes.get_mut(at.saturating_add(index)) {
+            *place = *byte;
+        }
+    }
+}
+
+#[test]
+fn a_record_that_cannot_be_read_is_a_reason(rt: HostRuntime) {
+    let alloc = rt.alloc();
+    let disk = disk_with(
+        &rt,
+        alloc,
+        &[],
+        b"{\"network\":\"3.0.0.0/8\",\"record\":{\"a\":7}}\n",
+    );
+    let mut file = disk.get("new.mmdb").expect(&rt, "a file");
+    // the key, which stands before its map, becomes bytes, where only a text may be
+    patch(&rt, &mut file, b"\x41a\xE1", b"\x81a\xE1");
+    let _ = disk.put("new.mmdb", &file);
+    let run = install_on(alloc, &disk, &arguments("out.mmdb", None, false));
+    assert!(rt;
+        run.status == Some(1)
+            && run.err().starts_with("mmdb: new.mmdb: ")
+            && !are_same(&disk, "out.mmdb", "new.mmdb"),
+        "{}",
+        run.err()
+    );
+}
+
 #[test]
 fn a_missing_file_is_made_and_the_same_bytes_change_nothing(rt: HostRuntime) {
     let alloc = rt.alloc();
