@@ -1,6 +1,6 @@
 -- What is found where there are two ways to be found, or the same thing is said otherwise.
 use Rattle.std.proofs.Common.{◌⊎◌, Option, Some, None}
-use Rattle.std.proofs.Math.Logic.{inl, inr, ⊎_elim}
+use Rattle.std.proofs.Math.Logic.{inr, ⊎_elim}
 use Rattle.std.specs.declared.net.ip_addr.IpAddr.{IpAddr}
 use Rattle.mmdb_addresses.specs.Addresses.{Finds}
 

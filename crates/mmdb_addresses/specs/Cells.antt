@@ -1,5 +1,5 @@
 -- The address in a cell.
-use Rattle.std.specs.Prelude.{◌≡◌, ℕ, ◌-◌, List, ◌==◌, not, length, take, drop, get_or, take_while, if◌then◌else◌}
+use Rattle.std.specs.Prelude.{ℕ, ◌-◌, List, ◌==◌, not, length, take, drop, get_or, take_while, if◌then◌else◌}
 use Rattle.std.specs.List.{prefix_len, suffix_len}
 use Rattle.mmdb_addresses.specs.Bytes.{is_blank, ends_word}
 

@@ -1,11 +1,11 @@
 -- The address that a word has: it may have a port, a zone or brackets.
-use Rattle.std.specs.Prelude.{◌≡◌, ◌⊎◌, ℕ, ◌-◌, ◌<◌, ◌≤◌, List, [], ◌==◌, true, All, length, take, drop, get_or}
+use Rattle.std.specs.Prelude.{◌≡◌, ◌⊎◌, ℕ, ◌<◌, ◌≤◌, List, [], ◌==◌, true, All, length, drop, get_or}
 use Rattle.std.specs.List.{before_first, after_first, position_or_len}
 use Rattle.std.specs.Net.Grammar.{IsIpText, IsIpv4Text, IsIpv6Text}
 use Rattle.std.specs.Str.Parse.{IsNumeral, digits_value}
 use Rattle.std.specs.declared.net.ip_addr.IpAddr.{IpAddr}
 use Rattle.std.specs.declared.net.ip_addr.IpAddr.TheVariants.{V4, V6}
-use Rattle.mmdb_addresses.specs.Bytes.{is_blank, is_name_byte}
+use Rattle.mmdb_addresses.specs.Bytes.{is_name_byte}
 
 -- what stands before the first byte of this value, or all; and what stands after it, or nothing
 abbrev pub before : ℕ → List ℕ → List ℕ

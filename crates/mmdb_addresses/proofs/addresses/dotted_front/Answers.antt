@@ -1,4 +1,4 @@
-use Rattle.std.proofs.Common.{rules, refl}
+use Rattle.std.proofs.Common.{rules}
 use Rattle.mmdb_addresses.proofs.DottedLaws.{dotted_is}
 use Rattle.mmdb_addresses.proofs.addresses.dotted_front.Goals as goal
 

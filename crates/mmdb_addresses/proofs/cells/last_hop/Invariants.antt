@@ -1,4 +1,4 @@
-use Rattle.std.proofs.Common.{◌≡◌, ◌≢◌, ◌<◌, ◌≤◌, ℕ, length, get_or}
+use Rattle.std.proofs.Common.{◌≢◌, ◌<◌, ◌≤◌, ℕ, length, get_or}
 use Rattle.mmdb_addresses.proofs.cells.last_hop.Given as goal
 
 abbrev pub invariant-loop-at : goal.invariant-loop-at

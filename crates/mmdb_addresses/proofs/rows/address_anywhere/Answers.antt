@@ -1,4 +1,4 @@
-use Rattle.std.proofs.Common.{◌≡◌, ℕ, ◌<◌, ◌≤◌, true, length, arith}
+use Rattle.std.proofs.Common.{arith}
 use Rattle.mmdb_addresses.proofs.RunLaws.{begins_at, border_at, none_at_all, none_between, none_inside, runs_on}
 use Rattle.mmdb_addresses.proofs.rows.address_anywhere.Goals as goal
 

@@ -1,4 +1,4 @@
-use Rattle.std.proofs.Common.{◌≡◌, ◌<◌, ◌≤◌, ◌+◌, ◌-◌, ◌*◌, ℕ, length, get_or, below_more, refl, rules, arith}
+use Rattle.std.proofs.Common.{◌+◌, below_more, refl, rules, arith}
 use Rattle.mmdb_addresses.proofs.PortLaws.{value_more, is_port_of, other_digit, too_much}
 use Rattle.mmdb_addresses.proofs.words.is_port.Goals as goal
 use Rattle.mmdb_addresses.proofs.words.is_port.Goals.{then-digit-lt48-via-then-digit-lt48, then-digit-lt48-via-else-digit-lt48+then-digit-gt57}

@@ -1,4 +1,4 @@
-use Rattle.std.proofs.Common.{◌≡◌, ◌<◌, ◌≤◌, ℕ, length, get_or, take}
+use Rattle.std.proofs.Common.{◌≡◌, ◌<◌, ◌≤◌, ℕ, get_or, take}
 use Rattle.std.specs.Str.Parse.{digits_value}
 use Rattle.mmdb_addresses.proofs.words.is_port.Given as goal
 
