@@ -114,6 +114,8 @@ pub struct DiffArguments<'a> {
 #[derive(Drop)]
 pub struct VerifyArguments<'a> {
     pub files: Vec<&'a str>,
+    /// Whether a file that is whole may have records that can't be read.
+    pub whole: bool,
 }
 
 /// What the rows of a file that is made are.
@@ -358,7 +360,10 @@ fn install<'a>(matches: &ArgMatches<'a>) -> Request<'a> {
 
 fn verify<'a>(alloc: Global, matches: &ArgMatches<'a>) -> Result<Request<'a>, NoRequest> {
     let files = texts_of(alloc, matches, "FILE")?;
-    Ok(Request::Verify(VerifyArguments { files }))
+    Ok(Request::Verify(VerifyArguments {
+        files,
+        whole: matches.get_flag("whole"),
+    }))
 }
 
 // The request of a command's own arguments.

@@ -1,11 +1,11 @@
 //! A MaxMind DB file that takes another one's place.
 use crate::change::change_between;
 use crate::percent::{Percent, percent_of};
-use crate::readable::read_all;
 use mmdb_arguments::{InstallArguments, NoRequest};
 use mmdb_console::{Console, DONE, FAILED, ProgramError, line_of, reported};
 use mmdb_files::{Standing, replace_file, standing_of};
 use mmdb_reader::{MaxMindDbError, Metadata, Reader};
+use mmdb_records::unreadable_records;
 use std::alloc::{AllocError, Global};
 use std::fs::File;
 use std::io::{self, Read, Write};
@@ -212,6 +212,14 @@ fn replace<R: Files + Clock, O: Write, E: Write>(
         put(rt, task, bytes, console)
     } else {
         Ok(FAILED)
+    }
+}
+
+// Whether all records of a database can be read. An `Err` is of the first one that can't be.
+fn read_all(alloc: Global, database: &Reader<&[u8]>) -> Result<(), MaxMindDbError> {
+    match unreadable_records(alloc, database)? {
+        Some(unreadable) => Err(unreadable.error),
+        None => Ok(()),
     }
 }
 

@@ -4,6 +4,5 @@
 mod change;
 mod command;
 mod percent;
-mod readable;
 
 pub use command::install;

@@ -7,7 +7,7 @@ use crate::output::Output;
 use crate::task::{JsonTask, LINES, RowsTask, json_task, rows_task, wanted_members};
 use crate::watch::Watch;
 use mmdb_arguments::EnrichArguments;
-use mmdb_console::{Console, FAILED, ProgramError, ProgressLine, line_of};
+use mmdb_console::{BAD_ARGUMENTS, Console, FAILED, ProgramError, ProgressLine, line_of};
 use mmdb_enrich::{Enrichment, JsonEnrichment, JsonMemory, RowMemory};
 use mmdb_filter::{Additions, Counts, Filtered, Live, Rows, filter_rows};
 use mmdb_layout::{Database, open_database};
@@ -274,6 +274,14 @@ fn enrich_json_of<R: Files, I: Live, O: Write, E: Write>(
     }
 }
 
+// Reports a second file, which is a log more often than a database.
+fn report_other<O: Write, E: Write>(other: &str, console: &mut Console<'_, O, E>) {
+    let text = format!(in console.alloc;
+        "mmdb: {other} is no database; enrich reads standard input: < {other}"
+    );
+    console.note(line_of(console.alloc, text));
+}
+
 /// Copies lines with fields of a database in each, reports how they fared, and answers the status. An `Err` where an
 /// argument is not what is wanted in its place, before the file is opened; where standard input can't be read, standard
 /// output can't be written, the first row has no such column or is too long, or out of memory.
@@ -283,6 +291,10 @@ pub fn enrich<R: Files, I: Live, O: Write, E: Write>(
     input: &mut I,
     console: &mut Console<'_, O, E>,
 ) -> Result<u8, ProgramError> {
+    if let Some(other) = arguments.others.first() {
+        report_other(*other, console);
+        return Ok(BAD_ARGUMENTS);
+    }
     match arguments.json {
         Some(path) => {
             let task = json_task(console.alloc, path, &*arguments)?;

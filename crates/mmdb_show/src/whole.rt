@@ -1,27 +1,49 @@
-//! Whether files are whole.
+//! Whether files are whole, and all their records can be read.
 use mmdb_arguments::VerifyArguments;
 use mmdb_console::{Console, DONE, FAILED, ProgramError, line_of, note_archive};
 use mmdb_reader::{MaxMindDbError, Reader};
+use mmdb_records::{Unreadable, unreadable_records};
 use std::alloc::{AllocError, Global};
 use std::io::Write;
 use std::rt::Files;
 
-// Whether a file is whole, or why not.
-fn verified<R: Files>(rt: &R, alloc: Global, file: &str) -> Result<(), MaxMindDbError> {
+// What of a file that is whole can't be read, or why it is not whole.
+fn verified<R: Files>(
+    rt: &R,
+    alloc: Global,
+    file: &str,
+    is_whole_enough: bool,
+) -> Result<Option<Unreadable>, MaxMindDbError> {
     let reader = Reader::open_readfile(rt, alloc, file)?;
-    reader.verify(alloc)
+    reader.verify(alloc)?;
+    if is_whole_enough {
+        Ok(None)
+    } else {
+        unreadable_records(alloc, &reader)
+    }
+}
+
+// What is written of records that can't be read.
+fn text_of_unreadable(
+    alloc: Global,
+    file: &str,
+    unreadable: &Unreadable,
+) -> Result<String, AllocError> {
+    let (count, network, error) = (unreadable.count, unreadable.network, &unreadable.error);
+    format!(in alloc; "{file}: {count} records can't be read, the first at {network}: {error}")
 }
 
 // What is written of a file.
 fn line_on(
     alloc: Global,
     file: &str,
-    verified: &Result<(), MaxMindDbError>,
+    verified: &Result<Option<Unreadable>, MaxMindDbError>,
 ) -> Result<String, AllocError> {
     line_of(
         alloc,
         match verified {
-            Ok(()) => format!(in alloc; "{file}: ok"),
+            Ok(None) => format!(in alloc; "{file}: ok"),
+            Ok(Some(unreadable)) => text_of_unreadable(alloc, file, unreadable),
             Err(error) => format!(in alloc; "{file}: {error}"),
         },
     )
@@ -30,21 +52,22 @@ fn line_on(
 // Writes the line on a file.
 fn put_line<O: Write, E: Write>(
     file: &str,
-    verified: &Result<(), MaxMindDbError>,
+    verified: &Result<Option<Unreadable>, MaxMindDbError>,
     console: &mut Console<'_, O, E>,
 ) -> Result<(), ProgramError> {
     let line = line_on(console.alloc, file, verified)?;
     console.put(line.as_bytes())
 }
 
-// Writes of a file whether it is whole, and answers that.
+// Writes of a file whether it is whole and its records can be read, and answers that.
 fn verify_one<R: Files, O: Write, E: Write>(
     rt: &R,
     file: &str,
+    is_whole_enough: bool,
     console: &mut Console<'_, O, E>,
 ) -> Result<bool, ProgramError> {
-    let verified = verified(rt, console.alloc, file);
-    let is_whole = verified.is_ok();
+    let verified = verified(rt, console.alloc, file, is_whole_enough);
+    let is_right = matches!(verified, Ok(None));
     let is_no_database = matches!(verified, Err(MaxMindDbError::InvalidDatabase { .. }));
     let put = put_line(file, &verified, console);
     drop(verified);
@@ -52,10 +75,10 @@ fn verify_one<R: Files, O: Write, E: Write>(
     if is_no_database {
         note_archive(rt, file, console);
     }
-    Ok(is_whole)
+    Ok(is_right)
 }
 
-/// Writes of each file whether it is whole, and answers the status. An `Err` where standard output can't be written, or out
+/// Writes of each file whether it is whole and, unless that is enough, all its records can be read, and answers the status. An `Err` where standard output can't be written, or out
 /// of memory.
 pub fn verify<R: Files, O: Write, E: Write>(
     rt: &R,
@@ -64,7 +87,7 @@ pub fn verify<R: Files, O: Write, E: Write>(
 ) -> Result<u8, ProgramError> {
     let mut status = DONE;
     for file in &arguments.files {
-        if !verify_one(rt, file, console)? {
+        if !verify_one(rt, file, arguments.whole, console)? {
             status = FAILED;
         }
     }

@@ -320,3 +320,24 @@ fn notes_on_shown_paths(rt: HostRuntime) {
     let is_noted = lines_hold(run.err(), &["mmdb: no record has c.j; did you mean c.i?"]);
     assert_of(&rt, words, &run, is_noted && run.status == 6);
 }
+
+/// At 0 the text x, at 2 a map whose key is the number 7.
+const ONE_UNREADABLE: &[u8] = b"\x41x\xE1\xA1\x07\x41y";
+
+/// A file that is whole, of which one record can't be read.
+#[test]
+fn records_that_verify_reads(rt: HostRuntime) {
+    let bytes = file_of_nodes(&rt, rt.alloc(), &[(17, 19)], b"\xC1\x01", ONE_UNREADABLE);
+    let whole = run_of(
+        rt.alloc(),
+        bytes.as_slice(),
+        &["verify", "here.mmdb", "--whole"],
+        "",
+    );
+    let is_whole = whole.out() == "here.mmdb: ok\n" && whole.status == 0;
+    assert_of(&rt, &["--whole"], &whole, is_whole);
+    let run = run_of(rt.alloc(), bytes.as_slice(), &["verify", "here.mmdb"], "");
+    let wanted = "here.mmdb: 1 records can't be read, the first at 128.0.0.0/1: decoding error";
+    let is_named = run.out().starts_with(wanted) && run.status == 1;
+    assert_of(&rt, &["verify"], &run, is_named);
+}

@@ -59,6 +59,12 @@ const BASE_RUNS: &[Row<'static>] = &[
     (&["export", "here.mmdb", "::/0", "--field", "", "--format", "csv"], 1, "", "here.mmdb: invalid input"),
     (&["verify", "gone.mmdb", "here.mmdb"], 1, "gone.mmdb: i/o error: entity not found\nhere.mmdb: ok\n", ""),
     (&["verify"], 2, "", "FILE"),
+    (
+        &["enrich", "here.mmdb", "access.log", "--field", "a"],
+        2,
+        "",
+        "mmdb: access.log is no database; enrich reads standard input: < access.log\n",
+    ),
     (&["frob"], 2, "", "frob"),
     (&["info", "here.mmdb", "extra"], 2, "", "extra"),
     (&[], 2, "", "Usage"),
