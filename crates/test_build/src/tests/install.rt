@@ -197,12 +197,19 @@ fn what_is_no_database_is_not_installed(rt: HostRuntime) {
     }
 }
 
+// Where some bytes stand first.
+fn place_of(bytes: &[u8], wanted: &[u8]) -> Option<usize> {
+    for at in 0..bytes.len() {
+        if bytes.get(at..).unwrap_or(&[]).starts_with(wanted) {
+            return Some(at);
+        }
+    }
+    None
+}
+
 // Puts bytes in the place of others of the same number, where these stand first.
 fn patch(rt: &impl Abort, bytes: &mut Vec<u8>, old: &[u8], new: &[u8]) {
-    let at = bytes
-        .windows(old.len())
-        .position(|window| window == old)
-        .expect(rt, "the bytes");
+    let at = place_of(bytes, old).expect(rt, "the bytes");
     for (index, byte) in new.iter().enumerate() {
         if let Some(place) = bytes.get_mut(at.saturating_add(index)) {
             *place = *byte;
