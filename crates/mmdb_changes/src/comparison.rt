@@ -427,17 +427,8 @@ fn note_absent<O: Write, E: Write>(
             look_at(alloc, networks, &task.layout, &mut met)?;
         }
     }
-    if met.is_nothing_absent() {
-        return Ok(());
-    }
-    match networks_in(alloc, databases.newer(), Some(range)) {
-        Ok(networks) => {
-            let (names, paths) = (task.layout.names(), task.layout.paths());
-            met.note_absent(names, paths, networks, console)
-        }
-        // it is reported where the databases are compared
-        Err(_) => Ok(()),
-    }
+    let (names, paths) = (task.layout.names(), task.layout.paths());
+    met.note_absent(names, paths, databases.newer(), Some(range), console)
 }
 
 // Compares two databases in a range, and answers the status.

@@ -12,6 +12,8 @@ pub struct Similar<'a> {
     best: Option<String>,
     /// In how many characters the best one is another.
     distance: usize,
+    /// Whether the text itself was offered.
+    is_met: bool,
 }
 
 // A text with its letters of ASCII in lower case.
@@ -34,6 +36,7 @@ impl<'a> Similar<'a> {
             lower,
             best: None,
             distance,
+            is_met: false,
         })
     }
 
@@ -45,7 +48,10 @@ impl<'a> Similar<'a> {
 
     /// Offers a text. A much longer one is passed, which is not like it. An `Err` is of memory.
     pub fn offer(&mut self, text: &str) -> Result<(), AllocError> {
-        if text == self.given || text.len() > self.lower.len().saturating_mul(2).saturating_add(8) {
+        if text == self.given {
+            self.is_met = true;
+        }
+        if self.is_met || text.len() > self.lower.len().saturating_mul(2).saturating_add(8) {
             return Ok(());
         }
         let distance = self.distance_of(text)?;
@@ -56,11 +62,11 @@ impl<'a> Similar<'a> {
         Ok(())
     }
 
-    /// The one that is most like it, if one is.
+    /// The one that is most like it, if one is and none is the text itself.
     pub fn best(&self) -> Option<&str> {
         match &self.best {
-            Some(best) => Some(best.as_str()),
-            None => None,
+            Some(best) if !self.is_met => Some(best.as_str()),
+            _ => None,
         }
     }
 }

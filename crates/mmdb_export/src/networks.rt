@@ -75,11 +75,8 @@ fn note_absent<W: Sink, O: Write, E: Write>(
     let (Some(met), Shape::Rows(layout)) = (sink.fields_met(), &task.shape) else {
         return Ok(());
     };
-    if met.is_nothing_absent() {
-        return Ok(());
-    }
-    let networks = networks_in(console.alloc, database, task.range)?;
-    met.note_absent(layout.names(), layout.paths(), networks, console)
+    let (names, paths) = (layout.names(), layout.paths());
+    met.note_absent(names, paths, database, task.range, console)
 }
 
 // Writes the chosen networks, reports how many could not be read, and answers the status.

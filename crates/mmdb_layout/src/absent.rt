@@ -1,8 +1,8 @@
 //! Fields that no record has: a path that is misspelt gives empty cells without a word.
-use crate::database::{Found, Networks};
+use crate::database::{Database, Found, Networks, networks_in};
 use mmdb_console::{Console, ProgramError, Similar, line_of};
-use mmdb_reader::{MaxMindDbError, PathElement};
-use mmdb_value::Value;
+use mmdb_reader::{IpNetwork, MaxMindDbError, PathElement};
+use mmdb_value::{Decode, Decoder, Value};
 use std::alloc::{AllocError, Global};
 use std::io::Write;
 
@@ -95,25 +95,33 @@ fn offer_paths(
     Ok(())
 }
 
-// Offers the paths of records. One that can't be read is passed.
+// Offers the paths of the records at some offsets. One that can't be read is passed.
 fn offer_records(
     alloc: Global,
-    records: &[Found<'_>],
+    section: &[u8],
+    offsets: &[usize],
     similar: &mut Similar<'_>,
 ) -> Result<(), AllocError> {
-    for found in records {
-        let record: Result<Option<Value<'_>>, MaxMindDbError> = found.decode_path(alloc, &[]);
-        if let Ok(Some(record)) = &record {
+    for offset in offsets {
+        let mut decoder = Decoder::new(section, *offset);
+        let record = <Value<'_> as Decode>::decode(alloc, &mut decoder);
+        if let Ok(record) = &record {
             offer_paths(alloc, record, similar)?;
         }
     }
     Ok(())
 }
 
-// What is said of a field that no record has, with a path of some records that may be meant.
-fn absent_text(alloc: Global, name: &str, records: &[Found<'_>]) -> Result<String, AllocError> {
+/// What is said of a field that no record has, with a path that may be meant, of those of the records at some offsets of a
+/// data section.
+pub fn absent_text(
+    alloc: Global,
+    name: &str,
+    section: &[u8],
+    offsets: &[usize],
+) -> Result<String, AllocError> {
     let mut similar = Similar::new(alloc, name)?;
-    offer_records(alloc, records, &mut similar)?;
+    offer_records(alloc, section, offsets, &mut similar)?;
     match similar.best() {
         Some(best) => format!(in alloc; "mmdb: no record has {name}; did you mean {best}?"),
         None => format!(in alloc; "mmdb: no record has {name}"),
@@ -124,24 +132,6 @@ fn absent_text(alloc: Global, name: &str, records: &[Found<'_>]) -> Result<Strin
 fn has_value(alloc: Global, found: &Found<'_>, path: &[PathElement<'_>]) -> bool {
     let value: Result<Option<Value<'_>>, MaxMindDbError> = found.decode_path(alloc, path);
     !matches!(value, Ok(None))
-}
-
-// The first records of networks, each once. An `Err` is of memory.
-fn first_records<'r>(alloc: Global, networks: Networks<'r>) -> Result<Vec<Found<'r>>, AllocError> {
-    let mut records: Vec<Found<'r>> = Vec::new(alloc);
-    for item in networks {
-        let Ok(found) = item else {
-            continue;
-        };
-        let offset = found.offset();
-        if !records.iter().any(|record| record.offset() == offset) {
-            records.push(found)?;
-        }
-        if records.len() >= MOST_RECORDS {
-            break;
-        }
-    }
-    Ok(records)
 }
 
 impl FieldsMet {
@@ -160,8 +150,8 @@ impl FieldsMet {
         self.are_met.iter().all(|is_met| *is_met)
     }
 
-    /// Whether no record was looked at, or each field is met.
-    pub fn is_nothing_absent(&self) -> bool {
+    // Whether no record was looked at, or each field is met.
+    fn is_nothing_absent(&self) -> bool {
         !self.has_looked || self.are_all_met()
     }
 
@@ -176,23 +166,49 @@ impl FieldsMet {
         }
     }
 
-    /// Says of each field that neither a record has that was looked at nor one of the first of these networks, with a path
-    /// of those that may be meant, after what was written. An `Err` is `Write` or `Memory`.
+    // Looks at the first records of networks, each once, and answers their offsets.
+    fn look_at_first(
+        &mut self,
+        networks: Networks<'_>,
+        paths: &[Vec<PathElement<'_>>],
+    ) -> Result<Vec<usize>, AllocError> {
+        let mut offsets: Vec<usize> = Vec::new(self.alloc);
+        for item in networks {
+            let Ok(found) = item else {
+                continue;
+            };
+            let offset = found.offset().unwrap_or(0);
+            if !offsets.iter().any(|other| *other == offset) {
+                self.look(&found, paths);
+                offsets.push(offset)?;
+            }
+            if offsets.len() >= MOST_RECORDS {
+                break;
+            }
+        }
+        Ok(offsets)
+    }
+
+    /// Says of each field that neither a record has that was looked at nor one of the first of a range, with a path of those
+    /// that may be meant, after what was written. An `Err` is `Write` or `Memory`.
     pub fn note_absent<O: Write, E: Write>(
         &mut self,
         names: &[&str],
         paths: &[Vec<PathElement<'_>>],
-        networks: Networks<'_>,
+        database: &Database,
+        range: Option<IpNetwork>,
         console: &mut Console<'_, O, E>,
     ) -> Result<(), ProgramError> {
-        let records = first_records(self.alloc, networks)?;
-        for found in &records {
-            self.look(found, paths);
+        if self.is_nothing_absent() {
+            return Ok(());
         }
+        let networks = networks_in(self.alloc, database, range)?;
+        let offsets = self.look_at_first(networks, paths)?;
         console.flush()?;
         for (name, is_met) in names.iter().zip(&self.are_met) {
             if !*is_met {
-                let text = absent_text(self.alloc, name, records.as_slice());
+                let section = database.data_section();
+                let text = absent_text(self.alloc, name, section, offsets.as_slice());
                 console.note(line_of(self.alloc, text));
             }
         }

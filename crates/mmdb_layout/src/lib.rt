@@ -7,7 +7,7 @@ mod layout;
 mod paths;
 mod ranges;
 
-pub use absent::FieldsMet;
+pub use absent::{FieldsMet, absent_text};
 pub use database::{Database, Found, Networks, networks_in, open_database};
 pub use layout::{Fields, Layout, layout_of, line_of_cells, line_of_names, write_values};
 pub use mmdb_paths::path_of;

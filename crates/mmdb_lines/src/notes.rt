@@ -1,10 +1,10 @@
 //! What is said of rows besides how they fared.
-use crate::fields::{Wanted, text_of_missing};
+use crate::fields::Wanted;
 use mmdb_arguments::EnrichArguments;
 use mmdb_console::{Console, DONE, FAILED, line_of};
 use mmdb_enrich::{JsonMemory, Notes as Records, RowMemory};
 use mmdb_filter::{Counts, Rows};
-use mmdb_layout::Database;
+use mmdb_layout::{Database, absent_text};
 use std::alloc::{AllocError, Global};
 use std::io::Write;
 
@@ -145,8 +145,9 @@ impl<'a> Notes<'a> {
         for (at, field) in self.fields.iter_mut().enumerate() {
             if !field.is_said && !is_met(records, at) {
                 field.is_said = true;
-                let offsets = records.records.as_slice();
-                console.note(line_of(alloc, text_of_missing(alloc, field, database, offsets)));
+                let (section, offsets) = (database.data_section(), records.records.as_slice());
+                let text = absent_text(alloc, field.path, section, offsets);
+                console.note(line_of(alloc, text));
             }
         }
     }

@@ -163,7 +163,7 @@ fn fields_of<'a>(alloc: Global, texts: &[&'a str]) -> Result<Vec<Field<'a>>, NoR
 pub(crate) fn wanted_members<'a>(
     alloc: Global,
     arguments: &EnrichArguments<'a>,
-) -> Result<Vec<Wanted<'a>>, NoRequest> {
+) -> Result<Vec<Wanted<'a>>, AllocError> {
     let mut texts = Vec::new(alloc);
     for text in &arguments.fields {
         texts.push(named_path(*text).1)?;

@@ -4,7 +4,7 @@ use mmdb_arguments::{NoRequest, ShowArguments};
 use mmdb_console::{Console, DONE, FAILED, NOT_FOUND, ProgramError};
 use mmdb_found::write_found;
 use mmdb_json::TokenSink;
-use mmdb_layout::{Database, FieldsMet, Found, networks_in, open_database, paths_of};
+use mmdb_layout::{Database, FieldsMet, Found, open_database, paths_of};
 use mmdb_reader::{IpNetwork, MaxMindDbError, PathElement};
 use std::alloc::{AllocError, Global};
 use std::io::Write;
@@ -247,11 +247,7 @@ fn note_absent<O: Write, E: Write>(
             met.look(&found, task.paths.as_slice());
         }
     }
-    if met.is_nothing_absent() {
-        return Ok(());
-    }
-    let networks = networks_in(console.alloc, database, None)?;
-    met.note_absent(task.names, task.paths.as_slice(), networks, console)
+    met.note_absent(task.names, task.paths.as_slice(), database, None, console)
 }
 
 // Opens a file and shows what it has, and answers the status.
