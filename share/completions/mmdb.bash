@@ -13,7 +13,7 @@ _mmdb_offer() {
 
 _mmdb() {
   local typed=${COMP_WORDS[COMP_CWORD]} before=${COMP_WORDS[COMP_CWORD - 1]} command=${COMP_WORDS[1]-}
-  local options='' commands='show enrich export diff build info verify help' word at arguments=0 ended=''
+  local options='' commands='show enrich export diff build info install verify help' word at arguments=0 ended=''
   COMPREPLY=()
   # A redirection has a file behind it.
   if [[ $before == *[\<\>] || $typed == *[\<\>] ]]; then
@@ -36,7 +36,8 @@ _mmdb() {
       options+=' --language --build-epoch --ip-version --record-size --reserved --skip-bad --check'
       ;;
     info) options='--json' ;;
-    verify) ;;
+    install) options='--max-change --dry-run' ;;
+    verify) options='--whole' ;;
     help) [ "$COMP_CWORD" -ne 2 ] || _mmdb_offer "$commands"; return ;;
     *) return ;;
   esac
@@ -49,7 +50,7 @@ _mmdb() {
       *[\<\>]) at=$((at + 1)) ;;
       --path | --column | --delimiter | --field | --format | --where | --where-not | --name | --into | --json | --hop | \
         --from | --network-column | --range-columns | --type | --types-like | --equal | --database-type | --description | \
-        --language | --build-epoch | --ip-version | --record-size | --reserved)
+        --language | --build-epoch | --ip-version | --record-size | --reserved | --max-change)
         if [ "$word$command" = --jsoninfo ]; then continue; fi
         at=$((at + 1))
         [ "${COMP_WORDS[at]-}" != = ] || at=$((at + 1))
@@ -75,7 +76,7 @@ _mmdb() {
     --ip-version) _mmdb_offer '6 4'; return ;;
     --record-size) _mmdb_offer '24 28 32'; return ;;
     --reserved) _mmdb_offer 'keep skip error'; return ;;
-    --network-column | --range-columns | --type | --database-type | --description | --language | --build-epoch) return ;;
+    --network-column | --range-columns | --type | --database-type | --description | --language | --build-epoch | --max-change) return ;;
     --from | --types-like) _mmdb_files; return ;;
     --path | --column | --delimiter | --field | --where | --where-not | --name | --into) return ;;
     --json) if [ "$command" = enrich ]; then return; fi ;;
@@ -83,7 +84,7 @@ _mmdb() {
   case $ended$typed in
     -*) _mmdb_offer "$options --help -h" ;;
     *)
-      if [ "$arguments" -eq 0 ] || [ "$command" = verify ] || [ "$command$arguments" = diff1 ]; then
+      if [ "$arguments" -eq 0 ] || [ "$command" = verify ] || [ "$command$arguments" = diff1 ] || [ "$command$arguments" = install1 ]; then
         _mmdb_files
       fi
       ;;

@@ -20,7 +20,7 @@ function __mmdb_wants_file
     for word in $words[3..-1]
         if test $value = yes
             set value no
-        else if contains -- $word --path --column --delimiter --field --format --where --where-not --name --into --hop --from --network-column --range-columns --type --types-like --equal --database-type --description --language --build-epoch --ip-version --record-size --reserved; or test "$words[2]$word" = enrich--json
+        else if contains -- $word --path --column --delimiter --field --format --where --where-not --name --into --hop --from --network-column --range-columns --type --types-like --equal --database-type --description --language --build-epoch --ip-version --record-size --reserved --max-change; or test "$words[2]$word" = enrich--json
             set value yes
         else if not string match -q -- '-*' $word
             return 1
@@ -37,7 +37,8 @@ complete -c mmdb -n __mmdb_no_command -a export -d 'Write every network that has
 complete -c mmdb -n __mmdb_no_command -a diff -d 'Write what changed between two files'
 complete -c mmdb -n __mmdb_no_command -a build -d 'Make a MaxMind DB file of lines of JSON, CSV or TSV'
 complete -c mmdb -n __mmdb_no_command -a info -d 'Show what a database says of itself'
-complete -c mmdb -n __mmdb_no_command -a verify -d 'Check whether files are whole'
+complete -c mmdb -n __mmdb_no_command -a install -d 'Put a file in the place of another one, after it was checked'
+complete -c mmdb -n __mmdb_no_command -a verify -d 'Check whether files are whole, and all their records can be read'
 complete -c mmdb -n __mmdb_no_command -a help -d 'Print help'
 complete -c mmdb -n __mmdb_no_command -s h -l help -d 'Print help'
 complete -c mmdb -n __mmdb_no_command -s V -l version -d 'Print the version'
@@ -99,9 +100,15 @@ complete -c mmdb -n '__mmdb_is build' -s h -l help -d 'Print help'
 complete -c mmdb -n '__mmdb_is info' -l json -d 'As JSON'
 complete -c mmdb -n '__mmdb_is info' -s h -l help -d 'Print help'
 
+complete -c mmdb -n '__mmdb_is install' -F
+complete -c mmdb -n '__mmdb_is install' -l max-change -x -d 'No more of the IPv4 addresses may have changed'
+complete -c mmdb -n '__mmdb_is install' -l dry-run -d 'Only say what would be done'
+complete -c mmdb -n '__mmdb_is install' -s h -l help -d 'Print help'
+
+complete -c mmdb -n '__mmdb_is verify' -l whole -d 'Only whether they are whole'
 complete -c mmdb -n '__mmdb_is verify' -s h -l help -d 'Print help'
 
-complete -c mmdb -n '__mmdb_is help' -a 'show enrich export diff build info verify help'
+complete -c mmdb -n '__mmdb_is help' -a 'show enrich export diff build info install verify help'
 
 # The first argument is a file; all arguments of verify are.
 complete -c mmdb -n '__mmdb_wants_file show enrich export build info' -F
