@@ -4,7 +4,7 @@ ghost use Rattle.std.specs.Io.KnownBytes.{Keeps, IsAtEnd};
 ghost use Rattle.mmdb_filter.specs.Rows.{GrowsAlong};
 ghost use Rattle.mmdb_filter.specs.declared.rows.Position.TheVariants as spec_position;
 
-use crate::live::{Live, flush_before_read};
+use crate::live::Live;
 use crate::rows::{Position, Rows, scan};
 use std::io::{self, BufRead, ErrorKind, Write};
 
@@ -101,7 +101,9 @@ pub(crate) fn read_live<R: Live, W: Write>(
         if now == Position::Ended || before >= CHUNK {
             return Ok(now);
         }
-        flush_before_read(input, out)?;
+        if input.is_drained() {
+            out.flush()?;
+        }
         if let Some(next) = read_some(input, rows, now, chunk)? {
             now = next;
             if chunk.len() == before {

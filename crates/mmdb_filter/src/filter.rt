@@ -98,13 +98,11 @@ fn next_asked(passed: u64) -> u64 {
 /// After so many rows additions are shown what comes.
 const AHEAD: u64 = 64;
 
-// Shows additions the bytes that the input has at hand, before the first of each 64 rows, and says whether the input was
-// found to be at its end. It waits where the read of the row would, and fails as that would; where it was interrupted
+// Shows additions the bytes that the input has at hand, and says whether the input was found to be at its end. It waits where the read of the row would, and fails as that would; where it was interrupted
 // nothing is shown. Before a read, what is written to `out` is written out.
 fn look_ahead<A: Additions, R: Live, W: Write>(
     additions: &A,
     memory: &mut A::Memory,
-    passed: u64,
     input: &mut R,
     out: &mut W,
 ) -> io::Result<bool>
@@ -115,9 +113,6 @@ fn look_ahead<A: Additions, R: Live, W: Write>(
         → OnSome (R.remaining input.old) (IsAtEnd (R.remaining input.new))) }
     ensures fits { A.fits additions.now memory.new }
 {
-    if passed % AHEAD != 0 {
-        return Ok(false);
-    }
     flush_before_read(input, out)?;
     match input.fill_buf() {
         Ok(shown) => {
@@ -134,8 +129,35 @@ fn look_ahead<A: Additions, R: Live, W: Write>(
     }
 }
 
-// Appends the bytes of a row, or those of its first chunk, and says the position behind them. Additions may look ahead
-// first; an input that has come to its end then is not read again.
+// Appends the bytes of a row, or those of its first chunk, and says the position behind them. Additions look ahead first; an
+// input that has come to its end then is not read again.
+#[inline(never)]
+fn begin_ahead<A: Additions, R: Live, W: Write>(
+    rows: Rows,
+    additions: &A,
+    memory: &mut A::Memory,
+    input: &mut R,
+    chunk: &mut Vec<u8>,
+    out: &mut W,
+) -> io::Result<Position>
+    requires { A.fits additions.now memory.old }
+    ensures written { Keeps (W.contents out.old) (W.contents out.new) }
+    ensures leads { IfOk result (λ next.
+        GrowsAlong rows Cell next chunk.old.items chunk.new.items
+        (R.remaining input.old) (R.remaining input.new)) }
+    ensures end { IfOk result (λ next. next ≢ Ended
+        → length chunk.new.items < 65539
+        → OnSome (R.remaining input.old) (IsAtEnd (R.remaining input.new))) }
+    ensures fits { A.fits additions.now memory.new }
+{
+    if look_ahead(additions, memory, input, out)? {
+        return Ok(Position::Cell);
+    }
+    read_live(input, rows, Position::Cell, chunk, out)
+}
+
+// Appends the bytes of a row, or those of its first chunk, and says the position behind them. Additions look ahead before the
+// first of each 64 rows.
 #[inline(always)]
 fn begin_row<A: Additions, R: Live, W: Write>(
     rows: Rows,
@@ -156,8 +178,8 @@ fn begin_row<A: Additions, R: Live, W: Write>(
         → OnSome (R.remaining input.old) (IsAtEnd (R.remaining input.new))) }
     ensures fits { A.fits additions.now memory.new }
 {
-    if look_ahead(additions, memory, passed, input, out)? {
-        return Ok(Position::Cell);
+    if passed % AHEAD == 0 {
+        return begin_ahead(rows, additions, memory, input, chunk, out);
     }
     read_live(input, rows, Position::Cell, chunk, out)
 }

@@ -2,7 +2,7 @@ use Rattle.std.proofs.lemmas.Result.{IfOk-weaker}
 use Rattle.std.specs.Io.KnownBytes.{IsAtEnd}
 use Rattle.mmdb_filter.specs.declared.rows.Position.TheVariants.{Cell}
 use Rattle.mmdb_filter.proofs.RowLaws.{leads_behind, end_behind}
-use Rattle.mmdb_filter.proofs.filter.begin_row.Goals as goal
+use Rattle.mmdb_filter.proofs.filter.begin_ahead.Goals as goal
 
 pub returns-clause-leads : goal.returns-clause-leads
 returns-clause-leads g c =
