@@ -2,7 +2,7 @@
 use Rattle.std.proofs.Common.{◌≡◌, ℕ, ◌<◌, ◌≤◌, Bool, true, false, not, ◌||◌, ◌==◌, List, length, take, drop, get_or, take_while, Option, Some, None, IfSome, option_map, refl, sym, ap, ap₂, subst, ◌∙◌, arith}
 use Rattle.std.proofs.Math.Logic.{⊎_elim}
 use Rattle.std.proofs.lemmas.Bool.{cases_lt, eqb-true, ne_eqb}
-use Rattle.std.proofs.lemmas.List.{get_or-take, length-take-le, take-take}
+use Rattle.std.proofs.lemmas.List.{get_or-take, length-take-le, take-take, take_all}
 use Rattle.std.proofs.lemmas.List.Sums.{prefix_len_is, prefix_len_passes, prefix_len_stops, prefix_len-le-length}
 use Rattle.std.specs.List.{prefix_len}
 use Rattle.std.specs.Borrow.{Bor}
@@ -20,7 +20,7 @@ use Rattle.mmdb_filter.specs.declared.rows.Rows.TheVariants.{Lines}
 use Rattle.mmdb_enrich.specs.Columns.{cell_length, column_of, value_of}
 use Rattle.mmdb_enrich.proofs.ColumnLaws.{whole_column}
 
-abbrev in_word : ℕ → Bool
+abbrev pub in_word : ℕ → Bool
 in_word x = not (ends_word x)
 
 -- the word at the head of a part of a text, of which a blank does not stand first
@@ -29,8 +29,8 @@ word_of_part text n some room plain =
     let none : prefix_len is_blank (take n text) ≡ 0 = prefix_len_is is_blank (take n text) 0 0 (omega arith) (λ k l. absurd (omega arith)) (λ l. ap is_blank (get_or-take n text 0 0 some) ∙ plain) in
     ap (λ k. take_while in_word (drop k (take n text))) none
 
--- how long that word is, in a longer part, where a space stands behind the shorter one
-word_length : (text : List ℕ) (n c : ℕ) → n < c → c ≤ length text → get_or text n 0 ≡ 32 → prefix_len in_word (take c text) ≡ prefix_len in_word (take n text)
+-- how long that word is, in a longer part, where a byte that ends words stands behind the shorter one
+word_length : (text : List ℕ) (n c : ℕ) → n < c → c ≤ length text → in_word (get_or text n 0) ≡ false → prefix_len in_word (take c text) ≡ prefix_len in_word (take n text)
 word_length text n c l room space =
     let m = prefix_len in_word (take n text) in
     let long : length (take n text) ≡ n = length-take-le n text (omega arith) in
@@ -41,10 +41,10 @@ word_length text n c l room space =
     (λ k h. ap in_word (at k (omega arith)) ∙ prefix_len_passes in_word (take n text) k 0 h)
     (λ _. ⊎_elim
     (λ (less : m < n). ap in_word (at m less) ∙ prefix_len_stops in_word (take n text) 0 (omega (arith, less, long)))
-    (λ (same : n ≤ m). let here : m ≡ n = omega (arith, same, within) in ap (λ k. in_word (get_or (take c text) k 0)) here ∙ ap in_word (get_or-take c text n 0 (omega arith) ∙ space))
+    (λ (same : n ≤ m). let here : m ≡ n = omega (arith, same, within) in ap (λ k. in_word (get_or (take c text) k 0)) here ∙ ap in_word (get_or-take c text n 0 (omega arith)) ∙ space)
     (cases_lt m n))
 
-pub same_word : (text : List ℕ) (n c : ℕ) → 0 < n → n ≤ c → c ≤ length text → is_blank (get_or text 0 0) ≡ false → (n < c → get_or text n 0 ≡ 32) → first_word (take n text) ≡ first_word (take c text)
+pub same_word : (text : List ℕ) (n c : ℕ) → 0 < n → n ≤ c → c ≤ length text → is_blank (get_or text 0 0) ≡ false → (n < c → in_word (get_or text n 0) ≡ false) → first_word (take n text) ≡ first_word (take c text)
 same_word text n c some order room plain space =
     ⊎_elim
     (λ (less : n < c).
@@ -54,6 +54,37 @@ same_word text n c some order room plain space =
     ∙ sym (word_of_part text c (omega arith) room plain))
     (λ (same : c ≤ n). let here : n ≡ c = omega (arith, same, order) in ap (λ k. first_word (take k text)) here)
     (cases_lt n c)
+
+-- a line whose cells stand between tabs, of which no blank stands first, has the first word of its first cell
+pub line_word : (text : List ℕ) (k : ℕ) → k ≡ prefix_len (is_neither 9 9) text → 0 < length text → is_blank (get_or text 0 0) ≡ false → first_word text ≡ first_word (take k text)
+line_word text k is some plain =
+    let room : k ≤ length text = omega (arith, is, prefix_len-le-length (is_neither 9 9) text) in
+    ap first_word (sym (take_all (length text) text (omega arith))) ∙ sym (same_word text k (length text) (first k is) room (omega arith) plain (λ (less : k < length text). ap in_word (tab (get_or text k 0) (ap (λ n. is_neither 9 9 (get_or text n 0)) is ∙ prefix_len_stops (is_neither 9 9) text 0 (omega arith)))))
+  where
+    no_tab : (x : ℕ) → is_blank x ≡ false → is_neither 9 9 x ≡ true
+    no_tab x e = by (x == 32) (x == 9) e
+      where
+        by : (a b : Bool) → (a || b) ≡ false → not (b || b) ≡ true
+        by true b e = cc
+        by false true e = cc
+        by false false e = refl
+
+    tab : (x : ℕ) → is_neither 9 9 x ≡ false → x ≡ 9
+    tab x e = eqb-true x 9 (by (x == 9) e)
+      where
+        by : (a : Bool) → not (a || a) ≡ false → a ≡ true
+        by true e = refl
+        by false e = cc
+
+    first : (k : ℕ) → k ≡ prefix_len (is_neither 9 9) text → 0 < k
+    first k is = ⊎_elim
+        (λ (none : k < 1).
+        let zero : prefix_len (is_neither 9 9) text ≡ 0 = omega (arith, none, is) in
+        let stop : is_neither 9 9 (get_or text 0 0) ≡ false = ap (λ n. is_neither 9 9 (get_or text n 0)) (sym zero) ∙ prefix_len_stops (is_neither 9 9) text 0 (omega arith) in
+        let pass : is_neither 9 9 (get_or text 0 0) ≡ true = no_tab (get_or text 0 0) plain in
+        absurd (cc))
+        (λ (some : 1 ≤ k). some)
+        (cases_lt k 1)
 
 -- a text is read as another one with the same first word
 pub reads_same : (a b : List ℕ) → first_word a ≡ first_word b → (found : Option IpAddr) → ReadsAddress First (Some a) found → ReadsAddress First (Some b) found

@@ -96,7 +96,7 @@ impl Ahead {
         ensures few { result ≤ count + 1 }
         ensures spelled { AreSpelled reading self.new.texts self.new.addresses result }
     {
-        match part_of(rows, reading, row, false, column) {
+        match part_of(rows, reading, row, false, column, true) {
             Some(text) => self.note(count, reading, text),
             None => count,
         }
@@ -144,6 +144,12 @@ impl Ahead {
     {
         let count = self.note_rows(rows, reading, column, bytes);
         self.find(reader, reading, count);
+    }
+
+    /// Whether an address is ahead.
+    #[inline(always)]
+    pub(crate) fn has_next(&self) -> bool {
+        self.next < self.count
     }
 
     // Where the walk of the next address ends, if this is its text; then it is behind.

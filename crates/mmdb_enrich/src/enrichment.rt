@@ -199,7 +199,8 @@ impl<'a, 'f, S: AsSlice<u8> + Drop> Enrichment<'a, 'f, S> {
         if let Reading::Anywhere = self.reading {
             return address_in_row(text, is_long);
         }
-        match part_of(self.rows, self.reading, text, is_long, self.column) {
+        let is_kept = ahead.has_next();
+        match part_of(self.rows, self.reading, text, is_long, self.column, is_kept) {
             Some(cell) => ahead.read(self.reading, cell),
             None => None,
         }

@@ -4,4 +4,4 @@ use Rattle.mmdb_enrich.proofs.parts.front_read.Goals as goal
 
 pub returns : goal.returns
 returns c =
-    front_reads c.args.rows c.args.reading c.in-Lines.delimiter c.args.column c.args.goes_on c.args.row.now c.front_of.result c.in-Lines.is c.in-First.is (omega arith) c.if-goes_on.false c.front_of.ensures
+    front_reads c.args.rows c.args.reading c.in-Lines.delimiter c.args.column c.args.goes_on c.args.row.now c.word_part.result c.in-Lines.is c.in-First.is (omega arith) c.if-goes_on.false c.word_part.ensures
