@@ -82,7 +82,7 @@ const NESTED: &[u8] = b"\xE1\x43a.b\x02\x04\xA1\x01\xE1\x410\x41y";
 #[rattlefmt::skip]
 const NESTED_RUNS: &[Row<'static>] = &[
     (&["show", "here.mmdb", "200.0.0.1", "--path", "\"a.b\".-1.\"0\""], 0, "\"y\"\n", ""),
-    (&["show", "here.mmdb", "200.0.0.1", "--path", "\"a.b\".0", "--path", "c"], 6, "1\nnull\n", ""),
+    (&["show", "here.mmdb", "200.0.0.1", "--path", "\"a.b\".0", "--path", "c"], 6, "1\nnull\n", "mmdb: no record has c\n"),
     (&["show", "here.mmdb", "200.0.0.1", "--path", "\"a.b\".1.0"], 1, "", "decoding error"),
 ];
 
@@ -649,7 +649,12 @@ fn whole_files_of_records_that_are_not_shown(rt: HostRuntime) {
             rt.alloc(),
             bytes,
             &[
-                (&["verify", "here.mmdb"], 0, "here.mmdb: ok\n", ""),
+                (
+                    &["verify", "here.mmdb", "--whole"],
+                    0,
+                    "here.mmdb: ok\n",
+                    "",
+                ),
                 (shown, 1, "", row.4),
             ],
         );
