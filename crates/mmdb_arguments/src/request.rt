@@ -114,8 +114,8 @@ pub struct DiffArguments<'a> {
 #[derive(Drop)]
 pub struct VerifyArguments<'a> {
     pub files: Vec<&'a str>,
-    /// Whether a file that is whole may have records that can't be read.
-    pub whole: bool,
+    /// Whether all records are read too.
+    pub records: bool,
 }
 
 /// What the rows of a file that is made are.
@@ -362,7 +362,7 @@ fn verify<'a>(alloc: Global, matches: &ArgMatches<'a>) -> Result<Request<'a>, No
     let files = texts_of(alloc, matches, "FILE")?;
     Ok(Request::Verify(VerifyArguments {
         files,
-        whole: matches.get_flag("whole"),
+        records: matches.get_flag("records"),
     }))
 }
 
