@@ -37,7 +37,7 @@ _mmdb() {
       ;;
     info) options='--json' ;;
     install) options='--max-change --dry-run' ;;
-    verify) options='--whole' ;;
+    verify) options='--records' ;;
     help) [ "$COMP_CWORD" -ne 2 ] || _mmdb_offer "$commands"; return ;;
     *) return ;;
   esac

@@ -38,7 +38,7 @@ complete -c mmdb -n __mmdb_no_command -a diff -d 'Write what changed between two
 complete -c mmdb -n __mmdb_no_command -a build -d 'Make a MaxMind DB file of lines of JSON, CSV or TSV'
 complete -c mmdb -n __mmdb_no_command -a info -d 'Show what a database says of itself'
 complete -c mmdb -n __mmdb_no_command -a install -d 'Put a file in the place of another one, after it was checked'
-complete -c mmdb -n __mmdb_no_command -a verify -d 'Check whether files are whole, and all their records can be read'
+complete -c mmdb -n __mmdb_no_command -a verify -d 'Check whether files are whole'
 complete -c mmdb -n __mmdb_no_command -a help -d 'Print help'
 complete -c mmdb -n __mmdb_no_command -s h -l help -d 'Print help'
 complete -c mmdb -n __mmdb_no_command -s V -l version -d 'Print the version'
@@ -105,7 +105,7 @@ complete -c mmdb -n '__mmdb_is install' -l max-change -x -d 'No more of the IPv4
 complete -c mmdb -n '__mmdb_is install' -l dry-run -d 'Only say what would be done'
 complete -c mmdb -n '__mmdb_is install' -s h -l help -d 'Print help'
 
-complete -c mmdb -n '__mmdb_is verify' -l whole -d 'Only whether they are whole'
+complete -c mmdb -n '__mmdb_is verify' -l records -d 'And whether all their records can be read'
 complete -c mmdb -n '__mmdb_is verify' -s h -l help -d 'Print help'
 
 complete -c mmdb -n '__mmdb_is help' -a 'show enrich export diff build info install verify help'

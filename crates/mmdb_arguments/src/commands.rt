@@ -16,11 +16,12 @@ const INFO_EXAMPLE: &str = "Example:
 const VERIFY_EXAMPLE: &str = "Example:
   mmdb verify GeoLite2-City.mmdb GeoLite2-Country.mmdb
 
-The status is 0 where all files are whole and all their records can be read, else
-1. In a whole file every lookup succeeds and every record is a finite tree of
-valid text, but one may still not be read: with a key that is no text, or that a
-pointer to a pointer leads to, or with more than 65,536 values or 2 MiB of texts.
-How many those are, the first network and why is said. --whole does not ask it.";
+The status is 0 where all files are whole, else 1. In a whole file every lookup
+succeeds and every record is a finite tree of valid text, but one may still not
+be read: with a key that is no text, or that a pointer to a pointer leads to, or
+with more than 65,536 values or 2 MiB of texts. With --records all records have
+to be read too: how many can't be, the first network and why is said. A file that
+was made to be dear may take long then.";
 
 const ENRICH_EXAMPLE: &str = "Examples:
   tail -F nginx/access.log | mmdb enrich GeoLite2-City.mmdb --field country.iso_code
@@ -303,14 +304,11 @@ const READING: &[Usage] = &[
     },
     Usage {
         name: "verify",
-        about: "Check whether files are whole, and all their records can be read",
+        about: "Check whether files are whole, so that every lookup succeeds",
         example: VERIFY_EXAMPLE,
         arguments: &[
             Argument::Several("FILE", "MaxMind DB files"),
-            Argument::Flag(
-                "whole",
-                "Only whether they are whole, so that every lookup succeeds",
-            ),
+            Argument::Flag("records", "And whether all their records can be read"),
         ],
     },
 ];

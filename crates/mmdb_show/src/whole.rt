@@ -1,4 +1,4 @@
-//! Whether files are whole, and all their records can be read.
+//! Whether files are whole, and whether all their records can be read.
 use mmdb_arguments::VerifyArguments;
 use mmdb_console::{Console, DONE, FAILED, ProgramError, line_of, note_archive};
 use mmdb_reader::{MaxMindDbError, Reader};
@@ -12,14 +12,14 @@ fn verified<R: Files>(
     rt: &R,
     alloc: Global,
     file: &str,
-    is_whole_enough: bool,
+    with_records: bool,
 ) -> Result<Option<Unreadable>, MaxMindDbError> {
     let reader = Reader::open_readfile(rt, alloc, file)?;
     reader.verify(alloc)?;
-    if is_whole_enough {
-        Ok(None)
-    } else {
+    if with_records {
         unreadable_records(alloc, &reader)
+    } else {
+        Ok(None)
     }
 }
 
@@ -63,10 +63,10 @@ fn put_line<O: Write, E: Write>(
 fn verify_one<R: Files, O: Write, E: Write>(
     rt: &R,
     file: &str,
-    is_whole_enough: bool,
+    with_records: bool,
     console: &mut Console<'_, O, E>,
 ) -> Result<bool, ProgramError> {
-    let verified = verified(rt, console.alloc, file, is_whole_enough);
+    let verified = verified(rt, console.alloc, file, with_records);
     let is_right = matches!(verified, Ok(None));
     let is_no_database = matches!(verified, Err(MaxMindDbError::InvalidDatabase { .. }));
     let put = put_line(file, &verified, console);
@@ -78,7 +78,7 @@ fn verify_one<R: Files, O: Write, E: Write>(
     Ok(is_right)
 }
 
-/// Writes of each file whether it is whole and, unless that is enough, all its records can be read, and answers the status. An `Err` where standard output can't be written, or out
+/// Writes of each file whether it is whole and, where that is asked, all its records can be read, and answers the status. An `Err` where standard output can't be written, or out
 /// of memory.
 pub fn verify<R: Files, O: Write, E: Write>(
     rt: &R,
@@ -87,7 +87,7 @@ pub fn verify<R: Files, O: Write, E: Write>(
 ) -> Result<u8, ProgramError> {
     let mut status = DONE;
     for file in &arguments.files {
-        if !verify_one(rt, file, arguments.whole, console)? {
+        if !verify_one(rt, file, arguments.records, console)? {
             status = FAILED;
         }
     }

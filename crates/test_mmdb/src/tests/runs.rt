@@ -649,12 +649,7 @@ fn whole_files_of_records_that_are_not_shown(rt: HostRuntime) {
             rt.alloc(),
             bytes,
             &[
-                (
-                    &["verify", "here.mmdb", "--whole"],
-                    0,
-                    "here.mmdb: ok\n",
-                    "",
-                ),
+                (&["verify", "here.mmdb"], 0, "here.mmdb: ok\n", ""),
                 (shown, 1, "", row.4),
             ],
         );
