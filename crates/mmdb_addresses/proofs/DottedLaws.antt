@@ -44,7 +44,7 @@ digits_plain n small =
 dot_plain : (n : ℕ) (rest : List ℕ) → n < 256 → All IsPlainByte rest → All IsPlainByte (decimal n ++ (codes "." ++ rest))
 dot_plain n rest small all = All-append IsPlainByte (decimal n) (codes "." ++ rest) (digits_plain n small) (All-cons IsPlainByte 46 rest (omega arith, omega arith) all)
 
-regrouped : (a b c d : ℕ) → dotted_text a b c d ≡ decimal a ++ (codes "." ++ (decimal b ++ (codes "." ++ (decimal c ++ (codes "." ++ decimal d)))))
+pub regrouped : (a b c d : ℕ) → dotted_text a b c d ≡ decimal a ++ (codes "." ++ (decimal b ++ (codes "." ++ (decimal c ++ (codes "." ++ decimal d)))))
 regrouped a b c d = simp append_assoc
 
 dotted_plain : (text octets : List ℕ) → IsDotted text octets → All IsPlainByte text

@@ -2,6 +2,7 @@ mod BracketLaws
 mod DottedLaws
 mod FindLaws
 mod OctetLaws
+mod OpeningLaws
 mod PortLaws
 mod RunLaws
 mod WordLaws

@@ -8,3 +8,4 @@ pub mod Spelling
 -- What only contracts of private functions and proofs name.
 pub mod Kinds
 pub mod Octets
+pub mod Openings

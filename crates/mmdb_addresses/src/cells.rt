@@ -5,6 +5,7 @@ ghost use Rattle.mmdb_addresses.specs.Cells.{first_word as spec_first_word, last
 ghost use Rattle.mmdb_addresses.specs.declared.readings.Reading.TheVariants.{First, Last};
 
 use crate::bytes::{Kind, end_of};
+use crate::openings::may_begin;
 use crate::words::word_address;
 use std::net::IpAddr;
 
@@ -56,6 +57,10 @@ fn without_closing(word: &[u8]) -> &[u8]
 pub(crate) fn first_address(cell: &[u8]) -> Option<IpAddr>
     ensures { Finds (IsAddressIn First cell.now) result }
 {
+    let from = end_of(Kind::Blank, cell, 0);
+    if !may_begin(&cell[from..]) {
+        return None;
+    }
     word_address(without_closing(without_opening(first_word(cell))))
 }
 

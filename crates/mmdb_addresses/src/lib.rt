@@ -5,6 +5,7 @@ mod address_text;
 mod addresses;
 mod bytes;
 mod cells;
+mod openings;
 mod readings;
 mod rows;
 mod words;
