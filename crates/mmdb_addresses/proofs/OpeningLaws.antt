@@ -21,10 +21,10 @@ use Rattle.mmdb_addresses.proofs.DottedLaws.{regrouped}
 
 -- ---- hex digits
 
-abbrev IsHexStart : ℕ → Type 0
+abbrev pub IsHexStart : ℕ → Type 0
 IsHexStart x = ((48 ≤ x) × (x ≤ 57)) ⊎ IsHexLetter x
 
-hex_start : (x : ℕ) → digit_value x < 16 → IsHexStart x
+pub hex_start : (x : ℕ) → digit_value x < 16 → IsHexStart x
 hex_start x l = by (cases_lt x 48) (cases_lt x 58) (cases_lt x 65) (cases_lt x 91) (cases_lt x 97) (cases_lt x 123)
   where
     by : (x < 48) ⊎ (48 ≤ x) → (x < 58) ⊎ (58 ≤ x) → (x < 65) ⊎ (65 ≤ x) → (x < 91) ⊎ (91 ≤ x) → (x < 97) ⊎ (97 ≤ x) → (x < 123) ⊎ (123 ≤ x) → IsHexStart x
@@ -88,7 +88,7 @@ elided_begins text segments elided = by elided.head_text elided.head elided.head
         group_begins text groups.0 (groups.1 ++ more) whole groups.3.0.0 groups.3.1 (colon_before false groups.1 t segs groups.4 more)
     by front (s ∷ segs) (inr dotted) is = let never : false ≡ true = dotted.2 in cc
 
-ipv6_begins : (text segments : List ℕ) → IsColonHex text segments → Begins text
+pub ipv6_begins : (text segments : List ℕ) → IsColonHex text segments → Begins text
 ipv6_begins text segments is = ⊎_elim (λ full. full_begins text segments full.0 full.1) (elided_begins text segments) is
 
 ip_begins : (text : List ℕ) (address : IpAddr) → IsIpText text address → Begins text

@@ -7,8 +7,9 @@ use crate::bytes::{Kind, end_of};
 // How many bytes a text has to the first colon of an address of IPv6, with it: a group has four digits at most.
 const EARLY: usize = 5;
 
-// Whether one of the first five bytes is a colon.
-fn has_early_colon(word: &[u8]) -> bool
+/// Whether one of the first five bytes is a colon.
+#[inline(always)]
+pub(crate) fn has_early_colon(word: &[u8]) -> bool
     ensures { result ≡ false → ¬ HasEarlyColon word.now }
 {
     let early = word.len().min(EARLY);
