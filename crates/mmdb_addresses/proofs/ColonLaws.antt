@@ -53,10 +53,11 @@ ipv6_plain text segments (inr elided) = elided_plain text segments elided
 -- ---- it is the first word
 
 begins_some : (text : List ℕ) → Begins text → 0 < length text
-begins_some [] (inl (inl digit)) = absurd (omega (arith, digit.0))
-begins_some [] (inl (inr bracket)) = absurd (omega (arith, bracket))
-begins_some [] (inr (inl upper, colon)) = absurd (omega (arith, upper.0))
-begins_some [] (inr (inr lower, colon)) = absurd (omega (arith, lower.0))
+begins_some [] (inl bracket) = absurd (omega (arith, bracket))
+begins_some [] (inr (inl (inl digit, colon))) = absurd (omega (arith, digit.0))
+begins_some [] (inr (inl (inr (inl upper), colon))) = absurd (omega (arith, upper.0))
+begins_some [] (inr (inl (inr (inr lower), colon))) = absurd (omega (arith, lower.0))
+begins_some [] (inr (inr (digit, dot))) = absurd (omega (arith, digit.0))
 begins_some (c ∷ cs) begins = omega arith
 
 pub whole_is : (text : List ℕ) (address : Ipv6Addr) → IsIpv6Text text address → IsAddressIn First text (V6 address)

@@ -5,7 +5,7 @@ ghost use Rattle.mmdb_addresses.specs.Cells.{first_word as spec_first_word, last
 ghost use Rattle.mmdb_addresses.specs.declared.readings.Reading.TheVariants.{First, Last};
 
 use crate::bytes::{Kind, end_of};
-use crate::openings::{has_early_colon, may_begin};
+use crate::openings::{Opening, opening_of};
 use crate::words::word_address;
 use std::net::{IpAddr, Ipv6Addr};
 
@@ -52,33 +52,38 @@ fn without_closing(word: &[u8]) -> &[u8]
     }
 }
 
-// The address of IPv6 that a cell is, or none. Most have no more than that in their cell.
+// The address of IPv6 that a cell is, or none.
 #[inline(never)]
 fn whole_cell(cell: &[u8]) -> Option<IpAddr>
     ensures { IfSome result (IsAddressIn First cell.now) }
 {
-    if !has_early_colon(cell) {
-        return None;
-    }
     match Ipv6Addr::parse_ascii(cell) {
         Ok(address) => Some(IpAddr::V6(address)),
         Err(_) => None,
     }
 }
 
-/// The address of the first word of a cell.
+// The address of the first word of a cell, however it begins.
+fn word_in(cell: &[u8]) -> Option<IpAddr>
+    ensures { Finds (IsAddressIn First cell.now) result }
+{
+    word_address(without_closing(without_opening(first_word(cell))))
+}
+
+/// The address of the first word of a cell. Most addresses of IPv6 are all of their cell.
 #[inline(never)]
 pub(crate) fn first_address(cell: &[u8]) -> Option<IpAddr>
     ensures { Finds (IsAddressIn First cell.now) result }
 {
     let from = end_of(Kind::Blank, cell, 0);
-    if !may_begin(&cell[from..]) {
-        return None;
+    match opening_of(&cell[from..]) {
+        Opening::Other => None,
+        Opening::Marked => word_in(cell),
+        Opening::Groups => match whole_cell(cell) {
+            Some(address) => Some(address),
+            None => word_in(cell),
+        },
     }
-    if let Some(address) = whole_cell(cell) {
-        return Some(address);
-    }
-    word_address(without_closing(without_opening(first_word(cell))))
 }
 
 /// The address of the first word behind the last comma of a cell.
