@@ -79,7 +79,7 @@ pub(crate) fn first_address(cell: &[u8]) -> Option<IpAddr>
     match opening_of(&cell[from..]) {
         Opening::Other => None,
         Opening::Marked => word_in(cell),
-        Opening::Groups => match whole_cell(cell) {
+        Opening::FourDigits => match whole_cell(cell) {
             Some(address) => Some(address),
             None => word_in(cell),
         },

@@ -11,9 +11,9 @@ const EARLY: usize = 5;
 /// How a text begins.
 #[derive(Clone, Copy)]
 pub(crate) enum Opening {
-    /// As an address of IPv6.
-    Groups,
-    /// As an address of IPv4, or with a bracket or a double quote.
+    /// As most addresses of IPv6: a colon stands behind four hex digits.
+    FourDigits,
+    /// As another address, or with a double quote.
     Marked,
     /// As no address.
     Other,
@@ -39,7 +39,13 @@ pub(crate) fn opening_of(word: &[u8]) -> Opening
     }
     match word[0] {
         b'[' | b'"' => Opening::Marked,
-        b'0'..=b':' | b'a'..=b'f' | b'A'..=b'F' if has_early(b':', word) => Opening::Groups,
+        b'0'..=b':' | b'a'..=b'f' | b'A'..=b'F' if has_early(b':', word) => {
+            if word.len() >= EARLY && word[EARLY - 1] == b':' {
+                Opening::FourDigits
+            } else {
+                Opening::Marked
+            }
+        }
         b'0'..=b'9' if has_early(b'.', word) => Opening::Marked,
         _ => Opening::Other,
     }
