@@ -53,7 +53,6 @@ fn without_closing(word: &[u8]) -> &[u8]
 }
 
 // The address of IPv6 that a cell is, or none.
-#[inline(never)]
 fn whole_cell(cell: &[u8]) -> Option<IpAddr>
     ensures { IfSome result (IsAddressIn First cell.now) }
 {
@@ -64,13 +63,25 @@ fn whole_cell(cell: &[u8]) -> Option<IpAddr>
 }
 
 // The address of the first word of a cell, however it begins.
+#[inline(never)]
 fn word_in(cell: &[u8]) -> Option<IpAddr>
     ensures { Finds (IsAddressIn First cell.now) result }
 {
     word_address(without_closing(without_opening(first_word(cell))))
 }
 
-/// The address of the first word of a cell. Most addresses of IPv6 are all of their cell.
+// The address of the first word of a cell, which is most often an address of IPv6 and all of the cell.
+#[inline(never)]
+fn cell_or_word(cell: &[u8]) -> Option<IpAddr>
+    ensures { Finds (IsAddressIn First cell.now) result }
+{
+    match whole_cell(cell) {
+        Some(address) => Some(address),
+        None => word_in(cell),
+    }
+}
+
+/// The address of the first word of a cell.
 #[inline(never)]
 pub(crate) fn first_address(cell: &[u8]) -> Option<IpAddr>
     ensures { Finds (IsAddressIn First cell.now) result }
@@ -79,10 +90,7 @@ pub(crate) fn first_address(cell: &[u8]) -> Option<IpAddr>
     match opening_of(&cell[from..]) {
         Opening::Other => None,
         Opening::Marked => word_in(cell),
-        Opening::FourDigits => match whole_cell(cell) {
-            Some(address) => Some(address),
-            None => word_in(cell),
-        },
+        Opening::FourDigits => cell_or_word(cell),
     }
 }
 
