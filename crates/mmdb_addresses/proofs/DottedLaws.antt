@@ -1,5 +1,5 @@
 -- An address of IPv4 that a text begins with.
-use Rattle.std.proofs.Common.{◌≡◌, ℕ, ◌-◌, ◌<◌, ◌≤◌, true, false, not, ◌||◌, ◌==◌, if◌then◌else◌, List, ◌∷◌, ◌++◌, All, length, take, drop, get_or, take_while, decimal, codes, sym, ap, ap₂, subst, ◌∙◌, append_assoc, arith}
+use Rattle.std.proofs.Common.{◌≡◌, ◌≢◌, ℕ, ◌-◌, ◌<◌, ◌≤◌, true, false, not, ◌||◌, ◌==◌, if◌then◌else◌, List, ◌∷◌, ◌++◌, All, length, take, drop, get_or, take_while, decimal, codes, sym, ap, ap₂, subst, ◌∙◌, append_assoc, arith}
 use Rattle.std.proofs.Math.Logic.{inl}
 use Rattle.std.proofs.lemmas.Bool.{ne_eqb}
 use Rattle.std.proofs.lemmas.Fmt.{decimal_is_IsNumeral, decimal_nonempty}
@@ -31,10 +31,10 @@ dotted_is text i j k end a b c d first second third fourth =
     front_is text (dotted_text a b c d) end fourth.high
     (first.reads ∙ ap (λ r. decimal a ++ r) (second.reads ∙ ap (λ r. 46 ∷ (decimal b ++ r)) (third.reads ∙ ap (λ r. 46 ∷ (decimal c ++ r)) fourth.reads)) ∙ sym (simp append_assoc))
 
--- ---- its bytes are digits and dots
+-- ---- its bytes are plain: none is a blank, a comma, a semicolon or a double quote
 
-abbrev IsPlainByte : ℕ → Type 0
-IsPlainByte x = (46 ≤ x) × (x ≤ 57)
+abbrev pub IsPlainByte : ℕ → Type 0
+IsPlainByte x = (46 ≤ x) × (x ≢ 59)
 
 digits_plain : (n : ℕ) → n < 256 → All IsPlainByte (decimal n)
 digits_plain n small =
@@ -47,7 +47,7 @@ dot_plain n rest small all = All-append IsPlainByte (decimal n) (codes "." ++ re
 pub regrouped : (a b c d : ℕ) → dotted_text a b c d ≡ decimal a ++ (codes "." ++ (decimal b ++ (codes "." ++ (decimal c ++ (codes "." ++ decimal d)))))
 regrouped a b c d = simp append_assoc
 
-dotted_plain : (text octets : List ℕ) → IsDotted text octets → All IsPlainByte text
+pub dotted_plain : (text octets : List ℕ) → IsDotted text octets → All IsPlainByte text
 dotted_plain text octets dotted =
     subst (All IsPlainByte) (sym (dotted.spelled ∙ regrouped dotted.a dotted.b dotted.c dotted.d))
     (dot_plain dotted.a _ dotted.fit.0 (dot_plain dotted.b _ dotted.fit.1 (dot_plain dotted.c _ dotted.fit.2 (digits_plain dotted.d dotted.fit.3))))
@@ -64,15 +64,12 @@ in_word : (x : ℕ) → IsPlainByte x → ends_word x ≡ false
 in_word x plain =
     ap₂ (λ a b. a || b) (ap₂ (λ a b. a || b) (not_blank x plain) (ne_eqb x 44 (λ (e : x ≡ 44). omega arith))) (ne_eqb x 59 (λ (e : x ≡ 59). omega arith))
 
-module _ (text octets : List ℕ) (end : ℕ) (within : end ≤ length text) (dotted : IsDotted (take end text) octets) where
+module _ (text : List ℕ) (end : ℕ) (within : end ≤ length text) (some : 0 < end) (plain : All IsPlainByte (take end text)) where
   long : length (take end text) ≡ end
   long = length-take-le end text within
 
-  some : 0 < end
-  some = omega (arith, dotted_some (take end text) octets dotted, long)
-
   plain_at : (k : ℕ) → k < end → IsPlainByte (get_or text k 0)
-  plain_at k l = subst IsPlainByte (get_or-take end text k 0 l) (All-get_or IsPlainByte (take end text) k 0 (omega (arith, long)) (dotted_plain (take end text) octets dotted))
+  plain_at k l = subst IsPlainByte (get_or-take end text k 0 l) (All-get_or IsPlainByte (take end text) k 0 (omega (arith, long)) plain)
 
   word_is : (end < length text → ends_word (get_or text end 0) ≡ true) → first_word text ≡ take end text
   word_is stops =
@@ -87,9 +84,10 @@ module _ (text octets : List ℕ) (end : ℕ) (within : end ≤ length text) (do
       let opening : without_opening (take end text) ≡ take end text = ap (λ b. if b then drop 1 (take end text) else take end text) first in
       ap without_closing opening ∙ ap (λ b. if b then take (length (take end text) - 1) (take end text) else take end text) last
 
-  word_of_front : (end < length text → ends_word (get_or text end 0) ≡ true) → unquoted (first_word text) ≡ take end text
+  pub word_of_front : (end < length text → ends_word (get_or text end 0) ≡ true) → unquoted (first_word text) ≡ take end text
   word_of_front stops = ap unquoted (word_is stops) ∙ no_quotes
 
 pub first_is : (text : List ℕ) (end : ℕ) (address : Ipv4Addr) → end ≤ length text → IsIpv4Text (take end text) address → (end < length text → ends_word (get_or text end 0) ≡ true) → IsAddressIn First text (V4 address)
 first_is text end address within spelled stops =
-    inl (inl (subst (λ w. IsIpv4Text w address) (sym (word_of_front text (ipv4_octets address) end within spelled stops)) spelled))
+    let some : 0 < end = omega (arith, dotted_some (take end text) (ipv4_octets address) spelled, length-take-le end text within) in
+    inl (inl (subst (λ w. IsIpv4Text w address) (sym (word_of_front text end within some (dotted_plain (take end text) (ipv4_octets address) spelled) stops)) spelled))

@@ -1,4 +1,5 @@
 mod BracketLaws
+mod ColonLaws
 mod DottedLaws
 mod FindLaws
 mod OctetLaws

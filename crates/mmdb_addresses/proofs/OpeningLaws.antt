@@ -3,7 +3,7 @@ use Rattle.std.proofs.Common.{◌≡◌, ◌⊎◌, ℕ, ◌+◌, ◌-◌, ◌<�
 use Rattle.std.proofs.Math.Logic.{inl, inr, ⊎_elim}
 use Rattle.std.proofs.Math.ListN.{get_or-append}
 use Rattle.std.proofs.lemmas.Bool.{cases_lt, cond_below, cond_above, eqb-true}
-use Rattle.std.proofs.lemmas.Fmt.{decimal_is_IsNumeral}
+use Rattle.std.proofs.lemmas.Fmt.{decimal_is_IsNumeral, length-decimal-le}
 use Rattle.std.proofs.lemmas.List.{get_or-take, get_or-append-add, get_or_past, length-take}
 use Rattle.std.proofs.lemmas.Str.Parse.{digit_at}
 use Rattle.std.specs.Char.{digit_value}
@@ -15,16 +15,16 @@ use Rattle.std.specs.declared.net.ip_addr.IpAddr.TheVariants.{V4, V6}
 use Rattle.std.specs.List.{prefix_len}
 use Rattle.mmdb_addresses.specs.Bytes.{is_blank, ends_word}
 use Rattle.mmdb_addresses.specs.Cells.{first_word, unquoted, without_opening, without_closing}
-use Rattle.mmdb_addresses.specs.Openings.{IsMark, IsHexLetter, HasEarlyColon, Begins, MayBegin}
+use Rattle.mmdb_addresses.specs.Openings.{IsHexLetter, HasEarly, Begins, MayBegin}
 use Rattle.mmdb_addresses.specs.Words.{HasPort, HasZone, HasBrackets, IsWord, before}
 use Rattle.mmdb_addresses.proofs.DottedLaws.{regrouped}
 
 -- ---- hex digits
 
-abbrev IsHexStart : ℕ → Type 0
+abbrev pub IsHexStart : ℕ → Type 0
 IsHexStart x = ((48 ≤ x) × (x ≤ 57)) ⊎ IsHexLetter x
 
-hex_start : (x : ℕ) → digit_value x < 16 → IsHexStart x
+pub hex_start : (x : ℕ) → digit_value x < 16 → IsHexStart x
 hex_start x l = by (cases_lt x 48) (cases_lt x 58) (cases_lt x 65) (cases_lt x 91) (cases_lt x 97) (cases_lt x 123)
   where
     by : (x < 48) ⊎ (48 ≤ x) → (x < 58) ⊎ (58 ≤ x) → (x < 65) ⊎ (65 ≤ x) → (x < 91) ⊎ (91 ≤ x) → (x < 97) ⊎ (97 ≤ x) → (x < 123) ⊎ (123 ≤ x) → IsHexStart x
@@ -47,7 +47,9 @@ dotted_begins text octets dotted =
     let digits = (decimal_is_IsNumeral dotted.a (omega (arith, dotted.fit.0))).0 in
     let digit = digit_at (decimal dotted.a) 0 digits.1 digits.0 in
     let same : get_or text 0 0 ≡ get_or (decimal dotted.a) 0 0 = ap (λ t. get_or t 0 0) (dotted.spelled ∙ regrouped dotted.a dotted.b dotted.c dotted.d) ∙ get_or-append (decimal dotted.a) _ 0 0 digits.0 in
-    inl (inl (omega (arith, same, digit), omega (arith, same, digit)))
+    let short : length (decimal dotted.a) ≤ 3 = length-decimal-le 3 dotted.a (omega arith) (omega (arith, dotted.fit.0)) (omega (arith, dotted.fit.0)) in
+    let dot : get_or text (length (decimal dotted.a) + 0) 0 ≡ 46 = ap (λ t. get_or t (length (decimal dotted.a) + 0) 0) (dotted.spelled ∙ regrouped dotted.a dotted.b dotted.c dotted.d) ∙ get_or-append-add (decimal dotted.a) _ 0 0 in
+    inr (inr ((omega (arith, same, digit), omega (arith, same, digit)), (length (decimal dotted.a) + 0, omega (arith, short), dot)))
 
 -- ---- addresses of IPv6
 
@@ -56,8 +58,8 @@ group_begins text group rest is numeral short colon =
     let same : get_or text 0 0 ≡ get_or group 0 0 = ap (λ t. get_or t 0 0) is ∙ get_or-append group rest 0 0 numeral.0 in
     let here : get_or text (length group + 0) 0 ≡ 58 = ap (λ t. get_or t (length group + 0) 0) is ∙ get_or-append-add group rest 0 0 ∙ colon in
     ⊎_elim
-    (λ (digit : (48 ≤ get_or text 0 0) × (get_or text 0 0 ≤ 57)). inl (inl (digit.0, omega (arith, digit.1))))
-    (λ (letter : IsHexLetter (get_or text 0 0)). inr (letter, (length group + 0, omega arith, here)))
+    (λ (digit : (48 ≤ get_or text 0 0) × (get_or text 0 0 ≤ 57)). inr (inl (inl (digit.0, omega (arith, digit.1)), (length group + 0, omega (arith, short), here))))
+    (λ (letter : IsHexLetter (get_or text 0 0)). inr (inl (inr letter, (length group + 0, omega (arith, short), here))))
     (subst IsHexStart (sym same) (numeral_starts group numeral))
 
 colon_before : (ipv4 : Bool) (rest : List ℕ) (s : ℕ) (segments : List ℕ) → IsGroupsAfter ipv4 (codes ":") rest (s ∷ segments) → (more : List ℕ) → get_or (rest ++ more) 0 0 ≡ 58
@@ -77,7 +79,7 @@ elided_begins text segments elided = by elided.head_text elided.head elided.head
     by : (front head : List ℕ) → IsGroups false front head → text ≡ front ++ codes "::" ++ elided.tail_text → Begins text
     by front [] none is =
         let colon : get_or text 0 0 ≡ 58 = ap (λ t. get_or t 0 0) (is ∙ ap (λ f. f ++ codes "::" ++ elided.tail_text) none) in
-        inl (inl (omega (arith, colon), omega (arith, colon)))
+        inr (inl (inl (omega (arith, colon), omega (arith, colon)), (0, omega arith, colon)))
     by front (s ∷ []) (inl groups) is =
         let more : List ℕ = codes "::" ++ elided.tail_text in
         let whole : text ≡ groups.0 ++ (groups.1 ++ more) = is ∙ ap (λ f. f ++ codes "::" ++ elided.tail_text) groups.2 ∙ simp append_assoc in
@@ -88,7 +90,7 @@ elided_begins text segments elided = by elided.head_text elided.head elided.head
         group_begins text groups.0 (groups.1 ++ more) whole groups.3.0.0 groups.3.1 (colon_before false groups.1 t segs groups.4 more)
     by front (s ∷ segs) (inr dotted) is = let never : false ≡ true = dotted.2 in cc
 
-ipv6_begins : (text segments : List ℕ) → IsColonHex text segments → Begins text
+pub ipv6_begins : (text segments : List ℕ) → IsColonHex text segments → Begins text
 ipv6_begins text segments is = ⊎_elim (λ full. full_begins text segments full.0 full.1) (elided_begins text segments) is
 
 ip_begins : (text : List ℕ) (address : IpAddr) → IsIpText text address → Begins text
@@ -104,16 +106,18 @@ kept n text k x some is =
     (λ (over : n ≤ k). absurd (omega (arith, is, get_or_past (take n text) k 0 (omega (arith, length-take n text)))))
     (cases_lt k n)
 
+early_kept : (n : ℕ) (text : List ℕ) (byte : ℕ) → 0 < byte → HasEarly byte (take n text) → HasEarly byte text
+early_kept n text byte some early = (early.0, early.1, kept n text early.0 byte some early.2)
+
 begins_kept : (n : ℕ) (text : List ℕ) → Begins (take n text) → Begins text
-begins_kept n text begins =
-    ⊎_elim
-    (λ (mark : IsMark (get_or (take n text) 0 0)).
-    let some : 0 < get_or (take n text) 0 0 = ⊎_elim (λ (digit : (48 ≤ get_or (take n text) 0 0) × (get_or (take n text) 0 0 ≤ 58)). omega (arith, digit.0)) (λ (bracket : get_or (take n text) 0 0 ≡ 91). omega (arith, bracket)) mark in
-    inl (subst IsMark (sym (kept n text 0 _ some refl)) mark))
-    (λ (both : IsHexLetter (get_or (take n text) 0 0) × HasEarlyColon (take n text)).
-    let some : 0 < get_or (take n text) 0 0 = ⊎_elim (λ (upper : (65 ≤ get_or (take n text) 0 0) × (get_or (take n text) 0 0 ≤ 70)). omega (arith, upper.0)) (λ (lower : (97 ≤ get_or (take n text) 0 0) × (get_or (take n text) 0 0 ≤ 102)). omega (arith, lower.0)) both.0 in
-    inr (subst IsHexLetter (sym (kept n text 0 _ some refl)) both.0, (both.1.0, both.1.1, kept n text both.1.0 58 (omega arith) both.1.2)))
-    begins
+begins_kept n text = by (get_or (take n text) 0 0) (λ some. kept n text 0 _ some refl)
+  where
+    by : (x : ℕ) → (0 < x → get_or text 0 0 ≡ x) → (x ≡ 91) ⊎ (((((48 ≤ x) × (x ≤ 58)) ⊎ IsHexLetter x) × HasEarly 58 (take n text)) ⊎ (((48 ≤ x) × (x ≤ 57)) × HasEarly 46 (take n text))) → Begins text
+    by x same (inl bracket) = inl (same (omega arith) ∙ bracket)
+    by x same (inr (inl (inl digit, colon))) = let e = same (omega arith) in inr (inl (inl (omega (arith, e), omega (arith, e)), early_kept n text 58 (omega arith) colon))
+    by x same (inr (inl (inr (inl upper), colon))) = let e = same (omega arith) in inr (inl (inr (inl (omega (arith, e), omega (arith, e))), early_kept n text 58 (omega arith) colon))
+    by x same (inr (inl (inr (inr lower), colon))) = let e = same (omega arith) in inr (inl (inr (inr (omega (arith, e), omega (arith, e))), early_kept n text 58 (omega arith) colon))
+    by x same (inr (inr (digit, dot))) = let e = same (omega arith) in inr (inr ((omega (arith, e), omega (arith, e)), early_kept n text 46 (omega arith) dot))
 
 port_begins : (word : List ℕ) (address : IpAddr) → HasPort word address → Begins word
 port_begins word (V4 a) port = begins_kept _ word (dotted_begins (before 58 word) (ipv4_octets a) port.0)
@@ -127,7 +131,7 @@ pub word_begins : (word : List ℕ) (address : IpAddr) → IsWord word address �
 word_begins word address is =
     ⊎_elim
     (λ (plain : IsIpText word address ⊎ HasPort word address). ⊎_elim (ip_begins word address) (port_begins word address) plain)
-    (λ (dressed : HasZone word address ⊎ HasBrackets word address). ⊎_elim (zone_begins word address) (λ (brackets : HasBrackets word address). inl (inr brackets.opens)) dressed)
+    (λ (dressed : HasZone word address ⊎ HasBrackets word address). ⊎_elim (zone_begins word address) (λ (brackets : HasBrackets word address). inl brackets.opens) dressed)
     is
 
 -- ---- cells

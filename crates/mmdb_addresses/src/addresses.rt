@@ -103,8 +103,8 @@ pub(crate) fn dotted_front(text: &[u8]) -> Option<Front>
     })
 }
 
-// The address of IPv4 that a text spells, or none.
-fn read_dotted(text: &[u8]) -> Option<Ipv4Addr>
+/// The address of IPv4 that a text spells, or none where these steps read none.
+pub(crate) fn read_dotted(text: &[u8]) -> Option<Ipv4Addr>
     ensures { IfSome result (IsIpv4Text text.now) }
 {
     let front = dotted_front(text)?;

@@ -1,13 +1,13 @@
 //! The address in a cell.
-ghost use Rattle.std.specs.Prelude.{◌≡◌};
+ghost use Rattle.std.specs.Prelude.{◌≡◌, IfSome};
 ghost use Rattle.mmdb_addresses.specs.Addresses.{Finds, IsAddressIn};
 ghost use Rattle.mmdb_addresses.specs.Cells.{first_word as spec_first_word, last_hop as spec_last_hop, unquoted as spec_unquoted, without_opening as spec_without_opening, without_closing as spec_without_closing};
 ghost use Rattle.mmdb_addresses.specs.declared.readings.Reading.TheVariants.{First, Last};
 
 use crate::bytes::{Kind, end_of};
-use crate::openings::may_begin;
+use crate::openings::{Opening, opening_of};
 use crate::words::word_address;
-use std::net::IpAddr;
+use std::net::{IpAddr, Ipv6Addr};
 
 // The first word of a cell: behind blanks, up to a blank, a comma or a semicolon.
 fn first_word(cell: &[u8]) -> &[u8]
@@ -52,16 +52,46 @@ fn without_closing(word: &[u8]) -> &[u8]
     }
 }
 
+// The address of IPv6 that a cell is, or none.
+fn whole_cell(cell: &[u8]) -> Option<IpAddr>
+    ensures { IfSome result (IsAddressIn First cell.now) }
+{
+    match Ipv6Addr::parse_ascii(cell) {
+        Ok(address) => Some(IpAddr::V6(address)),
+        Err(_) => None,
+    }
+}
+
+// The address of the first word of a cell, however it begins.
+#[inline(never)]
+fn word_in(cell: &[u8]) -> Option<IpAddr>
+    ensures { Finds (IsAddressIn First cell.now) result }
+{
+    word_address(without_closing(without_opening(first_word(cell))))
+}
+
+// The address of the first word of a cell, which is most often an address of IPv6 and all of the cell.
+#[inline(never)]
+fn cell_or_word(cell: &[u8]) -> Option<IpAddr>
+    ensures { Finds (IsAddressIn First cell.now) result }
+{
+    match whole_cell(cell) {
+        Some(address) => Some(address),
+        None => word_in(cell),
+    }
+}
+
 /// The address of the first word of a cell.
 #[inline(never)]
 pub(crate) fn first_address(cell: &[u8]) -> Option<IpAddr>
     ensures { Finds (IsAddressIn First cell.now) result }
 {
     let from = end_of(Kind::Blank, cell, 0);
-    if !may_begin(&cell[from..]) {
-        return None;
+    match opening_of(&cell[from..]) {
+        Opening::Other => None,
+        Opening::Marked => word_in(cell),
+        Opening::FourDigits => cell_or_word(cell),
     }
-    word_address(without_closing(without_opening(first_word(cell))))
 }
 
 /// The address of the first word behind the last comma of a cell.

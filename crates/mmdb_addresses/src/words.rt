@@ -5,7 +5,7 @@ ghost use Rattle.mmdb_addresses.specs.Addresses.{Finds};
 ghost use Rattle.mmdb_addresses.specs.Rows.{IsPlain};
 ghost use Rattle.mmdb_addresses.specs.Words.{IsPort, IsZone, IsEnd, IsWord, HasPort, HasZone, HasBrackets};
 
-use crate::addresses::read_address;
+use crate::addresses::{read_address, read_dotted};
 use crate::bytes::{Kind, end_of};
 use std::net::{IpAddr, Ipv4Addr, Ipv6Addr};
 
@@ -102,9 +102,15 @@ fn address_in_brackets(word: &[u8]) -> Option<IpAddr>
 pub(crate) fn plain_address(word: &[u8]) -> Option<IpAddr>
     ensures { Finds (IsPlain word.now) result }
 {
-    match read_address(word) {
+    if let Some(address) = read_dotted(word) {
+        return Some(IpAddr::V4(address));
+    }
+    if let Some(address) = address_with_port(word) {
+        return Some(address);
+    }
+    match IpAddr::parse_ascii(word) {
         Ok(address) => Some(address),
-        Err(_) => address_with_port(word),
+        Err(_) => None,
     }
 }
 
