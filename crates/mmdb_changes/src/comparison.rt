@@ -427,8 +427,11 @@ fn note_absent<O: Write, E: Write>(
             look_at(alloc, networks, &task.layout, &mut met)?;
         }
     }
-    let (names, paths) = (task.layout.names(), task.layout.paths());
-    met.note_absent(names, paths, databases.newer(), Some(range), console)
+    met.note_absent(
+        task.layout.names(),
+        databases.newer().data_section(),
+        console,
+    )
 }
 
 // Compares two databases in a range, and answers the status.

@@ -25,6 +25,8 @@ pub struct Failure {
 pub struct Notes {
     /// How many rows have passed.
     pub rows: u64,
+    /// How many rows have an address that the database can't be asked for: one of IPv6, where it has IPv4 alone.
+    pub unasked: u64,
     /// The first rows whose record can't be read, at most 10.
     pub failures: Vec<Failure>,
     /// Of each field whether a record had a value there. A field at which none is noted had none.
@@ -38,6 +40,7 @@ impl Notes {
     pub(crate) fn new(alloc: Global) -> Notes {
         Notes {
             rows: 0,
+            unasked: 0,
             failures: Vec::new(alloc),
             met: Vec::new(alloc),
             records: Vec::new(alloc),
@@ -131,6 +134,9 @@ pub(crate) fn note_rejected<S: AsSlice<u8> + Drop>(
     notes: &mut Notes,
 ) {
     if let Err(error) = reader.lookup(address) {
+        if let MaxMindDbError::InvalidInput { .. } = error {
+            notes.unasked = notes.unasked.saturating_add(1);
+        }
         notes.note_failure(alloc, &error);
     }
 }

@@ -103,6 +103,9 @@ impl<'t, 'a> Search<'t, 'a> {
             None
         } else if self.is_without_alternative(value) {
             (!task.allow_empty).then_some("--allow-empty writes an empty list")
+        } else if task.is_of_part() {
+            // it may stand elsewhere in the database
+            None
         } else {
             (!task.allow_missing).then_some("--allow-missing goes on without it")
         }
@@ -165,11 +168,16 @@ fn report_missing<O: Write, E: Write>(
     let networks = networks_in(alloc, database, task.range)?;
     offer_all(alloc, networks, named, &mut similar)?;
     let text = named.text;
+    let of = if task.is_of_part() {
+        " that is asked for"
+    } else {
+        ""
+    };
     let line = match similar.best() {
         Some(best) => {
-            format!(in alloc; "mmdb: no network has {text} (did you mean {best}?); {hint}")
+            format!(in alloc; "mmdb: no network{of} has {text} (did you mean {best}?); {hint}")
         }
-        None => format!(in alloc; "mmdb: no network has {text}; {hint}"),
+        None => format!(in alloc; "mmdb: no network{of} has {text}; {hint}"),
     };
     console.note(line_of(alloc, line));
     Ok(())

@@ -75,8 +75,7 @@ fn note_absent<W: Sink, O: Write, E: Write>(
     let (Some(met), Shape::Rows(layout)) = (sink.fields_met(), &task.shape) else {
         return Ok(());
     };
-    let (names, paths) = (layout.names(), layout.paths());
-    met.note_absent(names, paths, database, task.range, console)
+    met.note_absent(layout.names(), database.data_section(), console)
 }
 
 // Writes the chosen networks, reports how many could not be read, and answers the status.

@@ -32,6 +32,13 @@ pub(crate) struct ExportTask<'a> {
     pub(crate) allow_missing: bool,
 }
 
+impl ExportTask<'_> {
+    /// Whether only a part of the database is asked for.
+    pub(crate) fn is_of_part(&self) -> bool {
+        self.range.is_some() || !matches!(self.kinds, Kinds::Both)
+    }
+}
+
 // How sets are named, in a format that has some.
 fn name_of<'a>(alloc: Global, format: Format, name: Option<&'a str>) -> Result<&'a str, NoRequest> {
     let has_sets = matches!(format, Format::Nft | Format::Ipset);

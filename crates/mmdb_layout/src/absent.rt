@@ -1,7 +1,7 @@
 //! Fields that no record has: a path that is misspelt gives empty cells without a word.
-use crate::database::{Database, Found, Networks, networks_in};
+use crate::database::Found;
 use mmdb_console::{Console, ProgramError, Similar, line_of};
-use mmdb_reader::{IpNetwork, MaxMindDbError, PathElement};
+use mmdb_reader::{MaxMindDbError, PathElement};
 use mmdb_value::{Decode, Decoder, Value};
 use std::alloc::{AllocError, Global};
 use std::io::Write;
@@ -12,12 +12,19 @@ const MOST_RECORDS: usize = 64;
 /// How many paths of a record are looked at.
 const MOST_PATHS: usize = 4096;
 
+/// How many fields are named that no record has.
+const MOST_NAMED: usize = 10;
+
+/// How many bytes a path has at most that may be meant, or may mean another.
+const MOST_BYTES: usize = 256;
+
 /// Which fields the records have that were looked at.
 #[derive(Drop)]
 pub struct FieldsMet {
     alloc: Global,
     are_met: Vec<bool>,
-    has_looked: bool,
+    /// The offsets of the first records that were looked at.
+    offsets: Vec<usize>,
 }
 
 /// A value of a record, and the path to it.
@@ -89,7 +96,9 @@ fn offer_paths(
         let Some(place) = places.pop() else {
             return Ok(());
         };
-        similar.offer(place.path.as_str())?;
+        if place.path.len() <= MOST_BYTES {
+            similar.offer(place.path.as_str())?;
+        }
         add_places(alloc, &place, &mut places)?;
     }
     Ok(())
@@ -121,7 +130,9 @@ pub fn absent_text(
     offsets: &[usize],
 ) -> Result<String, AllocError> {
     let mut similar = Similar::new(alloc, name)?;
-    offer_records(alloc, section, offsets, &mut similar)?;
+    if name.len() <= MOST_BYTES {
+        offer_records(alloc, section, offsets, &mut similar)?;
+    }
     match similar.best() {
         Some(best) => format!(in alloc; "mmdb: no record has {name}; did you mean {best}?"),
         None => format!(in alloc; "mmdb: no record has {name}"),
@@ -134,13 +145,21 @@ fn has_value(alloc: Global, found: &Found<'_>, path: &[PathElement<'_>]) -> bool
     !matches!(value, Ok(None))
 }
 
+// Says how many fields more no record has.
+fn note_more<O: Write, E: Write>(count: usize, console: &mut Console<'_, O, E>) {
+    let more = count.saturating_sub(MOST_NAMED);
+    if more > 0 {
+        console.note(format!(in console.alloc; "mmdb: nor {more} fields more\n"));
+    }
+}
+
 impl FieldsMet {
     /// Nothing was looked at yet. An `Err` is of memory.
     pub fn new(alloc: Global, fields: usize) -> Result<FieldsMet, AllocError> {
         Ok(FieldsMet {
             alloc,
             are_met: vec![in alloc; false; fields]?,
-            has_looked: false,
+            offsets: Vec::new(alloc),
         })
     }
 
@@ -150,68 +169,43 @@ impl FieldsMet {
         self.are_met.iter().all(|is_met| *is_met)
     }
 
-    // Whether no record was looked at, or each field is met.
-    fn is_nothing_absent(&self) -> bool {
-        !self.has_looked || self.are_all_met()
-    }
-
     /// Looks at a record, if there is one.
     pub fn look(&mut self, found: &Found<'_>, paths: &[Vec<PathElement<'_>>]) {
-        if found.offset().is_none() {
+        let Some(offset) = found.offset() else {
             return;
-        }
-        self.has_looked = true;
+        };
         for (is_met, path) in self.are_met.iter_mut().zip(paths) {
             *is_met = *is_met || has_value(self.alloc, found, path.as_slice());
         }
-    }
-
-    // Looks at the first records of networks, each once, and answers their offsets.
-    fn look_at_first(
-        &mut self,
-        networks: Networks<'_>,
-        paths: &[Vec<PathElement<'_>>],
-    ) -> Result<Vec<usize>, AllocError> {
-        let mut offsets: Vec<usize> = Vec::new(self.alloc);
-        for item in networks {
-            let Ok(found) = item else {
-                continue;
-            };
-            let offset = found.offset().unwrap_or(0);
-            if !offsets.iter().any(|other| *other == offset) {
-                self.look(&found, paths);
-                offsets.push(offset)?;
-            }
-            if offsets.len() >= MOST_RECORDS {
-                break;
-            }
+        if self.offsets.len() < MOST_RECORDS {
+            let _ = self.offsets.push(offset);
         }
-        Ok(offsets)
     }
 
-    /// Says of each field that neither a record has that was looked at nor one of the first of a range, with a path of those
-    /// that may be meant, after what was written. An `Err` is `Write` or `Memory`.
+    /// Says of each field that no record had, of those of a data section that were looked at, after what was written. An
+    /// `Err` is `Write`.
     pub fn note_absent<O: Write, E: Write>(
-        &mut self,
+        &self,
         names: &[&str],
-        paths: &[Vec<PathElement<'_>>],
-        database: &Database,
-        range: Option<IpNetwork>,
+        section: &[u8],
         console: &mut Console<'_, O, E>,
     ) -> Result<(), ProgramError> {
-        if self.is_nothing_absent() {
+        if self.offsets.is_empty() || self.are_all_met() {
             return Ok(());
         }
-        let networks = networks_in(self.alloc, database, range)?;
-        let offsets = self.look_at_first(networks, paths)?;
         console.flush()?;
+        let mut count = 0usize;
         for (name, is_met) in names.iter().zip(&self.are_met) {
-            if !*is_met {
-                let section = database.data_section();
-                let text = absent_text(self.alloc, name, section, offsets.as_slice());
+            if *is_met {
+                continue;
+            }
+            count = count.saturating_add(1);
+            if count <= MOST_NAMED {
+                let text = absent_text(self.alloc, name, section, self.offsets.as_slice());
                 console.note(line_of(self.alloc, text));
             }
         }
+        note_more(count, console);
         Ok(())
     }
 }

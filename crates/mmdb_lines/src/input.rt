@@ -6,11 +6,11 @@ use std::rt::Files;
 /// What some texts in UTF-8 begin with, before the first row.
 const MARK: &[u8] = b"\xef\xbb\xbf";
 
-// Whether the bytes that an input has at hand begin with the mark.
-fn begins_with_mark<I: BufRead>(input: &mut I) -> io::Result<bool> {
+// Whether the next byte of an input is this one.
+fn is_next<I: BufRead>(input: &mut I, byte: u8) -> io::Result<bool> {
     for _ in 0..u64::MAX {
         match input.fill_buf() {
-            Ok(shown) => return Ok(shown.starts_with(MARK)),
+            Ok(shown) => return Ok(shown.first() == Some(&byte)),
             Err(error) if error.kind() != ErrorKind::Interrupted => return Err(error),
             Err(_) => {}
         }
@@ -18,15 +18,18 @@ fn begins_with_mark<I: BufRead>(input: &mut I) -> io::Result<bool> {
     Err(io::Error::from(ErrorKind::TimedOut))
 }
 
-/// Copies the mark that an input may begin with, so that it is no part of the first row. It is known as one where the
-/// first read gives all of it.
+/// Copies the mark that an input may begin with, so that it is no part of the first row, however its bytes come. Bytes that
+/// begin as the mark does and go on otherwise are copied too: no address begins so.
 pub(crate) fn copy_mark<I: BufRead, O: Write>(
     input: &mut I,
     out: &mut O,
 ) -> Result<(), ProgramError> {
-    if begins_with_mark(input)? {
-        input.consume(MARK.len());
-        put(MARK, out)?;
+    for byte in MARK {
+        if !is_next(input, *byte)? {
+            return Ok(());
+        }
+        input.consume(1);
+        put(&[*byte], out)?;
     }
     Ok(())
 }

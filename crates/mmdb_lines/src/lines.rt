@@ -11,6 +11,7 @@ use mmdb_console::{BAD_ARGUMENTS, Console, FAILED, ProgramError, ProgressLine, l
 use mmdb_enrich::{Enrichment, JsonEnrichment, JsonMemory, RowMemory};
 use mmdb_filter::{Additions, Counts, Filtered, Live, Rows, filter_rows};
 use mmdb_layout::{Database, open_database};
+use mmdb_reader::Reader;
 use std::alloc::{AllocError, Global};
 use std::io::Write;
 use std::rt::Files;
@@ -157,10 +158,11 @@ fn enrich_rows<I: Live, O: Write, E: Write>(
         passage,
         console,
     );
+    let unasked = memory.notes.unasked;
     drop(memory);
     let counts = counts?;
     let text = text_of_rows(console.alloc, counts);
-    Ok(passage.notes.end(counts, text, console))
+    Ok(passage.notes.end(counts, unasked, text, console))
 }
 
 // Copies rows with fields behind each, and reports how they fared.
@@ -202,11 +204,12 @@ fn enrich_objects<I: Live, O: Write, E: Write>(
         passage,
         console,
     );
+    let unasked = memory.notes.unasked;
     drop(memory);
     let counts = counts?;
     let first = passage.notes.occupied;
     let text = text_of_members(console.alloc, counts, enrichment.name, first);
-    Ok(passage.notes.end(counts, text, console))
+    Ok(passage.notes.end(counts, unasked, text, console))
 }
 
 // Copies lines with a member more in each object, and reports how they fared.
@@ -274,12 +277,19 @@ fn enrich_json_of<R: Files, I: Live, O: Write, E: Write>(
     }
 }
 
-// Reports a second file, which is a log more often than a database.
-fn report_other<O: Write, E: Write>(other: &str, console: &mut Console<'_, O, E>) {
-    let text = format!(in console.alloc;
-        "mmdb: {other} is no database; enrich reads standard input: < {other}"
-    );
-    console.note(line_of(console.alloc, text));
+// Reports a second file: a log more often than another database.
+fn report_other<R: Files, O: Write, E: Write>(
+    rt: &R,
+    other: &str,
+    console: &mut Console<'_, O, E>,
+) {
+    let alloc = console.alloc;
+    let text = if Reader::open_readfile(rt, alloc, other).is_ok() {
+        format!(in alloc; "mmdb: {other} is a second database; enrich takes one")
+    } else {
+        format!(in alloc; "mmdb: {other} is no database; enrich reads standard input: < {other}")
+    };
+    console.note(line_of(alloc, text));
 }
 
 /// Copies lines with fields of a database in each, reports how they fared, and answers the status. An `Err` where an
@@ -292,7 +302,7 @@ pub fn enrich<R: Files, I: Live, O: Write, E: Write>(
     console: &mut Console<'_, O, E>,
 ) -> Result<u8, ProgramError> {
     if let Some(other) = arguments.others.first() {
-        report_other(*other, console);
+        report_other(rt, *other, console);
         return Ok(BAD_ARGUMENTS);
     }
     match arguments.json {

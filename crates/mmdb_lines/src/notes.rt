@@ -8,6 +8,9 @@ use mmdb_layout::{Database, absent_text};
 use std::alloc::{AllocError, Global};
 use std::io::Write;
 
+/// Of so many fields it is said that no record has them.
+const MOST_SAID: usize = 10;
+
 /// Where the address of a row is looked for.
 #[derive(Clone, Copy)]
 pub(crate) enum Place<'a> {
@@ -52,6 +55,8 @@ pub(crate) struct Notes<'a> {
     has_warned: bool,
     /// How many failures are said.
     failures: usize,
+    /// How many fields are said that no record has.
+    said: usize,
     /// The number of the first row that has already what would be added.
     pub(crate) occupied: Option<u64>,
 }
@@ -111,6 +116,7 @@ impl<'a> Notes<'a> {
             has_said_no_address: false,
             has_warned: false,
             failures: 0,
+            said: 0,
             occupied: None,
         }
     }
@@ -143,8 +149,9 @@ impl<'a> Notes<'a> {
     ) {
         let alloc = console.alloc;
         for (at, field) in self.fields.iter_mut().enumerate() {
-            if !field.is_said && !is_met(records, at) {
+            if self.said < MOST_SAID && !field.is_said && !is_met(records, at) {
                 field.is_said = true;
+                self.said = self.said.saturating_add(1);
                 let (section, offsets) = (database.data_section(), records.records.as_slice());
                 let text = absent_text(alloc, field.path, section, offsets);
                 console.note(line_of(alloc, text));
@@ -214,17 +221,20 @@ impl<'a> Notes<'a> {
             || self.has_missing(counts, records);
     }
 
-    /// Says how the rows fared, and answers the status.
+    /// Says how the rows fared, and answers the status: so many of those with an error have an address that the database
+    /// can't be asked for.
     pub(crate) fn end<O: Write, E: Write>(
         &self,
         counts: Counts,
+        unasked: u64,
         text: Result<String, AllocError>,
         console: &mut Console<'_, O, E>,
     ) -> u8 {
         if self.says_counts {
             console.note(text);
         }
-        if counts.rejected > 0 || self.is_strict && self.has_warned {
+        let has_warned = self.has_warned || counts.rejected > 0;
+        if counts.rejected > unasked || self.is_strict && has_warned {
             FAILED
         } else {
             DONE

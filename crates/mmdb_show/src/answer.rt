@@ -247,7 +247,7 @@ fn note_absent<O: Write, E: Write>(
             met.look(&found, task.paths.as_slice());
         }
     }
-    met.note_absent(task.names, task.paths.as_slice(), database, None, console)
+    met.note_absent(task.names, database.data_section(), console)
 }
 
 // Opens a file and shows what it has, and answers the status.
