@@ -102,12 +102,12 @@ impl<'t, 'a> Search<'t, 'a> {
         if is_met {
             None
         } else if self.is_without_alternative(value) {
-            (!task.allow_empty).then_some("--allow-empty writes an empty list")
+            (!task.allow_empty).then_some("; --allow-empty writes an empty list")
         } else if task.is_of_part() {
             // it may stand elsewhere in the database
             None
         } else {
-            (!task.allow_missing).then_some("--allow-missing goes on without it")
+            (!task.allow_missing).then_some("; --allow-missing goes on without it")
         }
     }
 }
@@ -175,9 +175,9 @@ fn report_missing<O: Write, E: Write>(
     };
     let line = match similar.best() {
         Some(best) => {
-            format!(in alloc; "mmdb: no network{of} has {text} (did you mean {best}?); {hint}")
+            format!(in alloc; "mmdb: no network{of} has {text} (did you mean {best}?){hint}")
         }
-        None => format!(in alloc; "mmdb: no network{of} has {text}; {hint}"),
+        None => format!(in alloc; "mmdb: no network{of} has {text}{hint}"),
     };
     console.note(line_of(alloc, line));
     Ok(())
@@ -206,6 +206,7 @@ fn report_refused<O: Write, E: Write>(
         };
         count = count.saturating_add(1);
         if count <= MOST_NAMED {
+            let hint = if task.may_lack() { "" } else { hint };
             report_missing(database, task, named, hint, console)?;
         }
     }
@@ -213,8 +214,8 @@ fn report_refused<O: Write, E: Write>(
     Ok(count)
 }
 
-/// Whether networks of a range have all the values that a list's conditions name, or are allowed to lack them. Else those
-/// are reported, each with one that may be meant. It is known before anything is written.
+/// Whether networks of a range have all the values that a list's conditions name, or may lack them. Those that none has are
+/// reported, each with one that may be meant. It is known before anything is written.
 pub(crate) fn are_values_met<O: Write, E: Write>(
     database: &Database,
     task: &ExportTask<'_>,
@@ -224,5 +225,6 @@ pub(crate) fn are_values_met<O: Write, E: Write>(
     let mut search = Search::new(console.alloc, task.named.as_slice())?;
     let networks = networks_in(console.alloc, database, task.range)?;
     search.meet_all(networks, task.kinds, choice)?;
-    Ok(report_refused(database, task, &search, console)? == 0)
+    let is_complete = report_refused(database, task, &search, console)? == 0;
+    Ok(is_complete || task.may_lack())
 }

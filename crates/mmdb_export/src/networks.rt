@@ -137,7 +137,8 @@ fn export_chosen<'a, 'r, O: Write, E: Write>(
             export_to(database, task, networks, choice, rows, console)
         }
         Shape::List(syntax) => {
-            let blocks = Blocks::new(alloc, *syntax, task.kinds, task.range, task.allow_empty);
+            let may_be_empty = task.allow_empty || task.may_lack();
+            let blocks = Blocks::new(alloc, *syntax, task.kinds, task.range, may_be_empty);
             export_to(database, task, networks, choice, blocks, console)
         }
     }

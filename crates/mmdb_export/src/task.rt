@@ -33,6 +33,11 @@ pub(crate) struct ExportTask<'a> {
 }
 
 impl ExportTask<'_> {
+    /// Whether a list may lack networks: one of plain blocks empties no set.
+    pub(crate) fn may_lack(&self) -> bool {
+        matches!(self.shape, Shape::List(Syntax::Cidr))
+    }
+
     /// Whether only a part of the database is asked for.
     pub(crate) fn is_of_part(&self) -> bool {
         self.range.is_some() || !matches!(self.kinds, Kinds::Both)

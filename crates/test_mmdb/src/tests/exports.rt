@@ -108,12 +108,15 @@ pub(crate) fn lines_hold(text: &str, parts: &[&str]) -> bool {
     text.lines().count() == parts.len()
 }
 
-/// What is said of a field that no record has, which is no error.
-const NOTE: &str = "no record has ";
+// Whether it is no error that is said: that no record has a field, or no network a value that a list of plain blocks may lack.
+fn is_note(part: &str) -> bool {
+    part.contains("no record has ")
+        || part.contains("no network has ") && !part.contains("; --allow-")
+}
 
 // Whether a run wrote a text, and reported lines that hold some parts.
 pub(crate) fn is_as_wanted(run: &Run, written: &str, message: &[&str]) -> bool {
-    let status = u8::from(message.iter().any(|part| !part.contains(NOTE)));
+    let status = u8::from(message.iter().any(|part| !is_note(part)));
     run.out() == written && run.status == status && lines_hold(run.err(), message)
 }
 

@@ -49,13 +49,13 @@ const OF_WHOLE: &[Row<'static>] = &[
         &[],
     ),
     // paths must all fit
-    (&["--where", "c.i=AT", "--where", "n=7", "--format", "cidr"], "", NONE),
+    (&["--where", "c.i=AT", "--where", "n=7", "--format", "nft"], "", NONE),
     (&["--where", "c.i=AT", "--where", "n=true", "--format", "cidr"], "64.0.0.0/3\n", &[]),
     (&["--where-not", "c.i=DE", "--format", "cidr"], "64.0.0.0/3\n", &[]),
-    (&["--where-not", "c.i=DE", "--where-not", "c.i=AT", "--format", "cidr"], "", NONE),
+    (&["--where-not", "c.i=DE", "--where-not", "c.i=AT", "--format", "nft"], "", NONE),
     // a value that no network has may be misspelt
     (
-        &["--where-not", "x=DE", "--format", "cidr"],
+        &["--where-not", "x=DE", "--format", "nft"],
         "",
         &["no network has x=DE; --allow-missing goes on without it"],
     ),
@@ -65,12 +65,12 @@ const OF_WHOLE: &[Row<'static>] = &[
         &[],
     ),
     (
-        &["--where", "c.i=de", "--format", "cidr"],
+        &["--where", "c.i=de", "--format", "nft"],
         "",
         &["no network has c.i=de (did you mean DE?); --allow-empty writes an empty list"],
     ),
     (
-        &["--where", "c.i=AT", "--where", "c.i=FR", "--format", "cidr"],
+        &["--where", "c.i=AT", "--where", "c.i=FR", "--format", "nft"],
         "",
         &["no network has c.i=FR; --allow-missing goes on without it"],
     ),
@@ -79,21 +79,29 @@ const OF_WHOLE: &[Row<'static>] = &[
         "64.0.0.0/3\n",
         &[],
     ),
+    // a list of plain blocks empties no set: what it lacks is said
+    (
+        &["--where", "c.i=AT", "--where", "c.i=FR", "--format", "cidr"],
+        "64.0.0.0/3\n",
+        &["mmdb: no network has c.i=FR"],
+    ),
+    (&["--where", "c.i=de", "--format", "cidr"], "", &["no network has c.i=de (did you mean DE?)"]),
+    (&["--where", "c.i=AT", "--where", "n=7", "--format", "cidr"], "", &[]),
     // rows may be none
     (&["--where", "c.i=de"], "", &[]),
     // neither a map nor what is not there is a text
     (
-        &["--where", "c={\"i\":\"DE\"}", "--format", "cidr"],
+        &["--where", "c={\"i\":\"DE\"}", "--format", "nft"],
         "",
         &["no network has c={\"i\":\"DE\"}; --allow-empty writes an empty list"],
     ),
     (
-        &["--where", "x=", "--format", "cidr"],
+        &["--where", "x=", "--format", "nft"],
         "",
         &["no network has x=; --allow-empty writes an empty list"],
     ),
     (&["--format", "cidr", "--ipv4"], "0.0.0.0/1\n160.0.0.0/3\n192.0.0.0/2\n", &[]),
-    (&["--format", "cidr", "--ipv6"], "", NONE),
+    (&["--format", "nft", "--ipv6"], "", NONE),
     (&["--format", "cidr", "--ipv6", "--allow-empty"], "", &[]),
     (&["--format", "cidr", "--ipv4", "--ipv6"], "0.0.0.0/1\n160.0.0.0/3\n192.0.0.0/2\n", &[]),
     (&["128.0.0.0/1", "--format", "cidr"], "160.0.0.0/3\n192.0.0.0/2\n", &[]),
@@ -102,9 +110,9 @@ const OF_WHOLE: &[Row<'static>] = &[
     (&["0.0.0.0/0", "--format", "cidr"], "0.0.0.0/1\n160.0.0.0/3\n192.0.0.0/2\n", &[]),
     (&["36.5.0.0/16", "--where", "c.i=DE", "--format", "cidr"], "36.5.0.0/16\n", &[]),
     (
-        &["36.5.0.0/16", "--where", "c.i=AT", "--format", "cidr"],
+        &["36.5.0.0/16", "--where", "c.i=AT", "--format", "nft"],
         "",
-        &["no network has c.i=AT; --allow-empty writes an empty list"],
+        &["no network that is asked for has c.i=AT; --allow-empty writes an empty list"],
     ),
     (&["36.5.0.0/16", "--field", "n"], "{\"network\":\"32.0.0.0/3\",\"n\":7}\n", &[]),
     // every format is of the chosen networks
@@ -222,7 +230,7 @@ add mmdb_ipv6 8000::/1
 ",
                 &[],
             ),
-            (&["--format", "cidr", "--ipv4"], "", NONE),
+            (&["--format", "nft", "--ipv4"], "", NONE),
         ],
     ),
 ];
