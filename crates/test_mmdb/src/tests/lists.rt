@@ -138,7 +138,7 @@ add element inet mmdb blocked_ipv4 {
     (
         &["--where", "c.i=FR", "--format", "nft", "--ipv4"],
         "",
-        &["no network has c.i=FR; --allow-empty writes an empty list"],
+        &["no network that is asked for has c.i=FR; --allow-empty writes an empty list"],
     ),
     (
         &["--where", "c.i=FR", "--format", "nft", "--ipv4", "--allow-empty"],
