@@ -16,7 +16,7 @@ static struct mmdb_c_address address_of(const struct sockaddr *address) {
     return (struct mmdb_c_address){.low = ntohl(((const struct sockaddr_in *)address)->sin_addr.s_addr)};
 }
 
-/* What the database has for an IPv4 address. The processor is asked for the nodes behind the one that the first bits
+/* What the database has for an IPv4 address. The processor is asked for the nodes after the one that the first bits
  * lead to: writers number nodes in the order of a walk, so those that the lookup comes to stand there, and it waits for
  * memory once in place of at each bit. Nothing is read there, wherever it is. */
 static struct mmdb_c_found found_ipv4(const struct mmdb_c_db *db, uint32_t bits) {

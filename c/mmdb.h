@@ -7,7 +7,7 @@
  *  - No field of MMDB_s is changed, nor what it points to, and none is used after MMDB_close.
  *  - Pointers that are handed in are not null; an MMDB_entry_s comes from a lookup, from MMDB_read_node, or has an
  *    open database and any offset.
- *  - MMDB_open and mmdb_verify allocate: not in a signal handler, nor in a forked child of a process with threads.
+ *  - MMDB_open, mmdb_verify and mmdb_verify_records allocate: not in a signal handler, nor in a forked child of a process with threads.
  * Any number of threads may look up and read values in one open database at once. */
 #ifndef VIEDOLIVE_MMDB_H
 #define VIEDOLIVE_MMDB_H
@@ -24,6 +24,10 @@ extern "C" {
  * have records that can't be read: of a value with a pointer to a pointer, or of more than 65,536 parts, there is no list,
  * and a path fails where it passes a key that is no text or that a pointer to a pointer leads to. */
 extern int mmdb_verify(const char *filename);
+
+/* The same, and whether each record can be read: what a daemon asks of a download before it takes it. 0 (MMDB_SUCCESS) where
+ * the file is whole and no record has what mmdb_verify leaves open; else a status code says why not. It takes longer. */
+extern int mmdb_verify_records(const char *filename);
 
 /* Looks up many addresses at once. Each has in its place of `results` what MMDB_lookup_sockaddr returns for it, and in
  * its place of `errors` the status code; one that fails stops no other. The lookups of 64 addresses go on side by side,

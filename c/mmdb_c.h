@@ -69,6 +69,7 @@ uint32_t mmdb_c_open(const uint8_t *file, size_t file_len, uint32_t *ipv4_number
                      uint8_t *ipv4_depths, size_t ipv4_depths_len, uint32_t *ipv6_numbers, size_t ipv6_numbers_len,
                      uint8_t *ipv6_depths, size_t ipv6_depths_len, struct mmdb_c_facts *facts);
 uint32_t mmdb_c_verify(const uint8_t *file, size_t file_len);
+uint32_t mmdb_c_verify_records(const uint8_t *file, size_t file_len);
 struct mmdb_c_found mmdb_c_lookup_v4(const struct mmdb_c_db *db, uint32_t bits);
 struct mmdb_c_found mmdb_c_lookup_v6(const struct mmdb_c_db *db, uint64_t high, uint64_t low);
 void mmdb_c_lookup_many(const struct mmdb_c_db *db, const struct mmdb_c_address *addresses, size_t count,

@@ -31,14 +31,22 @@ int map_file(const char *name, const uint8_t **bytes, size_t *len) {
     return status;
 }
 
-int mmdb_verify(const char *filename) {
+static int verify_by(const char *filename, uint32_t (*verify)(const uint8_t *, size_t)) {
     const uint8_t *bytes;
     size_t len;
     int status = map_file(filename, &bytes, &len);
     if (status) return status;
-    status = (int)mmdb_c_verify(bytes, len);
+    status = (int)verify(bytes, len);
     munmap((void *)bytes, len);
     return status;
+}
+
+int mmdb_verify(const char *filename) {
+    return verify_by(filename, mmdb_c_verify);
+}
+
+int mmdb_verify_records(const char *filename) {
+    return verify_by(filename, mmdb_c_verify_records);
 }
 
 /* The tables as the proved reader has them: that of IPv4, and that of IPv6 where the database has one. */

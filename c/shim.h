@@ -17,7 +17,7 @@ struct table {
     uint8_t depths[MMDB_C_TABLE];
 };
 
-/* What stands behind an MMDB_s, which is the caller's and may not grow: `filename` points into it. */
+/* What belongs to an MMDB_s, which is the caller's and may not grow: `filename` points into it. */
 struct state {
     struct mmdb_c_db db;
     struct table *tables;

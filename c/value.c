@@ -44,7 +44,7 @@ static void set_data(const MMDB_s *m, const struct mmdb_c_item *item, MMDB_entry
     }
 }
 
-/* The value at an offset, or behind the one pointer that stands there. */
+/* The value at an offset, or where the one pointer that stands there leads. */
 static int read_value(const MMDB_s *m, size_t offset, struct mmdb_c_item *item) {
     if (!mmdb_c_value(m->data_section, m->data_section_size, offset, item)) return MMDB_INVALID_DATA_ERROR;
     if (item->kind != MMDB_DATA_TYPE_POINTER) return MMDB_SUCCESS;

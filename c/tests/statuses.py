@@ -1,5 +1,5 @@
 #!/usr/bin/env python3
-"""What `MMDB_open` and `mmdb_verify` say of changed files, by the codes of libmaxminddb's header.
+"""What `MMDB_open`, `mmdb_verify` and `mmdb_verify_records` say of changed files, by the codes of libmaxminddb's header.
 
     statuses.py LIBRARY FOLDER
 
@@ -62,6 +62,8 @@ ROWS = [
     ("the separator", file_of(separator=bytes(15) + b"\x01"), FINE, INVALID_DATA),
     ("a text", file_of(data=b"\x41\xff"), FINE, INVALID_DATA),
     ("a pointer to itself", file_of(data=b"\x20\x00"), FINE, INVALID_DATA),
+    # whole, with a record that can't be read: the last status is that of mmdb_verify_records, else it is that of mmdb_verify
+    ("a key that is a number", file_of(data=b"\xE1\xA1\x07\x41y"), FINE, FINE, INVALID_DATA),
 ]
 
 
@@ -77,8 +79,8 @@ def main():
         opened = library.MMDB_open(name, 0, database)
         if opened == FINE:
             library.MMDB_close(database)
-        got = [opened, library.mmdb_verify(name)]
-        if got != wanted:
+        got = [opened, library.mmdb_verify(name), library.mmdb_verify_records(name)]
+        if got != [*wanted, wanted[-1]][:3]:
             print(f"{what}: {got} instead of {wanted}")
             wrong += 1
     print(f"{len(ROWS)} files, {wrong} wrong")

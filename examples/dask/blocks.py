@@ -11,7 +11,7 @@ BLOCK = 8 << 20
 
 
 def blocks_of(log, block=BLOCK):
-    """The blocks of a log, as (start, end): about so many bytes each, and each ends behind a line break."""
+    """The blocks of a log, as (start, end): about `block` bytes each, up to a line break."""
     size = os.path.getsize(log)
     with open(log, "rb") as file:
         start = 0
@@ -52,7 +52,7 @@ def export_range(command, network, target):
 
 
 def join(parts, out):
-    """Writes the parts one behind the other. A network that is wider than a range stands in each range that it holds,
+    """Writes the parts one after the other. A network that is wider than a range stands in each range that it holds,
     and is written once."""
     last = None
     with open(out, "wb") as joined:

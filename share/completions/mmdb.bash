@@ -15,7 +15,7 @@ _mmdb() {
   local typed=${COMP_WORDS[COMP_CWORD]} before=${COMP_WORDS[COMP_CWORD - 1]} command=${COMP_WORDS[1]-}
   local options='' commands='show enrich export diff build info install verify help' word at arguments=0 ended=''
   COMPREPLY=()
-  # A redirection has a file behind it.
+  # A redirection is followed by a file.
   if [[ $before == *[\<\>] || $typed == *[\<\>] ]]; then
     _mmdb_files
     return
@@ -37,7 +37,7 @@ _mmdb() {
       ;;
     info) options='--json' ;;
     install) options='--max-change --dry-run' ;;
-    verify) options='--records' ;;
+    verify) options='--whole --database-type --newer-than --max-age --json --quiet' ;;
     help) [ "$COMP_CWORD" -ne 2 ] || _mmdb_offer "$commands"; return ;;
     *) return ;;
   esac
@@ -50,8 +50,8 @@ _mmdb() {
       *[\<\>]) at=$((at + 1)) ;;
       --path | --column | --delimiter | --field | --format | --where | --where-not | --name | --into | --json | --hop | \
         --from | --network-column | --range-columns | --type | --types-like | --equal | --database-type | --description | \
-        --language | --build-epoch | --ip-version | --record-size | --reserved | --max-change)
-        if [ "$word$command" = --jsoninfo ]; then continue; fi
+        --language | --build-epoch | --ip-version | --record-size | --reserved | --max-change | --newer-than | --max-age)
+        case $word$command in --jsoninfo | --jsonverify) continue ;; esac
         at=$((at + 1))
         [ "${COMP_WORDS[at]-}" != = ] || at=$((at + 1))
         ;;
@@ -76,8 +76,8 @@ _mmdb() {
     --ip-version) _mmdb_offer '6 4'; return ;;
     --record-size) _mmdb_offer '24 28 32'; return ;;
     --reserved) _mmdb_offer 'keep skip error'; return ;;
-    --network-column | --range-columns | --type | --database-type | --description | --language | --build-epoch | --max-change) return ;;
-    --from | --types-like) _mmdb_files; return ;;
+    --network-column | --range-columns | --type | --database-type | --description | --language | --build-epoch | --max-change | --max-age) return ;;
+    --from | --types-like | --newer-than) _mmdb_files; return ;;
     --path | --column | --delimiter | --field | --where | --where-not | --name | --into) return ;;
     --json) if [ "$command" = enrich ]; then return; fi ;;
   esac

@@ -12,7 +12,7 @@ function __mmdb_is
     test (count $words) -ge 2; and test "$words[2]" = $argv[1]
 end
 
-# Whether the line has one of these commands, with no argument behind it. An option's value is none.
+# Whether the line has one of these commands, with no argument after it. An option's value is none.
 function __mmdb_wants_file
     set -l words (commandline -opc)
     test (count $words) -ge 2; and contains -- "$words[2]" $argv; or return 1
@@ -20,7 +20,7 @@ function __mmdb_wants_file
     for word in $words[3..-1]
         if test $value = yes
             set value no
-        else if contains -- $word --path --column --delimiter --field --format --where --where-not --name --into --hop --from --network-column --range-columns --type --types-like --equal --database-type --description --language --build-epoch --ip-version --record-size --reserved --max-change; or test "$words[2]$word" = enrich--json
+        else if contains -- $word --path --column --delimiter --field --format --where --where-not --name --into --hop --from --network-column --range-columns --type --types-like --equal --database-type --description --language --build-epoch --ip-version --record-size --reserved --max-change --newer-than --max-age; or test "$words[2]$word" = enrich--json
             set value yes
         else if not string match -q -- '-*' $word
             return 1
@@ -32,13 +32,13 @@ end
 complete -c mmdb -f
 
 complete -c mmdb -n __mmdb_no_command -a show -d 'Show the records of addresses as JSON'
-complete -c mmdb -n __mmdb_no_command -a enrich -d 'Copy lines from standard input, with fields behind each'
+complete -c mmdb -n __mmdb_no_command -a enrich -d 'Copy lines from standard input, with fields after each'
 complete -c mmdb -n __mmdb_no_command -a export -d 'Write every network that has data'
 complete -c mmdb -n __mmdb_no_command -a diff -d 'Write what changed between two files'
 complete -c mmdb -n __mmdb_no_command -a build -d 'Make a MaxMind DB file of lines of JSON, CSV or TSV'
 complete -c mmdb -n __mmdb_no_command -a info -d 'Show what a database says of itself'
 complete -c mmdb -n __mmdb_no_command -a install -d 'Put a file in the place of another one, after it was checked'
-complete -c mmdb -n __mmdb_no_command -a verify -d 'Check whether files are whole'
+complete -c mmdb -n __mmdb_no_command -a verify -d 'Check whether files are whole and all their records can be read'
 complete -c mmdb -n __mmdb_no_command -a help -d 'Print help'
 complete -c mmdb -n __mmdb_no_command -s h -l help -d 'Print help'
 complete -c mmdb -n __mmdb_no_command -s V -l version -d 'Print the version'
@@ -105,7 +105,12 @@ complete -c mmdb -n '__mmdb_is install' -l max-change -x -d 'No more of the IPv4
 complete -c mmdb -n '__mmdb_is install' -l dry-run -d 'Only say what would be done'
 complete -c mmdb -n '__mmdb_is install' -s h -l help -d 'Print help'
 
-complete -c mmdb -n '__mmdb_is verify' -l records -d 'And whether all their records can be read'
+complete -c mmdb -n '__mmdb_is verify' -l whole -d 'Only whether files are whole'
+complete -c mmdb -n '__mmdb_is verify' -l database-type -x -d 'The type that each file has to have'
+complete -c mmdb -n '__mmdb_is verify' -l newer-than -r -F -d 'The file after which each has to be built'
+complete -c mmdb -n '__mmdb_is verify' -l max-age -x -d 'How many days ago each file may be built at most'
+complete -c mmdb -n '__mmdb_is verify' -l json -d 'An object for each file'
+complete -c mmdb -n '__mmdb_is verify' -l quiet -d 'No output, only the status'
 complete -c mmdb -n '__mmdb_is verify' -s h -l help -d 'Print help'
 
 complete -c mmdb -n '__mmdb_is help' -a 'show enrich export diff build info install verify help'

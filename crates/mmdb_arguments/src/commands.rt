@@ -13,15 +13,17 @@ may hold dots or digits. The status is 0 if all were found, 6 if one was not,
 const INFO_EXAMPLE: &str = "Example:
   mmdb info GeoLite2-City.mmdb --json";
 
-const VERIFY_EXAMPLE: &str = "Example:
+const VERIFY_EXAMPLE: &str = "Examples:
   mmdb verify GeoLite2-City.mmdb GeoLite2-Country.mmdb
+  mmdb verify new/GeoLite2-City.mmdb --database-type '*City' --max-age 30
 
-The status is 0 where all files are whole, else 1. In a whole file every lookup
-succeeds and every record is a finite tree of valid text, but one may still not
-be read: with a key that is no text, or that a pointer to a pointer leads to, or
-with more than 65,536 values or 2 MiB of texts. With --records all records have
-to be read too: how many can't be, the first network and why is said. A file that
-was made to be dear may take long then.";
+The status is 0 where all files are whole and all their records can be read, else
+1. In a whole file every lookup succeeds and every record is a finite tree of
+valid text, but one may still not be read: with a key that is no text, or that a
+pointer to a pointer leads to, or with more than 65,536 values or 2 MiB of texts.
+How many can't be read, the first network and why is said. With --whole files are
+only to be whole. With --json each file is an object with its path, ok, type,
+epoch, nodes, records and error: null where it is not known, or none.";
 
 const ENRICH_EXAMPLE: &str = "Examples:
   tail -F nginx/access.log | mmdb enrich GeoLite2-City.mmdb --field country.iso_code
@@ -304,11 +306,28 @@ const READING: &[Usage] = &[
     },
     Usage {
         name: "verify",
-        about: "Check whether files are whole, so that every lookup succeeds",
+        about: "Check whether files are whole and all their records can be read",
         example: VERIFY_EXAMPLE,
         arguments: &[
             Argument::Several("FILE", "MaxMind DB files"),
-            Argument::Flag("records", "And whether all their records can be read"),
+            Argument::Flag("whole", "Only whether files are whole"),
+            Argument::Value(
+                "database-type",
+                "TYPE",
+                "The type that each file has to have; a * at its end or its beginning stands for any text",
+            ),
+            Argument::Value(
+                "newer-than",
+                "OLD",
+                "The MaxMind DB file after which each file has to be built",
+            ),
+            Argument::Value(
+                "max-age",
+                "DAYS",
+                "How many days ago each file may be built at most",
+            ),
+            Argument::Flag("json", "An object for each file"),
+            Argument::Flag("quiet", "No output, only the status; errors are still said"),
         ],
     },
 ];

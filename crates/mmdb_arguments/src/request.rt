@@ -114,8 +114,16 @@ pub struct DiffArguments<'a> {
 #[derive(Drop)]
 pub struct VerifyArguments<'a> {
     pub files: Vec<&'a str>,
-    /// Whether all records are read too.
-    pub records: bool,
+    /// Whether files are only to be whole, whatever their records are.
+    pub whole: bool,
+    /// The type that each file has to have, with a `*` at an end for any text there.
+    pub database_type: Option<&'a str>,
+    /// The file after which each has to be built.
+    pub newer_than: Option<&'a str>,
+    /// A text that should be a number of days.
+    pub max_age: Option<&'a str>,
+    pub json: bool,
+    pub quiet: bool,
 }
 
 /// What the rows of a file that is made are.
@@ -362,7 +370,12 @@ fn verify<'a>(alloc: Global, matches: &ArgMatches<'a>) -> Result<Request<'a>, No
     let files = texts_of(alloc, matches, "FILE")?;
     Ok(Request::Verify(VerifyArguments {
         files,
-        records: matches.get_flag("records"),
+        whole: matches.get_flag("whole"),
+        database_type: matches.get_str("database-type"),
+        newer_than: matches.get_str("newer-than"),
+        max_age: matches.get_str("max-age"),
+        json: matches.get_flag("json"),
+        quiet: matches.get_flag("quiet"),
     }))
 }
 

@@ -1,15 +1,19 @@
 //! Joins ascending blocks of addresses into the fewest that have the same addresses: block by block, with as much
 //! memory as is taken at the start. It knows nothing of files, nor of what addresses are: IPv4 addresses are passed
-//! as numbers below 2 ^ 32, with prefixes of 96 and more.
+//! as numbers below 2 ^ 32, with prefixes of 96 and more. The lists of them that firewalls read are written here too.
 #![tactic(auto)]
 
 mod block;
 mod joiner;
 mod kind;
 pub mod laws;
+mod list;
 mod network;
+mod syntax;
 mod waiting;
 
 pub use block::Block;
 pub use joiner::{JoinError, Joiner};
 pub use kind::{Kind, Kinds};
+pub use list::{List, ListError, Taken};
+pub use syntax::{Syntax, is_set_name};

@@ -10,7 +10,7 @@ use Rattle.mmdb_tree.specs.Table.{IsFull}
 use Rattle.mmdb_tree.specs.Descents.{Descends}
 use Rattle.mmdb_reader.specs.File.{Database, tree_of, data_start, before_ipv4}
 use Rattle.mmdb_reader.specs.Source.{IsDatabaseOf}
-use Rattle.mmdb_reader.specs.Whole.{IsWhole}
+use Rattle.mmdb_reader.specs.Whole.{IsWhole, HasReadableRecords}
 use Rattle.mmdb_tree.specs.declared.record.TreeRecord.{TreeRecord}
 use Rattle.mmdb_tree.specs.declared.record.TreeRecord.TheVariants.{Data, Empty, Invalid}
 use Rattle.mmdb_reader.specs.Lookup.{Answers}
@@ -27,6 +27,13 @@ pub record IsWholeFile (file : List ℕ) : Type 0 where
   pub db : Database
   pub is : IsDatabaseOf file db
   pub whole : IsWhole db
+
+-- They are those of a whole database of which each record can be read.
+pub record IsReadableFile (file : List ℕ) : Type 0 where
+  pub db : Database
+  pub is : IsDatabaseOf file db
+  pub whole : IsWhole db
+  pub readable : HasReadableRecords db
 
 -- the search tree
 abbrev pub tree : List ℕ → Facts → SearchTree

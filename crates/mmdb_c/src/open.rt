@@ -3,7 +3,7 @@ ghost use Rattle.std.specs.Prelude.{◌≡◌, ◌≢◌, ℕ, List, length, OnO
 ghost use Rattle.mmdb_format.specs.Error.{MemoryApart};
 ghost use Rattle.mmdb_reader.specs.Source.{IsNoDatabase};
 ghost use Rattle.mmdb_reader.specs.Kept.{IsLayoutOf, database_of};
-ghost use Rattle.mmdb_c.specs.Opened.{HasDatabase, IsOf, IsOpened, IsOfFile, IsWholeFile};
+ghost use Rattle.mmdb_c.specs.Opened.{HasDatabase, IsOf, IsOpened, IsOfFile, IsWholeFile, IsReadableFile};
 
 use crate::db::Facts;
 use crate::status::{FOUND, code_of};
@@ -95,6 +95,32 @@ pub extern "C" fn mmdb_c_verify(alloc: Global, file: &[u8]) -> u32
     ensures not_whole { result ≢ 0 → result ≢ 5 → ¬ IsWholeFile file.now }
 {
     match verify(alloc, file) {
+        Ok(()) => FOUND,
+        Err(error) => code_of(alloc, file, &error),
+    }
+}
+
+// Opens and checks a file and its records.
+fn verify_records(alloc: Global, file: &[u8]) -> Result<(), MaxMindDbError>
+    ensures readable { OnOk result (IsReadableFile file.now) }
+    ensures not_readable { IfErr result (λ e. MemoryApart e (¬ IsReadableFile file.now)) }
+{
+    let reader = Reader::from_source(alloc, file)?;
+    source_decides();
+    reader.verify_records(alloc)
+}
+
+/// Whether the bytes of a file are those of a whole database of which each record can be read, as
+/// `Reader::verify_records` of the reader checks it.
+///
+/// 0 exactly where they are, unless out of memory, which is 5. Else the code says what is wrong, as that of
+/// `mmdb_c_verify`.
+#[unsafe(no_mangle)]
+pub extern "C" fn mmdb_c_verify_records(alloc: Global, file: &[u8]) -> u32
+    ensures readable { result ≡ 0 → IsReadableFile file.now }
+    ensures not_readable { result ≢ 0 → result ≢ 5 → ¬ IsReadableFile file.now }
+{
+    match verify_records(alloc, file) {
         Ok(()) => FOUND,
         Err(error) => code_of(alloc, file, &error),
     }

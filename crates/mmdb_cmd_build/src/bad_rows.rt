@@ -1,6 +1,6 @@
 //! Rows that are not taken.
+use crate::error::BadRow;
 use mmdb_console::Console;
-use mmdb_input::BadRow;
 use std::alloc::{AllocError, Global};
 use std::io::Write;
 
@@ -9,7 +9,7 @@ const MOST_SHOWN: usize = 20;
 
 /// A row that is shown: its line, and what is wrong with it.
 #[derive(Drop)]
-struct Shown {
+struct ShownRow {
     line: u64,
     row: BadRow,
 }
@@ -18,7 +18,7 @@ struct Shown {
 #[derive(Drop)]
 pub(crate) struct BadRows {
     pub(crate) count: u64,
-    shown: Vec<Shown>,
+    shown: Vec<ShownRow>,
 }
 
 impl BadRows {
@@ -33,7 +33,7 @@ impl BadRows {
     pub(crate) fn add(&mut self, line: u64, row: BadRow) -> Result<(), AllocError> {
         self.count = self.count.saturating_add(1);
         if self.shown.len() < MOST_SHOWN {
-            self.shown.push(Shown { line, row })?;
+            self.shown.push(ShownRow { line, row })?;
         }
         Ok(())
     }

@@ -1,5 +1,5 @@
 //! A file that was made, compared with the rows.
-use crate::kept::{Kept, Print, print_of};
+use crate::kept::{KeptRows, Print, print_of};
 use crate::pieces::{Piece, Pieces, last_of};
 use mmdb_blocks::Block;
 use mmdb_layout::{Database, Found, Networks};
@@ -10,7 +10,7 @@ use std::collections::HashMap;
 
 /// A network of the file, and what its record is.
 #[derive(Clone, Copy)]
-struct Answer {
+struct FileNetwork {
     first: u128,
     last: u128,
     print: Print,
@@ -18,12 +18,12 @@ struct Answer {
 
 /// The networks of a file, one after another.
 #[derive(Drop)]
-struct Answers<'r> {
+struct FileNetworks<'r> {
     networks: Networks<'r>,
     /// What the records at offsets are.
     prints: HashMap<usize, Print>,
     /// The network that is at hand, none behind the last.
-    here: Option<Answer>,
+    here: Option<FileNetwork>,
 }
 
 // What the record of a network is.
@@ -51,20 +51,20 @@ fn answer_of(
     alloc: Global,
     found: &Found<'_>,
     prints: &mut HashMap<usize, Print>,
-) -> Result<Option<Answer>, MaxMindDbError> {
+) -> Result<Option<FileNetwork>, MaxMindDbError> {
     let Some(offset) = found.offset() else {
         return Ok(None);
     };
     let block = Block::of_network(found.network()?);
     let print = print_at(alloc, found, offset, prints)?;
-    Ok(Some(Answer {
+    Ok(Some(FileNetwork {
         first: block.first,
         last: last_of(block),
         print,
     }))
 }
 
-impl Answers<'_> {
+impl FileNetworks<'_> {
     // Goes on to the next network, or behind the last.
     fn step(&mut self, alloc: Global) -> Result<(), MaxMindDbError> {
         self.here = match self.networks.next() {
@@ -121,8 +121,8 @@ impl Answers<'_> {
 // The first address at which the file says something else than the rows, if there is one.
 fn first_in(
     alloc: Global,
-    answers: &mut Answers<'_>,
-    kept: &Kept,
+    answers: &mut FileNetworks<'_>,
+    kept: &KeptRows,
 ) -> Result<Option<u128>, MaxMindDbError> {
     let mut pieces = Pieces::new(alloc, &kept.rows);
     answers.step(alloc)?;
@@ -146,10 +146,10 @@ fn first_in(
 pub(crate) fn first_difference(
     alloc: Global,
     database: &Database,
-    kept: &Kept,
+    kept: &KeptRows,
 ) -> Result<Option<u128>, MaxMindDbError> {
     database.verify(alloc)?;
-    let mut answers = Answers {
+    let mut answers = FileNetworks {
         networks: database.networks(alloc, WithinOptions::default())?,
         prints: HashMap::new(alloc),
         here: None,

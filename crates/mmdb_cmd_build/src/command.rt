@@ -4,12 +4,12 @@ use crate::finish::finish;
 use crate::gather::Gathering;
 use crate::like::learn_types;
 use crate::notes::{report_io, report_write};
-use crate::taken::Taken;
+use crate::taken::TakenRows;
 use crate::task::{BuildTask, STANDARD_INPUT, build_task, options_of};
+use crate::types::Types;
 use mmdb_arguments::BuildArguments;
-use mmdb_console::{Console, FAILED, ProgramError, ProgressLine};
+use mmdb_console::{Console, FAILED, Pace, ProgramError, ProgressLine};
 use mmdb_files::{Standing, standing_of};
-use mmdb_input::Types;
 use mmdb_writer::{Options, Writer};
 use std::env::Env;
 use std::fs::File;
@@ -21,7 +21,7 @@ use std::time::Clock;
 const BUFFER: usize = 1 << 16;
 
 // Gathers the rows of an input.
-fn gather<'t, I: BufRead, O: Write, E: Write>(
+fn gather<'t, I: BufRead, O: Write, E: Pace>(
     task: &BuildTask<'t>,
     types: &'t Types,
     gathering: &mut Gathering,
@@ -29,14 +29,14 @@ fn gather<'t, I: BufRead, O: Write, E: Write>(
     console: &mut Console<'_, O, E>,
 ) -> Result<(), ProgramError> {
     let alloc = console.alloc;
-    let mut progress = ProgressLine::new(alloc, console.terminals.errors, console.errors);
+    let mut progress = ProgressLine::new(alloc, "lines", console.errors);
     let gathered = gathering.gather(alloc, task, types, input, &mut progress);
     progress.clear();
     gathered
 }
 
 // Opens the file of the rows and gathers them, or those of standard input.
-fn gather_from<'t, R: Files, I: BufRead, O: Write, E: Write>(
+fn gather_from<'t, R: Files, I: BufRead, O: Write, E: Pace>(
     rt: &R,
     task: &BuildTask<'t>,
     types: &'t Types,
@@ -53,7 +53,7 @@ fn gather_from<'t, R: Files, I: BufRead, O: Write, E: Write>(
 }
 
 // Makes the file of rows whose values have these types.
-fn build_of<R: Files + Clock, I: BufRead, O: Write, E: Write>(
+fn build_of<R: Files + Clock, I: BufRead, O: Write, E: Pace>(
     rt: &R,
     task: &BuildTask<'_>,
     options: Options,
@@ -67,7 +67,7 @@ fn build_of<R: Files + Clock, I: BufRead, O: Write, E: Write>(
         Err(error) => return report_write(task.out, error, console),
     };
     let mut gathering = Gathering {
-        taken: Taken::new(console.alloc, task, version, writer),
+        taken: TakenRows::new(console.alloc, task, version, writer),
         bad: BadRows::new(console.alloc),
         is_too_large: false,
         has_no_header: false,
@@ -96,7 +96,7 @@ fn against(standing: Standing) -> Option<&'static str> {
 }
 
 // Whether a file may take the place of what is there. Why not is reported.
-fn may_replace<R: Files, O: Write, E: Write>(
+fn may_replace<R: Files, O: Write, E: Pace>(
     rt: &R,
     out: &str,
     console: &mut Console<'_, O, E>,
@@ -117,7 +117,7 @@ fn may_replace<R: Files, O: Write, E: Write>(
 }
 
 // Learns types and makes the file.
-fn build_file<R: Files + Clock, I: BufRead, O: Write, E: Write>(
+fn build_file<R: Files + Clock, I: BufRead, O: Write, E: Pace>(
     rt: &R,
     task: &BuildTask<'_>,
     options: Options,
@@ -136,7 +136,7 @@ fn build_file<R: Files + Clock, I: BufRead, O: Write, E: Write>(
 /// Makes a MaxMind DB file of rows, reports what is wrong with them and what the file has, and answers the status. The file
 /// takes the place of what is there when it is whole. An `Err` where an argument is not what is wanted in its place, before any
 /// file is opened; where standard input can't be read, or out of memory.
-pub fn build<R: Files + Env + Clock, I: BufRead, O: Write, E: Write>(
+pub fn build<R: Files + Env + Clock, I: BufRead, O: Write, E: Pace>(
     rt: &R,
     arguments: &BuildArguments<'_>,
     input: &mut I,

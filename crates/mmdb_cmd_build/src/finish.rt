@@ -1,10 +1,10 @@
 //! The file of rows that were gathered.
 use crate::check::first_difference;
 use crate::gather::Gathering;
-use crate::kept::Kept;
+use crate::kept::KeptRows;
 use crate::notes::{note, report_io, report_write};
 use crate::summary::{Summary, summary_of};
-use crate::taken::Taken;
+use crate::taken::TakenRows;
 use crate::task::BuildTask;
 use mmdb_arguments::Reserved;
 use mmdb_blocks::{Block, Kind};
@@ -98,7 +98,7 @@ fn text_of_number(alloc: Global, number: u128) -> Result<String, AllocError> {
 fn is_as_said<O: Write, E: Write>(
     task: &BuildTask<'_>,
     database: &Database,
-    kept: &Kept,
+    kept: &KeptRows,
     console: &mut Console<'_, O, E>,
 ) -> Result<bool, ProgramError> {
     let Some(number) = first_difference(console.alloc, database, kept)? else {
@@ -120,7 +120,7 @@ fn check<R: Files, O: Write, E: Write>(
     rt: &R,
     task: &BuildTask<'_>,
     made: &MadeFile,
-    kept: Kept,
+    kept: KeptRows,
     console: &mut Console<'_, O, E>,
 ) -> Result<bool, ProgramError> {
     let mut kept = kept;
@@ -158,7 +158,7 @@ fn check_and_put<R: Files, O: Write, E: Write>(
     task: &BuildTask<'_>,
     made: MadeFile,
     summary: Summary,
-    kept: Option<Kept>,
+    kept: Option<KeptRows>,
     console: &mut Console<'_, O, E>,
 ) -> Result<u8, ProgramError> {
     let is_right = match kept {
@@ -183,7 +183,7 @@ fn make<R: Files + Clock, O: Write, E: Write>(
     rt: &R,
     task: &BuildTask<'_>,
     bytes: Vec<u8>,
-    kept: Option<Kept>,
+    kept: Option<KeptRows>,
     console: &mut Console<'_, O, E>,
 ) -> Result<u8, ProgramError> {
     let summary = summary_of(console.alloc, &bytes)?;
@@ -200,7 +200,7 @@ fn write<R: Files + Clock, O: Write, E: Write>(
     rt: &R,
     task: &BuildTask<'_>,
     writer: Writer,
-    kept: Option<Kept>,
+    kept: Option<KeptRows>,
     console: &mut Console<'_, O, E>,
 ) -> Result<u8, ProgramError> {
     match writer.write(console.alloc) {
@@ -232,6 +232,6 @@ pub(crate) fn finish<R: Files + Clock, O: Write, E: Write>(
         report_nothing(task, console);
         return Ok(FAILED);
     }
-    let Taken { writer, kept, .. } = taken;
+    let TakenRows { writer, kept, .. } = taken;
     write(rt, task, writer, kept, console)
 }

@@ -1,10 +1,13 @@
 //! Rows that are gathered.
 use crate::bad_rows::BadRows;
+use crate::entry::RowEntry;
+use crate::error::{InputError, Reason};
+use crate::input_rows::{RowRead, read_row};
 use crate::rows::RowReader;
-use crate::taken::Taken;
+use crate::taken::TakenRows;
 use crate::task::BuildTask;
-use mmdb_console::{ProgramError, ProgressLine};
-use mmdb_input::{Entry, InputError, Reason, RowRead, Types, read_row};
+use crate::types::Types;
+use mmdb_console::{Pace, Passed, ProgramError, ProgressLine};
 use std::alloc::Global;
 use std::io::{BufRead, Write};
 
@@ -14,7 +17,7 @@ const STEP: u64 = 65_536;
 /// Rows that are gathered.
 #[derive(Drop)]
 pub(crate) struct Gathering {
-    pub(crate) taken: Taken,
+    pub(crate) taken: TakenRows,
     pub(crate) bad: BadRows,
     /// Whether the values have more bytes than a file may have.
     pub(crate) is_too_large: bool,
@@ -51,7 +54,7 @@ impl Gathering {
     fn take(
         &mut self,
         line: u64,
-        entry: Result<Option<Entry>, InputError>,
+        entry: Result<Option<RowEntry>, InputError>,
     ) -> Result<(), ProgramError> {
         let entry = match entry {
             Ok(entry) => entry,
@@ -89,7 +92,7 @@ impl Gathering {
     }
 
     /// Gathers all rows of an input. An `Err` is of the input, or of memory.
-    pub(crate) fn gather<'t, I: BufRead, E: Write>(
+    pub(crate) fn gather<'t, I: BufRead, E: Pace>(
         &mut self,
         alloc: Global,
         task: &BuildTask<'t>,
@@ -102,7 +105,7 @@ impl Gathering {
         let mut ended = 0u64;
         for passed in 0..u64::MAX {
             if passed % STEP == 0 && passed > 0 {
-                progress.passed(passed);
+                progress.passed(Passed::of(passed));
             }
             let line = ended.saturating_add(1);
             let read = read_row(alloc, input, task.rows(), &mut row, &mut ended)?;

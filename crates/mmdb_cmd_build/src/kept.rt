@@ -22,15 +22,15 @@ pub(crate) struct KeptRow {
 
 /// What rows said.
 #[derive(Drop)]
-pub(crate) struct Kept {
+pub(crate) struct KeptRows {
     pub(crate) rows: Vec<KeptRow>,
     /// By the indexes of the values.
     pub(crate) prints: Vec<Print>,
 }
 
-impl Kept {
-    pub(crate) fn new(alloc: Global) -> Kept {
-        Kept {
+impl KeptRows {
+    pub(crate) fn new(alloc: Global) -> KeptRows {
+        KeptRows {
             rows: Vec::new(alloc),
             prints: Vec::new(alloc),
         }

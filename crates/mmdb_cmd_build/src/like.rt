@@ -1,8 +1,8 @@
 //! The types of values: those of a database, and those that are named.
 use crate::notes::note;
 use crate::task::BuildTask;
+use crate::types::Types;
 use mmdb_console::{Console, ProgramError};
-use mmdb_input::Types;
 use mmdb_layout::{Database, Found, open_database};
 use mmdb_reader::{MaxMindDbError, WithinOptions};
 use mmdb_value::Value;

@@ -1,7 +1,11 @@
 //! Rows of every format.
+use crate::cells::Cells;
+use crate::entry::{RowEntry, Values};
+use crate::error::InputError;
+use crate::json_lines::JsonLines;
 use crate::task::BuildTask;
+use crate::types::Types;
 use mmdb_arguments::RowFormat;
-use mmdb_input::{Cells, Entry, InputError, JsonLines, Types, Values};
 use std::alloc::{AllocError, Global};
 
 /// What reads rows.
@@ -52,7 +56,7 @@ impl<'t> RowReader<'t> {
         types: &'t Types,
         row: &[u8],
         values: &mut V,
-    ) -> Result<Option<Entry>, InputError> {
+    ) -> Result<Option<RowEntry>, InputError> {
         let text = without_end(row);
         match self {
             RowReader::Json(_) | RowReader::Cells(_) if is_blank(text) => Ok(None),

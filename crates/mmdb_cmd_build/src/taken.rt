@@ -1,10 +1,12 @@
 //! What was taken of rows.
-use crate::kept::{Kept, KeptRow, print_of};
+use crate::entry::{RowAddresses, RowEntry, Values};
+use crate::error::{InputError, Reason};
+use crate::kept::{KeptRow, KeptRows, print_of};
+use crate::range::AddressRange;
 use crate::reserved::is_reserved;
 use crate::task::BuildTask;
 use mmdb_arguments::Reserved;
 use mmdb_blocks::Block;
-use mmdb_input::{AddressRange, Entry, InputError, Place, Reason, Values};
 use mmdb_net::IpNetwork;
 use mmdb_value::Value;
 use mmdb_writer::{IpVersion, Row, ValueError, WriteError, Writer};
@@ -31,7 +33,7 @@ fn met_of(block: Block) -> Met {
 
 /// What was taken of rows: the file in the making, and how many networks there are.
 #[derive(Drop)]
-pub(crate) struct Taken {
+pub(crate) struct TakenRows {
     pub(crate) writer: Writer,
     /// How many networks were taken.
     pub(crate) networks: u64,
@@ -44,7 +46,7 @@ pub(crate) struct Taken {
     /// The networks, where equal ones are an error.
     met: Option<HashSet<Met>>,
     /// What the rows said, where it is to be compared with the file.
-    pub(crate) kept: Option<Kept>,
+    pub(crate) kept: Option<KeptRows>,
 }
 
 // Why a value is not taken.
@@ -69,11 +71,11 @@ fn error_of(error: WriteError) -> InputError {
     }
 }
 
-impl Values for Taken {
-    fn check(&self, place: Place) -> Result<(), Reason> {
+impl Values for TakenRows {
+    fn check(&self, place: RowAddresses) -> Result<(), Reason> {
         match place {
-            Place::Network(network) => self.check_network(network),
-            Place::Range(range) => self.check_range(range),
+            RowAddresses::Network(network) => self.check_network(network),
+            RowAddresses::Range(range) => self.check_range(range),
         }
     }
 
@@ -88,15 +90,15 @@ impl Values for Taken {
     }
 }
 
-impl Taken {
+impl TakenRows {
     /// Nothing yet.
     pub(crate) fn new(
         alloc: Global,
         task: &BuildTask<'_>,
         version: IpVersion,
         writer: Writer,
-    ) -> Taken {
-        Taken {
+    ) -> TakenRows {
+        TakenRows {
             writer,
             networks: 0,
             has_value: false,
@@ -109,7 +111,7 @@ impl Taken {
                 None
             },
             kept: if task.check {
-                Some(Kept::new(alloc))
+                Some(KeptRows::new(alloc))
             } else {
                 None
             },
@@ -205,11 +207,11 @@ impl Taken {
     }
 
     /// Takes what a row says: all its networks or none, but for those in reserved ones that are skipped.
-    pub(crate) fn take(&mut self, entry: Entry) -> Result<(), InputError> {
+    pub(crate) fn take(&mut self, entry: RowEntry) -> Result<(), InputError> {
         self.check(entry.place)?;
         match entry.place {
-            Place::Network(network) => self.put(network, entry.value),
-            Place::Range(range) => self.put_range(range, entry.value),
+            RowAddresses::Network(network) => self.put(network, entry.value),
+            RowAddresses::Range(range) => self.put_range(range, entry.value),
         }
     }
 }

@@ -1,9 +1,11 @@
 //! What `build` is asked for.
+use crate::columns::Columns;
+use crate::json_lines::{RANGE, RECORD};
+use crate::scalars::type_of;
 use mmdb_arguments::{BuildArguments, NoRequest, Reserved, RowFormat};
+use mmdb_console::wanted_path;
 use mmdb_filter::Rows;
 use mmdb_format::kind::Kind;
-use mmdb_input::{Columns, RANGE, RECORD, type_of};
-use mmdb_layout::wanted_path;
 use mmdb_reader::PathElement;
 use mmdb_writer::{IpVersion, Options, RecordSize};
 use std::alloc::{AllocError, Global};

@@ -1,6 +1,5 @@
 //! How much of two databases differs.
-use mmdb_diff::{Comparison, Part, Side, Stretch};
-use mmdb_equality::{KnownPairs, Offsets, SideBySide};
+use mmdb_compare::{Comparison, ComparisonPart, KnownPairs, Offsets, Side, SideBySide, Stretch};
 use mmdb_reader::{IpNetwork, LookupResult, MaxMindDbError, Reader};
 use mmdb_value::Value;
 use std::alloc::Global;
@@ -43,13 +42,13 @@ fn record_of<'r>(
 
 /// Two databases side by side, and what is known of their records.
 #[derive(Drop)]
-struct Both<'r> {
+struct OldAndNew<'r> {
     comparison: Comparison<'r, &'r [u8]>,
     records: SideBySide<'r>,
     known: KnownPairs,
 }
 
-impl<'r> Both<'r> {
+impl<'r> OldAndNew<'r> {
     // Whether both records of a stretch are equal, by their values. An `Err` is of the old one where that can't be read.
     fn have_same_values(&self, alloc: Global, stretch: Stretch) -> Result<bool, MaxMindDbError> {
         let old = record_of(alloc, self.comparison.found_in_old(stretch))?;
@@ -102,11 +101,11 @@ impl<'r> Both<'r> {
         let mut change = Change { all: 0, changed: 0 };
         for _ in 0..u64::MAX {
             match self.comparison.next_part() {
-                Some(Part::Stretch(stretch)) => {
+                Some(ComparisonPart::Stretch(stretch)) => {
                     let is_same = self.is_same(alloc, stretch)?;
                     change.count(stretch, is_same);
                 }
-                Some(Part::Unread(side)) => return Err(self.unread(side)),
+                Some(ComparisonPart::Unread(side)) => return Err(self.unread(side)),
                 None => break,
             }
         }
@@ -129,7 +128,7 @@ pub(crate) fn change_between<'r>(
     let known = KnownPairs::new(alloc)?;
     match Comparison::new(alloc, old, new, ipv4()?) {
         Ok(comparison) => {
-            let mut both = Both {
+            let mut both = OldAndNew {
                 comparison,
                 records,
                 known,

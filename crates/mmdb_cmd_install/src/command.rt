@@ -215,7 +215,7 @@ fn replace<R: Files + Clock, O: Write, E: Write>(
     }
 }
 
-// Whether all records of a database can be read. An `Err` is of the first one that can't be.
+// Whether a database is whole and all its records can be read. An `Err` says why not, or is of the first one that can't be.
 fn read_all(alloc: Global, database: &Reader<&[u8]>) -> Result<(), MaxMindDbError> {
     match unreadable_records(alloc, database)? {
         Some(unreadable) => Err(unreadable.error),
@@ -230,10 +230,7 @@ fn verified<'b, O: Write, E: Write>(
     console: &mut Console<'_, O, E>,
 ) -> Option<Reader<&'b [u8]>> {
     let reader = reported(file, Reader::from_source(console.alloc, bytes), console)?;
-    let whole = match reader.verify(console.alloc) {
-        Ok(()) => read_all(console.alloc, &reader),
-        Err(error) => Err(error),
-    };
+    let whole = read_all(console.alloc, &reader);
     if reported(file, whole, console).is_some() {
         Some(reader)
     } else {

@@ -1,11 +1,14 @@
-//! Where commands write and report, with which statuses they end, and why they give up.
+//! Where commands write and report, with which statuses they end, and why they give up; paths and ranges as a person writes
+//! them.
 #![tactic(auto)]
 
 mod archive;
 mod error;
 mod output;
+mod paths;
 mod place;
 mod progress;
+mod ranges;
 mod similar;
 
 pub use archive::{Archive, note_archive};
@@ -14,6 +17,8 @@ pub use mmdb_main::{BAD_ARGUMENTS, DONE, FAILED};
 pub use output::{
     Console, DIFFERENT, Io, NO_MEMORY, NOT_FOUND, Terminals, line_of, opened, put, reported,
 };
+pub use paths::{path_of, paths_of, wanted_path};
 pub use place::Where;
-pub use progress::ProgressLine;
+pub use progress::{Pace, Paced, Passed, ProgressLine, text_of_progress};
+pub use ranges::{note_range, range_of};
 pub use similar::Similar;

@@ -1,6 +1,7 @@
 //! What goes to standard output and standard error.
 use crate::archive::note_archive;
 use crate::error::ProgramError;
+use crate::progress::{Pace, Passed, show, take_away};
 use mmdb_arguments::shown_text;
 use mmdb_format::error::MaxMindDbError;
 use std::alloc::{AllocError, Global};
@@ -40,6 +41,8 @@ pub struct Console<'c, O: Write, E: Write> {
     pub terminals: Terminals,
     pub out: &'c mut O,
     pub errors: &'c mut E,
+    /// Whether a terminal shows how far it is.
+    is_progress_shown: bool,
 }
 
 /// Writes a text to standard output; an `Err` is `Write`.
@@ -66,6 +69,29 @@ pub fn line_of(alloc: Global, text: Result<String, AllocError>) -> Result<String
 }
 
 impl<'c, O: Write, E: Write> Console<'c, O, E> {
+    pub fn new(
+        alloc: Global,
+        terminals: Terminals,
+        out: &'c mut O,
+        errors: &'c mut E,
+    ) -> Console<'c, O, E> {
+        Console {
+            alloc,
+            terminals,
+            out,
+            errors,
+            is_progress_shown: false,
+        }
+    }
+
+    /// Takes what is shown away again.
+    pub fn clear_progress(&mut self) {
+        if self.is_progress_shown {
+            take_away(self.errors);
+            self.is_progress_shown = false;
+        }
+    }
+
     /// Writes a text to standard output; an `Err` is `Write`.
     pub fn put(&mut self, text: &[u8]) -> Result<(), ProgramError> {
         put(text, self.out)
@@ -81,6 +107,7 @@ impl<'c, O: Write, E: Write> Console<'c, O, E> {
 
     /// Writes a text to standard error, whose faults change nothing. It is left out where there is no memory for it.
     pub fn note(&mut self, text: Result<String, AllocError>) {
+        self.clear_progress();
         if let Ok(text) = text {
             let _ = self.errors.write_all(text.as_bytes());
         }
@@ -93,6 +120,7 @@ impl<'c, O: Write, E: Write> Console<'c, O, E> {
             Ok(line) => line.as_str(),
             Err(_) => NO_MEMORY,
         };
+        self.clear_progress();
         let _ = self.errors.write_all(text.as_bytes());
     }
 
@@ -114,6 +142,13 @@ impl<'c, O: Write, E: Write> Console<'c, O, E> {
         if !is_closed(error) {
             self.report(error.stream().unwrap_or(of), error);
         }
+    }
+}
+
+impl<'c, O: Write, E: Pace> Console<'c, O, E> {
+    /// Shows what passed so far, where a terminal does.
+    pub fn show_progress(&mut self, unit: &str, passed: Passed) {
+        self.is_progress_shown |= show(self.alloc, unit, passed, self.errors);
     }
 }
 

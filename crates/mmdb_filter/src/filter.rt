@@ -6,7 +6,7 @@ ghost use Rattle.mmdb_filter.specs.Rows.{GrowsAlong};
 ghost use Rattle.mmdb_filter.specs.declared.counts.Outcome.{Outcome as SpecOutcome};
 ghost use Rattle.mmdb_filter.specs.declared.rows.Position.TheVariants.{Cell, Ended};
 
-use crate::chunk::read_live;
+use crate::chunk::read_row;
 use crate::counts::{Counts, Outcome};
 use crate::live::{Live, flush_before_read};
 use crate::pass::pass_on;
@@ -98,8 +98,10 @@ fn next_asked(passed: u64) -> u64 {
 /// After so many rows additions are shown what comes.
 const AHEAD: u64 = 64;
 
-// Shows additions the bytes that the input has at hand, and says whether the input was found to be at its end. It waits where the read of the row would, and fails as that would; where it was interrupted
-// nothing is shown. Before a read, what is written to `out` is written out.
+// Shows additions the bytes that the input has at hand, and says whether the input was found to be at its end. It waits where
+// the read of the row would, and fails as that would; where it was interrupted nothing is shown. Before a read, what is written
+// to `out` is written out.
+#[inline(never)]
 fn look_ahead<A: Additions, R: Live, W: Write>(
     additions: &A,
     memory: &mut A::Memory,
@@ -129,35 +131,8 @@ fn look_ahead<A: Additions, R: Live, W: Write>(
     }
 }
 
-// Appends the bytes of a row, or those of its first chunk, and says the position behind them. Additions look ahead first; an
-// input that has come to its end then is not read again.
-#[inline(never)]
-fn begin_ahead<A: Additions, R: Live, W: Write>(
-    rows: Rows,
-    additions: &A,
-    memory: &mut A::Memory,
-    input: &mut R,
-    chunk: &mut Vec<u8>,
-    out: &mut W,
-) -> io::Result<Position>
-    requires { A.fits additions.now memory.old }
-    ensures written { Keeps (W.contents out.old) (W.contents out.new) }
-    ensures leads { IfOk result (λ next.
-        GrowsAlong rows Cell next chunk.old.items chunk.new.items
-        (R.remaining input.old) (R.remaining input.new)) }
-    ensures end { IfOk result (λ next. next ≢ Ended
-        → length chunk.new.items < 65539
-        → OnSome (R.remaining input.old) (IsAtEnd (R.remaining input.new))) }
-    ensures fits { A.fits additions.now memory.new }
-{
-    if look_ahead(additions, memory, input, out)? {
-        return Ok(Position::Cell);
-    }
-    read_live(input, rows, Position::Cell, chunk, out)
-}
-
 // Appends the bytes of a row, or those of its first chunk, and says the position behind them. Additions look ahead before the
-// first of each 64 rows.
+// first of each 64 rows; an input that has come to its end then is not read again.
 #[inline(always)]
 fn begin_row<A: Additions, R: Live, W: Write>(
     rows: Rows,
@@ -178,10 +153,10 @@ fn begin_row<A: Additions, R: Live, W: Write>(
         → OnSome (R.remaining input.old) (IsAtEnd (R.remaining input.new))) }
     ensures fits { A.fits additions.now memory.new }
 {
-    if passed % AHEAD == 0 {
-        return begin_ahead(rows, additions, memory, input, chunk, out);
+    if passed % AHEAD == 0 && look_ahead(additions, memory, input, out)? {
+        return Ok(Position::Cell);
     }
-    read_live(input, rows, Position::Cell, chunk, out)
+    read_row(input, rows, chunk, out)
 }
 
 /// Copies rows, with what is added to each before its last bytes, and counts how they fared, with those that were counted

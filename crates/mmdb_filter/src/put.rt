@@ -7,10 +7,9 @@ use crate::text::text_length;
 use std::alloc::AllocError;
 use std::io::{self, ErrorKind, Write};
 
-/// Writes all of the bytes. An interrupted write goes on. It is inlined: an `io::Result` is large, and dear to hand back
-/// for each row.
-#[inline(always)]
-pub(crate) fn put_all<W: Write>(out: &mut W, bytes: &[u8]) -> io::Result<()>
+// Writes all of the bytes, in as many writes as that takes.
+#[inline(never)]
+fn put_rest<W: Write>(out: &mut W, bytes: &[u8]) -> io::Result<()>
     ensures whole { OnOk result (Appends (W.contents out.old) (W.contents out.new) bytes.now) }
     ensures begun { OnErr result
         (AppendsFront (W.contents out.old) (W.contents out.new) bytes.now) }
@@ -33,6 +32,25 @@ pub(crate) fn put_all<W: Write>(out: &mut W, bytes: &[u8]) -> io::Result<()>
     Err(io::Error::from(ErrorKind::TimedOut))
 }
 
+/// Writes all of the bytes. An interrupted write goes on. It is inlined, and mostly one write takes all: an `io::Result` is
+/// large, and dear to hand back for each row.
+#[inline(always)]
+pub(crate) fn put_all<W: Write>(out: &mut W, bytes: &[u8]) -> io::Result<()>
+    ensures whole { OnOk result (Appends (W.contents out.old) (W.contents out.new) bytes.now) }
+    ensures begun { OnErr result
+        (AppendsFront (W.contents out.old) (W.contents out.new) bytes.now) }
+{
+    let written = match out.write(bytes) {
+        Ok(written) => written,
+        Err(error) if error.kind() == ErrorKind::Interrupted => 0,
+        Err(error) => return Err(error),
+    };
+    if written < bytes.len() {
+        put_rest(out, &bytes[written..])?;
+    }
+    Ok(())
+}
+
 /// Writes a row, with what is added before its end and so many bytes of its text, all at once. The row grows by
 /// that.
 #[inline(always)]
@@ -48,7 +66,8 @@ pub(crate) fn put_row<W: Write>(
         (row_with row.old.items added.old.items behind)) }
 {
     add_before(row, added, behind)?;
-    put_all(out, row.as_slice())
+    put_all(out, row.as_slice())?;
+    Ok(())
 }
 
 // Adds bytes before the end of a row and so many bytes of its text. What was added grows by those.

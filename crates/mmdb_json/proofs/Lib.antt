@@ -1,3 +1,10 @@
 pub mod ShownLaws
 pub mod ReadingBack
 pub mod WideDecimals
+pub mod Drafting
+pub mod Escaping
+pub mod Printing
+pub mod Measuring
+pub mod Containers
+pub mod ScalarTexts
+pub mod Keeping

@@ -29,7 +29,7 @@ pub struct FieldsMet {
 
 /// A value of a record, and the path to it.
 #[derive(Drop)]
-struct Place<'v, 'de> {
+struct ValueAtPath<'v, 'de> {
     path: String,
     value: &'v Value<'de>,
 }
@@ -59,21 +59,21 @@ fn path_with(alloc: Global, path: &str, step: &str) -> Result<String, AllocError
 // Adds the places in a map or an array.
 fn add_places<'v, 'de>(
     alloc: Global,
-    place: &Place<'v, 'de>,
-    places: &mut Vec<Place<'v, 'de>>,
+    place: &ValueAtPath<'v, 'de>,
+    places: &mut Vec<ValueAtPath<'v, 'de>>,
 ) -> Result<(), AllocError> {
     let path = place.path.as_str();
     match place.value {
         Value::Map(pairs) => {
             for (key, value) in pairs {
                 let path = path_with(alloc, path, *key)?;
-                places.push(Place { path, value })?;
+                places.push(ValueAtPath { path, value })?;
             }
         }
         Value::Array(items) => {
             for (index, value) in items.iter().enumerate() {
                 let path = format!(in alloc; "{path}.{index}")?;
-                places.push(Place { path, value })?;
+                places.push(ValueAtPath { path, value })?;
             }
         }
         _ => {}
@@ -88,7 +88,7 @@ fn offer_paths(
     similar: &mut Similar<'_>,
 ) -> Result<(), AllocError> {
     let mut places = Vec::new(alloc);
-    places.push(Place {
+    places.push(ValueAtPath {
         path: String::new(alloc),
         value: record,
     })?;
@@ -121,10 +121,11 @@ fn offer_records(
     Ok(())
 }
 
-/// What is said of a field that no record has, with a path that may be meant, of those of the records at some offsets of a
+/// What is said of a field that no such record has, with a path that may be meant, of those of the records at some offsets of a
 /// data section.
 pub fn absent_text(
     alloc: Global,
+    which: &str,
     name: &str,
     section: &[u8],
     offsets: &[usize],
@@ -134,8 +135,8 @@ pub fn absent_text(
         offer_records(alloc, section, offsets, &mut similar)?;
     }
     match similar.best() {
-        Some(best) => format!(in alloc; "mmdb: no record has {name}; did you mean {best}?"),
-        None => format!(in alloc; "mmdb: no record has {name}"),
+        Some(best) => format!(in alloc; "mmdb: no {which} has {name}; did you mean {best}?"),
+        None => format!(in alloc; "mmdb: no {which} has {name}"),
     }
 }
 
@@ -201,7 +202,13 @@ impl FieldsMet {
             }
             count = count.saturating_add(1);
             if count <= MOST_NAMED {
-                let text = absent_text(self.alloc, name, section, self.offsets.as_slice());
+                let text = absent_text(
+                    self.alloc,
+                    "record",
+                    name,
+                    section,
+                    self.offsets.as_slice(),
+                );
                 console.note(line_of(self.alloc, text));
             }
         }

@@ -1,13 +1,12 @@
 //! What the rows of an export look like.
 use crate::database::Found;
-use crate::paths::paths_of;
 use json::{Token, Writer};
 use mmdb_arguments::NoRequest;
+use mmdb_console::paths_of;
 use mmdb_filter::put_csv_cell;
 use mmdb_found::write_found;
-use mmdb_json::compact;
+use mmdb_json::{RecordTexts, compact};
 use mmdb_reader::{MaxMindDbError, PathElement};
-use mmdb_texts::RecordTexts;
 use mmdb_value::Value;
 use std::alloc::{AllocError, Global};
 
@@ -19,7 +18,7 @@ const BEFORE_NETWORK: &str = "{\"network\":\"";
 
 /// Some values of a record, each by a path and under the path's text.
 #[derive(Drop)]
-pub struct Fields<'a> {
+pub struct ChosenFields<'a> {
     pub names: &'a [&'a str],
     pub paths: Vec<Vec<PathElement<'a>>>,
 }
@@ -30,14 +29,14 @@ pub enum Layout<'a> {
     /// An object with the network and the whole record.
     Records,
     /// An object with the network and some values.
-    Values(Fields<'a>),
+    Values(ChosenFields<'a>),
     /// The network and some values as comma-separated cells.
-    Cells(Fields<'a>),
+    Cells(ChosenFields<'a>),
 }
 
 // The values at the paths of these names.
-fn fields_of<'a>(alloc: Global, names: &'a [&'a str]) -> Result<Fields<'a>, NoRequest> {
-    Ok(Fields {
+fn fields_of<'a>(alloc: Global, names: &'a [&'a str]) -> Result<ChosenFields<'a>, NoRequest> {
+    Ok(ChosenFields {
         names,
         paths: paths_of(alloc, names)?,
     })
@@ -96,7 +95,7 @@ fn put_value_at(
 // Adds a network, the cells of each answer, and the end of the line.
 fn put_cells(
     alloc: Global,
-    fields: &Fields<'_>,
+    fields: &ChosenFields<'_>,
     network: &str,
     answers: &[Option<&Found<'_>>],
     row: &mut Vec<u8>,
@@ -113,7 +112,7 @@ fn put_cells(
 /// A line of a network and the cells of each answer. Fails as `decode_path` of a `Value` does.
 pub fn line_of_cells(
     alloc: Global,
-    fields: &Fields<'_>,
+    fields: &ChosenFields<'_>,
     network: &str,
     answers: &[Option<&Found<'_>>],
 ) -> Result<Vec<u8>, MaxMindDbError> {
@@ -175,7 +174,7 @@ fn write_value(
 /// does.
 pub fn write_values(
     alloc: Global,
-    fields: &Fields<'_>,
+    fields: &ChosenFields<'_>,
     found: Option<&Found<'_>>,
     out: &mut Writer,
 ) -> Result<(), MaxMindDbError> {
@@ -249,7 +248,7 @@ impl Layout<'_> {
     }
 
     // The fields, where not whole records are wanted.
-    fn fields(&self) -> Option<&Fields<'_>> {
+    fn fields(&self) -> Option<&ChosenFields<'_>> {
         match self {
             Layout::Records => None,
             Layout::Values(fields) | Layout::Cells(fields) => Some(fields),

@@ -1,15 +1,15 @@
-//! Paths and ranges as a person writes them, and how networks are laid out with what their records have.
+//! Which networks of a database are chosen by the values of their records, and how networks are laid out with what their
+//! records have.
 #![tactic(auto)]
 
 mod absent;
+mod choice;
+mod condition;
 mod database;
 mod layout;
-mod paths;
-mod ranges;
 
 pub use absent::{FieldsMet, absent_text};
+pub use choice::Choice;
+pub use condition::{Condition, Requirement, split_condition};
 pub use database::{Database, Found, Networks, networks_in, open_database};
-pub use layout::{Fields, Layout, layout_of, line_of_cells, line_of_names, write_values};
-pub use mmdb_paths::path_of;
-pub use paths::{paths_of, wanted_path};
-pub use ranges::{note_range, range_of};
+pub use layout::{ChosenFields, Layout, layout_of, line_of_cells, line_of_names, write_values};

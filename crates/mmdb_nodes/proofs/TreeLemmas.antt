@@ -63,7 +63,7 @@ module _ (version : IpVersion) (es : List Entry) (data_len : ℕ) (nodes : List 
         some = omega arith;
         sound = lone_sound (length nodes) data_len r v lone is one p.below;
         few = lone_few r v lone (width version) is one;
-        reduced = inr l;
+        reduced = inr (v, one ∙ ap (λ (x : Record). (record { left = x; right = x }) ∷ []) is);
         count = omega arith;
       }
 

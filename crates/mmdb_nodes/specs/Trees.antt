@@ -1,6 +1,6 @@
 -- Search trees of entries ("Binary Search Tree Section" of the MaxMind DB File Format Specification 2.0).
-use Rattle.std.specs.Prelude.{◌≡◌, ℕ, zero, suc, ◌+◌, ◌^◌, ◌<◌, ◌≤◌, ◌⊎◌, ◌==◌, ◌&&◌, max, Bool, true, false, List, ◌++◌, Option, Some, None, if◌then◌else◌}
-use Rattle.mmdb_net.specs.Bits.{bits_of}
+use Rattle.std.specs.Prelude.{◌≡◌, ℕ, zero, suc, ◌+◌, ◌^◌, ◌<◌, ◌≤◌, ◌⊎◌, ◌==◌, ◌&&◌, max, Bool, true, false, List, [], ◌++◌, length, Option, Some, None, if◌then◌else◌}
+use Rattle.mmdb_net.specs.Bits.{bits_of, IsPrefix}
 use Rattle.mmdb_tree.specs.Tree.{step, walk, search_tree, SearchTree as SpecTree}
 use Rattle.mmdb_tree.specs.Records.{record_of}
 use Rattle.mmdb_tree.specs.Stops.{WalkedTree, IsClean}
@@ -67,6 +67,23 @@ abbrev pub HasNoEqualLeaves : SearchTree → Type 0
 HasNoEqualLeaves tree =
     (behind : List ℕ) (node : ℕ) → node < tree.node_count → step (tree_in tree behind) node false ≡ step (tree_in tree behind) node true
     → (step (tree_in tree behind) node false < tree.node_count) ⊎ (tree.node_count ≡ 1)
+
+-- ---- blocks whose addresses differ
+
+-- Of two addresses that begin with these bits the one has another offset than the other, or one of them has none.
+pub record IsSplit (version : IpVersion) (entries : List Entry) (bits : List Bool) : Type 0 where
+  pub one : ℕ
+  pub other : ℕ
+  pub fits : one < 2 ^ width version
+  pub other_fits : other < 2 ^ width version
+  pub in_block : IsPrefix bits (bits_of (width version) one)
+  pub other_in_block : IsPrefix bits (bits_of (width version) other)
+  pub differ : ¬ (offset_in entries one ≡ offset_in entries other)
+
+-- Each node but the first is that of a block whose addresses differ.
+abbrev pub HasSplitNodes : IpVersion → List Entry → SearchTree → Type 0
+HasSplitNodes version entries tree = (behind : List ℕ) (bits : List Bool) → ¬ (bits ≡ []) → length bits ≤ width version
+    → walk (tree_in tree behind) bits < tree.node_count → IsSplit version entries bits
 
 -- ---- how many nodes
 

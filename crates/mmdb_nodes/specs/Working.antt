@@ -129,13 +129,17 @@ pub record NeedsTooMany (from first free : ℕ) (found : Option ℕ) (entries : 
   pub differs : all_same (offset_after found entries) first (2 ^ free) ≡ false
   pub many : 2 ^ 32 < from + splits (offset_after found entries) first free
 
+-- one node, which has the same leaf for both bits
+abbrev pub IsLone : List SpecNode → Type 0
+IsLone nodes = (v : Option ℕ) × (nodes ≡ (record { left = leaf v; right = leaf v }) ∷ [])
+
 -- the nodes of a whole tree, from node 0 on
 pub record AreNodesOf (version : IpVersion) (entries : List Entry) (data_len : ℕ) (nodes : List SpecNode) : Type 0 where
   pub leads : (a : ℕ) → a < 2 ^ width version → lead nodes (Node 0) (bits_of (width version) a) ≡ leaf (offset_in entries a)
   pub some : 0 < length nodes
   pub sound : IsSound 0 data_len nodes
   pub few : ends nodes (Node 0) (width version) ≤ 1 + length nodes
-  pub reduced : HasNoTwins 0 nodes ⊎ (length nodes ≡ 1)
+  pub reduced : HasNoTwins 0 nodes ⊎ IsLone nodes
   pub count : length nodes ≡ nodes_for version entries
 
 -- ---- nodes as bytes

@@ -112,6 +112,7 @@ fn line_of(
 
 // What a text is of which so many bytes stand from the last brace on; none where one pass over it
 // does not say that.
+#[inline(always)]
 fn read_in_one_pass(
     reading: Reading,
     text: &[u8],
@@ -131,7 +132,29 @@ fn read_in_one_pass(
     }))
 }
 
+// What a text is of which so many bytes stand from the last brace on, by the reader of the crate `json`.
+#[inline(never)]
+fn read_tape(
+    alloc: Global,
+    reading: Reading,
+    text: &str,
+    path: &[Step<'_>],
+    name: &str,
+    behind: usize,
+    scratch: &mut Scratch,
+) -> Result<ReadLine, AllocError>
+    requires { EndsWithBrace text.now behind }
+    ensures { IfOk result (ReadsLine reading text.now false path.now name.now) }
+{
+    match Tape::parse(text, scratch, Vec::new(alloc)) {
+        Ok(tape) => Ok(line_of(reading, &tape.root(), path, name, behind)),
+        Err(Error::Invalid) => Ok(ReadLine::NoObject),
+        Err(_) => Err(AllocError),
+    }
+}
+
 // What a text is of which so many bytes stand from the last brace on.
+#[inline(always)]
 fn read_text(
     alloc: Global,
     reading: Reading,
@@ -150,14 +173,11 @@ fn read_text(
     if let Some(line) = read_in_one_pass(reading, text.as_bytes(), path, name, behind) {
         return Ok(line);
     }
-    match Tape::parse(text, scratch, Vec::new(alloc)) {
-        Ok(tape) => Ok(line_of(reading, &tape.root(), path, name, behind)),
-        Err(Error::Invalid) => Ok(ReadLine::NoObject),
-        Err(_) => Err(AllocError),
-    }
+    read_tape(alloc, reading, text, path, name, behind, scratch)
 }
 
 /// What a line is: an object, with the address to which a path leads and whether a member has a name, or none.
+#[inline(always)]
 pub fn read_line(
     alloc: Global,
     reading: Reading,

@@ -275,6 +275,9 @@ fn follow_member<'a>(
         × (option_map (λ s. s.now) f.text
         ≡ cond is_named (text_along path.now j) (option_map (λ s. s.now) earlier.entry))) }
 {
+    if is_named && path.is_empty() {
+        return follow_no_further(text, value.at, depth);
+    }
     if is_named {
         return follow(text, value.at, path, depth);
     }
@@ -340,6 +343,7 @@ pub(crate) struct Object<'a> {
 
 // Follows a path into the last member of this name, from behind the open brace of a whole object on, and sees whether a
 // member has another one.
+#[inline(never)]
 fn follow_object<'a>(
     text: &'a [u8],
     from: usize,

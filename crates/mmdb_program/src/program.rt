@@ -1,13 +1,15 @@
 //! What the program does with its arguments.
 use mmdb_arguments::{Message, NoRequest, Request, request_of};
-use mmdb_changes::diff;
 use mmdb_cmd_build::build;
+use mmdb_cmd_diff::diff;
+use mmdb_cmd_enrich::enrich;
+use mmdb_cmd_export::export;
 use mmdb_cmd_install::install;
-use mmdb_console::{BAD_ARGUMENTS, Console, DONE, FAILED, Io, NO_MEMORY, ProgramError};
-use mmdb_export::export;
+use mmdb_cmd_show::{describe, show, verify};
+use mmdb_console::{
+    BAD_ARGUMENTS, Console, DONE, FAILED, Io, NO_MEMORY, Pace, Paced, ProgramError,
+};
 use mmdb_filter::Live;
-use mmdb_lines::enrich;
-use mmdb_show::{describe, show, verify};
 use std::alloc::Global;
 use std::env::Env;
 use std::io::Write;
@@ -72,7 +74,7 @@ fn status_of<O: Write, E: Write>(
 }
 
 // Does what is requested.
-fn done_of<R: Files + Env + Clock, I: Live, O: Write, E: Write>(
+fn done_of<R: Files + Env + Clock, I: Live, O: Write, E: Pace>(
     rt: &R,
     request: &Request<'_>,
     input: &mut I,
@@ -91,13 +93,14 @@ fn done_of<R: Files + Env + Clock, I: Live, O: Write, E: Write>(
 }
 
 // Does what is requested, and answers the status.
-fn run_request<R: Files + Env + Clock, I: Live, O: Write, E: Write>(
+fn run_request<R: Files + Env + Clock, I: Live, O: Write, E: Pace>(
     rt: &R,
     request: &Request<'_>,
     input: &mut I,
     console: &mut Console<'_, O, E>,
 ) -> u8 {
     let done = done_of(rt, request, input, console);
+    console.clear_progress();
     let status = status_of(&done, subject_of(request), console);
     drop(done);
     status
@@ -120,12 +123,8 @@ pub fn run<R: Files + Env + Clock, I: Live, O: Write, E: Write>(
         errors,
         terminals,
     } = io;
-    let mut console = Console {
-        alloc,
-        terminals,
-        out,
-        errors,
-    };
+    let mut errors = Paced::new(rt, terminals, errors);
+    let mut console = Console::new(alloc, terminals, out, &mut errors);
     match request_of(alloc, arguments) {
         Ok(request) => {
             let status = run_request(rt, &request, input, &mut console);

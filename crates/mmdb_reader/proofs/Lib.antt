@@ -23,6 +23,7 @@ pub mod EqualityLemmas
 pub mod StopLemmas
 pub mod WholeLemmas
 pub mod AliasedLookups
+pub mod RecordLemmas
 pub mod PathLemmas
 pub mod PartLemmas
 pub mod WayLemmas

@@ -1,6 +1,8 @@
 -- Which files are whole: what a verification accepts.
 use Rattle.std.specs.Prelude.{◌≡◌, ◌≢◌, ℕ, ◌+◌, ◌≤◌, ◌<◌, Bool, List, [], ◌∷◌, ◌++◌, length, slice_index}
+use Rattle.std.specs.List.{Contains}
 use Rattle.mmdb_check.specs.Checking.{CanAdd, CanAddAll, none}
+use Rattle.mmdb_costs.specs.Readable.{IsReadable}
 use Rattle.mmdb_reader.specs.File.{Database, metadata_section, tree_len, separator, data_section}
 use Rattle.mmdb_reader.specs.Leaves.{IsLeaf}
 use Rattle.mmdb_reader.specs.Alias.{IsAlias}
@@ -46,3 +48,7 @@ pub record IsWhole (db : Database) : Type 0 where
   pub tree : HasWholeTree db
   pub separated : HasZeroSeparator db
   pub values : CanAddAll (data_section db) none (offsets (stops db))
+
+-- A `Value` can be read at the offset of each value of a walked leaf, within the limits of a reading.
+abbrev pub HasReadableRecords : Database → Type 0
+HasReadableRecords db = (offset : ℕ) → Contains (offsets (stops db)) offset → IsReadable (data_section db) offset

@@ -1,9 +1,11 @@
 -- Laws of walks of whole trees, and what they say of lookups.
-use Rattle.std.specs.Prelude.{◌≡◌, ℕ, suc, ◌+◌, ◌-◌, ◌≤◌, ◌<◌, ◌⊎◌, ◌↔◌, Bool, List, ◌++◌, length, map, take}
+use Rattle.std.specs.Prelude.{◌≡◌, ℕ, suc, ◌+◌, ◌-◌, ◌≤◌, ◌<◌, ◌⊎◌, ◌↔◌, Bool, true, List, ◌++◌, length, map, take, Some}
 use Rattle.std.specs.List.{Contains}
 use Rattle.std.specs.declared.net.ip_addr.IpAddr.{IpAddr}
 use Rattle.mmdb_format.specs.Unfolding.{Tree}
 use Rattle.mmdb_check.specs.Checking.{IsGood}
+use Rattle.mmdb_decode.specs.Errors.{answer}
+use Rattle.mmdb_value.specs.AnyValue.{value_at}
 use Rattle.mmdb_tree.specs.declared.record.TreeRecord.{TreeRecord}
 use Rattle.mmdb_tree.specs.declared.record.TreeRecord.TheVariants.{Data, Empty, Invalid, Node}
 use Rattle.mmdb_reader.specs.File.{Database, tree_of, before_ipv4, data_section}
@@ -15,7 +17,7 @@ use Rattle.mmdb_reader.specs.Listing.{HasValueAt, IsFaulty, Ascends}
 use Rattle.mmdb_reader.specs.Options.{default_options}
 use Rattle.mmdb_tree.specs.Stops.{Stop, offsets, cost, cut, AreFirst}
 use Rattle.mmdb_reader.specs.Stops.{stops, most_stops}
-use Rattle.mmdb_reader.specs.Whole.{IsWalked, IsTopmost, HasNoFault, IsWhole}
+use Rattle.mmdb_reader.specs.Whole.{IsWalked, IsTopmost, HasNoFault, IsWhole, HasReadableRecords}
 
 -- How many inner nodes a walk has taken when it comes to the stop that follows the first n.
 abbrev pub inner_before : Database → ℕ → ℕ
@@ -71,6 +73,11 @@ pub record AnswersAll (db : Database) : Type 0 where
 -- A whole file does so.
 abbrev pub WholeFilesAnswer : Type 0
 WholeFilesAnswer = (db : Database) → IsWhole db → AnswersAll db
+
+-- where records are readable too, a `Value` is decoded of each offset that a lookup answers
+abbrev pub RecordsAreDecoded : Type 0
+RecordsAreDecoded =
+    (db : Database) → IsWhole db → HasReadableRecords db → (address : IpAddr) (leaf : List Bool) (offset : ℕ) → Answers db address leaf (Data offset) → (v : Tree) × (answer true (value_at true) (data_section db) offset ≡ Some v)
 
 -- Behind an alias the walk goes on as where IPv4 begins.
 abbrev pub GoesOnAsIpv4 : Type 0

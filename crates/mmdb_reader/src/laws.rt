@@ -7,7 +7,7 @@ ghost use Rattle.mmdb_reader.specs.Metadata.{metadata_datum};
 ghost use Rattle.mmdb_reader.specs.MetadataShape.{MetadataNamesStandOnce};
 ghost use Rattle.mmdb_reader.specs.Laws.{LeavesAreDisjoint, EachAddressHasOneLeaf, EachAddressIsAnswered, AnswersAreUnique, SameLeafSameAnswer, NetworkHoldsAddress, Ipv4WithoutSubtree};
 ghost use Rattle.mmdb_reader.specs.Agreement.{ItemsAgree};
-ghost use Rattle.mmdb_reader.specs.WholeLaws.{FewPositionsWait, FewStopsAreTaken, StopsAreExact, OffsetsAreExact, LookupsSucceed, AnsweredOffsetsAreWalked, WholeFilesAnswer, GoesOnAsIpv4, AliasesEndAsIpv4};
+ghost use Rattle.mmdb_reader.specs.WholeLaws.{FewPositionsWait, FewStopsAreTaken, StopsAreExact, OffsetsAreExact, LookupsSucceed, AnsweredOffsetsAreWalked, WholeFilesAnswer, RecordsAreDecoded, GoesOnAsIpv4, AliasesEndAsIpv4};
 ghost use Rattle.mmdb_reader.specs.Parts.{PathSelects, PathLeadsNowhere};
 ghost use Rattle.mmdb_reader.specs.Ways.{SelectingIsLeading, OneWayLeads, AnswersAreReadAlong};
 ghost use Rattle.mmdb_reader.specs.Selecting.{IsSameStep};
@@ -103,6 +103,12 @@ pub fn whole_file_answers()
     ensures lookups { LookupsSucceed }
     ensures offsets { AnsweredOffsetsAreWalked }
     ensures whole { WholeFilesAnswer }
+{}
+
+/// Where `verify_records` succeeds, a `Value` is decoded at each offset that a lookup answers, within the limits of a
+/// reading: `decode::<Value>` of each lookup succeeds, unless out of memory.
+pub fn records_are_decoded()
+    ensures { RecordsAreDecoded }
 {}
 
 /// Behind an alias the walk goes on as where IPv4 begins; behind one of at most 96 bits it ends within 32

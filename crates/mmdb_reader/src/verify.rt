@@ -6,7 +6,7 @@ ghost use Rattle.mmdb_reader.specs.File.{data_section};
 ghost use Rattle.mmdb_tree.specs.Stops.{offsets};
 ghost use Rattle.mmdb_reader.specs.Stops.{stops, walk_cost};
 ghost use Rattle.mmdb_reader.specs.Working.{HoldsOffsets, IsWalkOf};
-ghost use Rattle.mmdb_reader.specs.Whole.{HasWholeMetadata, HasWholeTree, HasZeroSeparator, IsWhole};
+ghost use Rattle.mmdb_reader.specs.Whole.{HasWholeMetadata, HasWholeTree, HasZeroSeparator, IsWhole, HasReadableRecords};
 ghost use Rattle.mmdb_reader.specs.WholeLaws.{AnswersAll};
 
 use crate::offsets::counted_from_start;
@@ -15,6 +15,7 @@ use crate::steps::Steps;
 use crate::within::invalid;
 use mmdb_check::checked::{Checked, check_offsets};
 use mmdb_check::fuzzing;
+use mmdb_costs::check_records;
 use mmdb_format::error::MaxMindDbError;
 use mmdb_format::message::{Message, Text};
 use mmdb_offsets::OffsetSet;
@@ -172,17 +173,18 @@ impl<S: AsSlice<u8> + Drop> Reader<S> {
         }
     }
 
-    // Whether the metadata, the tree of so many nodes, the separator and the values are whole.
+    // The offsets of the tree's values, if the metadata, the tree of so many nodes, the separator and the values are whole.
     fn verify_whole<const SWEEPS: bool>(
         &self,
         alloc: Global,
         node_count: usize,
         steps: &mut Steps,
-    ) -> Result<(), MaxMindDbError>
+    ) -> Result<OffsetSet, MaxMindDbError>
         requires count { node_count ≡ self.now.metadata.node_count }
         requires few { node_count < 2 ^ 32 }
         requires room { steps.old + (6 * self.now.metadata.node_count + 130) < 2 ^ 64 }
         ensures whole { OnOk result (IsWhole self.now) }
+        ensures offsets { IfOk result (HoldsOffsets self.now) }
         ensures answers { OnOk result (AnswersAll self.now) }
         ensures rejected { IfErr result (λ e. MemoryApart e (¬ IsWhole self.now)) }
         ensures bound { steps.new ≤ steps.old + (6 * self.now.metadata.node_count + 130) }
@@ -196,7 +198,8 @@ impl<S: AsSlice<u8> + Drop> Reader<S> {
         self.verify_metadata(alloc)?;
         let set = self.walk_tree::<SWEEPS>(alloc, node_count, steps)?;
         self.verify_separator()?;
-        self.verify_values(alloc, &set)
+        self.verify_values(alloc, &set)?;
+        Ok(set)
     }
 
     /// `verify`, which adds the positions of the tree that it takes to `steps`.
@@ -218,7 +221,8 @@ impl<S: AsSlice<u8> + Drop> Reader<S> {
             → steps.new ≡ steps.old + walk_cost self.now)) }
         ensures most { steps.new ≤ steps.old + walk_cost self.now }
     {
-        self.verify_whole::<false>(alloc, self.nodes().node_count, steps)
+        let _offsets = self.verify_whole::<false>(alloc, self.nodes().node_count, steps)?;
+        Ok(())
     }
 
     /// Checks the whole database: its metadata, its tree, the separator after it, and the values of all leaves that
@@ -234,6 +238,40 @@ impl<S: AsSlice<u8> + Drop> Reader<S> {
         ensures answers { OnOk result (AnswersAll self.now) }
         ensures rejected { IfErr result (λ e. MemoryApart e (¬ IsWhole self.now)) }
     {
-        self.verify_whole::<true>(alloc, self.nodes().node_count, &mut Steps::new())
+        let node_count = self.nodes().node_count;
+        let _offsets = self.verify_whole::<true>(alloc, node_count, &mut Steps::new())?;
+        Ok(())
+    }
+
+    // Whether a `Value` can be read at each offset of the tree's values.
+    fn verify_readable(&self, alloc: Global, set: &OffsetSet) -> Result<(), MaxMindDbError>
+        requires offsets { HoldsOffsets self.now set.now }
+        requires whole { IsWhole self.now }
+        ensures ok { OnOk result (HasReadableRecords self.now) }
+        ensures err { IfErr result (λ e. MemoryApart e (¬ HasReadableRecords self.now)) }
+    {
+        match check_records(alloc, self.data_section(), set) {
+            Ok(()) => Ok(()),
+            Err(error) => Err(counted_from_start(error, self.data_start())),
+        }
+    }
+
+    /// Checks the whole database as `verify` does, and that `decode::<Value>` of each record succeeds.
+    ///
+    /// Accepted are, unless out of memory, exactly the whole files at each of whose data offsets a `Value` stands within
+    /// the limits of a reading. A whole file may have what a `Value` may not: keys that are no texts, or that are behind
+    /// two pointers, and records of more than 65,536 values or 2,097,152 bytes of texts and byte strings, what
+    /// pointers share counted each time. An error is that of `verify`, or of reading the first record, by its
+    /// offset, that can't be read. Containers that records share are passed once.
+    pub fn verify_records(&self, alloc: Global) -> Result<(), MaxMindDbError>
+        ensures whole { OnOk result (IsWhole self.now) }
+        ensures answers { OnOk result (AnswersAll self.now) }
+        ensures readable { OnOk result (HasReadableRecords self.now) }
+        ensures rejected { IfErr result
+            (λ e. MemoryApart e (IsWhole self.now → ¬ HasReadableRecords self.now)) }
+    {
+        let node_count = self.nodes().node_count;
+        let set = self.verify_whole::<true>(alloc, node_count, &mut Steps::new())?;
+        self.verify_readable(alloc, &set)
     }
 }

@@ -1,7 +1,10 @@
-//! Whether all records of a database can be read as values.
+//! Whether a database is whole and all its records can be read as values, and which can't.
 #![tactic(auto)]
 
-use mmdb_equality::SideBySide;
+ghost use Rattle.std.specs.Prelude.{IfOk, IfNone};
+ghost use Rattle.mmdb_reader.specs.Whole.{IsWhole, HasReadableRecords};
+
+use mmdb_costs::KeptCosts;
 use mmdb_reader::{IpNetwork, LookupResult, MaxMindDbError, Reader, WithinOptions};
 use mmdb_value::Value;
 use std::alloc::Global;
@@ -26,7 +29,7 @@ struct Records<'a> {
     met: HashSet<usize>,
     /// The offset that was met last: neighbours often have one record.
     last: Option<usize>,
-    side_by_side: SideBySide<'a>,
+    costs: KeptCosts<'a>,
     unreadable: Option<Unreadable>,
 }
 
@@ -50,24 +53,30 @@ impl<'a> Records<'a> {
         Ok(self.met.insert(offset)?)
     }
 
-    // Notes that a record can't be read.
-    fn note(&mut self, network: IpNetwork, error: MaxMindDbError) {
-        match &mut self.unreadable {
-            Some(unreadable) => {
-                unreadable.count = unreadable.count.saturating_add(1);
-                drop(error);
-            }
-            None => {
+    // Notes the record of a network that can't be read. The first one is read, which says why.
+    fn note<S: AsSlice<u8> + Drop>(
+        &mut self,
+        found: &LookupResult<'_, S>,
+    ) -> Result<(), MaxMindDbError> {
+        if let Some(unreadable) = &mut self.unreadable {
+            unreadable.count = unreadable.count.saturating_add(1);
+            return Ok(());
+        }
+        match error_of(self.alloc, found) {
+            Ok(()) => Ok(()),
+            Err(MaxMindDbError::Memory) => Err(MaxMindDbError::Memory),
+            Err(error) => {
                 self.unreadable = Some(Unreadable {
                     count: 1,
-                    network,
+                    network: found.network().unwrap(),
                     error,
                 });
+                Ok(())
             }
         }
     }
 
-    // Meets the record of a network: one that is equal to itself can be read.
+    // Meets the record of a network.
     fn meet<S: AsSlice<u8> + Drop>(
         &mut self,
         found: &LookupResult<'_, S>,
@@ -75,32 +84,24 @@ impl<'a> Records<'a> {
         let Some(offset) = found.offset() else {
             return Ok(());
         };
-        if !self.is_new(offset)? || self.side_by_side.have_equal(offset, offset) {
+        if !self.is_new(offset)? || self.costs.fits(offset)? {
             return Ok(());
         }
-        match error_of(self.alloc, found) {
-            Ok(()) => Ok(()),
-            Err(MaxMindDbError::Memory) => Err(MaxMindDbError::Memory),
-            Err(error) => {
-                self.note(found.network().unwrap(), error);
-                Ok(())
-            }
-        }
+        self.note(found)
     }
 }
 
-/// The records of a database that can't be read as values within a reader's limits, if there are some: with a key of another
-/// type, say, or with a pointer to a pointer. Each record is read once. An `Err` where a network can't be read, or out of
-/// memory.
-pub fn unreadable_records<S: AsSlice<u8> + Drop>(
+// The records of a database that can't be read, if it is whole. Each is passed once, and one of them is read.
+fn counted<S: AsSlice<u8> + Drop>(
     alloc: Global,
     database: &Reader<S>,
 ) -> Result<Option<Unreadable>, MaxMindDbError> {
+    database.verify(alloc)?;
     let mut records = Records {
         alloc,
         met: HashSet::new(alloc),
         last: None,
-        side_by_side: SideBySide::of_one(alloc, database.data_section())?,
+        costs: KeptCosts::new(alloc, database.data_section()),
         unreadable: None,
     };
     for item in database.networks(alloc, WithinOptions::default())? {
@@ -108,4 +109,31 @@ pub fn unreadable_records<S: AsSlice<u8> + Drop>(
     }
     let Records { unreadable, .. } = records;
     Ok(unreadable)
+}
+
+/// The records of a whole database that can't be read as values within a reader's limits, if there are some: with a key of
+/// another type, say, or with a key behind two pointers. An `Err` is that of `Reader::verify` where the database is not
+/// whole.
+pub fn unreadable_records<S: AsSlice<u8> + Drop>(
+    alloc: Global,
+    database: &Reader<S>,
+) -> Result<Option<Unreadable>, MaxMindDbError>
+    ensures whole { IfOk result (λ records. IfNone records (IsWhole database.now)) }
+    ensures readable { IfOk result (λ records. IfNone records (HasReadableRecords database.now)) }
+{
+    let error = match database.verify_records(alloc) {
+        Ok(()) => return Ok(None),
+        Err(error) => error,
+    };
+    match counted(alloc, database) {
+        Ok(Some(unreadable)) => {
+            drop(error);
+            Ok(Some(unreadable))
+        }
+        Ok(None) => Err(error),
+        Err(other) => {
+            drop(error);
+            Err(other)
+        }
+    }
 }

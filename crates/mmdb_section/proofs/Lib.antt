@@ -1,7 +1,10 @@
 pub mod StandLemmas
 pub mod HeaderLemmas
 pub mod ScalarLemmas
+pub mod BytesLemmas
 pub mod WriteLemmas
 pub mod CostLemmas
 pub mod AllowanceLemmas
+pub mod KnownLemmas
 pub mod SectionLemmas
+pub mod OnceLemmas

@@ -1,14 +1,16 @@
 -- Sections with one value more, and values that stand in them already.
-use Rattle.std.proofs.Common.{◌≡◌, inl, inr, ℕ, zero, suc, ◌+◌, eqb, Bool, true, false, List, [], ◌∷◌, ◌++◌, length, map, Some, arith, refl, ap, sym, ◌∙◌, subst, append-nil, append_assoc, length-append}
+use Rattle.std.proofs.Common.{◌≡◌, inl, inr, ℕ, zero, suc, ◌+◌, eqb, Bool, true, false, cond, List, [], ◌∷◌, ◌++◌, length, Some, arith, refl, ap, sym, ◌∙◌, subst, append-nil, append_assoc, length-append}
 use Rattle.std.specs.Prelude.{◌||◌}
-use Rattle.std.specs.List.{AllByRecursion, slice_get}
+use Rattle.std.specs.List.{AllByRecursion}
+use Rattle.std.specs.Str.{bytes_eq}
 use Rattle.std.proofs.lemmas.Bool.{false≢true}
 use Rattle.mmdb_format.specs.Unfolding.{Tree, Unfolds, levels, without_pointers}
 use Rattle.mmdb_format.proofs.UnfoldingLaws.{one_tree}
 use Rattle.mmdb_section.specs.declared.value.Part.TheVariants.{At}
-use Rattle.mmdb_section.specs.Sections.{Tile, IsChain, IsTile, is_start, IsLaid, AreTiles, SectionView, IsSection, IsPart, Holds}
+use Rattle.mmdb_section.specs.Bytes.{shape_bytes}
+use Rattle.mmdb_section.specs.Sections.{Tile, IsChain, IsTile, is_start, IsLaid, AreTiles, Shape, SectionView, start_of, IsSection, IsPart, HoldsAt}
 use Rattle.mmdb_section.specs.Working.{Grows, IsWrittenDirect, StandAt}
-use Rattle.mmdb_section.proofs.WriteLemmas.{laid_tile}
+use Rattle.mmdb_section.proofs.WriteLemmas.{laid_tile, or_cases, starts_same, start_of_tile}
 
 -- ---- lists of values with one more
 
@@ -36,10 +38,6 @@ all_weaker : (P Q : Tile → Type 0) → ((t : Tile) → P t → Q t) → (ts : 
 all_weaker P Q f [] all = tt
 all_weaker P Q f (t ∷ ts) all = (f t all.0, all_weaker P Q f ts all.1)
 
-starts_snoc : (ts : List Tile) (t : Tile) → map (λ (u : Tile). u.start) (ts ++ t ∷ []) ≡ map (λ (u : Tile). u.start) ts ++ t.start ∷ []
-starts_snoc [] t = refl
-starts_snoc (u ∷ us) t = ap (λ (xs : List ℕ). u.start ∷ xs) (starts_snoc us t)
-
 -- ---- a section with one value more
 
 still_laid : (tiles : List Tile) (u : Tile) (old more : List ℕ) (t : Tile) → IsLaid tiles old t → IsLaid (tiles ++ u ∷ []) (old ++ more) t
@@ -52,7 +50,7 @@ still_laid tiles u old more t laid = record {
 }
 
 module _ (tiles : List Tile) (v : Tree) (old new : SectionView) (start : ℕ) (xs : List ℕ) (section : IsSection tiles old) (w : IsWrittenDirect tiles old.bytes v xs)
-    (bytes : new.bytes ≡ old.bytes ++ xs) (starts : new.starts ≡ old.starts ++ start ∷ []) (at : start ≡ length old.bytes) where
+    (bytes : new.bytes ≡ old.bytes ++ xs) (known : (shape : Shape) → start_of new shape ≡ cond (bytes_eq xs (shape_bytes shape)) (Some start) (start_of old shape)) (at : start ≡ length old.bytes) where
   added : Tile
   added = record { start = length old.bytes; tree = w.written.t; end = length old.bytes + length xs }
 
@@ -76,15 +74,24 @@ module _ (tiles : List Tile) (v : Tree) (old new : SectionView) (start : ℕ) (x
         (all_weaker (IsLaid tiles old.bytes) (IsLaid (tiles ++ added ∷ []) (old.bytes ++ xs)) (still_laid tiles added old.bytes xs) tiles section.are.each) added_laid;
   }
 
-  pub value_added : Holds tiles v new (At start)
+  known_start : (shape : Shape) (offset : ℕ) → start_of new shape ≡ Some offset → is_start (tiles ++ added ∷ []) offset ≡ true
+  unfolding added
+  known_start shape offset is = by (bytes_eq xs (shape_bytes shape)) (sym (known shape) ∙ is) where
+    by : (b : Bool) → cond b (Some start) (start_of old shape) ≡ Some offset → is_start (tiles ++ added ∷ []) offset ≡ true
+    by true h =
+        let same : start ≡ offset = cc in
+        subst (λ (n : ℕ). is_start (tiles ++ added ∷ []) n ≡ true) (sym at ∙ same) (start_of_tile added (tiles ++ added ∷ []) (last_tile added tiles))
+    by false h = earlier_start offset tiles added (section.known shape offset h)
+
+  pub value_added : HoldsAt tiles v new start
   unfolding added
   value_added = record {
-    more = added ∷ [];
-    has = record {
-      are = subst (AreTiles (tiles ++ added ∷ [])) (sym bytes) more_tiles;
-      starts = starts ∙ ap (λ (ys : List ℕ). ys ++ start ∷ []) section.starts ∙ ap (λ (n : ℕ). map (λ (u : Tile). u.start) tiles ++ n ∷ []) at ∙ sym (starts_snoc tiles added);
+    holds = record {
+      more = added ∷ [];
+      has = record { are = subst (AreTiles (tiles ++ added ∷ [])) (sym bytes) more_tiles; known = known_start };
+      is_part = (added, last_tile added tiles, sym at, w.written.value);
     };
-    is_part = (added, last_tile added tiles, sym at, w.written.value);
+    only = ((sym at, w.written.value), tt);
   }
 
 -- ---- a value that stands in the section already
@@ -94,19 +101,17 @@ record IsAmong (tiles : List Tile) (start : ℕ) : Type 0 where
   is : IsTile tile tiles
   at : tile.start ≡ start
 
-tile_at : (tiles : List Tile) (starts : List ℕ) (i start : ℕ) → starts ≡ map (λ (t : Tile). t.start) tiles → slice_get starts i ≡ Some start → IsAmong tiles start
-tile_at [] [] i start is at = absurd (cc)
-tile_at [] (x ∷ xs) i start is at = absurd (cc)
-tile_at (t ∷ ts) [] i start is at = absurd (cc)
-tile_at (t ∷ ts) (x ∷ xs) zero start is at = record { tile = t; is = inl refl; at = (let same : x ≡ t.start = cc in let here : x ≡ start = cc in sym same ∙ here) }
-tile_at (t ∷ ts) (x ∷ xs) (suc i) start is at =
-    let rest : xs ≡ map (λ (u : Tile). u.start) ts = cc in
-    let w = tile_at ts xs i start rest at in
-    record { tile = w.tile; is = inr w.is; at = w.at }
+tile_at : (tiles : List Tile) (start : ℕ) → is_start tiles start ≡ true → IsAmong tiles start
+tile_at [] start h = absurd (false≢true h)
+tile_at (t ∷ ts) start h = elim (or_cases (eqb start t.start) (is_start ts start) h) [
+  | inl here ↦ record { tile = t; is = inl refl; at = sym (starts_same start t.start here) }
+  | inr later ↦ let w = tile_at ts start later in record { tile = w.tile; is = inr w.is; at = w.at }
+]
 
-pub value_found : (tiles : List Tile) (v : Tree) (section : SectionView) (start : ℕ) (xs : List ℕ) → IsSection tiles section → IsWrittenDirect tiles section.bytes v xs → StandAt section start xs → Holds tiles v section (At start)
-value_found tiles v section start xs has w there =
-    let among = tile_at tiles section.starts there.index start has.starts there.among in
+pub value_found : (tiles : List Tile) (v : Tree) (section : SectionView) (shape : Shape) (start : ℕ) (xs : List ℕ) → IsSection tiles section → IsWrittenDirect tiles section.bytes v xs
+    → StandAt section.bytes start xs → start_of section shape ≡ Some start → HoldsAt tiles v section start
+value_found tiles v section shape start xs has w there known =
+    let among = tile_at tiles start (has.known shape start known) in
     let laid = laid_tile (IsLaid tiles section.bytes) among.tile tiles has.are.each among.is in
     let whole : Unfolds section.bytes among.tile.start among.tile.tree among.tile.end = subst (λ (s : List ℕ). Unfolds s among.tile.start among.tile.tree among.tile.end) (append-nil section.bytes) (laid.unfolds []) in
     let grown : Grows section.bytes (there.before ++ (xs ++ there.behind)) = ([], sym there.whole ∙ sym (append-nil section.bytes)) in
@@ -115,7 +120,10 @@ value_found tiles v section start xs has w there =
     let from : length there.before ≡ among.tile.start = there.start_is ∙ sym among.at in
     let same : among.tile.tree ≡ w.written.t = (one_tree whole (subst (λ (n : ℕ). Unfolds section.bytes n w.written.t (length there.before + length xs)) from moved)).0 in
     record {
-      more = [];
-      has = subst (λ (ts : List Tile). IsSection ts section) (sym (append-nil tiles)) has;
-      is_part = subst (λ (ts : List Tile). IsPart ts (At start) v) (sym (append-nil tiles)) (among.tile, among.is, among.at, ap without_pointers same ∙ w.written.value);
+      holds = record {
+        more = [];
+        has = subst (λ (ts : List Tile). IsSection ts section) (sym (append-nil tiles)) has;
+        is_part = subst (λ (ts : List Tile). IsPart ts (At start) v) (sym (append-nil tiles)) (among.tile, among.is, among.at, ap without_pointers same ∙ w.written.value);
+      };
+      only = tt;
     }

@@ -1,16 +1,18 @@
 -- A data section as values that stand one behind the other, whose pointers lead to the beginnings of values ("Output Data
 -- Section" of the MaxMind DB File Format Specification 2.0).
-use Rattle.std.specs.Prelude.{◌≡◌, ℕ, ◌*◌, ◌<◌, ◌≤◌, ◌^◌, ◌⊎◌, ◌==◌, ◌||◌, Bool, true, false, List, [], ◌∷◌, ◌++◌, length, map}
+pub use Rattle.mmdb_section.specs.Shapes.{scalar_of, Shape, plain, elements, entries, shape_of}
+use Rattle.std.specs.Prelude.{◌≡◌, ℕ, ◌*◌, ◌<◌, ◌≤◌, ◌^◌, ◌⊎◌, ◌==◌, ◌||◌, Bool, true, false, List, [], ◌∷◌, ◌++◌, length, Option, Some}
 use Rattle.std.specs.List.{AllByRecursion}
-use Rattle.mmdb_format.specs.Contents.{Scalar, text, bytes, boolean, signed32, number16, number32, number64, number128, double_bits, float_bits}
+use Rattle.std.specs.Map.{lookup}
+use Rattle.std.specs.Str.{bytes_eq}
+use Rattle.mmdb_format.specs.Contents.{Scalar, text, bytes}
 use Rattle.mmdb_format.specs.Unfolding.{Tree, scalar, array, table, pointer, Trees, no_trees, tree, Pairs, no_pairs, pair, Unfolds, levels, has_texts, without_pointers}
 use Rattle.mmdb_check.specs.Checking.{leads_to}
-use Rattle.mmdb_section.specs.declared.value.Number.{Number as SpecNumber}
-use Rattle.mmdb_section.specs.declared.value.Number.TheVariants.{Bool as BoolNumber, I32, U16, U32, U64, U128, Double, Float}
 use Rattle.mmdb_section.specs.declared.value.Part.{Part}
 use Rattle.mmdb_section.specs.declared.value.Part.TheVariants.{Number, At}
 use Rattle.mmdb_section.specs.declared.value.Value.{Value}
 use Rattle.mmdb_section.specs.declared.value.Value.TheVariants as values
+use Rattle.mmdb_section.specs.Bytes.{shape_bytes}
 
 -- ---- values of a section
 
@@ -57,27 +59,21 @@ pub record AreTiles (tiles : List Tile) (bytes : List ℕ) : Type 0 where
   pub chain : IsChain 0 tiles (length bytes)
   pub each : AllByRecursion (IsLaid tiles bytes) tiles
 
--- what contracts see of a section: its bytes, and where its values begin
+-- what contracts see of a section: its bytes, and of each value that was added its bytes and where it begins
 pub record SectionView : Type 0 where
   pub bytes : List ℕ
-  pub starts : List ℕ
+  pub added : List (List ℕ × ℕ)
 
--- the section has these values
+-- where the value of a shape begins, if it was added
+abbrev pub start_of : SectionView → Shape → Option ℕ
+start_of section shape = lookup (bytes_eq (shape_bytes shape)) section.added
+
+-- The section has these values, among them those that were added.
 pub record IsSection (tiles : List Tile) (section : SectionView) : Type 0 where
   pub are : AreTiles tiles section.bytes
-  pub starts : section.starts ≡ map (λ t. t.start) tiles
+  pub known : (shape : Shape) (offset : ℕ) → start_of section shape ≡ Some offset → is_start tiles offset ≡ true
 
 -- ---- values that are put into a section
-
-abbrev pub scalar_of : SpecNumber → Scalar
-scalar_of (BoolNumber b) = boolean b
-scalar_of (I32 z) = signed32 z
-scalar_of (U16 n) = number16 n
-scalar_of (U32 n) = number32 n
-scalar_of (U64 n) = number64 n
-scalar_of (U128 n) = number128 n
-scalar_of (Double x) = double_bits x.bits
-scalar_of (Float x) = float_bits x.bits
 
 -- a part stands for a number, or for the value that begins at its offset, pointers dropped
 abbrev pub IsPart : List Tile → Part → Tree → Type 0
@@ -104,11 +100,20 @@ IsValue tiles (values.Number n) v = v ≡ scalar (scalar_of n)
 IsValue tiles (values.Array parts) v = (vs : Trees) × AreParts tiles parts.now vs × (v ≡ array vs)
 IsValue tiles (values.Map pairs) v = (vs : Pairs) × ArePairs tiles pairs.now vs × (v ≡ table vs)
 
--- The section has these values, and perhaps one more, and the part stands for the tree.
+-- it begins at the offset, and is the tree with its pointers dropped
+abbrev pub IsFor : Tree → ℕ → Tile → Type 0
+IsFor v offset t = (t.start ≡ offset) × (without_pointers t.tree ≡ v)
+
+-- The section has these values, and perhaps more, and the part stands for the tree.
 pub record Holds (tiles : List Tile) (v : Tree) (section : SectionView) (part : Part) : Type 0 where
   pub more : List Tile
   pub has : IsSection (tiles ++ more) section
   pub is_part : IsPart (tiles ++ more) part v
+
+-- The section has these values, and perhaps this one more, which begins at the offset.
+pub record HoldsAt (tiles : List Tile) (v : Tree) (section : SectionView) (offset : ℕ) : Type 0 where
+  pub holds : Holds tiles v section (At offset)
+  pub only : AllByRecursion (IsFor v offset) holds.more
 
 -- ---- sizes
 

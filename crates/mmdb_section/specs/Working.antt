@@ -1,13 +1,17 @@
 -- What contracts of private functions and proofs name.
 pub use Rattle.mmdb_section.specs.Encoding.{Appends, Stands, IsHeader, IsScalar, IsText}
-use Rattle.std.specs.Prelude.{◌≡◌, ℕ, ◌+◌, ◌*◌, ◌≤◌, List, ◌++◌, length, true, false, Some, slice_get}
+use Rattle.std.specs.Prelude.{◌≡◌, ℕ, ◌+◌, ◌*◌, ◌≤◌, List, ◌++◌, length, map, true, false, Some, Vec}
+use Rattle.std.specs.Global.{Global}
+use Rattle.std.specs.BTreeMap.{BTreeMap}
+use Rattle.std.specs.Map.{lookup}
+use Rattle.std.specs.Str.{bytes_eq}
 use Rattle.mmdb_format.specs.Header.{big_endian, bytes_at, size_at, sized_header, header_at}
 use Rattle.mmdb_format.specs.Pointer.{pointer_at}
 use Rattle.mmdb_format.specs.Unfolding.{Tree, array, table, Trees, Pairs, Unfolds, AllUnfold, PairsUnfold, levels, trees_all_levels, pairs_all_levels, has_texts, trees_texts, pairs_texts, without_pointers, trees_without, pairs_without}
 use Rattle.mmdb_check.specs.Checking.{trees_lead_to, pairs_lead_to}
 use Rattle.mmdb_section.specs.declared.value.Part.{Part}
 use Rattle.mmdb_section.specs.declared.value.Value.{Value}
-use Rattle.mmdb_section.specs.Sections.{Tile, IsClosed, is_start, is_pointer, AreTiles, IsPart, AreParts, ArePairs, IsValue, SectionView}
+use Rattle.mmdb_section.specs.Sections.{Tile, IsClosed, is_start, is_pointer, AreTiles, IsPart, AreParts, ArePairs, IsValue}
 
 -- new is old with more at its end
 abbrev pub Grows : List ℕ → List ℕ → Type 0
@@ -92,11 +96,17 @@ WritesValue value bytes = (tiles : List Tile) (section : List ℕ) (v : Tree) �
 
 -- ---- values that stand in a section already
 
--- The bytes stand in the section from one of the starts on.
-pub record StandAt (section : SectionView) (start : ℕ) (bytes : List ℕ) : Type 0 where
-  pub index : ℕ
-  pub among : slice_get section.starts index ≡ Some start
+-- The bytes stand among others from an offset on.
+pub record StandAt (bytes : List ℕ) (start : ℕ) (value : List ℕ) : Type 0 where
   pub before : List ℕ
   pub behind : List ℕ
-  pub whole : section.bytes ≡ before ++ (bytes ++ behind)
+  pub whole : bytes ≡ before ++ (value ++ behind)
   pub start_is : length before ≡ start
+
+-- the entries of a map, with the bytes of its keys
+abbrev pub added_in : BTreeMap (Vec ℕ Global) ℕ → List (List ℕ × ℕ)
+added_in known = map (λ e. (e.0.items, e.1)) known.entries
+
+-- Values begin where the map says it.
+abbrev pub AreStarts : List ℕ → BTreeMap (Vec ℕ Global) ℕ → Type 0
+AreStarts bytes known = (value : List ℕ) (start : ℕ) → lookup (bytes_eq value) (added_in known) ≡ Some start → StandAt bytes start value

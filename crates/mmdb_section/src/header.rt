@@ -1,5 +1,6 @@
 //! Headers of values.
-ghost use Rattle.std.specs.Prelude.{◌≡◌, ◌≤◌, ◌<◌, OnOk};
+ghost use Rattle.std.specs.Prelude.{◌≡◌, ◌≤◌, ◌<◌, ◌++◌, OnOk};
+ghost use Rattle.mmdb_section.specs.Bytes.{low_bits_of, control_bytes, size_bytes, header_bytes};
 ghost use Rattle.mmdb_section.specs.Sections.{most_size};
 ghost use Rattle.mmdb_section.specs.Encoding.{Appends, IsHeader};
 ghost use Rattle.mmdb_section.specs.Working.{IsControl, IsSize};
@@ -16,6 +17,7 @@ fn low_bits(size: usize) -> u8
     ensures one { 29 ≤ size → size < 285 → result ≡ 29 }
     ensures two { 285 ≤ size → size < 65821 → result ≡ 30 }
     ensures three { 65821 ≤ size → result ≡ 31 }
+    ensures bits { result ≡ low_bits_of size }
 {
     if size < 29 {
         size as u8
@@ -33,7 +35,8 @@ fn push_control(out: &mut Vec<u8>, kind: u16, low: u8) -> Result<(), AllocError>
     requires no_pointer { 1 < kind }
     requires kind { kind < 16 }
     requires low { low < 32 }
-    ensures { OnOk result (Appends (IsControl kind low) out.old.items out.new.items) }
+    ensures says { OnOk result (Appends (IsControl kind low) out.old.items out.new.items) }
+    ensures bytes { OnOk result (out.new.items ≡ out.old.items ++ control_bytes kind low) }
 {
     if kind < 8 {
         out.extend_from_slice(&[(kind * 32) as u8 + low])
@@ -49,7 +52,8 @@ fn push_size(out: &mut Vec<u8>, low: u8, size: usize) -> Result<(), AllocError>
     requires two { 285 ≤ size → size < 65821 → low ≡ 30 }
     requires three { 65821 ≤ size → low ≡ 31 }
     requires most { size ≤ most_size }
-    ensures { OnOk result (Appends (IsSize low size) out.old.items out.new.items) }
+    ensures says { OnOk result (Appends (IsSize low size) out.old.items out.new.items) }
+    ensures bytes { OnOk result (out.new.items ≡ out.old.items ++ size_bytes size) }
 {
     if size < 29 {
         Ok(())
@@ -75,7 +79,8 @@ pub fn push_header(out: &mut Vec<u8>, kind: u16, size: usize) -> Result<(), Allo
     requires no_pointer { 1 < kind }
     requires kind { kind < 16 }
     requires size { size ≤ most_size }
-    ensures { OnOk result (Appends (IsHeader kind size) out.old.items out.new.items) }
+    ensures says { OnOk result (Appends (IsHeader kind size) out.old.items out.new.items) }
+    ensures bytes { OnOk result (out.new.items ≡ out.old.items ++ header_bytes kind size) }
 {
     let low = low_bits(size);
     push_control(out, kind, low)?;

@@ -1,12 +1,14 @@
 //! Pointers.
-ghost use Rattle.std.specs.Prelude.{◌≡◌, ◌<◌, OnOk};
+ghost use Rattle.std.specs.Prelude.{◌≡◌, ◌<◌, ◌++◌, OnOk};
+ghost use Rattle.mmdb_section.specs.Bytes.{pointer_bytes};
 ghost use Rattle.mmdb_section.specs.Working.{Appends, IsPointer};
 
 use std::alloc::AllocError;
 
 // The shortest pointer to an offset ("Data Field Format" of the specification, pointer - 1).
 pub(crate) fn push_pointer(out: &mut Vec<u8>, target: u32) -> Result<(), AllocError>
-    ensures { OnOk result (Appends (IsPointer target) out.old.items out.new.items) }
+    ensures says { OnOk result (Appends (IsPointer target) out.old.items out.new.items) }
+    ensures bytes { OnOk result (out.new.items ≡ out.old.items ++ pointer_bytes target) }
 {
     if target < 2_048 {
         out.extend_from_slice(&[32 + (target / 256) as u8, (target % 256) as u8])

@@ -1,7 +1,8 @@
 //! Values that hold no others.
-ghost use Rattle.std.specs.Prelude.{◌≡◌, ◌≤◌, ◌<◌, length, OnOk};
+ghost use Rattle.std.specs.Prelude.{◌≡◌, ◌≤◌, ◌<◌, ◌++◌, length, OnOk};
 ghost use Rattle.mmdb_format.specs.Header.{big_endian};
-ghost use Rattle.mmdb_format.specs.Contents.{bytes as bytes_scalar};
+ghost use Rattle.mmdb_format.specs.Contents.{bytes as bytes_scalar, text as text_scalar};
+ghost use Rattle.mmdb_section.specs.Bytes.{sized_bytes, significant_of, integer_bytes, scalar_bytes};
 ghost use Rattle.mmdb_section.specs.Sections.{most_size, scalar_of};
 ghost use Rattle.mmdb_section.specs.Encoding.{Appends, IsScalar, IsText};
 ghost use Rattle.mmdb_section.specs.Working.{IsSized, IsInteger};
@@ -16,7 +17,8 @@ fn push_sized(out: &mut Vec<u8>, kind: u16, content: &[u8]) -> Result<(), AllocE
     requires no_pointer { 1 < kind }
     requires kind { kind < 16 }
     requires size { length content.now ≤ most_size }
-    ensures { OnOk result (Appends (IsSized kind content.now) out.old.items out.new.items) }
+    ensures says { OnOk result (Appends (IsSized kind content.now) out.old.items out.new.items) }
+    ensures bytes { OnOk result (out.new.items ≡ out.old.items ++ sized_bytes kind content.now) }
 {
     push_header(out, kind, content.len())?;
     out.extend_from_slice(content)
@@ -26,6 +28,7 @@ fn push_sized(out: &mut Vec<u8>, kind: u16, content: &[u8]) -> Result<(), AllocE
 fn significant(bytes: &[u8]) -> &[u8]
     ensures value { big_endian result.now ≡ big_endian bytes.now }
     ensures len { length result.now ≤ length bytes.now }
+    ensures bytes { result.now ≡ significant_of bytes.now }
 {
     match bytes {
         [0, rest @ ..] => significant(rest),
@@ -38,14 +41,16 @@ fn push_integer(out: &mut Vec<u8>, kind: u16, bytes: &[u8]) -> Result<(), AllocE
     requires no_pointer { 1 < kind }
     requires kind { kind < 16 }
     requires size { length bytes.now ≤ 16 }
-    ensures { OnOk result (Appends (IsInteger kind bytes.now) out.old.items out.new.items) }
+    ensures says { OnOk result (Appends (IsInteger kind bytes.now) out.old.items out.new.items) }
+    ensures bytes { OnOk result (out.new.items ≡ out.old.items ++ integer_bytes kind bytes.now) }
 {
     push_sized(out, kind, significant(bytes))
 }
 
 /// Appends a number, or a truth value, whose size is the value.
 pub fn push_number(out: &mut Vec<u8>, number: Number) -> Result<(), AllocError>
-    ensures { OnOk result (Appends (IsScalar (scalar_of number)) out.old.items out.new.items) }
+    ensures says { OnOk result (Appends (IsScalar (scalar_of number)) out.old.items out.new.items) }
+    ensures bytes { OnOk result (out.new.items ≡ out.old.items ++ scalar_bytes (scalar_of number)) }
 {
     match number {
         Number::Bool(truth) => push_header(out, BOOL, usize::from(truth)),
@@ -62,7 +67,9 @@ pub fn push_number(out: &mut Vec<u8>, number: Number) -> Result<(), AllocError>
 /// Appends a text.
 pub fn push_text(out: &mut Vec<u8>, text: &str) -> Result<(), AllocError>
     requires { length text.now ≤ most_size }
-    ensures { OnOk result (Appends (IsText text.now) out.old.items out.new.items) }
+    ensures says { OnOk result (Appends (IsText text.now) out.old.items out.new.items) }
+    ensures bytes { let scalar = text_scalar text.now in
+        OnOk result (out.new.items ≡ out.old.items ++ scalar_bytes scalar) }
 {
     push_sized(out, TEXT, text.as_bytes())
 }
@@ -70,8 +77,10 @@ pub fn push_text(out: &mut Vec<u8>, text: &str) -> Result<(), AllocError>
 // A string of bytes.
 pub(crate) fn push_bytes(out: &mut Vec<u8>, bytes: &[u8]) -> Result<(), AllocError>
     requires { length bytes.now ≤ most_size }
-    ensures { let scalar = bytes_scalar bytes.now in
+    ensures says { let scalar = bytes_scalar bytes.now in
         OnOk result (Appends (IsScalar scalar) out.old.items out.new.items) }
+    ensures bytes { let scalar = bytes_scalar bytes.now in
+        OnOk result (out.new.items ≡ out.old.items ++ scalar_bytes scalar) }
 {
     push_sized(out, BYTES, bytes)
 }

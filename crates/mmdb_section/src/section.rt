@@ -1,9 +1,10 @@
 //! Sections, made value by value.
-ghost use Rattle.std.specs.Prelude.{◌≡◌, [], ℕ, List, ◌∷◌, ◌++◌, IfOk, IfErr, OnOk, OnErr, IfSome, Some, slice_get, length};
-ghost use Rattle.mmdb_section.specs.Sections.{Tile, SectionView, IsSection, IsValue, IsTooLarge, Holds};
+ghost use Rattle.std.specs.Prelude.{◌≡◌, [], ℕ, List, ◌++◌, IfOk, IfErr, OnOk, OnErr, IfSome, IsSome, Some, length, if◌then◌else◌};
+ghost use Rattle.std.specs.Str.{bytes_eq};
+ghost use Rattle.mmdb_section.specs.Bytes.{shape_bytes};
+ghost use Rattle.mmdb_section.specs.Sections.{Tile, Shape, shape_of, start_of, IsSection, IsValue, IsTooLarge, HoldsAt};
 ghost use Rattle.mmdb_section.specs.Working.{StandAt};
 ghost use Rattle.mmdb_format.specs.Unfolding.{Tree};
-ghost use Rattle.mmdb_section.specs.declared.value.Part.TheVariants.{At};
 
 use crate::header::MOST_SIZE;
 use crate::value::Value;
@@ -41,83 +42,74 @@ impl<T: Drop> From<AllocFailed<T>> for SectionError {
     }
 }
 
-/// A data section that grows by a value at a time. A value is added after its parts. One that stands in it already is not
-/// written again.
+/// A data section that grows by a value at a time. A value is added after its parts. One that was added before is not written
+/// again.
 #[derive(Drop)]
 pub struct Section {
     bytes: Vec<u8>,
-    /// Where the values begin, ascending.
-    starts: Vec<u32>,
-    /// From the bytes of a value to its index.
-    known: BTreeMap<Vec<u8>, usize>,
+    /// From the bytes of each value that was added to where it begins.
+    known: BTreeMap<Vec<u8>, u32>,
 }
 
 impl Model for Section {
+    ghost use Rattle.mmdb_section.specs.Sections.{SectionView};
+    ghost use Rattle.mmdb_section.specs.Working.{added_in, AreStarts};
+
     ghost Value = { SectionView };
 
-    ghost view = { λ s. record { bytes = s.bytes.items; starts = s.starts.items } };
+    ghost view = { λ s. record { bytes = s.bytes.items; added = added_in s.known } };
+
+    ghost invariant = { λ s. AreStarts s.bytes.items s.known };
 }
 
 impl Section {
     /// A section without values.
     pub fn new(alloc: Global) -> Section
         ensures bytes { result.bytes ≡ [] }
-        ensures starts { result.starts ≡ [] }
+        ensures added { result.added ≡ [] }
     {
         Section {
             bytes: Vec::new(alloc),
-            starts: Vec::new(alloc),
             known: BTreeMap::new(alloc),
         }
     }
 
-    // Where a value with these bytes begins.
+    // Where a value with these bytes begins, if it was added.
     fn find(&self, bytes: &[u8]) -> Option<u32>
-        ensures { IfSome result (λ start. StandAt self.now start bytes.now) }
+        ensures stands { IfSome result (λ start. StandAt self.now.bytes start bytes.now) }
+        ensures known { (shape : Shape) → bytes.now ≡ shape_bytes shape
+            → result ≡ start_of self.now shape }
     {
-        let index = self.known.get(bytes)?;
-        self.start_of(*index, bytes)
-    }
-
-    // Where the value of an index begins, if these bytes stand there.
-    fn start_of(&self, index: usize, bytes: &[u8]) -> Option<u32>
-        ensures { IfSome result (λ start. StandAt self.now start bytes.now) }
-    {
-        let start = *self.starts.get(index)?;
-        let (_, there) = self.bytes.split_at_checked(start as usize)?;
-        if there.starts_with(bytes) {
-            Some(start)
-        } else {
-            None
-        }
+        self.known.get(bytes).copied()
     }
 
     // Puts the bytes of a value behind the others.
     fn put(&mut self, start: u32, bytes: Vec<u8>) -> Result<(), AllocError>
         requires { start ≡ length self.old.bytes }
         ensures bytes { OnOk result (self.new.bytes ≡ self.old.bytes ++ bytes.items) }
-        ensures starts { OnOk result (self.new.starts ≡ self.old.starts ++ start ∷ []) }
+        ensures known { OnOk result ((shape : Shape) → start_of self.new shape
+            ≡ (if bytes_eq bytes.items (shape_bytes shape)
+            then Some start else start_of self.old shape)) }
         ensures kept { OnErr result (self.new ≡ self.old) }
     {
-        let index = self.starts.len();
-        self.starts.push(start)?;
-        if let Err(error) = self.bytes.extend_from_slice(&bytes) {
-            self.starts.truncate(index);
-            return Err(error);
-        }
-        if let Err(failed) = self.known.insert(bytes, index) {
-            self.starts.truncate(index);
+        self.bytes.extend_from_slice(&bytes)?;
+        if let Err(failed) = self.known.insert(bytes, start) {
             self.bytes.truncate(start as usize);
             return Err(AllocError::from(failed));
         }
         Ok(())
     }
 
-    /// Adds a value, unless it stands in the section, and answers the offset at which it begins. An error changes nothing.
+    /// Adds a value, unless it was added before, and answers the offset at which it begins. An error changes nothing.
     pub fn add(&mut self, alloc: Global, value: Value<'_>) -> Result<u32, SectionError>
         ensures value { IfOk result (λ offset. (tiles : List Tile) (v : Tree)
             → IsSection tiles self.old → IsValue tiles value.entry v
-            → Holds tiles v self.new (At offset)) }
+            → HoldsAt tiles v self.new offset) }
+        ensures known { IfOk result (λ offset.
+            start_of self.new (shape_of value.entry) ≡ Some offset) }
+        ensures stays_known { (shape : Shape) (offset : ℕ) → start_of self.old shape ≡ Some offset
+            → start_of self.new shape ≡ Some offset }
+        ensures once { IsSome (start_of self.old (shape_of value.entry)) → self.new ≡ self.old }
         ensures kept { OnErr result (self.new ≡ self.old) }
         ensures too_large { IfErr result (λ e. e ≡ SectionError.TooLarge
             → IsTooLarge self.old value.entry) }

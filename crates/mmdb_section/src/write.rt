@@ -1,6 +1,7 @@
 //! Values as bytes.
-ghost use Rattle.std.specs.Prelude.{◌≡◌, ◌≤◌, length, OnOk};
-ghost use Rattle.mmdb_section.specs.Sections.{most_size, size_of};
+ghost use Rattle.std.specs.Prelude.{◌≡◌, ◌≤◌, ◌++◌, length, OnOk};
+ghost use Rattle.mmdb_section.specs.Bytes.{part_bytes, parts_bytes, pairs_bytes, shape_bytes};
+ghost use Rattle.mmdb_section.specs.Sections.{most_size, size_of, shape_of, elements, entries};
 ghost use Rattle.mmdb_section.specs.Working.{Appends, WritesPart, WritesParts, WritesPairs, WritesArray, WritesMap, WritesValue};
 
 use crate::header::push_header;
@@ -12,7 +13,8 @@ use std::alloc::AllocError;
 
 // A part: a number, or a pointer to a value.
 fn push_part(out: &mut Vec<u8>, part: Part) -> Result<(), AllocError>
-    ensures { OnOk result (Appends (WritesPart part) out.old.items out.new.items) }
+    ensures says { OnOk result (Appends (WritesPart part) out.old.items out.new.items) }
+    ensures bytes { OnOk result (out.new.items ≡ out.old.items ++ part_bytes part) }
 {
     match part {
         Part::Number(number) => push_number(out, number),
@@ -22,7 +24,8 @@ fn push_part(out: &mut Vec<u8>, part: Part) -> Result<(), AllocError>
 
 // The elements of an array.
 fn push_parts(out: &mut Vec<u8>, parts: &[Part]) -> Result<(), AllocError>
-    ensures { OnOk result (Appends (WritesParts parts.now) out.old.items out.new.items) }
+    ensures says { OnOk result (Appends (WritesParts parts.now) out.old.items out.new.items) }
+    ensures bytes { OnOk result (out.new.items ≡ out.old.items ++ parts_bytes parts.now) }
 {
     for part in parts {
         push_part(out, *part)?;
@@ -32,7 +35,8 @@ fn push_parts(out: &mut Vec<u8>, parts: &[Part]) -> Result<(), AllocError>
 
 // The pairs of a map.
 fn push_pairs(out: &mut Vec<u8>, pairs: &[(Part, Part)]) -> Result<(), AllocError>
-    ensures { OnOk result (Appends (WritesPairs pairs.now) out.old.items out.new.items) }
+    ensures says { OnOk result (Appends (WritesPairs pairs.now) out.old.items out.new.items) }
+    ensures bytes { OnOk result (out.new.items ≡ out.old.items ++ pairs_bytes pairs.now) }
 {
     for (key, value) in pairs {
         push_part(out, *key)?;
@@ -43,7 +47,9 @@ fn push_pairs(out: &mut Vec<u8>, pairs: &[(Part, Part)]) -> Result<(), AllocErro
 
 fn push_array(out: &mut Vec<u8>, parts: &[Part]) -> Result<(), AllocError>
     requires { length parts.now ≤ most_size }
-    ensures { OnOk result (Appends (WritesArray parts.now) out.old.items out.new.items) }
+    ensures says { OnOk result (Appends (WritesArray parts.now) out.old.items out.new.items) }
+    ensures bytes { let shape = elements parts.now in
+        OnOk result (out.new.items ≡ out.old.items ++ shape_bytes shape) }
 {
     push_header(out, ARRAY, parts.len())?;
     push_parts(out, parts)
@@ -51,7 +57,9 @@ fn push_array(out: &mut Vec<u8>, parts: &[Part]) -> Result<(), AllocError>
 
 fn push_map(out: &mut Vec<u8>, pairs: &[(Part, Part)]) -> Result<(), AllocError>
     requires { length pairs.now ≤ most_size }
-    ensures { OnOk result (Appends (WritesMap pairs.now) out.old.items out.new.items) }
+    ensures says { OnOk result (Appends (WritesMap pairs.now) out.old.items out.new.items) }
+    ensures bytes { let shape = entries pairs.now in
+        OnOk result (out.new.items ≡ out.old.items ++ shape_bytes shape) }
 {
     push_header(out, MAP, pairs.len())?;
     push_pairs(out, pairs)
@@ -60,7 +68,9 @@ fn push_map(out: &mut Vec<u8>, pairs: &[(Part, Part)]) -> Result<(), AllocError>
 // A value, which begins with no pointer.
 pub(crate) fn push_value(out: &mut Vec<u8>, value: Value<'_>) -> Result<(), AllocError>
     requires { size_of value ≤ most_size }
-    ensures { OnOk result (Appends (WritesValue value.entry) out.old.items out.new.items) }
+    ensures says { OnOk result (Appends (WritesValue value.entry) out.old.items out.new.items) }
+    ensures bytes { let shape = shape_of value.entry in
+        OnOk result (out.new.items ≡ out.old.items ++ shape_bytes shape) }
 {
     match value {
         Value::Text(text) => push_text(out, text),

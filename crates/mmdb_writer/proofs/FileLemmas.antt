@@ -1,5 +1,5 @@
 -- The file that was written has the tree and the section, and each of its lookups finds what the rows say.
-use Rattle.std.proofs.Common.{◌≡◌, inl, inr, ℕ, zero, suc, ◌-◌, ◌*◌, ◌/◌, ◌^◌, ◌<◌, eqb, Bool, true, false, cond, List, [], ◌∷◌, ◌++◌, length, map, take, drop, Option, Some, None, refl, ap, sym, ◌∙◌, subst, arith, append_assoc, length-append}
+use Rattle.std.proofs.Common.{◌≡◌, inl, inr, ℕ, zero, suc, ◌+◌, ◌-◌, ◌*◌, ◌/◌, ◌^◌, ◌<◌, ◌≤◌, eqb, Bool, true, false, cond, List, [], ◌∷◌, ◌++◌, length, map, take, drop, Option, Some, None, refl, ap, sym, ◌∙◌, subst, arith, append_assoc, length-append}
 use Rattle.std.specs.List.{AllByRecursion, AllZip, slice_get}
 use Rattle.std.specs.declared.net.ip_addr.IpAddr.{IpAddr}
 use Rattle.std.specs.declared.net.ip_addr.IpAddr.TheVariants as Ip
@@ -13,31 +13,37 @@ use Rattle.mmdb_tree.specs.Tree.{walk, search_tree, node_bytes}
 use Rattle.mmdb_tree.proofs.HighBits.{number-below}
 use Rattle.mmdb_tree.specs.Records.{record_of}
 use Rattle.mmdb_tree.specs.declared.record.TreeRecord.{TreeRecord}
-use Rattle.mmdb_format.specs.Unfolding.{Tree}
+use Rattle.mmdb_tree.specs.declared.record.TreeRecord.TheVariants.{Data}
+use Rattle.mmdb_format.specs.Unfolding.{Tree, without_pointers}
+use Rattle.mmdb_format.proofs.UnfoldingLaws.{one_tree}
 use Rattle.mmdb_nodes.specs.declared.tree.SearchTree.{SearchTree}
 use Rattle.mmdb_nodes.specs.declared.entry.Entry.{Entry}
 use Rattle.mmdb_nodes.specs.declared.entry.IpVersion.{IpVersion}
 use Rattle.mmdb_nodes.specs.declared.entry.IpVersion.TheVariants.{V4, V6}
-use Rattle.mmdb_nodes.specs.Entries.{width, block_of}
+use Rattle.mmdb_nodes.specs.Entries.{width, block_of, Gives, offset_in}
 use Rattle.mmdb_blocks.specs.Blocks.{IsBlock}
-use Rattle.mmdb_nodes.specs.Trees.{bits_in, tree_in, leaf_of, LeadsByPrefix, IsSizeFor, numbers_of}
-use Rattle.mmdb_section.specs.Sections.{Tile, AreTiles, IsPart}
+use Rattle.mmdb_nodes.specs.Trees.{bits_in, tree_in, leaf_of, LeadsByPrefix, HasSplitNodes, IsSizeFor, numbers_of}
+use Rattle.mmdb_nodes.proofs.LongestLemmas.{last_is_longest}
+use Rattle.mmdb_section.specs.Sections.{Tile, SectionView, AreTiles, IsPart}
+use Rattle.mmdb_section.specs.Known.{HasEachOnce}
+use Rattle.mmdb_section.proofs.OnceLemmas.{none_twice}
 use Rattle.mmdb_section.specs.declared.value.Part.TheVariants.{At}
 use Rattle.mmdb_value.specs.declared.any_value.Value.{Value}
 use Rattle.mmdb_value.specs.Values.{value_tree}
 use Rattle.mmdb_value.specs.Standing.{WholeValue}
 use Rattle.mmdb_reader.specs.Metadata.{MetadataDatum}
-use Rattle.mmdb_reader.specs.File.{Database, tree_of, tree_len, data_start, data_length, data_section, has_ipv6, before_ipv4}
+use Rattle.mmdb_reader.specs.File.{Database, width as db_width, tree_of, tree_len, data_start, data_length, data_section, has_ipv6, before_ipv4}
 use Rattle.mmdb_reader.specs.Lookup.{CanAsk, Answers, address_bits, outcome_of, outcome_at, for_lookup}
-use Rattle.mmdb_reader.proofs.LawLemmas.{each_address_is_answered}
+use Rattle.mmdb_reader.proofs.LawLemmas.{answers_are_unique, each_address_is_answered}
 use Rattle.mmdb_reader.proofs.NumberLemmas.{take-bits-number}
 use Rattle.mmdb_writer.specs.declared.options.Options.{Options}
 use Rattle.mmdb_writer.specs.declared.row.Row.{Row}
 use Rattle.mmdb_writer.specs.Limits.{CanBeRead}
 use Rattle.mmdb_writer.specs.Rows.{wide_bits, IsValueOf, Says}
-use Rattle.mmdb_writer.specs.Written.{version_number, asked as asked_metadata, IsRead, LookupsAgree, IsAsked, IsWritten}
+use Rattle.mmdb_writer.specs.Written.{version_number, asked as asked_metadata, widened as wide_in, IsRead, LookupsAgree, SharesEqualValues, HasLargestBlocks, IsAsked, IsWritten}
 use Rattle.mmdb_writer.specs.Making.{AllBegin, IsOffsetOf, IsEntryOf, IsMadeOf}
-use Rattle.mmdb_writer.specs.Working.{IsCertified, BeginsWith, AreInOrder, IsFileOf}
+use Rattle.mmdb_writer.specs.Making.{IsCertified, BeginsWith}
+use Rattle.mmdb_writer.specs.Working.{AreInOrder, IsFileOf}
 use Rattle.mmdb_writer.specs.declared.writer.Writer.{Writer}
 use Rattle.mmdb_writer.proofs.ReadLemmas.{part_is_read}
 use Rattle.mmdb_writer.proofs.RowLemmas.{GivesRow, zip_left, gives_given, gives_row}
@@ -58,6 +64,33 @@ begins_at tiles (v ∷ vs) (o ∷ os) zero offset all can at = let same : o ≡ 
 begins_at tiles (v ∷ vs) (o ∷ os) (suc i) offset all can at =
     let rest = begins_at tiles vs os i offset all.1 can.1 at in
     record { value = rest.value; at = rest.at; begins = rest.begins; readable = rest.readable }
+
+-- the value begins at the offset, or there is none
+abbrev pub IsBegun : List Tile → Option ℕ → Option Tree → Type 0
+IsBegun tiles None v = v ≡ None
+IsBegun tiles (Some offset) v = (t : Tree) × (v ≡ Some t) × IsPart tiles (At offset) t
+
+same_some : (t u : Tree) → Some t ≡ Some u → t ≡ u
+same_some t u h = cc
+
+module _ (tiles : List Tile) (section : SectionView) (once : HasEachOnce tiles section) where
+  -- equal values begin at one offset
+  pub same_start : (x y : ℕ) (v w : Tree) → IsPart tiles (At x) v → IsPart tiles (At y) w → v ≡ w → x ≡ y
+  same_start x y v w p q same = sym p.2 ∙ none_twice tiles section p.0 q.0 once p.1 q.1 (p.3 ∙ same ∙ sym q.3) ∙ q.2
+
+  pub same_found : (f g : Option ℕ) (v w : Option Tree) → IsBegun tiles f v → IsBegun tiles g w → v ≡ w → f ≡ g
+  same_found None None v w h k same = refl
+  same_found None (Some y) v w h k same = let e : Some k.0 ≡ None = sym k.1 ∙ sym same ∙ h in absurd (cc)
+  same_found (Some x) None v w h k same = let e : Some h.0 ≡ None = sym h.1 ∙ same ∙ k in absurd (cc)
+  same_found (Some x) (Some y) v w h k same = ap Some (same_start x y h.0 k.0 h.2 k.2 (same_some h.0 k.0 (sym h.1 ∙ same ∙ k.1)))
+
+-- one value is read at an offset
+one_whole : (s : List ℕ) (x : ℕ) (v w : Tree) → WholeValue true s x v → WholeValue true s x w → v ≡ w
+one_whole s x v w h k = h.3 ∙ ap without_pointers (one_tree h.2.unfolds k.2.unfolds).0 ∙ sym k.3
+
+offset_of : (found : Option ℕ) (x : ℕ) → outcome_at found ≡ Data x → found ≡ Some x
+offset_of None x h = absurd (cc)
+offset_of (Some y) x h = cc
 
 -- ---- addresses as numbers
 
@@ -115,6 +148,15 @@ number_in db V6 is (Ip.V4 a) can =
     }
 number_in db V4 is (Ip.V6 a) can = let e : ◌≡◌ {A = ℕ} 4 6 = sym is ∙ can in absurd (omega arith)
 number_in db V6 is (Ip.V6 a) can = record { fits = own_below (Ip.V6 a); bits = sym (own_bits (Ip.V6 a)); wide = sym (own_bits (Ip.V6 a)) }
+
+same_width : (db : Database) (version : IpVersion) → db.metadata.ip_version ≡ version_number version → db_width db ≡ width version
+same_width db V4 is = ap (λ (n : ℕ). cond (eqb n 6) 128 32) is
+same_width db V6 is = ap (λ (n : ℕ). cond (eqb n 6) 128 32) is
+
+wide_number : (db : Database) (version : IpVersion) → db.metadata.ip_version ≡ version_number version → (n : ℕ) → n < 2 ^ width version → wide_in db (bits_of (width version) n) ≡ bits_of 128 n
+unfolding zero_bits
+wide_number db V4 is n fits = ap (λ (w : ℕ). zero_bits (128 - w) ++ bits_of 32 n) (same_width db V4 is) ∙ widened n fits
+wide_number db V6 is n fits = ap (λ (w : ℕ). zero_bits (128 - w) ++ bits_of 128 n) (same_width db V6 is)
 
 -- ---- the parts of the file
 
@@ -178,42 +220,128 @@ module _ (file : List ℕ) (options : Options) (tree : SearchTree) (section : Li
       ∙ ap (record_of tree.node_count (length section)) number ∙ leads in
       ap for_lookup same ∙ for_leaf found
 
-  module _ (values : List Value) (rows : List Row) (can : AllByRecursion (λ v. CanBeRead (value_tree v)) values) (tiles : List Tile) (laid : AreTiles tiles section) (offsets : List ℕ)
+  module _ (values : List Value) (rows : List Row) (can : AllByRecursion (λ v. CanBeRead (value_tree v)) values) (tiles : List Tile) (view : SectionView) (once : HasEachOnce tiles view) (laid : AreTiles tiles section) (offsets : List ℕ)
       (all : AllBegin tiles (map value_tree values) offsets) (given entries : List Entry) (of_rows : AllZip (IsEntryOf offsets) rows given)
-      (order : AreInOrder options.ip_version (length section) given entries) (leads : LeadsByPrefix options.ip_version (length section) entries tree) where
-    value_read : (value found : Option ℕ) → IsOffsetOf offsets value found → (v : Option Tree) × IsValueOf values value v × IsRead db found v
-    value_read None found is = (None, refl, subst (λ (o : Option ℕ). IsRead db o None) (sym is) refl)
-    value_read (Some index) found (offset, at, is) =
-        let b = begins_at tiles values offsets index offset all can at in
-        let read : WholeValue true (data_section db) offset (value_tree b.value) = subst (λ (s : List ℕ). WholeValue true s offset (value_tree b.value)) (sym section_is) (part_is_read tiles section laid offset (value_tree b.value) b.begins b.readable.within) in
-        (Some (value_tree b.value), (b.value, b.at, refl), subst (λ (o : Option ℕ). IsRead db o (Some (value_tree b.value))) (sym is) (value_tree b.value, refl, read))
+      (order : AreInOrder options.ip_version (length section) given entries) (leads : LeadsByPrefix options.ip_version (length section) entries tree) (split : HasSplitNodes options.ip_version entries tree) where
+    -- what is said of an address, and where it begins
+    record IsSaid (bits : List Bool) (found : Option ℕ) : Type 0 where
+      v : Option Tree
+      says : Says values rows bits v
+      read : IsRead db found v
+      begun : IsBegun tiles found v
 
-    says_read : (bits : List Bool) (found : Option ℕ) → GivesRow rows offsets bits found → (v : Option Tree) × Says values rows bits v × IsRead db found v
-    says_read bits found (inl h) = (None, inl (h.0, refl), subst (λ (o : Option ℕ). IsRead db o None) (sym h.1) refl)
-    says_read bits found (inr h) =
-        let read = value_read h.0.value found h.2 in
-        (read.0, inr (h.0, h.1, read.1), read.2)
+    -- a value where it begins
+    record IsThere (value found : Option ℕ) : Type 0 where
+      v : Option Tree
+      is : IsValueOf values value v
+      read : IsRead db found v
+      begun : IsBegun tiles found v
+
+    value_there : (value found : Option ℕ) → IsOffsetOf offsets value found → IsThere value found
+    value_there None found is = record { v = None; is = refl; read = subst (λ (o : Option ℕ). IsRead db o None) (sym is) refl; begun = subst (λ (o : Option ℕ). IsBegun tiles o None) (sym is) refl }
+    value_there (Some index) found (offset, at, is) =
+        let b = begins_at tiles values offsets index offset all can at in
+        let whole : WholeValue true (data_section db) offset (value_tree b.value) = subst (λ (s : List ℕ). WholeValue true s offset (value_tree b.value)) (sym section_is) (part_is_read tiles section laid offset (value_tree b.value) b.begins b.readable.within) in
+        record {
+          v = Some (value_tree b.value);
+          is = (b.value, b.at, refl);
+          read = subst (λ (o : Option ℕ). IsRead db o (Some (value_tree b.value))) (sym is) (value_tree b.value, refl, whole);
+          begun = subst (λ (o : Option ℕ). IsBegun tiles o (Some (value_tree b.value))) (sym is) (value_tree b.value, refl, b.begins);
+        }
+
+    row_said : (bits : List Bool) (found : Option ℕ) → GivesRow rows offsets bits found → IsSaid bits found
+    row_said bits found (inl h) =
+        record { v = None; says = inl (h.0, refl); read = subst (λ (o : Option ℕ). IsRead db o None) (sym h.1) refl; begun = subst (λ (o : Option ℕ). IsBegun tiles o None) (sym h.1) refl }
+    row_said bits found (inr h) =
+        let there = value_there h.0.value found h.2 in
+        record { v = there.v; says = inr (h.0, h.1, there.is); read = there.read; begun = there.begun }
 
     blocks_are : (j : ℕ) (e : Entry) → slice_get given j ≡ Some e → IsBlock (block_of e)
     blocks_are j e at = let r = zip_left (IsEntryOf offsets) rows given of_rows j e at in r.2.block
 
-    pub lookups_agree : LookupsAgree db values rows
-    lookups_agree address asked =
+    below_widest : (version : IpVersion) (n : ℕ) → n < 2 ^ width version → n < 2 ^ 128
+    below_widest V4 n h = omega arith
+    below_widest V6 n h = h
+
+    number_said : (n : ℕ) (found : Option ℕ) → n < 2 ^ width options.ip_version → Gives entries n found → IsSaid (bits_of 128 n) found
+    number_said n found fits gives =
+        let wide : n < 2 ^ 128 = below_widest options.ip_version n fits in
+        row_said (bits_of 128 n) found (gives_row rows offsets given of_rows n wide found (gives_given given entries n order.stable blocks_are found gives))
+
+    -- the answer for an address
+    record IsAnswered (address : IpAddr) : Type 0 where
+      leaf : List Bool
+      found : Option ℕ
+      answers : Answers db address leaf (outcome_at found)
+      said : IsSaid (wide_bits address) found
+
+    answered : (address : IpAddr) → CanAsk db address → IsAnswered address
+    answered address asked =
         let n : ℕ = own_number address in
         let number = number_in db options.ip_version version_is address asked in
-        let fits : n < 2 ^ 128 = below_widest options.ip_version n number.fits in
         let led = leads behind n number.fits in
         let found = led.0 in
-        let given_is = gives_given given entries n order.stable blocks_are found led.1 in
-        let row = subst (λ (bits : List Bool). GivesRow rows offsets bits found) (sym number.wide) (gives_row rows offsets given of_rows n fits found given_is) in
         let answer = each_address_is_answered db address asked in
-        let answers : Answers db address answer.0 (outcome_at found) = subst (λ (r : TreeRecord). Answers db address answer.0 r) (outcome_is found n address number.bits led.2) answer.1 in
-        let said = says_read (wide_bits address) found row in
-        (answer.0, found, said.0, answers, said.1, said.2)
-      where
-        below_widest : (version : IpVersion) (n : ℕ) → n < 2 ^ width version → n < 2 ^ 128
-        below_widest V4 n h = omega arith
-        below_widest V6 n h = h
+        record {
+          leaf = answer.0;
+          found = found;
+          answers = subst (λ (r : TreeRecord). Answers db address answer.0 r) (outcome_is found n address number.bits led.2) answer.1;
+          said = subst (λ (bits : List Bool). IsSaid bits found) (sym number.wide) (number_said n found number.fits led.1);
+        }
+
+    pub lookups_agree : LookupsAgree db values rows
+    lookups_agree address asked =
+        let h = answered address asked in
+        (h.leaf, h.found, h.said.v, h.answers, h.said.says, h.said.read)
+
+    -- ---- equal values
+
+    -- the value at an offset that is answered begins there
+    data_begins : (address : IpAddr) (leaf : List Bool) (x : ℕ) (v : Tree) → Answers db address leaf (Data x) → WholeValue true (data_section db) x v → IsPart tiles (At x) v
+    data_begins address leaf x v h whole =
+        let own = answered address h.can_ask in
+        let found : own.found ≡ Some x = offset_of own.found x (sym (answers_are_unique db address leaf own.leaf (Data x) (outcome_at own.found) h own.answers).1) in
+        let read : IsRead db (Some x) own.said.v = subst (λ (o : Option ℕ). IsRead db o own.said.v) found own.said.read in
+        let begun : IsBegun tiles (Some x) own.said.v = subst (λ (o : Option ℕ). IsBegun tiles o own.said.v) found own.said.begun in
+        let tree : begun.0 ≡ read.0 = same_some begun.0 read.0 (sym begun.1 ∙ read.1) in
+        subst (IsPart tiles (At x)) (tree ∙ one_whole (data_section db) x read.0 v read.2 whole) begun.2
+
+    pub shares_values : SharesEqualValues db
+    shares_values a b p q x y v w one other first second = (
+      λ same. one_whole (data_section db) y v w (subst (λ (n : ℕ). WholeValue true (data_section db) n v) same first) second,
+      same_start tiles view once x y v w (data_begins a p x v one first) (data_begins b q y w other second),
+    )
+
+    -- ---- largest blocks
+
+    some_says : (n : ℕ) → n < 2 ^ width options.ip_version → IsSaid (bits_of 128 n) (offset_in entries n)
+    some_says n fits = number_said n (offset_in entries n) fits (last_is_longest options.ip_version (length section) entries n order.ordered order.fit)
+
+    pub largest_blocks : HasLargestBlocks db values rows
+    largest_blocks leaf wider rest x is_leaf is some =
+        let whole : length leaf ≡ length wider + suc (length rest) = ap length is ∙ length-append wider (x ∷ rest) in
+        let short = is_leaf.short in
+        let width_is : db_width db ≡ width options.ip_version = same_width db options.ip_version version_is in
+        let len : length wider ≤ width options.ip_version = omega arith in
+        let inner : walk (tree_of db) wider < db.metadata.node_count = is_leaf.inner wider x rest is in
+        let on : walk (tree_in tree behind) wider < tree.node_count =
+        subst (λ (k : ℕ). walk (tree_in tree behind) wider < k) count_is (subst (λ t. walk t wider < db.metadata.node_count) tree_is inner) in
+        let h = split behind wider some len on in
+        let one = some_says h.one h.fits in
+        let other = some_says h.other h.other_fits in
+        record {
+          one = bits_of (width options.ip_version) h.one;
+          other = bits_of (width options.ip_version) h.other;
+          one_full = length-bits_of (width options.ip_version) h.one ∙ sym width_is;
+          other_full = length-bits_of (width options.ip_version) h.other ∙ sym width_is;
+          one_here = h.in_block;
+          other_here = h.other_in_block;
+          v = one.v;
+          w = other.v;
+          one_has = subst (λ (bits : List Bool). Says values rows bits one.v) (sym (wide_number db options.ip_version version_is h.one h.fits)) one.says;
+          other_has = subst (λ (bits : List Bool). Says values rows bits other.v) (sym (wide_number db options.ip_version version_is h.other h.other_fits)) other.says;
+          differ = λ same. h.differ (same_found tiles view once (offset_in entries h.one) (offset_in entries h.other) one.v other.v one.begun other.begun same);
+        }
 
     asked_is : IsSizeFor options.record_size (numbers_of tree.node_count (length section)) tree.record_size → IsAsked options db
     asked_is serves = record {
@@ -225,12 +353,12 @@ module _ (file : List ℕ) (options : Options) (tree : SearchTree) (section : Li
     }
 
     is_written : IsSizeFor options.record_size (numbers_of tree.node_count (length section)) tree.record_size → IsWritten values rows options file
-    is_written serves = record { db = db; database = certified.database; asked = asked_is serves; whole = certified.whole; lookups = lookups_agree }
+    is_written serves = record { db = db; database = certified.database; asked = asked_is serves; whole = certified.whole; lookups = lookups_agree; shared = shares_values; largest = largest_blocks }
 
 -- the file of a writer has what was added
 pub writes_of : (writer : Writer) (section file : List ℕ) (values : List Value) (rows : List Row) → section ≡ writer.section.bytes
     → IsFileOf writer.options section writer.entries.items file → (options : Options) → IsMadeOf values rows options writer → IsWritten values rows options file
 writes_of writer section file values rows same f options made =
-    let laid : AreTiles made.tiles section = subst (AreTiles made.tiles) (sym same) made.has.are in
+    let laid : AreTiles made.tiles section = subst (AreTiles made.tiles) (sym same) made.once.has.are in
     subst (λ (o : Options). IsWritten values rows o file) made.options_are
-    (is_written file writer.options f.tree section f.certified f.begins f.len values rows made.readable made.tiles laid writer.offsets.items made.begin writer.entries.items f.entries made.entries_are f.order f.leads f.serves)
+    (is_written file writer.options f.tree section f.certified f.begins f.len values rows made.readable made.tiles writer.section made.once laid writer.offsets.items made.begin writer.entries.items f.entries made.entries_are f.order f.leads f.split f.serves)

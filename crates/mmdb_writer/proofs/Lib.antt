@@ -1,4 +1,5 @@
 pub mod SectionLemmas
+pub mod LargeLemmas
 pub mod KeyLemmas
 pub mod ReadLemmas
 pub mod LastLemmas

@@ -1,11 +1,15 @@
 -- What a file in the making has after each call.
-use Rattle.std.proofs.Common.{◌≡◌, ℕ, zero, suc, List, [], ◌∷◌, ◌++◌, length, map, Option, Some, None, Result, Ok, Err, IfOk, IfErr, Vec, Global, refl, ap, sym, ◌∙◌, subst}
+use Rattle.std.proofs.Common.{◌≡◌, inl, inr, take, ℕ, zero, suc, List, [], ◌∷◌, ◌++◌, length, map, Option, Some, None, Result, Ok, Err, IfOk, IfErr, Vec, Global, refl, ap, sym, ◌∙◌, subst}
 use Rattle.std.specs.List.{AllByRecursion, AllZip, slice_get}
+use Rattle.std.specs.Map.{lookup}
+use Rattle.std.specs.Str.{bytes_eq}
 use Rattle.std.proofs.lemmas.List.{length-map, map-append}
 use Rattle.mmdb_format.specs.Unfolding.{Tree}
 use Rattle.mmdb_nodes.specs.declared.entry.Entry.{Entry}
 use Rattle.mmdb_section.specs.declared.value.Part.TheVariants.{At}
-use Rattle.mmdb_section.specs.Sections.{Tile, IsSection}
+use Rattle.mmdb_section.specs.Known.{HasEachOnce}
+use Rattle.mmdb_section.specs.Bytes.{shape_bytes}
+use Rattle.mmdb_section.specs.Sections.{Tile, Shape}
 use Rattle.mmdb_value.specs.declared.any_value.Value.{Value}
 use Rattle.mmdb_value.specs.Values.{value_tree}
 use Rattle.mmdb_writer.specs.declared.error.WriteError.{WriteError}
@@ -15,11 +19,11 @@ use Rattle.mmdb_writer.specs.declared.options.Options.{Options}
 use Rattle.mmdb_writer.specs.declared.row.Row.{Row}
 use Rattle.mmdb_writer.specs.declared.row.RowError.{RowError}
 use Rattle.mmdb_writer.specs.declared.writer.Writer.{Writer}
-use Rattle.mmdb_writer.specs.Errors.{IsWrongRow, IsErrorOf}
+use Rattle.mmdb_writer.specs.Errors.{IsWrongRow, IsErrorOf, IsOfOptions, IsOfRow}
 use Rattle.mmdb_writer.specs.Limits.{CanBeRead, Exceeds}
-use Rattle.mmdb_writer.specs.Making.{AllBegin, IsOffsetOf, IsEntryOf, IsMadeOf, Stays, IsErrorAfterValue, IsErrorAfterRow, IsErrorAfter, Writes}
+use Rattle.mmdb_writer.specs.Making.{AllBegin, IsOffsetOf, IsEntryOf, IsMadeOf, Stays, IsErrorAfterValue, IsErrorAfterRow, IsErrorAfter, Writes, HasFullSection, DoesNotFit, IsTooLarge}
 use Rattle.mmdb_writer.specs.Written.{IsWritten}
-use Rattle.mmdb_writer.specs.Working.{Puts, Keeps, IsFileOf}
+use Rattle.mmdb_writer.specs.Working.{HoldsBeside, Keeps, IsFileOf}
 use Rattle.mmdb_writer.proofs.FileLemmas.{writes_of}
 use Rattle.mmdb_writer.proofs.RowLemmas.{zip_snoc}
 use Rattle.mmdb_writer.proofs.SectionLemmas.{still_all, all_snoc}
@@ -76,10 +80,10 @@ module _ (values : List Value) (rows : List Row) (options : Options) (old : Writ
   pub rows_so_far : length old.entries.items ≡ length rows
   rows_so_far = as_many_zipped (IsEntryOf old.offsets.items) rows old.entries.items made.entries_are
 
-  pub value_added : (value : Value) (new : Writer) (offset : ℕ) → CanBeRead (value_tree value) → Puts (value_tree value) old.section new.section (At offset)
+  pub value_added : (value : Value) (new : Writer) (offset : ℕ) → CanBeRead (value_tree value) → HoldsBeside (value_tree value) old.section new.section (At offset)
       → new.options ≡ old.options → new.offsets.items ≡ old.offsets.items ++ offset ∷ [] → new.entries ≡ old.entries → IsMadeOf (values ++ value ∷ []) rows options new
   value_added value new offset can puts same grown kept =
-      let put = puts made.tiles made.has in
+      let put = puts made.tiles made.once in
       let tiles : List Tile = made.tiles ++ put.more in
       let all : AllBegin tiles (map value_tree values ++ value_tree value ∷ []) (old.offsets.items ++ offset ∷ []) =
       all_snoc tiles (map value_tree values) old.offsets.items (value_tree value) offset (still_all made.tiles put.more (map value_tree values) old.offsets.items made.begin) put.is_part in
@@ -87,7 +91,7 @@ module _ (values : List Value) (rows : List Row) (options : Options) (old : Writ
         options_are = same ∙ made.options_are;
         readable = all_more (λ v. CanBeRead (value_tree v)) values value made.readable can;
         tiles = tiles;
-        has = put.has;
+        once = put.once;
         begin = subst (AllBegin tiles (map value_tree (values ++ value ∷ []))) (sym grown)
             (subst (λ (vs : List Tree). AllBegin tiles vs (old.offsets.items ++ offset ∷ [])) (sym (map-append value_tree values (value ∷ []))) all);
         entries_are = subst (λ (os : List ℕ). AllZip (IsEntryOf os) rows new.entries.items) (sym grown)
@@ -100,7 +104,7 @@ module _ (values : List Value) (rows : List Row) (options : Options) (old : Writ
     options_are = same ∙ made.options_are;
     readable = made.readable;
     tiles = made.tiles;
-    has = subst (IsSection made.tiles) (sym section) made.has;
+    once = subst (HasEachOnce made.tiles) (sym section) made.once;
     begin = subst (λ os. AllBegin made.tiles (map value_tree values) os.items) (sym offsets) made.begin;
     entries_are = subst (λ os. AllZip (IsEntryOf os.items) (rows ++ row ∷ []) new.entries.items) (sym offsets)
         (subst (AllZip (IsEntryOf old.offsets.items) (rows ++ row ∷ [])) (sym grown) (zip_snoc (IsEntryOf old.offsets.items) rows old.entries.items row entry made.entries_are is));
@@ -109,12 +113,12 @@ module _ (values : List Value) (rows : List Row) (options : Options) (old : Writ
 -- a section that has more, and nothing else that is new
 pub stays_grown : (old new : Writer) → new.options ≡ old.options → new.offsets.items ≡ old.offsets.items → new.entries.items ≡ old.entries.items → Keeps old.section new.section → Stays old new
 stays_grown old new same offsets entries keeps = λ values rows options made.
-    let h = keeps made.tiles made.has in
+    let h = keeps made.tiles made.once in
     record {
       options_are = same ∙ made.options_are;
       readable = made.readable;
       tiles = made.tiles ++ h.0;
-      has = h.1;
+      once = h.1;
       begin = subst (AllBegin (made.tiles ++ h.0) (map value_tree values)) (sym offsets) (still_all made.tiles h.0 (map value_tree values) old.offsets.items made.begin);
       entries_are = subst (λ (os : List ℕ). AllZip (IsEntryOf os) rows new.entries.items) (sym offsets) (subst (AllZip (IsEntryOf old.offsets.items) rows) (sym entries) made.entries_are);
     }
@@ -161,3 +165,41 @@ file_written writer values rows options (Err e) made writes = tt
 pub file_explained : (writer : Writer) (values : List Value) (rows : List Row) (options : Options) (r : Result (Vec ℕ Global) WriteError) → IsMadeOf values rows options writer → IfErr r (IsErrorAfter writer) → IfErr r (IsErrorOf values rows options)
 file_explained writer values rows options (Ok file) made explained = tt
 file_explained writer values rows options (Err e) made explained = explained values rows options made
+
+-- ---- a file without values and rows
+
+pub made_empty : (options : Options) (writer : Writer) → writer.options ≡ options → writer.section.bytes ≡ [] → writer.section.added ≡ [] → writer.offsets.items ≡ [] → writer.entries.items ≡ [] → IsMadeOf [] [] options writer
+made_empty options writer same bytes added offsets entries = record {
+  options_are = same;
+  readable = tt;
+  tiles = [];
+  once = record {
+    has = record {
+      are = record { chain = sym (ap length bytes); each = tt };
+      known = λ shape offset is. absurd (none_known shape offset (sym (ap (lookup (bytes_eq (shape_bytes shape))) added) ∙ is));
+    };
+    each = tt;
+  };
+  begin = subst (AllBegin [] []) (sym offsets) tt;
+  entries_are = subst (AllZip (IsEntryOf writer.offsets.items) []) (sym entries) tt;
+} where
+  none_known : (shape : Shape) (offset : ℕ) → lookup (bytes_eq (shape_bytes shape)) [] ≡ Some offset → ⊥
+  none_known shape offset is = cc
+
+-- ---- what is too large
+
+pub value_too_large : (values : List Value) (rows : List Row) (options : Options) (count : ℕ) (old new : Writer) → IsMadeOf (take count values) [] options old → Stays old new → HasFullSection new → IsTooLarge values rows options
+value_too_large values rows options count old new made stays full = inl (count, new, stays (take count values) [] options made, full)
+
+pub no_large_row : (e : WriteError) → IsOfRow e → e ≡ errors.TooLarge → ⊥
+no_large_row e (inl memory) is = let h : errors.Memory ≡ errors.TooLarge = sym memory ∙ is in cc
+no_large_row e (inr (index, error, same)) is = let h : errors.Row index error ≡ errors.TooLarge = sym same ∙ is in cc
+
+pub no_large_options : (e : WriteError) → IsOfOptions e → e ≡ errors.TooLarge → ⊥
+no_large_options e (error, same) is = let h : errors.Options error ≡ errors.TooLarge = sym same ∙ is in cc
+
+pub file_too_large : (writer : Writer) (values : List Value) (rows : List Row) (options : Options) (r : Result (Vec ℕ Global) WriteError) → IsMadeOf values rows options writer
+    → IfErr r (λ e. e ≡ errors.TooLarge → DoesNotFit writer.options writer.section.bytes writer.entries.items) → IfErr r (λ e. e ≡ errors.TooLarge → IsTooLarge values rows options)
+file_too_large writer values rows options (Ok file) made large = tt
+file_too_large writer values rows options (Err e) made large = λ is.
+    inr (writer, made, subst (λ (o : Options). DoesNotFit o writer.section.bytes writer.entries.items) made.options_are (large is))

@@ -17,7 +17,7 @@ use Rattle.mmdb_nodes.proofs.EntryLemmas.{has-true}
 use Rattle.mmdb_writer.specs.declared.row.Row.{Row}
 use Rattle.mmdb_writer.specs.Rows.{Has, prefix_of, IsRowOf, HasNoRow}
 use Rattle.mmdb_writer.specs.Making.{IsOffsetOf, IsEntryOf}
-use Rattle.mmdb_writer.specs.Working.{is_same_block}
+use Rattle.mmdb_writer.specs.Making.{is_same_block}
 use Rattle.mmdb_writer.proofs.LastLemmas.{IsLastAt, still_in, still_last}
 
 -- ---- blocks and the bits that their addresses begin with

@@ -1,16 +1,20 @@
 -- Values that are put into a section one after the other.
-use Rattle.std.proofs.Common.{◌≡◌, inl, inr, ℕ, List, [], ◌∷◌, ◌++◌, Result, Ok, Err, IfOk, sym, ◌∙◌, subst, append-nil, append_assoc}
-use Rattle.mmdb_format.specs.Unfolding.{Tree, scalar, Trees, no_trees, tree, Pairs, no_pairs, pair}
-use Rattle.mmdb_format.specs.Contents.{text}
+use Rattle.std.proofs.Common.{◌≡◌, inl, inr, ℕ, List, [], ◌∷◌, ◌++◌, Some, Result, Ok, Err, IfOk, Bor, refl, ap, sym, ◌∙◌, subst, append-nil, append_assoc}
+use Rattle.mmdb_format.specs.Unfolding.{Tree, scalar, array, table, Trees, no_trees, tree, Pairs, no_pairs, pair}
+use Rattle.mmdb_format.specs.Contents.{text, bytes}
 use Rattle.mmdb_section.specs.declared.section.SectionError.{SectionError}
 use Rattle.mmdb_section.specs.declared.value.Number.{Number as SpecNumber}
+use Rattle.mmdb_section.specs.declared.value.Number.TheVariants as numbers
 use Rattle.mmdb_section.specs.declared.value.Part.{Part}
 use Rattle.mmdb_section.specs.declared.value.Part.TheVariants.{Number, At}
+use Rattle.mmdb_section.specs.declared.value.Value.{Value}
 use Rattle.mmdb_section.specs.declared.value.Value.TheVariants as values
-use Rattle.mmdb_section.specs.Sections.{Tile, IsTile, IsSection, IsPart, AreParts, ArePairs, IsValue, SectionView, Holds}
+use Rattle.mmdb_section.specs.Known.{IsNumber, IsKnown, AreKnown, PairsAreKnown, IsKnownPart, KnowsAll, HasEachOnce}
+use Rattle.mmdb_section.specs.Sections.{Tile, IsTile, IsSection, IsPart, AreParts, ArePairs, IsValue, SectionView, start_of, plain, elements, entries, scalar_of, HoldsAt}
+use Rattle.mmdb_section.proofs.OnceLemmas.{still_list, still_list_of_pairs, still_part as still_known_part, once_more}
 use Rattle.mmdb_value.specs.AnyValue.{trees_of, pairs_of}
 use Rattle.mmdb_writer.specs.Making.{AllBegin}
-use Rattle.mmdb_writer.specs.Working.{Puts, Keeps, HoldsParts, HoldsPairs}
+use Rattle.mmdb_writer.specs.Working.{HoldsOnce, HoldsBeside, Puts, Keeps, HoldsParts, HoldsPairs, PutsParts, PutsPairs}
 
 -- ---- more values
 
@@ -61,73 +65,195 @@ all_snoc tiles [] (p ∷ ps) v o h k = absurd h
 all_snoc tiles (w ∷ ws) [] v o h k = absurd h
 all_snoc tiles (w ∷ ws) (p ∷ ps) v o h k = (h.0, all_snoc tiles ws ps v o h.1 k)
 
+-- ---- known parts, and one more
+
+known_snoc : (section : SectionView) (parts : List Part) (part : Part) (vs : List Tree) (v : Tree) → AreKnown section (trees_of vs) parts → IsKnownPart section v part → AreKnown section (trees_of (vs ++ v ∷ [])) (parts ++ part ∷ [])
+known_snoc section [] part [] v h k = (k, tt)
+known_snoc section [] part (w ∷ ws) v h k = absurd h
+known_snoc section (p ∷ ps) part [] v h k = absurd h
+known_snoc section (p ∷ ps) part (w ∷ ws) v h k = (h.0, known_snoc section ps part ws v h.1 k)
+
+known_pairs_snoc : (section : SectionView) (parts : List (Part × Part)) (key part : Part) (vs : List (List ℕ × Tree)) (x : List ℕ) (v : Tree) → PairsAreKnown section (pairs_of vs) parts → IsKnownPart section (scalar (text x)) key → IsKnownPart section v part
+    → PairsAreKnown section (pairs_of (vs ++ (x, v) ∷ [])) (parts ++ (key, part) ∷ [])
+known_pairs_snoc section [] key part [] x v h k l = (k, l, tt)
+known_pairs_snoc section [] key part (w ∷ ws) x v h k l = absurd h
+known_pairs_snoc section (p ∷ ps) key part [] x v h k l = absurd h
+known_pairs_snoc section (p ∷ ps) key part (w ∷ ws) x v h k l = (h.0, h.1, known_pairs_snoc section ps key part ws x v h.2 k l)
+
 -- ---- sections that grow
 
-grown : (tiles more after : List Tile) (section : SectionView) → IsSection ((tiles ++ more) ++ after) section → IsSection (tiles ++ (more ++ after)) section
-grown tiles more after section h = subst (λ (ts : List Tile). IsSection ts section) (append_assoc tiles more after) h
+grown : (tiles more after : List Tile) (section : SectionView) → HasEachOnce ((tiles ++ more) ++ after) section → HasEachOnce (tiles ++ (more ++ after)) section
+grown tiles more after section h = subst (λ (ts : List Tile). HasEachOnce ts section) (append_assoc tiles more after) h
 
--- a value that was put stays, and another one is put after it
-pub holds_after : (tiles more : List Tile) (v : Tree) (section : SectionView) (part : Part) → Holds (tiles ++ more) v section part → Holds tiles v section part
+none_more : (tiles : List Tile) (section : SectionView) → HasEachOnce tiles section → HasEachOnce (tiles ++ []) section
+none_more tiles section h = subst (λ (ts : List Tile). HasEachOnce ts section) (sym (append-nil tiles)) h
+
+-- what `Section::add` says where it adds a value
+abbrev pub Adds : Value → SectionView → SectionView → ℕ → Type 0
+Adds value old new offset = (tiles : List Tile) (v : Tree) → IsSection tiles old → IsValue tiles value v → HoldsAt tiles v new offset
+
+-- a value that is known now
+holds_added : (value : Value) (v : Tree) (old new : SectionView) (offset : ℕ) → Adds value old new offset → KnowsAll old new → IsKnown new v offset → (tiles : List Tile) → IsValue tiles value v → HasEachOnce tiles old → HoldsOnce tiles v new (At offset)
+holds_added value v old new offset adds stay known tiles is once =
+    let h = adds tiles v once.has is in
+    record { more = h.holds.more; once = once_more old new stay tiles v offset once known h; is_part = h.holds.is_part }
+
+-- what is added after more values
+holds_after : (tiles more : List Tile) (v : Tree) (section : SectionView) (part : Part) → HoldsOnce (tiles ++ more) v section part → HoldsOnce tiles v section part
 holds_after tiles more v section part h = record {
   more = more ++ h.more;
-  has = grown tiles more h.more section h.has;
+  once = grown tiles more h.more section h.once;
   is_part = subst (λ (ts : List Tile). IsPart ts part v) (append_assoc tiles more h.more) h.is_part;
 }
 
-pub no_parts : (tiles : List Tile) (section : SectionView) → IsSection tiles section → HoldsParts tiles [] section []
-no_parts tiles section h = record { more = []; has = subst (λ (ts : List Tile). IsSection ts section) (sym (append-nil tiles)) h; are = tt }
+-- ---- single values
 
-pub no_pairs_yet : (tiles : List Tile) (section : SectionView) → IsSection tiles section → HoldsPairs tiles [] section []
-no_pairs_yet tiles section h = record { more = []; has = subst (λ (ts : List Tile). IsSection ts section) (sym (append-nil tiles)) h; are = tt }
+text_is_no_number : (x : List ℕ) → ¬ IsNumber (scalar (text x))
+text_is_no_number x h = by h.0 h.1 where
+  by : (n : SpecNumber) → scalar (text x) ≡ scalar (scalar_of n) → ⊥
+  by (numbers.Bool b) is = cc
+  by (numbers.I32 z) is = cc
+  by (numbers.U16 n) is = cc
+  by (numbers.U32 n) is = cc
+  by (numbers.U64 n) is = cc
+  by (numbers.U128 n) is = cc
+  by (numbers.Double y) is = cc
+  by (numbers.Float y) is = cc
 
-pub one_part_more : (tiles : List Tile) (vs : List Tree) (v : Tree) (old new : SectionView) (parts : List Part) (part : Part) → HoldsParts tiles vs old parts → Puts v old new part → HoldsParts tiles (vs ++ v ∷ []) new (parts ++ part ∷ [])
-one_part_more tiles vs v old new parts part h puts =
-    let now = puts (tiles ++ h.more) h.has in
-    record {
-      more = h.more ++ now.more;
-      has = grown tiles h.more now.more new now.has;
-      are = subst (λ (ts : List Tile). AreParts ts (parts ++ part ∷ []) (trees_of (vs ++ v ∷ []))) (append_assoc tiles h.more now.more)
-          (parts_snoc ((tiles ++ h.more) ++ now.more) parts part vs v (still_parts (tiles ++ h.more) now.more parts (trees_of vs) h.are) now.is_part);
-    }
+bytes_are_no_number : (x : List ℕ) → ¬ IsNumber (scalar (bytes x))
+bytes_are_no_number x h = by h.0 h.1 where
+  by : (n : SpecNumber) → scalar (bytes x) ≡ scalar (scalar_of n) → ⊥
+  by (numbers.Bool b) is = cc
+  by (numbers.I32 z) is = cc
+  by (numbers.U16 n) is = cc
+  by (numbers.U32 n) is = cc
+  by (numbers.U64 n) is = cc
+  by (numbers.U128 n) is = cc
+  by (numbers.Double y) is = cc
+  by (numbers.Float y) is = cc
+
+pub text_put : (x : Bor (List ℕ)) (v : Tree) (old new : SectionView) (offset : ℕ) → v ≡ scalar (text x.now) → Adds (values.Text x) old new offset → start_of new (plain (text x.now)) ≡ Some offset → KnowsAll old new → Puts v old new (At offset)
+text_put x v old new offset is adds known stay = subst (λ (w : Tree). Puts w old new (At offset)) (sym is) (record {
+  known = (known, text_is_no_number x.now);
+  stay = stay;
+  holds = λ tiles once. holds_added (values.Text x) (scalar (text x.now)) old new offset adds stay known tiles refl once;
+})
+
+pub bytes_put : (x : Bor (List ℕ)) (v : Tree) (old new : SectionView) (offset : ℕ) → v ≡ scalar (bytes x.now) → Adds (values.Bytes x) old new offset → start_of new (plain (bytes x.now)) ≡ Some offset → KnowsAll old new → Puts v old new (At offset)
+bytes_put x v old new offset is adds known stay = subst (λ (w : Tree). Puts w old new (At offset)) (sym is) (record {
+  known = (known, bytes_are_no_number x.now);
+  stay = stay;
+  holds = λ tiles once. holds_added (values.Bytes x) (scalar (bytes x.now)) old new offset adds stay known tiles refl once;
+})
+
+-- a number stands in its place
+pub number_stays : (n : SpecNumber) (v : Tree) (section : SectionView) → v ≡ scalar (scalar_of n) → Puts v section section (Number n)
+number_stays n v section is = record { known = is; stay = λ shape offset h. h; holds = λ tiles once. record { more = []; once = none_more tiles section once; is_part = is } }
+
+-- a number that is a whole record is put
+pub number_put : (r : Result ℕ SectionError) (n : SpecNumber) (v : Tree) (old mid new : SectionView) → Puts v old mid (Number n) → IfOk r (Adds (values.Number n) mid new) → IfOk r (λ offset. start_of new (plain (scalar_of n)) ≡ Some offset)
+    → KnowsAll mid new → IfOk r (λ offset. HoldsBeside v old new (At offset))
+number_put (Ok offset) n v old mid new puts adds known stay = λ tiles once.
+    let p = puts.holds tiles once in
+    let is_known : IsKnown new v offset = subst (λ (w : Tree). IsKnown new w offset) (sym puts.known) known in
+    holds_after tiles p.more v new (At offset) (holds_added (values.Number n) v mid new offset adds stay is_known (tiles ++ p.more) puts.known p.once)
+number_put (Err e) n v old mid new puts adds known stay = tt
+
+-- ---- parts of arrays and maps
+
+pub no_parts : (section : SectionView) → PutsParts [] section section []
+no_parts section = record { known = tt; stay = λ shape offset h. h; holds = λ tiles once. record { more = []; once = none_more tiles section once; are = tt } }
+
+pub no_pairs_yet : (section : SectionView) → PutsPairs [] section section []
+no_pairs_yet section = record { known = tt; stay = λ shape offset h. h; holds = λ tiles once. record { more = []; once = none_more tiles section once; are = tt } }
+
+pub one_part_more : (vs : List Tree) (v : Tree) (first old new : SectionView) (parts : List Part) (part : Part) → PutsParts vs first old parts → Puts v old new part → PutsParts (vs ++ v ∷ []) first new (parts ++ part ∷ [])
+one_part_more vs v first old new parts part before puts = record {
+  known = known_snoc new parts part vs v (still_list old new puts.stay (trees_of vs) parts before.known) puts.known;
+  stay = λ shape offset h. puts.stay shape offset (before.stay shape offset h);
+  holds = λ tiles once.
+      let h = before.holds tiles once in
+      let now = puts.holds (tiles ++ h.more) h.once in
+      record {
+        more = h.more ++ now.more;
+        once = grown tiles h.more now.more new now.once;
+        are = subst (λ (ts : List Tile). AreParts ts (parts ++ part ∷ []) (trees_of (vs ++ v ∷ []))) (append_assoc tiles h.more now.more)
+            (parts_snoc ((tiles ++ h.more) ++ now.more) parts part vs v (still_parts (tiles ++ h.more) now.more parts (trees_of vs) h.are) now.is_part);
+      };
+}
 
 -- a key, and then its value
-pub one_pair_more : (tiles : List Tile) (vs : List (List ℕ × Tree)) (x : List ℕ) (v : Tree) (old mid new : SectionView) (parts : List (Part × Part)) (key part : Part) → HoldsPairs tiles vs old parts → Puts (scalar (text x)) old mid key → Puts v mid new part → HoldsPairs tiles (vs ++ (x, v) ∷ []) new (parts ++ (key, part) ∷ [])
-one_pair_more tiles vs x v old mid new parts key part h first second =
-    let k = first (tiles ++ h.more) h.has in
-    let now = second ((tiles ++ h.more) ++ k.more) k.has in
-    let whole : List Tile = ((tiles ++ h.more) ++ k.more) ++ now.more in
-    let same : whole ≡ tiles ++ (h.more ++ (k.more ++ now.more)) = append_assoc (tiles ++ h.more) k.more now.more ∙ append_assoc tiles h.more (k.more ++ now.more) in
-    record {
-      more = h.more ++ (k.more ++ now.more);
-      has = subst (λ (ts : List Tile). IsSection ts new) same now.has;
-      are = subst (λ (ts : List Tile). ArePairs ts (parts ++ (key, part) ∷ []) (pairs_of (vs ++ (x, v) ∷ []))) same
-          (pairs_snoc whole parts key part vs x v
-          (still_pairs ((tiles ++ h.more) ++ k.more) now.more parts (pairs_of vs) (still_pairs (tiles ++ h.more) k.more parts (pairs_of vs) h.are))
-          (still_part ((tiles ++ h.more) ++ k.more) now.more key (scalar (text x)) k.is_part) now.is_part);
-    }
+pub one_pair_more : (vs : List (List ℕ × Tree)) (x : List ℕ) (v : Tree) (start old mid new : SectionView) (parts : List (Part × Part)) (key part : Part) → PutsPairs vs start old parts → Puts (scalar (text x)) old mid key → Puts v mid new part
+    → PutsPairs (vs ++ (x, v) ∷ []) start new (parts ++ (key, part) ∷ [])
+one_pair_more vs x v start old mid new parts key part before first second = record {
+  known = known_pairs_snoc new parts key part vs x v (still_list_of_pairs mid new second.stay (pairs_of vs) parts (still_list_of_pairs old mid first.stay (pairs_of vs) parts before.known))
+      (still_known_part mid new second.stay (scalar (text x)) key first.known) second.known;
+  stay = λ shape offset h. second.stay shape offset (first.stay shape offset (before.stay shape offset h));
+  holds = λ tiles once.
+      let h = before.holds tiles once in
+      let k = first.holds (tiles ++ h.more) h.once in
+      let now = second.holds ((tiles ++ h.more) ++ k.more) k.once in
+      let whole : List Tile = ((tiles ++ h.more) ++ k.more) ++ now.more in
+      let same : whole ≡ tiles ++ (h.more ++ (k.more ++ now.more)) = append_assoc (tiles ++ h.more) k.more now.more ∙ append_assoc tiles h.more (k.more ++ now.more) in
+      record {
+        more = h.more ++ (k.more ++ now.more);
+        once = subst (λ (ts : List Tile). HasEachOnce ts new) same now.once;
+        are = subst (λ (ts : List Tile). ArePairs ts (parts ++ (key, part) ∷ []) (pairs_of (vs ++ (x, v) ∷ []))) same
+            (pairs_snoc whole parts key part vs x v
+            (still_pairs ((tiles ++ h.more) ++ k.more) now.more parts (pairs_of vs) (still_pairs (tiles ++ h.more) k.more parts (pairs_of vs) h.are))
+            (still_part ((tiles ++ h.more) ++ k.more) now.more key (scalar (text x)) k.is_part) now.is_part);
+      };
+}
 
--- a number that stands in no section yet is put there
-pub number_put : (r : Result ℕ SectionError) (n : SpecNumber) (w : Tree) (old mid new : SectionView) → Puts w old mid (Number n)
-    → IfOk r (λ offset. (tiles : List Tile) (v : Tree) → IsSection tiles mid → IsValue tiles (values.Number n) v → Holds tiles v new (At offset)) → IfOk r (λ offset. Puts w old new (At offset))
-number_put (Ok offset) n w old mid new puts h = λ tiles is. let p = puts tiles is in holds_after tiles p.more w new (At offset) (h (tiles ++ p.more) w p.has p.is_part)
-number_put (Err e) n w old mid new puts h = tt
+array_is_no_number : (vs : Trees) → ¬ IsNumber (array vs)
+array_is_no_number vs h = let is = h.1 in cc
+
+table_is_no_number : (vs : Pairs) → ¬ IsNumber (table vs)
+table_is_no_number vs h = let is = h.1 in cc
+
+-- the array of these parts, and the map of these pairs
+pub array_put : (vs : List Tree) (v : Tree) (parts : List Part) (all : Bor (List Part)) (old mid new : SectionView) (offset : ℕ) → v ≡ array (trees_of vs) → all.now ≡ parts → PutsParts vs old mid parts → Adds (values.Array all) mid new offset
+    → start_of new (elements all.now) ≡ Some offset → KnowsAll mid new → Puts v old new (At offset)
+array_put vs v parts all old mid new offset is same before adds known stay =
+    let there : IsKnown new (array (trees_of vs)) offset = (parts, still_list mid new stay (trees_of vs) parts before.known, ap (λ (ps : List Part). start_of new (elements ps)) (sym same) ∙ known) in
+    subst (λ (w : Tree). Puts w old new (At offset)) (sym is) (record {
+      known = (there, array_is_no_number (trees_of vs));
+      stay = λ shape from h. stay shape from (before.stay shape from h);
+      holds = λ tiles once.
+          let h = before.holds tiles once in
+          let are : AreParts (tiles ++ h.more) all.now (trees_of vs) = subst (λ (ps : List Part). AreParts (tiles ++ h.more) ps (trees_of vs)) (sym same) h.are in
+          holds_after tiles h.more (array (trees_of vs)) new (At offset) (holds_added (values.Array all) (array (trees_of vs)) mid new offset adds stay there (tiles ++ h.more) (trees_of vs, are, refl) h.once);
+    })
+
+pub map_put : (vs : List (List ℕ × Tree)) (v : Tree) (parts : List (Part × Part)) (all : Bor (List (Part × Part))) (old mid new : SectionView) (offset : ℕ) → v ≡ table (pairs_of vs) → all.now ≡ parts → PutsPairs vs old mid parts → Adds (values.Map all) mid new offset
+    → start_of new (entries all.now) ≡ Some offset → KnowsAll mid new → Puts v old new (At offset)
+map_put vs v parts all old mid new offset is same before adds known stay =
+    let there : IsKnown new (table (pairs_of vs)) offset = (parts, still_list_of_pairs mid new stay (pairs_of vs) parts before.known, ap (λ (ps : List (Part × Part)). start_of new (entries ps)) (sym same) ∙ known) in
+    subst (λ (w : Tree). Puts w old new (At offset)) (sym is) (record {
+      known = (there, table_is_no_number (pairs_of vs));
+      stay = λ shape from h. stay shape from (before.stay shape from h);
+      holds = λ tiles once.
+          let h = before.holds tiles once in
+          let are : ArePairs (tiles ++ h.more) all.now (pairs_of vs) = subst (λ (ps : List (Part × Part)). ArePairs (tiles ++ h.more) ps (pairs_of vs)) (sym same) h.are in
+          holds_after tiles h.more (table (pairs_of vs)) new (At offset) (holds_added (values.Map all) (table (pairs_of vs)) mid new offset adds stay there (tiles ++ h.more) (pairs_of vs, are, refl) h.once);
+    })
 
 -- ---- sections that have what they had
 
 pub same_kept : (old new : SectionView) → new ≡ old → Keeps old new
-same_kept old new same = λ tiles is. ([], subst (λ (ts : List Tile). IsSection ts new) (sym (append-nil tiles)) (subst (IsSection tiles) (sym same) is))
+same_kept old new same = λ tiles once. ([], none_more tiles new (subst (HasEachOnce tiles) (sym same) once))
 
-pub put_kept : (v : Tree) (old new : SectionView) (part : Part) → Puts v old new part → Keeps old new
-put_kept v old new part puts = λ tiles is. let h = puts tiles is in (h.more, h.has)
+pub put_kept : (v : Tree) (old new : SectionView) (part : Part) → HoldsBeside v old new part → Keeps old new
+put_kept v old new part puts = λ tiles once. let h = puts tiles once in (h.more, h.once)
 
 pub then_kept : (old mid new : SectionView) → Keeps old mid → Keeps mid new → Keeps old new
-then_kept old mid new first second = λ tiles is.
-    let h = first tiles is in
+then_kept old mid new first second = λ tiles once.
+    let h = first tiles once in
     let k = second (tiles ++ h.0) h.1 in
     (h.0 ++ k.0, grown tiles h.0 k.0 new k.1)
 
-pub parts_kept : (vs : List Tree) (old new : SectionView) (parts : List Part) → ((tiles : List Tile) → IsSection tiles old → HoldsParts tiles vs new parts) → Keeps old new
-parts_kept vs old new parts holds = λ tiles is. let h = holds tiles is in (h.more, h.has)
+pub parts_kept : (vs : List Tree) (old new : SectionView) (parts : List Part) → PutsParts vs old new parts → Keeps old new
+parts_kept vs old new parts puts = λ tiles once. let h = puts.holds tiles once in (h.more, h.once)
 
-pub pairs_kept : (vs : List (List ℕ × Tree)) (old new : SectionView) (parts : List (Part × Part)) → ((tiles : List Tile) → IsSection tiles old → HoldsPairs tiles vs new parts) → Keeps old new
-pairs_kept vs old new parts holds = λ tiles is. let h = holds tiles is in (h.more, h.has)
+pub pairs_kept : (vs : List (List ℕ × Tree)) (old new : SectionView) (parts : List (Part × Part)) → PutsPairs vs old new parts → Keeps old new
+pairs_kept vs old new parts puts = λ tiles once. let h = puts.holds tiles once in (h.more, h.once)

@@ -1,23 +1,29 @@
 -- A file in the making.
-use Rattle.std.specs.Prelude.{◌≡◌, ℕ, List, [], ◌∷◌, ◌++◌, length, map, take, Option, Some, None, slice_get}
-use Rattle.std.specs.List.{AllByRecursion, AllZip}
+use Rattle.std.specs.Prelude.{◌≡◌, ◌<◌, ◌≤◌, ◌^◌, ◌⊎◌, ◌==◌, ◌&&◌, Bool, ℕ, List, [], ◌∷◌, ◌++◌, length, map, take, Option, Some, None, slice_get}
+use Rattle.std.specs.List.{AllByRecursion, AllZip, filter}
 use Rattle.mmdb_net.specs.Bits.{bits_of}
 use Rattle.mmdb_blocks.specs.Blocks.{IsBlock}
 use Rattle.mmdb_blocks.specs.Networks.{network_bits}
 use Rattle.mmdb_format.specs.Unfolding.{Tree}
 use Rattle.mmdb_nodes.specs.declared.entry.Entry.{Entry}
-use Rattle.mmdb_nodes.specs.Entries.{block_of}
+use Rattle.mmdb_nodes.specs.Entries.{block_of, IsEntry, IsOrdered}
+use Rattle.mmdb_nodes.specs.Trees.{bits_in, most_numbers, numbers_of, nodes_for, LeadsByPrefix}
+use Rattle.mmdb_nodes.specs.declared.tree.SearchTree.{SearchTree}
+use Rattle.mmdb_reader.specs.File.{Database, data_length}
+use Rattle.mmdb_reader.specs.Source.{IsDatabaseOf}
+use Rattle.mmdb_reader.specs.Whole.{IsWhole}
 use Rattle.mmdb_section.specs.declared.value.Part.TheVariants.{At}
-use Rattle.mmdb_section.specs.Sections.{Tile, IsSection, IsPart}
+use Rattle.mmdb_section.specs.Known.{HasEachOnce}
+use Rattle.mmdb_section.specs.Sections.{Tile, IsPart}
 use Rattle.mmdb_value.specs.declared.any_value.Value.{Value}
 use Rattle.mmdb_value.specs.Values.{value_tree}
 use Rattle.mmdb_writer.specs.declared.error.WriteError.{WriteError}
 use Rattle.mmdb_writer.specs.declared.options.Options.{Options}
 use Rattle.mmdb_writer.specs.declared.row.Row.{Row}
 use Rattle.mmdb_writer.specs.declared.writer.Writer.{Writer}
-use Rattle.mmdb_writer.specs.Errors.{IsErrorOf}
+use Rattle.mmdb_writer.specs.Errors.{IsErrorOf, AreMetadataLarge}
 use Rattle.mmdb_writer.specs.Limits.{CanBeRead}
-use Rattle.mmdb_writer.specs.Written.{IsWritten}
+use Rattle.mmdb_writer.specs.Written.{asked, IsWritten}
 
 -- for each of the trees a value begins at the offset
 abbrev pub AllBegin : List Tile → List Tree → List ℕ → Type 0
@@ -42,7 +48,7 @@ pub record IsMadeOf (values : List Value) (rows : List Row) (options : Options) 
   pub options_are : writer.options ≡ options
   pub readable : AllByRecursion (λ value. CanBeRead (value_tree value)) values
   pub tiles : List Tile
-  pub has : IsSection tiles writer.section
+  pub once : HasEachOnce tiles writer.section
   pub begin : AllBegin tiles (map value_tree values) writer.offsets.items
   pub entries_are : AllZip (IsEntryOf writer.offsets.items) rows writer.entries.items
 
@@ -54,6 +60,53 @@ AddsValue value old new index = (values : List Value) (rows : List Row) (options
 -- now this row was added too
 abbrev pub AddsRow : Row → Writer → Writer → Type 0
 AddsRow row old new = (values : List Value) (rows : List Row) (options : Options) → IsMadeOf values rows options old → IsMadeOf values (rows ++ row ∷ []) options new
+
+-- both have the same addresses
+abbrev pub is_same_block : Entry → Entry → Bool
+is_same_block e f = (e.first == f.first) && (e.prefix == f.prefix)
+
+-- The entries in the order that a tree wants, in which those of one block stand in the order that was given.
+pub record AreOrdered (given entries : List Entry) : Type 0 where
+  pub ordered : IsOrdered entries
+  pub stable : (e : Entry) → filter (is_same_block e) entries ≡ filter (is_same_block e) given
+
+-- the tree, as many bytes as a separator has, the data section, and others
+pub record BeginsWith (tree section file : List ℕ) : Type 0 where
+  pub separator : List ℕ
+  pub len : length separator ≡ 16
+  pub behind : List ℕ
+  pub whole : file ≡ tree ++ (separator ++ (section ++ behind))
+
+-- what reading back tells: a whole database with these metadata, and so many bytes of data
+pub record IsCertified (file : List ℕ) (options : Options) (tree : SearchTree) (data_len : ℕ) : Type 0 where
+  pub db : Database
+  pub database : IsDatabaseOf file db
+  pub metadata : db.metadata ≡ asked options tree.node_count (bits_in tree.record_size)
+  pub section_len : data_length db ≡ data_len
+  pub whole : IsWhole db
+
+-- A file that has a tree of the entries and the data section is not read back as it was meant.
+pub record IsUnread (options : Options) (section : List ℕ) (entries : List Entry) : Type 0 where
+  pub tree : SearchTree
+  pub leads : LeadsByPrefix options.ip_version (length section) entries tree
+  pub file : List ℕ
+  pub begins : BeginsWith tree.bytes.items section file
+  pub unread : ¬ IsCertified file options tree (length section)
+
+-- In the order that a tree wants they are no entries of the tree and the section, or a file of them is not read back.
+pub record IsNotMeant (options : Options) (section : List ℕ) (given : List Entry) : Type 0 where
+  pub entries : List Entry
+  pub order : AreOrdered given entries
+  pub why : ¬ AllByRecursion (IsEntry options.ip_version (length section)) entries ⊎ IsUnread options section entries
+
+-- Nodes, separator and offsets have more numbers than records can have, or the metadata are too large.
+pub record NeedsTooMany (options : Options) (section : List ℕ) (given : List Entry) : Type 0 where
+  pub entries : List Entry
+  pub order : AreOrdered given entries
+  pub many : most_numbers options.record_size < numbers_of (nodes_for options.ip_version entries) (length section)
+
+abbrev pub DoesNotFit : Options → List ℕ → List Entry → Type 0
+DoesNotFit options section given = NeedsTooMany options section given ⊎ AreMetadataLarge options
 
 -- nothing else was added
 abbrev pub Stays : Writer → Writer → Type 0
@@ -72,3 +125,15 @@ IsErrorAfterValue value writer e = (values : List Value) (rows : List Row) (opti
 
 abbrev pub IsErrorAfterRow : Row → Writer → WriteError → Type 0
 IsErrorAfterRow row writer e = (values : List Value) (rows : List Row) (options : Options) → IsMadeOf values rows options writer → IsErrorOf values (rows ++ row ∷ []) options e
+
+-- ---- what is too large for the format
+
+-- the data section has more bytes than pointers can lead to
+abbrev pub HasFullSection : Writer → Type 0
+HasFullSection writer = 2 ^ 32 ≤ length writer.section.bytes
+
+-- The first of the values fill the data section, or all of them with the rows do not fit.
+abbrev pub IsTooLarge : List Value → List Row → Options → Type 0
+IsTooLarge values rows options =
+    ((count : ℕ) × (writer : Writer) × IsMadeOf (take count values) [] options writer × HasFullSection writer)
+    ⊎ ((writer : Writer) × IsMadeOf values rows options writer × DoesNotFit options writer.section.bytes writer.entries.items)

@@ -2,12 +2,10 @@
 use Rattle.std.specs.Prelude.{◌≡◌, ◌≤◌, ◌<◌, ◌+◌, ◌==◌, ◌&&◌, ◌⊎◌, Bool, ℕ, true, List, [], ◌∷◌, ◌++◌, ◌*◌, length, Option, Some, ⊤}
 use Rattle.mmdb_format.specs.Unfolding.{Tree, Pairs, is_keyed, value_count, payload, levels}
 use Rattle.mmdb_section.specs.declared.value.Part.{Part}
-use Rattle.mmdb_section.specs.Sections.{Tile, IsSection, AreParts, ArePairs, SectionView, Holds}
-use Rattle.mmdb_reader.specs.File.{Database, data_length}
-use Rattle.mmdb_reader.specs.Source.{IsDatabaseOf}
-use Rattle.mmdb_reader.specs.Whole.{IsWhole}
+use Rattle.mmdb_section.specs.Known.{AreKnown, PairsAreKnown, IsKnownPart, KnowsAll, HasEachOnce}
+use Rattle.mmdb_section.specs.Sections.{Tile, IsPart, AreParts, ArePairs, SectionView, most_size}
 use Rattle.mmdb_value.specs.AnyValue.{trees_of, pairs_of}
-use Rattle.mmdb_nodes.specs.Trees.{bits_in, numbers_of, IsSizeFor, LeadsByPrefix}
+use Rattle.mmdb_nodes.specs.Trees.{bits_in, numbers_of, IsSizeFor, LeadsByPrefix, HasSplitNodes}
 use Rattle.mmdb_nodes.specs.declared.tree.SearchTree.{SearchTree}
 use Rattle.mmdb_writer.specs.declared.options.Options.{Options}
 use Rattle.std.specs.List.{AllByRecursion, filter}
@@ -21,36 +19,62 @@ use Rattle.mmdb_writer.specs.declared.limits.Room.{Room}
 use Rattle.mmdb_writer.specs.declared.limits.ValueError.{ValueError}
 use Rattle.mmdb_writer.specs.declared.limits.ValueError.TheVariants.{TooManyValues, TooManyBytes, TooDeep, KeyTwice}
 use Rattle.mmdb_writer.specs.Limits.{PairsHaveKeyTwice}
-use Rattle.mmdb_writer.specs.Written.{asked}
-
--- what reading back tells: a whole database with these metadata, and so many bytes of data
-pub record IsCertified (file : List ℕ) (options : Options) (tree : SearchTree) (data_len : ℕ) : Type 0 where
-  pub db : Database
-  pub database : IsDatabaseOf file db
-  pub metadata : db.metadata ≡ asked options tree.node_count (bits_in tree.record_size)
-  pub section_len : data_length db ≡ data_len
-  pub whole : IsWhole db
+use Rattle.mmdb_writer.specs.Errors.{IsGeneral}
+use Rattle.mmdb_writer.specs.Making.{is_same_block, AreOrdered, IsCertified, BeginsWith}
+use Rattle.mmdb_format.specs.declared.error.MaxMindDbError.{MaxMindDbError}
+use Rattle.mmdb_format.specs.declared.error.MaxMindDbError.TheVariants.{Memory}
+use Rattle.mmdb_nodes.specs.declared.tree.TreeError.{TreeError}
+use Rattle.mmdb_nodes.specs.declared.tree.TreeError.TheVariants as trees
+use Rattle.mmdb_section.specs.declared.section.SectionError.{SectionError}
+use Rattle.mmdb_section.specs.declared.section.SectionError.TheVariants as sections
 
 -- ---- values that are put into a section
 
--- Whatever values the section had: it has them, and perhaps more, and the part stands for the tree.
-abbrev pub Puts : Tree → SectionView → SectionView → Part → Type 0
-Puts v old new part = (tiles : List Tile) → IsSection tiles old → Holds tiles v new part
+-- The section has these values, and perhaps more, each once, and the part stands for the tree.
+pub record HoldsOnce (tiles : List Tile) (v : Tree) (section : SectionView) (part : Part) : Type 0 where
+  pub more : List Tile
+  pub once : HasEachOnce (tiles ++ more) section
+  pub is_part : IsPart (tiles ++ more) part v
 
--- it has them, and perhaps more
+-- whatever values it had
+abbrev pub HoldsBeside : Tree → SectionView → SectionView → Part → Type 0
+HoldsBeside v old new part = (tiles : List Tile) → HasEachOnce tiles old → HoldsOnce tiles v new part
+
+-- The part stands for the tree, which is known now.
+pub record Puts (v : Tree) (old new : SectionView) (part : Part) : Type 0 where
+  pub known : IsKnownPart new v part
+  pub stay : KnowsAll old new
+  pub holds : HoldsBeside v old new part
+
+-- the section has the values that it had, and perhaps more, each once
 abbrev pub Keeps : SectionView → SectionView → Type 0
-Keeps old new = (tiles : List Tile) → IsSection tiles old → (more : List Tile) × IsSection (tiles ++ more) new
+Keeps old new = (tiles : List Tile) → HasEachOnce tiles old → (more : List Tile) × HasEachOnce (tiles ++ more) new
 
--- The section has these values, and perhaps more, and the parts stand for the trees, or pairs of them.
+-- The section has these values, and perhaps more, each once, and the parts stand for the trees, or pairs of them.
 pub record HoldsParts (tiles : List Tile) (vs : List Tree) (section : SectionView) (parts : List Part) : Type 0 where
   pub more : List Tile
-  pub has : IsSection (tiles ++ more) section
+  pub once : HasEachOnce (tiles ++ more) section
   pub are : AreParts (tiles ++ more) parts (trees_of vs)
 
 pub record HoldsPairs (tiles : List Tile) (vs : List (List ℕ × Tree)) (section : SectionView) (parts : List (Part × Part)) : Type 0 where
   pub more : List Tile
-  pub has : IsSection (tiles ++ more) section
+  pub once : HasEachOnce (tiles ++ more) section
   pub are : ArePairs (tiles ++ more) parts (pairs_of vs)
+
+-- The parts stand for the trees, or pairs of them, which are known now.
+pub record PutsParts (vs : List Tree) (old new : SectionView) (parts : List Part) : Type 0 where
+  pub known : AreKnown new (trees_of vs) parts
+  pub stay : KnowsAll old new
+  pub holds : (tiles : List Tile) → HasEachOnce tiles old → HoldsParts tiles vs new parts
+
+pub record PutsPairs (vs : List (List ℕ × Tree)) (old new : SectionView) (parts : List (Part × Part)) : Type 0 where
+  pub known : PairsAreKnown new (pairs_of vs) parts
+  pub stay : KnowsAll old new
+  pub holds : (tiles : List Tile) → HasEachOnce tiles old → HoldsPairs tiles vs new parts
+
+-- the value has no more values and bytes than a header can say
+abbrev pub IsWithin : Tree → Type 0
+IsWithin v = (value_count v ≤ most_size) × (payload v ≤ most_size)
 
 -- ---- limits of values
 
@@ -86,10 +110,6 @@ pub record AreLeft (all : Pairs) (seen : List ℕ → Bool) (left : List (List �
 abbrev pub IsMissing : ℕ → Option ℕ → Type 0
 IsMissing count value = (index : ℕ) × (value ≡ Some index) × (count ≤ index)
 
--- both have the same addresses
-abbrev pub is_same_block : Entry → Entry → Bool
-is_same_block e f = (e.first == f.first) && (e.prefix == f.prefix)
-
 -- Entries in the order that a tree wants, in which those of one block stand in the order that was given.
 pub record AreInOrder (version : IpVersion) (data_len : ℕ) (given entries : List Entry) : Type 0 where
   pub ordered : IsOrdered entries
@@ -98,12 +118,11 @@ pub record AreInOrder (version : IpVersion) (data_len : ℕ) (given entries : Li
 
 -- ---- the parts of a file
 
--- the tree, as many bytes as a separator has, the data section, and others
-pub record BeginsWith (tree section file : List ℕ) : Type 0 where
-  pub separator : List ℕ
-  pub len : length separator ≡ 16
-  pub behind : List ℕ
-  pub whole : file ≡ tree ++ (separator ++ (section ++ behind))
+-- in the order that a tree wants they are not all entries of the tree
+pub record HasNoFit (version : IpVersion) (data_len : ℕ) (given : List Entry) : Type 0 where
+  pub entries : List Entry
+  pub order : AreOrdered given entries
+  pub no_fit : ¬ AllByRecursion (IsEntry version data_len) entries
 
 -- A file of a data section and a tree of these entries, which was read back.
 pub record IsFileOf (options : Options) (section : List ℕ) (given : List Entry) (file : List ℕ) : Type 0 where
@@ -111,6 +130,7 @@ pub record IsFileOf (options : Options) (section : List ℕ) (given : List Entry
   pub order : AreInOrder options.ip_version (length section) given entries
   pub tree : SearchTree
   pub leads : LeadsByPrefix options.ip_version (length section) entries tree
+  pub split : HasSplitNodes options.ip_version entries tree
   pub serves : IsSizeFor options.record_size (numbers_of tree.node_count (length section)) tree.record_size
   pub len : length tree.bytes.items ≡ tree.node_count * node_bytes (bits_in tree.record_size)
   pub begins : BeginsWith tree.bytes.items section file
@@ -118,11 +138,18 @@ pub record IsFileOf (options : Options) (section : List ℕ) (given : List Entry
 
 -- ---- errors
 
--- the error is of no option, value or row
-abbrev pub IsGeneral : WriteError → Type 0
-IsGeneral errors.Memory = ⊤
-IsGeneral errors.TooLarge = ⊤
-IsGeneral errors.NotAsMeant = ⊤
-IsGeneral (errors.Options error) = ⊥
-IsGeneral (errors.Value index error) = ⊥
-IsGeneral (errors.Row index error) = ⊥
+-- The error that another one becomes.
+pub record IsOfSection (error : SectionError) (e : WriteError) : Type 0 where
+  pub general : IsGeneral e
+  pub too_large : e ≡ errors.TooLarge → error ≡ sections.TooLarge
+  pub meant : ¬ (e ≡ errors.NotAsMeant)
+
+pub record IsOfTree (error : TreeError) (e : WriteError) : Type 0 where
+  pub general : IsGeneral e
+  pub too_large : e ≡ errors.TooLarge → error ≡ trees.TooLarge
+  pub meant : ¬ (e ≡ errors.NotAsMeant)
+
+pub record IsOfReader (error : MaxMindDbError) (e : WriteError) : Type 0 where
+  pub general : IsGeneral e
+  pub fits : ¬ (e ≡ errors.TooLarge)
+  pub unread : e ≡ errors.NotAsMeant → ¬ (error ≡ Memory)

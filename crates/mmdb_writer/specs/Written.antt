@@ -1,11 +1,14 @@
 -- What was written: a whole file that says of each address what the rows say.
-use Rattle.std.specs.Prelude.{◌≡◌, ℕ, List, Bool, map, Option, Some, None, true, string_bytes}
+use Rattle.std.specs.Prelude.{◌≡◌, ◌↔◌, ℕ, ◌-◌, List, [], ◌∷◌, ◌++◌, Bool, length, map, Option, Some, None, true, string_bytes}
 use Rattle.std.specs.declared.net.ip_addr.IpAddr.{IpAddr}
 use Rattle.mmdb_format.specs.Unfolding.{Tree}
 use Rattle.mmdb_value.specs.Standing.{WholeValue}
 use Rattle.mmdb_value.specs.declared.any_value.Value.{Value}
 use Rattle.mmdb_reader.specs.Metadata.{MetadataDatum}
-use Rattle.mmdb_reader.specs.File.{Database, data_section, data_length}
+use Rattle.mmdb_net.specs.Bits.{zero_bits, IsPrefix}
+use Rattle.mmdb_tree.specs.declared.record.TreeRecord.TheVariants.{Data}
+use Rattle.mmdb_reader.specs.File.{Database, width, data_section, data_length}
+use Rattle.mmdb_reader.specs.Leaves.{IsLeaf}
 use Rattle.mmdb_reader.specs.Lookup.{CanAsk, Answers, outcome_at}
 use Rattle.mmdb_reader.specs.Source.{IsDatabaseOf}
 use Rattle.mmdb_reader.specs.Whole.{IsWhole}
@@ -53,6 +56,34 @@ abbrev pub LookupsAgree : Database → List Value → List Row → Type 0
 LookupsAgree db values rows = (address : IpAddr) → CanAsk db address →
     (leaf : List Bool) × (found : Option ℕ) × (v : Option Tree) × Answers db address leaf (outcome_at found) × Says values rows (wide_bits address) v × IsRead db found v
 
+-- Two addresses with data are answered with one offset exactly where they have one value: equal values stand once.
+abbrev pub SharesEqualValues : Database → Type 0
+SharesEqualValues db = (a b : IpAddr) (p q : List Bool) (x y : ℕ) (v w : Tree) → Answers db a p (Data x) → Answers db b q (Data y)
+    → WholeValue true (data_section db) x v → WholeValue true (data_section db) y w → (x ≡ y) ↔ (v ≡ w)
+
+-- bits of an address of the database, written with 128 bits
+abbrev pub widened : Database → List Bool → List Bool
+widened db bits = zero_bits (128 - width db) ++ bits
+
+-- Of two addresses that begin with these bits the rows do not say the same.
+pub record IsMixed (db : Database) (values : List Value) (rows : List Row) (block : List Bool) : Type 0 where
+  pub one : List Bool
+  pub other : List Bool
+  pub one_full : length one ≡ width db
+  pub other_full : length other ≡ width db
+  pub one_here : IsPrefix block one
+  pub other_here : IsPrefix block other
+  pub v : Option Tree
+  pub w : Option Tree
+  pub one_has : Says values rows (widened db one) v
+  pub other_has : Says values rows (widened db other) w
+  pub differ : ¬ (v ≡ w)
+
+-- No leaf lies in a wider block at all of whose addresses the rows say the same, but in that of all addresses, since a tree has a
+-- node. So a list of networks has the largest blocks of one value.
+abbrev pub HasLargestBlocks : Database → List Value → List Row → Type 0
+HasLargestBlocks db values rows = (leaf wider rest : List Bool) (x : Bool) → IsLeaf db leaf → leaf ≡ wider ++ x ∷ rest → ¬ (wider ≡ []) → IsMixed db values rows wider
+
 -- The file is a database with these metadata, whole, and agrees with the rows.
 pub record IsWritten (values : List Value) (rows : List Row) (options : Options) (file : List ℕ) : Type 0 where
   pub db : Database
@@ -60,3 +91,5 @@ pub record IsWritten (values : List Value) (rows : List Row) (options : Options)
   pub asked : IsAsked options db
   pub whole : IsWhole db
   pub lookups : LookupsAgree db values rows
+  pub shared : SharesEqualValues db
+  pub largest : HasLargestBlocks db values rows

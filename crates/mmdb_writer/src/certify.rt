@@ -1,9 +1,10 @@
 //! Reads back what was written.
-ghost use Rattle.std.specs.Prelude.{◌≡◌, IfOk, IsTrue};
+ghost use Rattle.std.specs.Prelude.{◌≡◌, IfOk, IfErr, IsTrue, false};
 ghost use Rattle.mmdb_nodes.specs.Trees.{bits_in};
+ghost use Rattle.mmdb_format.specs.Error.{MemoryApart};
 ghost use Rattle.mmdb_reader.specs.Metadata.{metadata_datum};
 ghost use Rattle.mmdb_writer.specs.Written.{asked};
-ghost use Rattle.mmdb_writer.specs.Working.{IsCertified};
+ghost use Rattle.mmdb_writer.specs.Making.{IsCertified};
 
 use crate::error::WriteError;
 use crate::options::Options;
@@ -13,9 +14,9 @@ use mmdb_reader::{Metadata, Reader};
 use std::alloc::Global;
 
 impl From<MaxMindDbError> for WriteError {
-    ghost use Rattle.mmdb_writer.specs.Working.{IsGeneral};
+    ghost use Rattle.mmdb_writer.specs.Working.{IsOfReader};
 
-    ghost from_gives = { λ _ e. IsGeneral e };
+    ghost from_gives = { λ error e. IsOfReader error e };
 
     fn from(error: MaxMindDbError) -> WriteError {
         match error {
@@ -27,8 +28,10 @@ impl From<MaxMindDbError> for WriteError {
 
 // Whether the metadata say what was asked for, and what the tree has.
 fn say_what_was_asked(metadata: &Metadata, options: &Options, tree: &SearchTree) -> bool
-    ensures { let datum = asked options.now tree.now.node_count (bits_in tree.now.record_size) in
+    ensures asked { let datum = asked options.now tree.now.node_count (bits_in tree.now.record_size) in
         IsTrue result → metadata_datum metadata.now ≡ datum }
+    ensures other { let datum = asked options.now tree.now.node_count (bits_in tree.now.record_size) in
+        result ≡ false → ¬ (metadata_datum metadata.now ≡ datum) }
 {
     if metadata.binary_format_major_version != 2 {
         return false;
@@ -65,8 +68,12 @@ pub(crate) fn certify(
     tree: &SearchTree,
     data_len: usize,
 ) -> Result<bool, MaxMindDbError>
-    ensures { IfOk result (λ is_certified. IsTrue is_certified
+    ensures certified { IfOk result (λ is_certified. IsTrue is_certified
         → IsCertified file.now options.now tree.now data_len) }
+    ensures rejected { IfOk result (λ is_certified. is_certified ≡ false
+        → ¬ IsCertified file.now options.now tree.now data_len) }
+    ensures unread { IfErr result (λ e. MemoryApart e
+        (¬ IsCertified file.now options.now tree.now data_len)) }
 {
     let reader = Reader::from_source(alloc, file)?;
     let is_as_asked = say_what_was_asked(reader.metadata(), options, tree);

@@ -1,15 +1,16 @@
 //! The entries of rows.
 ghost use Rattle.std.specs.Prelude.{◌≡◌, IfOk, IfErr, OnOk, length};
 ghost use Rattle.mmdb_writer.specs.declared.row.RowError.TheVariants.{NoValue};
-ghost use Rattle.mmdb_writer.specs.Errors.{IsWrongRow};
-ghost use Rattle.mmdb_writer.specs.Making.{IsOffsetOf, IsEntryOf};
-ghost use Rattle.mmdb_writer.specs.Working.{AreInOrder, IsGeneral, IsMissing};
+ghost use Rattle.mmdb_writer.specs.Errors.{IsWrongRow, IsGeneral};
+ghost use Rattle.mmdb_writer.specs.Making.{IsOffsetOf, IsEntryOf, AreOrdered};
+ghost use Rattle.mmdb_writer.specs.Working.{AreInOrder, HasNoFit, IsMissing};
 
 use crate::error::WriteError;
 use crate::row::{Row, RowError};
 use mmdb_blocks::Block;
 use mmdb_net::IpNetwork;
 use mmdb_nodes::{Entry, IpVersion, all_fit, are_ordered};
+use std::alloc::AllocError;
 
 // Where the value of a row begins, if it has one.
 fn offset_of(offsets: &[u32], value: Option<usize>) -> Result<Option<u32>, RowError>
@@ -39,6 +40,16 @@ pub(crate) fn entry_of(version: IpVersion, offsets: &[u32], row: Row) -> Result<
     }
 }
 
+// Sorts entries, unless they are in order.
+fn sort(entries: &mut Vec<Entry>) -> Result<(), AllocError>
+    ensures { OnOk result (AreOrdered entries.old.items entries.new.items) }
+{
+    if !are_ordered(entries) {
+        entries.sort_by_key(|entry| (entry.first, entry.prefix))?;
+    }
+    Ok(())
+}
+
 // Puts entries in the order that a tree wants.
 pub(crate) fn put_in_order(
     version: IpVersion,
@@ -47,10 +58,11 @@ pub(crate) fn put_in_order(
 ) -> Result<(), WriteError>
     ensures ok { OnOk result (AreInOrder version data_len entries.old.items entries.new.items) }
     ensures err { IfErr result IsGeneral }
+    ensures fits { IfErr result (λ e. ¬ (e ≡ WriteError.TooLarge)) }
+    ensures not_meant { IfErr result (λ e. e ≡ WriteError.NotAsMeant
+        → HasNoFit version data_len entries.old.items) }
 {
-    if !are_ordered(entries) {
-        entries.sort_by_key(|entry| (entry.first, entry.prefix))?;
-    }
+    sort(entries)?;
     if all_fit(entries, version, data_len) {
         Ok(())
     } else {

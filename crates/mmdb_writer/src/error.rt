@@ -63,9 +63,9 @@ impl From<OptionsError> for WriteError {
 }
 
 impl From<SectionError> for WriteError {
-    ghost use Rattle.mmdb_writer.specs.Working.{IsGeneral};
+    ghost use Rattle.mmdb_writer.specs.Working.{IsOfSection};
 
-    ghost from_gives = { λ _ e. IsGeneral e };
+    ghost from_gives = { λ error e. IsOfSection error e };
 
     fn from(error: SectionError) -> WriteError {
         match error {
@@ -76,9 +76,9 @@ impl From<SectionError> for WriteError {
 }
 
 impl From<TreeError> for WriteError {
-    ghost use Rattle.mmdb_writer.specs.Working.{IsGeneral};
+    ghost use Rattle.mmdb_writer.specs.Working.{IsOfTree};
 
-    ghost from_gives = { λ _ e. IsGeneral e };
+    ghost from_gives = { λ error e. IsOfTree error e };
 
     fn from(error: TreeError) -> WriteError {
         match error {

@@ -1,5 +1,7 @@
 //! The metadata of a file, as bytes.
-ghost use Rattle.std.specs.Prelude.{◌≡◌, ◌<◌};
+ghost use Rattle.std.specs.Prelude.{◌≡◌, ◌<◌, ◌⊎◌, IfErr, length, string_bytes};
+ghost use Rattle.mmdb_section.specs.Sections.{most_size};
+ghost use Rattle.mmdb_writer.specs.Errors.{IsLong, IsDescriptionLarge, AreLanguagesLarge, AreMetadataLarge};
 
 use crate::options::Options;
 use mmdb_format::kind::{ARRAY, MAP};
@@ -11,6 +13,7 @@ use std::alloc::Global;
 fn push_sized_header(out: &mut Vec<u8>, kind: u16, size: usize) -> Result<(), SectionError>
     requires no_pointer { 1 < kind }
     requires kind { kind < 16 }
+    ensures { IfErr result (λ e. e ≡ SectionError.TooLarge → most_size < size) }
 {
     if size > MOST_SIZE {
         return Err(SectionError::TooLarge);
@@ -19,7 +22,9 @@ fn push_sized_header(out: &mut Vec<u8>, kind: u16, size: usize) -> Result<(), Se
 }
 
 // A text.
-fn push_sized_text(out: &mut Vec<u8>, text: &str) -> Result<(), SectionError> {
+fn push_sized_text(out: &mut Vec<u8>, text: &str) -> Result<(), SectionError>
+    ensures { IfErr result (λ e. e ≡ SectionError.TooLarge → IsLong text.now) }
+{
     if text.len() > MOST_SIZE {
         return Err(SectionError::TooLarge);
     }
@@ -27,13 +32,17 @@ fn push_sized_text(out: &mut Vec<u8>, text: &str) -> Result<(), SectionError> {
 }
 
 // A key and a number.
-fn push_number_field(out: &mut Vec<u8>, name: &str, number: Number) -> Result<(), SectionError> {
+fn push_number_field(out: &mut Vec<u8>, name: &str, number: Number) -> Result<(), SectionError>
+    ensures { IfErr result (λ e. e ≡ SectionError.TooLarge → IsLong name.now) }
+{
     push_sized_text(out, name)?;
     Ok(push_number(out, number)?)
 }
 
 // The texts that describe the database, by language.
-fn push_description(out: &mut Vec<u8>, options: &Options) -> Result<(), SectionError> {
+fn push_description(out: &mut Vec<u8>, options: &Options) -> Result<(), SectionError>
+    ensures { IfErr result (λ e. e ≡ SectionError.TooLarge → IsDescriptionLarge options.now) }
+{
     push_sized_text(out, "description")?;
     push_sized_header(out, MAP, options.description.len())?;
     for (language, text) in &options.description {
@@ -44,7 +53,9 @@ fn push_description(out: &mut Vec<u8>, options: &Options) -> Result<(), SectionE
 }
 
 // The codes of languages.
-fn push_languages(out: &mut Vec<u8>, options: &Options) -> Result<(), SectionError> {
+fn push_languages(out: &mut Vec<u8>, options: &Options) -> Result<(), SectionError>
+    ensures { IfErr result (λ e. e ≡ SectionError.TooLarge → AreLanguagesLarge options.now) }
+{
     push_sized_text(out, "languages")?;
     push_sized_header(out, ARRAY, options.languages.len())?;
     for language in &options.languages {
@@ -72,7 +83,9 @@ pub(crate) fn metadata_bytes(
     alloc: Global,
     options: &Options,
     tree: &SearchTree,
-) -> Result<Vec<u8>, SectionError> {
+) -> Result<Vec<u8>, SectionError>
+    ensures { IfErr result (λ e. e ≡ SectionError.TooLarge → AreMetadataLarge options.now) }
+{
     let mut out = Vec::new(alloc);
     push_sized_header(&mut out, MAP, 9)?;
     push_number_field(&mut out, "binary_format_major_version", Number::U16(2))?;

@@ -1,5 +1,5 @@
 //! What a file says of itself.
-ghost use Rattle.std.specs.Prelude.{IfErr};
+ghost use Rattle.std.specs.Prelude.{IfErr, OnOk};
 
 use mmdb_nodes::{IpVersion, RecordSize};
 use std::collections::BTreeMap;
@@ -37,11 +37,13 @@ pub struct Options {
 }
 
 impl Options {
+    ghost use Rattle.mmdb_writer.specs.declared.options.OptionsError.{OptionsError as SpecError};
     ghost use Rattle.mmdb_writer.specs.Errors.{IsWrongOption};
 
     // Whether a reader accepts such metadata, and a verification.
     pub(crate) fn check(&self) -> Result<(), OptionsError>
-        ensures { IfErr result (IsWrongOption self.now) }
+        ensures err { IfErr result (IsWrongOption self.now) }
+        ensures ok { OnOk result ((e : SpecError) → ¬ IsWrongOption self.now e) }
     {
         if self.database_type.is_empty() {
             return Err(OptionsError::NoType);

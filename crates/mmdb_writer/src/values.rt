@@ -1,8 +1,8 @@
 //! Values that are put into a data section.
-ghost use Rattle.std.specs.Prelude.{IfOk, OnErr};
+ghost use Rattle.std.specs.Prelude.{◌≡◌, ◌≤◌, ◌^◌, IfOk, IfErr, OnErr, length};
 ghost use Rattle.mmdb_section.specs.declared.value.Part.TheVariants.{At};
 ghost use Rattle.mmdb_value.specs.Values.{value_tree};
-ghost use Rattle.mmdb_writer.specs.Working.{Puts, Keeps};
+ghost use Rattle.mmdb_writer.specs.Working.{Puts, HoldsBeside, Keeps, IsWithin};
 
 use mmdb_section::{Number, Part, Section, SectionError, Value as SectionValue};
 use mmdb_value::Value;
@@ -12,6 +12,8 @@ use std::alloc::Global;
 fn add_part(alloc: Global, section: &mut Section, value: &Value<'_>) -> Result<Part, SectionError>
     ensures ok { IfOk result (λ part. Puts (value_tree value.now) section.old section.new part) }
     ensures kept { OnErr result (Keeps section.old section.new) }
+    ensures too_large { IfErr result (λ e. e ≡ SectionError.TooLarge
+        → IsWithin (value_tree value.now) → 2 ^ 32 ≤ length section.new.bytes) }
 {
     match value {
         Value::String(text) => Ok(Part::At(section.add(alloc, SectionValue::Text(*text))?)),
@@ -53,8 +55,10 @@ pub(crate) fn put_value(
     value: &Value<'_>,
 ) -> Result<u32, SectionError>
     ensures ok { IfOk result
-        (λ offset. Puts (value_tree value.now) section.old section.new (At offset)) }
+        (λ offset. HoldsBeside (value_tree value.now) section.old section.new (At offset)) }
     ensures kept { OnErr result (Keeps section.old section.new) }
+    ensures too_large { IfErr result (λ e. e ≡ SectionError.TooLarge
+        → IsWithin (value_tree value.now) → 2 ^ 32 ≤ length section.new.bytes) }
 {
     match add_part(alloc, section, value)? {
         Part::At(offset) => Ok(offset),

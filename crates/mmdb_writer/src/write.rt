@@ -1,6 +1,8 @@
 //! The bytes of a file.
-ghost use Rattle.std.specs.Prelude.{IfOk, IfErr};
-ghost use Rattle.mmdb_writer.specs.Working.{BeginsWith, IsFileOf, IsGeneral};
+ghost use Rattle.std.specs.Prelude.{◌≡◌, IfOk, IfErr};
+ghost use Rattle.mmdb_writer.specs.Errors.{IsGeneral, AreMetadataLarge};
+ghost use Rattle.mmdb_writer.specs.Making.{BeginsWith, DoesNotFit, IsNotMeant};
+ghost use Rattle.mmdb_writer.specs.Working.{IsFileOf};
 
 use crate::certify::certify;
 use crate::entries::put_in_order;
@@ -31,7 +33,9 @@ fn file_of(
     tree: &SearchTree,
     section: &[u8],
 ) -> Result<Vec<u8>, SectionError>
-    ensures { IfOk result (λ file. BeginsWith tree.now.bytes.items section.now file.items) }
+    ensures ok { IfOk result (λ file. BeginsWith tree.now.bytes.items section.now file.items) }
+    ensures too_large { IfErr result (λ e. e ≡ SectionError.TooLarge
+        → AreMetadataLarge options.now) }
 {
     let separator = [0; SEPARATOR];
     let metadata = metadata_bytes(alloc, options, tree)?;
@@ -55,6 +59,10 @@ pub(crate) fn write_file(
     ensures ok { IfOk result
         (λ file. IsFileOf options.now section.now entries.old.items file.items) }
     ensures err { IfErr result IsGeneral }
+    ensures too_large { IfErr result (λ e. e ≡ WriteError.TooLarge
+        → DoesNotFit options.now section.now entries.old.items) }
+    ensures not_meant { IfErr result (λ e. e ≡ WriteError.NotAsMeant
+        → IsNotMeant options.now section.now entries.old.items) }
 {
     let version = options.ip_version;
     put_in_order(version, section.len(), entries)?;

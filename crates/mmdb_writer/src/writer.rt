@@ -1,7 +1,10 @@
 //! The writer.
-ghost use Rattle.std.specs.Prelude.{[], IfOk, IfErr, OnOk, OnErr};
-ghost use Rattle.mmdb_writer.specs.Errors.{IsErrorOf};
-ghost use Rattle.mmdb_writer.specs.Making.{IsMadeOf, AddsValue, AddsRow, Stays, IsErrorAfterValue, IsErrorAfterRow, IsErrorAfter, Writes};
+ghost use Rattle.std.specs.Prelude.{◌≡◌, [], IfOk, IfErr, OnOk, OnErr};
+ghost use Rattle.mmdb_value.specs.Values.{value_tree};
+ghost use Rattle.mmdb_writer.specs.declared.options.OptionsError.{OptionsError};
+ghost use Rattle.mmdb_writer.specs.Errors.{IsErrorOf, IsWrongOption, IsGeneral, IsOfOptions, IsOfValue, IsOfRow};
+ghost use Rattle.mmdb_writer.specs.Limits.{CanBeRead};
+ghost use Rattle.mmdb_writer.specs.Making.{IsMadeOf, AddsValue, AddsRow, Stays, IsErrorAfterValue, IsErrorAfterRow, IsErrorAfter, Writes, HasFullSection, DoesNotFit, IsNotMeant, IsTooLarge};
 ghost use Rattle.mmdb_writer.specs.Written.{IsWritten};
 
 use crate::entries::entry_of;
@@ -34,6 +37,8 @@ impl Writer {
     pub fn new(alloc: Global, options: Options) -> Result<Writer, WriteError>
         ensures made { IfOk result (IsMadeOf [] [] options) }
         ensures explained { IfErr result (IsErrorOf [] [] options) }
+        ensures accepted { OnOk result ((e : OptionsError) → ¬ IsWrongOption options e) }
+        ensures no_other { IfErr result IsOfOptions }
     {
         options.check()?;
         Ok(Writer {
@@ -50,6 +55,11 @@ impl Writer {
     pub fn add_value(&mut self, alloc: Global, value: &Value<'_>) -> Result<usize, WriteError>
         ensures added { IfOk result (AddsValue value.now self.old self.new) }
         ensures explained { IfErr result (IsErrorAfterValue value.now self.old) }
+        ensures no_other { IfErr result IsOfValue }
+        ensures readable { IfErr result (λ e. e ≡ WriteError.TooLarge
+            → CanBeRead (value_tree value.now)) }
+        ensures too_large { IfErr result (λ e. e ≡ WriteError.TooLarge
+            → HasFullSection self.new) }
         ensures kept { OnErr result (Stays self.old self.new) }
     {
         let index = self.offsets.len();
@@ -71,6 +81,7 @@ impl Writer {
     pub fn add_row(&mut self, row: Row) -> Result<(), WriteError>
         ensures added { OnOk result (AddsRow row self.old self.new) }
         ensures explained { IfErr result (IsErrorAfterRow row self.old) }
+        ensures no_other { IfErr result IsOfRow }
         ensures kept { OnErr result (Stays self.old self.new) }
     {
         match entry_of(self.options.ip_version, &self.offsets, row) {
@@ -94,6 +105,11 @@ impl Writer {
     pub fn write(self, alloc: Global) -> Result<Vec<u8>, WriteError>
         ensures written { IfOk result (λ file. Writes self file.items) }
         ensures explained { IfErr result (IsErrorAfter self) }
+        ensures no_other { IfErr result IsGeneral }
+        ensures too_large { IfErr result (λ e. e ≡ WriteError.TooLarge
+            → DoesNotFit self.options self.section.bytes self.entries.items) }
+        ensures not_meant { IfErr result (λ e. e ≡ WriteError.NotAsMeant
+            → IsNotMeant self.options self.section.bytes self.entries.items) }
     {
         let Writer {
             options,
@@ -114,6 +130,8 @@ pub fn write_database(
 ) -> Result<Vec<u8>, WriteError>
     ensures written { IfOk result (λ file. IsWritten values.now rows.now options file.items) }
     ensures explained { IfErr result (IsErrorOf values.now rows.now options) }
+    ensures too_large { IfErr result (λ e. e ≡ WriteError.TooLarge
+        → IsTooLarge values.now rows.now options) }
 {
     let mut writer = Writer::new(alloc, options)?;
     for value in values {

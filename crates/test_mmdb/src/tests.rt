@@ -10,6 +10,7 @@ mod lists;
 mod memory;
 mod numbers;
 mod program;
+mod progress;
 mod record_texts;
 mod rows;
 mod runs;

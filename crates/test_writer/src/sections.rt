@@ -1,7 +1,7 @@
 //! What no clause says: that values are added where there is memory, and which bytes they have. The rows have those of
 //! "Output Data Section" of the MaxMind DB File Format Specification 2.0. Each public call runs once.
 use mmdb_format::content::{Double, Float};
-use mmdb_section::laws::{at_most_twice_as_deep, sections_are_good};
+use mmdb_section::laws::{at_most_twice_as_deep, equal_values_stand_once, sections_are_good};
 use mmdb_section::{Number, Part, Section, SectionError, Value};
 use mmdb_vectors::hoard::{Outcome, fail_in_turn};
 use std::alloc::{AllocError, Global};
@@ -317,4 +317,5 @@ fn growths_fail_in_turn(rt: HostRuntime) {
 fn laws_are_called() {
     at_most_twice_as_deep();
     sections_are_good();
+    equal_values_stand_once();
 }

@@ -1,11 +1,14 @@
 //! The command on a disk in memory.
 use super::disk::{Disk, DiskRuntime};
-use mmdb_arguments::{InstallArguments, NoRequest, Request, request_of};
+use mmdb_arguments::{BuildArguments, InstallArguments, NoRequest, Request, request_of};
 use mmdb_cmd_build::build;
 use mmdb_cmd_install::install;
-use mmdb_console::{Console, ProgramError, Terminals};
+use mmdb_console::{Console, Paced, ProgramError, Terminals};
 use mmdb_vectors::words::words_of;
 use std::alloc::Global;
+use std::env::Env;
+use std::rt::Files;
+use std::time::Clock;
 
 /// What a run left.
 #[derive(Drop)]
@@ -44,27 +47,40 @@ fn run_of(done: Result<u8, ProgramError>, reported: Vec<u8>) -> Run {
     }
 }
 
+/// No stream is a terminal.
+const NO_TERMINALS: Terminals = Terminals {
+    output: false,
+    errors: false,
+};
+
+// The command `build` over a runtime.
+fn build_over<R: Files + Env + Clock>(
+    alloc: Global,
+    rt: &R,
+    arguments: &BuildArguments<'_>,
+    input: &[u8],
+    reported: &mut Vec<u8>,
+) -> Result<u8, ProgramError> {
+    let mut out: Vec<u8> = Vec::new(alloc);
+    let mut rows = input;
+    let mut errors = Paced::new(rt, NO_TERMINALS, reported);
+    let mut console = Console::new(alloc, NO_TERMINALS, &mut out, &mut errors);
+    build(rt, arguments, &mut rows, &mut console)
+}
+
 // The command on a request.
 fn run_request(alloc: Global, disk: &Disk, request: &Request<'_>, input: &[u8]) -> Run {
-    let mut out: Vec<u8> = Vec::new(alloc);
     let mut reported: Vec<u8> = Vec::new(alloc);
-    let mut rows = input;
-    let mut console = Console {
-        alloc,
-        terminals: Terminals {
-            output: false,
-            errors: false,
-        },
-        out: &mut out,
-        errors: &mut reported,
-    };
     let done = match request {
-        Request::Build(arguments) => build(
-            &DiskRuntime { disk },
-            arguments,
-            &mut rows,
-            &mut console,
-        ),
+        Request::Build(arguments) => {
+            build_over(
+                alloc,
+                &DiskRuntime { disk },
+                arguments,
+                input,
+                &mut reported,
+            )
+        }
         _ => Ok(3),
     };
     run_of(done, reported)
@@ -91,19 +107,22 @@ pub(crate) fn run_on(alloc: Global, disk: &Disk, texts: &[&str], input: &[u8]) -
     }
 }
 
+// The command `install` over a runtime.
+fn install_over<R: Files + Clock>(
+    alloc: Global,
+    rt: &R,
+    arguments: &InstallArguments<'_>,
+    reported: &mut Vec<u8>,
+) -> Result<u8, ProgramError> {
+    let mut out: Vec<u8> = Vec::new(alloc);
+    let mut errors = Paced::new(rt, NO_TERMINALS, reported);
+    let mut console = Console::new(alloc, NO_TERMINALS, &mut out, &mut errors);
+    install(rt, arguments, &mut console)
+}
+
 /// The command `install` over a disk.
 pub(crate) fn install_on(alloc: Global, disk: &Disk, arguments: &InstallArguments<'_>) -> Run {
-    let mut out: Vec<u8> = Vec::new(alloc);
     let mut reported: Vec<u8> = Vec::new(alloc);
-    let mut console = Console {
-        alloc,
-        terminals: Terminals {
-            output: false,
-            errors: false,
-        },
-        out: &mut out,
-        errors: &mut reported,
-    };
-    let done = install(&DiskRuntime { disk }, arguments, &mut console);
+    let done = install_over(alloc, &DiskRuntime { disk }, arguments, &mut reported);
     run_of(done, reported)
 }

@@ -79,7 +79,7 @@ const HELPS: &[(&[&str], &[&str])] = &[
     ),
     (
         &["verify", "--help"],
-        &["Example:\n  mmdb verify ", "65,536 values"],
+        &["Examples:\n  mmdb verify ", "65,536 values"],
     ),
 ];
 

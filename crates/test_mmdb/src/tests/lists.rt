@@ -336,12 +336,17 @@ const ONE_UNREADABLE: &[u8] = b"\x41x\xE1\xA1\x07\x41y";
 #[test]
 fn records_that_verify_reads(rt: HostRuntime) {
     let bytes = file_of_nodes(&rt, rt.alloc(), &[(17, 19)], b"\xC1\x01", ONE_UNREADABLE);
-    let whole = run_of(rt.alloc(), bytes.as_slice(), &["verify", "here.mmdb"], "");
+    let words = &["verify", "here.mmdb", "--whole"];
+    let whole = run_of(rt.alloc(), bytes.as_slice(), words, "");
     let is_whole = whole.out() == "here.mmdb: ok\n" && whole.status == 0;
-    assert_of(&rt, &["verify"], &whole, is_whole);
-    let words = &["verify", "here.mmdb", "--records"];
-    let run = run_of(rt.alloc(), bytes.as_slice(), words, "");
+    assert_of(&rt, words, &whole, is_whole);
+    let run = run_of(rt.alloc(), bytes.as_slice(), &["verify", "here.mmdb"], "");
     let wanted = "here.mmdb: 1 records can't be read, the first at 128.0.0.0/1: ";
     let is_named = run.out().starts_with(wanted) && run.status == 1;
-    assert_of(&rt, words, &run, is_named);
+    assert_of(&rt, &["verify"], &run, is_named);
+    let words = &["verify", "here.mmdb", "--json"];
+    let run = run_of(rt.alloc(), bytes.as_slice(), words, "");
+    let has_count = run.out().contains("\"ok\":false,")
+        && run.out().contains("\"unreadable_records\":1,");
+    assert_of(&rt, words, &run, has_count && run.status == 1);
 }

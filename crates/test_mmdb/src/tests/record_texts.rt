@@ -3,9 +3,8 @@ ghost use Rattle.std.specs.Prelude.{◌<◌};
 
 use super::texts::ROWS;
 use mmdb_decode::decoder::Decoder;
-use mmdb_json::compact;
+use mmdb_json::{RecordTexts, compact};
 use mmdb_record::decode::Decode;
-use mmdb_texts::RecordTexts;
 use mmdb_value::Value;
 use mmdb_vectors::hoard::Hoard;
 use mmdb_vectors::section::section_of;

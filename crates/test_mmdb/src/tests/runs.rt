@@ -333,6 +333,33 @@ const NESTED_LINES: &[Lines<'static>] = &[
     ),
 ];
 
+/// What `verify` is asked for.
+#[rattlefmt::skip]
+const VERIFIED: &[Row<'static>] = &[
+    (&["verify", "here.mmdb", "--whole"], 0, "here.mmdb: ok\n", ""),
+    (&["verify", "here.mmdb", "--database-type", "T"], 0, "here.mmdb: ok\n", ""),
+    (&["verify", "here.mmdb", "--database-type", "*T"], 0, "here.mmdb: ok\n", ""),
+    (&["verify", "here.mmdb", "--database-type", "T*"], 0, "here.mmdb: ok\n", ""),
+    (&["verify", "here.mmdb", "--database-type", "*"], 0, "here.mmdb: ok\n", ""),
+    (&["verify", "here.mmdb", "--database-type", "*T*"], 0, "here.mmdb: ok\n", ""),
+    (&["verify", "here.mmdb", "--database-type", "*City"], 1, "here.mmdb: its type is T, not *City\n", ""),
+    (&["verify", "here.mmdb", "--database-type", "City*"], 1, "here.mmdb: its type is T, not City*\n", ""),
+    (&["verify", "here.mmdb", "--database-type", "*City*"], 1, "here.mmdb: its type is T, not *City*\n", ""),
+    (&["verify", "here.mmdb", "--database-type", "TT"], 1, "here.mmdb: its type is T, not TT\n", ""),
+    // it was built a second after 1970 began, and now is 1,000,000 seconds after that
+    (&["verify", "here.mmdb", "--max-age", "12"], 0, "here.mmdb: ok\n", ""),
+    (&["verify", "here.mmdb", "--max-age", "11"], 1, "here.mmdb: it was built at 1, more than 11 days ago\n", ""),
+    (&["verify", "here.mmdb", "--max-age", "18446744073709551615"], 0, "here.mmdb: ok\n", ""),
+    (&["verify", "here.mmdb", "--max-age", "x"], 2, "", "mmdb: --max-age: not a number of days\n"),
+    (&["verify", "here.mmdb", "--newer-than", "here.mmdb"], 1, "here.mmdb: it was built at 1, not after 1\n", ""),
+    (&["verify", "here.mmdb", "--newer-than", "gone.mmdb"], 1, "", "mmdb: gone.mmdb: i/o error: "),
+    (&["verify", "here.mmdb", "--json"], 0, "{\"path\":\"here.mmdb\",\"ok\":true,\"type\":\"T\",\"epoch\":1,\"nodes\":1,\"unreadable_records\":0,\"error\":null}\n", ""),
+    (&["verify", "here.mmdb", "--json", "--whole"], 0, "{\"path\":\"here.mmdb\",\"ok\":true,\"type\":\"T\",\"epoch\":1,\"nodes\":1,\"unreadable_records\":null,\"error\":null}\n", ""),
+    (&["verify", "gone.mmdb", "--json"], 1, "{\"path\":\"gone.mmdb\",\"ok\":false,\"type\":null,\"epoch\":null,\"nodes\":null,\"unreadable_records\":null,\"error\":\"i/o error: entity not found\"}\n", ""),
+    (&["verify", "here.mmdb", "--quiet"], 0, "", ""),
+    (&["verify", "gone.mmdb", "--quiet"], 1, "", "mmdb: gone.mmdb: i/o error: entity not found\n"),
+];
+
 /// Bad words for lines of JSON.
 #[rattlefmt::skip]
 const NO_JSON: &[Row<'static>] = &[
@@ -342,6 +369,11 @@ const NO_JSON: &[Row<'static>] = &[
     (&["enrich", "gone.mmdb", "--json", "a", "--field", "a.en", "--field", "b.en"], 2, "", "b.en: another field has the name en too; give one of them a name of its own, as NAME=b.en"),
     (&["enrich", "gone.mmdb", "--json", "a", "--into", ""], 2, "", "--into: an empty name"),
     (&["enrich", "gone.mmdb", "--into", "geo"], 2, "", "--into: needs a --json"),
+    (&["enrich", "gone.mmdb", "--field", "c", "--nulls"], 2, "", "--nulls: needs a --json"),
+    (&["enrich", "gone.mmdb", "--field", "c", "--no-quotes"], 2, "", "--no-quotes: needs a --delimiter"),
+    (&["enrich", "gone.mmdb", "--field", "c", "--anywhere", "--exact"], 2, "", "--exact"),
+    (&["enrich", "gone.mmdb", "--field", "c", "--anywhere", "--hop", "last"], 2, "", "--hop: of no use with --anywhere"),
+    (&["enrich", "gone.mmdb", "--json", "a", "--anywhere", "--hop", "last"], 2, "", "--hop: of no use with --anywhere"),
     (&["enrich", "gone.mmdb", "--json", "a", "--column", "1"], 2, "", "--column"),
     (&["enrich", "gone.mmdb", "--json", "a", "--delimiter", ","], 2, "", "--delimiter"),
     (&["enrich", "gone.mmdb", "--json", "a", "--header"], 2, "", "--header"),
@@ -390,6 +422,11 @@ const NOTES: &[Notes<'static>] = &[
         "mmdb: nothing closes a quote of row 2, by the end of the input or within 65536 bytes; see --no-quotes\n",
     ),
 ];
+
+#[test]
+fn files_verified(rt: HostRuntime) {
+    assert_runs(&rt, rt.alloc(), BASE_FILE, VERIFIED);
+}
 
 #[test]
 fn lines_with_notes(rt: HostRuntime) {
@@ -651,7 +688,7 @@ fn whole_files_of_records_that_are_not_shown(rt: HostRuntime) {
             rt.alloc(),
             bytes,
             &[
-                (&["verify", "here.mmdb"], 0, "here.mmdb: ok\n", ""),
+                (&["verify", "here.mmdb", "--whole"], 0, "here.mmdb: ok\n", ""),
                 (shown, 1, "", row.4),
             ],
         );

@@ -1,7 +1,7 @@
 //! Two databases side by side, over trees that are made: the stretches beside the networks of each database.
 use super::record_texts::Numbers;
 use mmdb_blocks::Block;
-use mmdb_diff::{Comparison, Part};
+use mmdb_compare::{Comparison, ComparisonPart};
 use mmdb_reader::{IpNetwork, Reader, WithinOptions};
 use mmdb_vectors::builder::{Field, changed_file, nodes_24};
 use std::alloc::{AllocError, Global};
@@ -211,7 +211,7 @@ fn assert_of_networks<'a>(
         }
     };
     for _ in 0..2000 {
-        let Some(Part::Stretch(stretch)) = comparison.next_part() else {
+        let Some(ComparisonPart::Stretch(stretch)) = comparison.next_part() else {
             break;
         };
         let block = stretch.block;

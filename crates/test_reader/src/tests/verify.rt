@@ -5,4 +5,5 @@
 mod files;
 mod memory;
 mod orders;
+mod records;
 mod verdicts;

@@ -1,4 +1,5 @@
 use Rattle.std.proofs.Common.{rules, ◌≡◌, sym, subst, length, None, List}
+use Rattle.mmdb_nodes.proofs.DifferLemmas.{one_or_more, blocks_differ}
 use Rattle.mmdb_nodes.specs.declared.node.Node.{Node as SpecNode}
 use Rattle.mmdb_nodes.specs.Entries.{width, offset_in}
 use Rattle.mmdb_nodes.specs.Trees.{bits_in, tree_in, walked_in}
@@ -44,4 +45,13 @@ returns-clause-reduced c behind node lt same =
     let are : AreNodes (bits_in c.in-Some.size) c.in_ok-nodes.nodes.items c.in_ok-bytes.bytes.items = subst (λ (xs : List SpecNode). AreNodes (bits_in c.in-Some.size) xs c.in_ok-bytes.bytes.items) c.deref.ensures.value c.in_ok-bytes.ensures in
     let of = c.in_ok-nodes.ensures.ok in
     no_equal_leaves (tree_in (record { bytes = c.in_ok-bytes.bytes; node_count = c.len-2.result; record_size = c.in-Some.size }) behind) nodes c.args.data_len
-    count (with_behind size nodes c.in_ok-bytes.bytes.items behind (is_size c.in-Some.size) are) of.sound of.reduced node lt same
+    count (with_behind size nodes c.in_ok-bytes.bytes.items behind (is_size c.in-Some.size) are) of.sound (one_or_more nodes of.reduced) node lt same
+
+pub returns-clause-split : goal.returns-clause-split
+returns-clause-split c behind bits some len on =
+    let nodes = c.in_ok-nodes.nodes.items in
+    let size = bits_in c.in-Some.size in
+    let count : c.len-2.result ≡ length c.in_ok-nodes.nodes.items = search rules in
+    let are : AreNodes (bits_in c.in-Some.size) c.in_ok-nodes.nodes.items c.in_ok-bytes.bytes.items = subst (λ (xs : List SpecNode). AreNodes (bits_in c.in-Some.size) xs c.in_ok-bytes.bytes.items) c.deref.ensures.value c.in_ok-bytes.ensures in
+    blocks_differ c.args.version c.args.entries.now c.args.data_len nodes c.in_ok-nodes.ensures.ok (tree_in (record { bytes = c.in_ok-bytes.bytes; node_count = c.len-2.result; record_size = c.in-Some.size }) behind)
+    count (with_behind size nodes c.in_ok-bytes.bytes.items behind (is_size c.in-Some.size) are) bits some len on

@@ -1,10 +1,11 @@
 use Rattle.std.proofs.Common.{rules, ◌≡◌, ◌+◌, List, [], ◌∷◌, ◌++◌, take, drop, sym, ap, ◌∙◌, subst}
 use Rattle.std.proofs.lemmas.List.{take_more, take_all, take-append-drop}
 use Rattle.mmdb_value.specs.declared.any_value.Value.{Value}
+use Rattle.mmdb_writer.specs.declared.error.WriteError.TheVariants.{TooLarge}
 use Rattle.mmdb_writer.specs.declared.row.Row.{Row}
 use Rattle.mmdb_writer.specs.Errors.{IsErrorOf}
-use Rattle.mmdb_writer.specs.Making.{IsMadeOf}
-use Rattle.mmdb_writer.proofs.MakingLemmas.{more_values, more_rows, file_written, file_explained}
+use Rattle.mmdb_writer.specs.Making.{IsMadeOf, IsTooLarge}
+use Rattle.mmdb_writer.proofs.MakingLemmas.{more_values, more_rows, file_written, file_explained, value_too_large, no_large_row, no_large_options, file_too_large}
 use Rattle.mmdb_writer.proofs.writer.write_database.Goals as goal
 
 pub returns-in_err-add_value-clause-explained : goal.returns-in_err-add_value-clause-explained
@@ -60,3 +61,28 @@ returns-clause-explained c =
     let xs = c.args.rows.now in
     let made = subst (λ (ys : List Row). IsMadeOf c.args.values.now ys c.args.options c.loop-row.writer) (take_all c.loop-row.row-index xs c.loop-row-test.false) c.loop-row.invariant in
     file_explained c.loop-row.writer c.args.values.now xs c.args.options c.write.result made c.write.ensures.explained
+
+pub returns-in_err-add_value-clause-too_large : goal.returns-in_err-add_value-clause-too_large
+returns-in_err-add_value-clause-too_large c =
+    let e = c.in_err-add_value.field-0.0 in
+    let large : e ≡ TooLarge → IsTooLarge c.args.values.now c.args.rows.now c.args.options =
+    λ is. value_too_large c.args.values.now c.args.rows.now c.args.options c.loop-value.value-index c.loop-value.writer c.add_value.new.self c.loop-value.invariant c.in_err-add_value.ensures.kept (c.in_err-add_value.ensures.too_large is) in
+    search rules
+
+pub returns-in_err-add_row-clause-too_large : goal.returns-in_err-add_row-clause-too_large
+returns-in_err-add_row-clause-too_large c =
+    let e = c.in_err-add_row.field-0.0 in
+    let large : e ≡ TooLarge → IsTooLarge c.args.values.now c.args.rows.now c.args.options = λ is. absurd (no_large_row e c.in_err-add_row.ensures.no_other is) in
+    search rules
+
+pub returns-in_err-writer-clause-too_large : goal.returns-in_err-writer-clause-too_large
+returns-in_err-writer-clause-too_large c =
+    let e = c.in_err-writer.field-0.0 in
+    let large : e ≡ TooLarge → IsTooLarge c.args.values.now c.args.rows.now c.args.options = λ is. absurd (no_large_options e c.in_err-writer.ensures.no_other is) in
+    search rules
+
+pub returns-clause-too_large : goal.returns-clause-too_large
+returns-clause-too_large c =
+    let xs = c.args.rows.now in
+    let made = subst (λ (ys : List Row). IsMadeOf c.args.values.now ys c.args.options c.loop-row.writer) (take_all c.loop-row.row-index xs c.loop-row-test.false) c.loop-row.invariant in
+    file_too_large c.loop-row.writer c.args.values.now xs c.args.options c.write.result made c.write.ensures.too_large

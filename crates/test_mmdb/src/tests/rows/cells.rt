@@ -1,7 +1,7 @@
 //! Columns, addresses in them, and cells of CSV.
 use super::streams::{Seen, assert_at};
 use mmdb_addresses::Reading;
-use mmdb_enrich::{Enrichment, RowMemory};
+use mmdb_cmd_enrich::{Enrichment, RowMemory};
 use mmdb_filter::{Counts, Live, Rows, filter_rows, put_csv_cell};
 use mmdb_reader::{PathElement, Reader};
 use mmdb_vectors::builder::{BASE_NODE, changed_file};

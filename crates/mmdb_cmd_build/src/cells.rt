@@ -1,0 +1,399 @@
+//! Rows of cells below a header.
+use crate::columns::Columns;
+use crate::entry::{RowAddresses, RowEntry, Values};
+use crate::error::{InputError, Reason, named};
+use crate::known::KnownTexts;
+use crate::networks::{address_of, network_of};
+use crate::plan::{MOST_COLUMNS, NamedPath, Plan, add_assembled, column_path, plan_of};
+use crate::range::AddressRange;
+use crate::scalars::{TextSource, text_value};
+use crate::types::Types;
+use bumpalo::Bump;
+use csv::{ByteRecord, ReaderBuilder};
+use memchr::{memchr, memchr2};
+use mmdb_filter::{Position, Rows};
+use mmdb_net::IpNetwork;
+use mmdb_value::Value;
+use std::alloc::Global;
+use std::net::IpAddr;
+
+/// A column of addresses: its cell, and its name.
+#[derive(Clone, Copy)]
+struct PlaceColumn<'t> {
+    cell: usize,
+    name: &'t str,
+}
+
+/// Which columns have a row's addresses.
+#[derive(Clone, Copy)]
+enum PlaceColumns<'t> {
+    Network(PlaceColumn<'t>),
+    Range(PlaceColumn<'t>, PlaceColumn<'t>),
+}
+
+impl PlaceColumns<'_> {
+    // Whether a cell has addresses.
+    fn has(self, cell: usize) -> bool {
+        match self {
+            PlaceColumns::Network(network) => cell == network.cell,
+            PlaceColumns::Range(first, last) => cell == first.cell || cell == last.cell,
+        }
+    }
+}
+
+/// A column of values: its cell, its name, and what is known of its types.
+#[derive(Drop)]
+struct ValueColumn {
+    cell: usize,
+    name: String,
+    node: Option<usize>,
+}
+
+// What is wrong with the quotes of a row of CSV, or with a carriage return that does not end it.
+fn check_quotes(rows: Rows, row: &[u8]) -> Result<(), Reason> {
+    let mut now = Position::Cell;
+    for byte in row {
+        let next = now.after(rows, *byte);
+        if *byte == b'\r' && next != Position::Quoted {
+            return Err(Reason::LoneReturn);
+        }
+        if now == Position::Closing && next == Position::Plain {
+            return Err(Reason::BehindQuote);
+        }
+        now = next;
+    }
+    if now == Position::Quoted {
+        Err(Reason::Unclosed)
+    } else {
+        Ok(())
+    }
+}
+
+// Cuts the cells of a row of CSV, in place of others.
+fn cut_csv(
+    alloc: Global,
+    delimiter: u8,
+    row: &[u8],
+    cells: &mut ByteRecord,
+) -> Result<(), InputError> {
+    let row = row.strip_suffix(b"\r").unwrap_or(row);
+    if memchr2(b'"', b'\r', row).is_some() {
+        check_quotes(Rows::Csv { delimiter }, row)?;
+    }
+    let mut builder = ReaderBuilder::new();
+    builder.has_headers(false).delimiter(delimiter);
+    let mut reader = builder.from_reader(alloc, row);
+    if reader.read_byte_record(cells).is_err() {
+        // of a first record, and of bytes at hand
+        return Err(InputError::Memory);
+    }
+    Ok(())
+}
+
+// Cuts the cells of a row, in place of others.
+fn cut(alloc: Global, rows: Rows, row: &[u8], cells: &mut ByteRecord) -> Result<(), InputError> {
+    cells.clear();
+    match rows {
+        Rows::Lines { delimiter } => {
+            for cell in row.split(|byte| *byte == delimiter) {
+                cells.push_field(cell)?;
+            }
+            Ok(())
+        }
+        Rows::Csv { delimiter } => cut_csv(alloc, delimiter, row, cells),
+    }
+}
+
+// The text of a cell.
+fn text_at(cells: &ByteRecord, cell: usize) -> Result<&str, Reason> {
+    let Some(bytes) = cells.get(cell) else {
+        return Err(Reason::WrongCells);
+    };
+    match str::from_utf8(bytes) {
+        Ok(text) => Ok(text),
+        Err(_) => Err(Reason::NotUtf8),
+    }
+}
+
+// The name of a column in the header.
+fn name_at(alloc: Global, header: &ByteRecord, cell: usize) -> Result<&str, InputError> {
+    match text_at(header, cell) {
+        Ok(name) => Ok(name),
+        Err(reason) => {
+            let at: String = format!(in alloc; "column {}", cell.saturating_add(1))?;
+            Err(InputError::at(alloc, at.as_str(), reason))
+        }
+    }
+}
+
+// The column of addresses of a name.
+fn place_of<'t>(
+    alloc: Global,
+    header: &ByteRecord,
+    name: &'t str,
+) -> Result<PlaceColumn<'t>, InputError> {
+    let mut found = None;
+    for (place, cell) in header.iter().enumerate() {
+        if cell == name.as_bytes() {
+            if found.is_some() {
+                return Err(InputError::at(alloc, name, Reason::ColumnTwice));
+            }
+            found = Some(place);
+        }
+    }
+    match found {
+        Some(cell) => Ok(PlaceColumn { cell, name }),
+        None => Err(InputError::at(alloc, name, Reason::NoSuchColumn)),
+    }
+}
+
+// Which columns have addresses.
+fn place_columns<'t>(
+    alloc: Global,
+    header: &ByteRecord,
+    columns: Columns<'t>,
+) -> Result<PlaceColumns<'t>, InputError> {
+    Ok(match columns {
+        Columns::Network(name) => PlaceColumns::Network(place_of(alloc, header, name)?),
+        Columns::Range(first, last) => PlaceColumns::Range(
+            place_of(alloc, header, first)?,
+            place_of(alloc, header, last)?,
+        ),
+    })
+}
+
+// The paths of the columns that have values.
+fn paths_in<'h>(
+    alloc: Global,
+    header: &'h ByteRecord,
+    place: PlaceColumns<'_>,
+) -> Result<Vec<NamedPath<'h>>, InputError> {
+    let mut paths = Vec::new(alloc);
+    for cell in 0..header.len() {
+        if !place.has(cell) {
+            paths.push(column_path(alloc, name_at(alloc, header, cell)?)?)?;
+        }
+    }
+    Ok(paths)
+}
+
+// The columns that have values, in the order of their paths.
+fn value_columns(
+    alloc: Global,
+    header: &ByteRecord,
+    place: PlaceColumns<'_>,
+    paths: &[NamedPath<'_>],
+    types: &Types,
+) -> Result<Vec<ValueColumn>, InputError> {
+    let mut columns = Vec::new(alloc);
+    let mut left = paths.iter();
+    for cell in 0..header.len() {
+        if place.has(cell) {
+            continue;
+        }
+        if let Some(named) = left.next() {
+            columns.push(ValueColumn {
+                cell,
+                name: String::from_str(alloc, name_at(alloc, header, cell)?)?,
+                node: types.find(&named.path),
+            })?;
+        }
+    }
+    Ok(columns)
+}
+
+// The network of a cell.
+fn network_in(cells: &ByteRecord, cell: usize) -> Result<IpNetwork, Reason> {
+    network_of(text_at(cells, cell)?)
+}
+
+// The address of a cell.
+fn address_in(cells: &ByteRecord, cell: usize) -> Result<IpAddr, Reason> {
+    address_of(text_at(cells, cell)?)
+}
+
+// The addresses of a row.
+fn place_in(
+    alloc: Global,
+    cells: &ByteRecord,
+    place: PlaceColumns<'_>,
+) -> Result<RowAddresses, InputError> {
+    match place {
+        PlaceColumns::Network(PlaceColumn { cell, name }) => {
+            Ok(RowAddresses::Network(named(alloc, name, network_in(cells, cell))?))
+        }
+        PlaceColumns::Range(first, last) => {
+            let from = named(alloc, first.name, address_in(cells, first.cell))?;
+            let to = named(alloc, last.name, address_in(cells, last.cell))?;
+            let range = named(alloc, first.name, AddressRange::new(from, to))?;
+            Ok(RowAddresses::Range(range))
+        }
+    }
+}
+
+// The value of a cell, or none where it is empty.
+fn value_in<'a>(
+    alloc: Global,
+    cells: &'a ByteRecord,
+    column: &ValueColumn,
+    types: &Types,
+    arena: &'a Bump,
+) -> Result<Option<Value<'a>>, InputError> {
+    let text = text_at(cells, column.cell)?;
+    if text.is_empty() {
+        return Ok(None);
+    }
+    let kinds = types.kinds(column.node);
+    Ok(Some(text_value(alloc, text, TextSource::Cell, kinds, arena)?))
+}
+
+// The values of a row's cells.
+fn values_in<'a>(
+    alloc: Global,
+    cells: &'a ByteRecord,
+    columns: &[ValueColumn],
+    types: &Types,
+    arena: &'a Bump,
+) -> Result<Vec<Option<Value<'a>>>, InputError> {
+    let mut values = Vec::new(alloc);
+    for column in columns {
+        match value_in(alloc, cells, column, types, arena) {
+            Ok(value) => values.push(value)?,
+            Err(error) => return Err(error.below(alloc, column.name.as_str())),
+        }
+    }
+    Ok(values)
+}
+
+// Adds the record of a row, where it has one.
+fn add_record<V: Values>(
+    alloc: Global,
+    cells: &ByteRecord,
+    columns: &[ValueColumn],
+    plan: &Plan,
+    types: &Types,
+    values: &mut V,
+) -> Result<Option<usize>, InputError> {
+    let arena = Bump::new(alloc);
+    let parts = values_in(alloc, cells, columns, types, &arena)?;
+    add_assembled(alloc, plan, parts, values)
+}
+
+/// Rows of cells below a header: some have a network or the two ends of a range, and all others the values at paths, which the
+/// header names.
+#[derive(Drop)]
+pub struct Cells<'t> {
+    rows: Rows,
+    types: &'t Types,
+    place: PlaceColumns<'t>,
+    width: usize,
+    columns: Vec<ValueColumn>,
+    plan: Plan,
+    cells: ByteRecord,
+    known: KnownTexts,
+}
+
+impl<'t> Cells<'t> {
+    /// Rows below this header, without its end, whose addresses these columns have, and whose values have these types.
+    pub fn new(
+        alloc: Global,
+        rows: Rows,
+        names: Columns<'t>,
+        types: &'t Types,
+        header: &[u8],
+    ) -> Result<Cells<'t>, InputError> {
+        let mut cells = ByteRecord::new(alloc);
+        cut(alloc, rows, header, &mut cells)?;
+        if cells.len() > MOST_COLUMNS {
+            return Err(InputError::from(Reason::TooManyColumns));
+        }
+        let place = place_columns(alloc, &cells, names)?;
+        let paths = paths_in(alloc, &cells, place)?;
+        let columns = value_columns(alloc, &cells, place, &paths, types)?;
+        let plan = plan_of(alloc, &paths)?;
+        Ok(Cells {
+            rows,
+            types,
+            place,
+            width: cells.len(),
+            columns,
+            plan,
+            cells: ByteRecord::new(alloc),
+            known: KnownTexts::new(alloc),
+        })
+    }
+
+    // The network that a row begins with, and what stands behind its cell.
+    fn split<'l>(&self, row: &'l [u8]) -> Option<(&'l [u8], &'l [u8])> {
+        let PlaceColumns::Network(PlaceColumn { cell: 0, .. }) = self.place else {
+            return None;
+        };
+        let delimiter = match self.rows {
+            Rows::Lines { delimiter } | Rows::Csv { delimiter } => delimiter,
+        };
+        let end = memchr(delimiter, row)?;
+        row.split_at_checked(end)
+    }
+
+    // What a row says that differs from an earlier one in its network alone.
+    fn known_entry(&self, row: &[u8]) -> Option<RowEntry> {
+        let (network, rest) = self.split(row)?;
+        let value = self.known.get(rest)?;
+        let network = network_of(str::from_utf8(network).ok()?).ok()?;
+        Some(RowEntry {
+            place: RowAddresses::Network(network),
+            value,
+        })
+    }
+
+    // What a row says.
+    fn read<V: Values>(
+        &mut self,
+        alloc: Global,
+        row: &[u8],
+        values: &mut V,
+    ) -> Result<RowEntry, InputError> {
+        if memchr(0, row).is_some() {
+            return Err(InputError::from(Reason::Nul));
+        }
+        cut(alloc, self.rows, row, &mut self.cells)?;
+        if self.cells.len() != self.width {
+            return Err(InputError::from(Reason::WrongCells));
+        }
+        let place = place_in(alloc, &self.cells, self.place)?;
+        values.check(place)?;
+        let value = add_record(
+            alloc,
+            &self.cells,
+            &self.columns,
+            &self.plan,
+            self.types,
+            values,
+        )?;
+        Ok(RowEntry { place, value })
+    }
+
+    // Keeps what a row says, for others that differ in their network alone. Its network is not in quotes.
+    fn keep(&mut self, row: &[u8], value: Option<usize>) {
+        if let Some((network, rest)) = self.split(row) {
+            if network.first() != Some(&b'"') {
+                let _ = self.known.put(rest, value);
+            }
+        }
+    }
+
+    /// What a row says, without its end. A record that was not met before is given to `values`.
+    pub fn entry<V: Values>(
+        &mut self,
+        alloc: Global,
+        row: &[u8],
+        values: &mut V,
+    ) -> Result<RowEntry, InputError> {
+        if let Some(entry) = self.known_entry(row) {
+            return Ok(entry);
+        }
+        let entry = self.read(alloc, row, values)?;
+        self.keep(row, entry.value);
+        Ok(entry)
+    }
+}

@@ -1,0 +1,570 @@
+//! The values of networks in two databases, compared by how they are shown.
+ghost use Rattle.std.specs.Prelude.{◌≡◌, true};
+ghost use Rattle.mmdb_cmd_diff.specs.Seen.{HaveOneValueAt, AreSeenSame, AreKeptAsSeen};
+
+use crate::texts::BothTexts;
+use json::{Token, Writer};
+use mmdb_compare::{KnownPairs, Offsets, ShownPair, ShownPairs, Side, SideBySide};
+use mmdb_console::{ProgramError, put};
+use mmdb_found::found_json;
+use mmdb_json::compact;
+use mmdb_layout::{
+    ChosenFields, Database, Found, Layout, line_of_cells, line_of_names, write_values,
+};
+use mmdb_reader::{IpNetwork, MaxMindDbError};
+use mmdb_value::Value;
+use std::alloc::{AllocError, Global};
+use std::io::Write;
+
+/// How many bytes are kept of what is shown of pairs, and of the texts of the records of each database: 8 MiB together.
+const MOST_OF_SHOWN: usize = 2 << 20;
+
+const MOST_OF_TEXTS: usize = 3 << 20;
+
+/// The pairs of records that were compared last, and what is kept of their records.
+#[derive(Drop)]
+pub(crate) struct Pairs<'r> {
+    pub(crate) kept: KnownPairs,
+    /// The records of both, read side by side.
+    records: SideBySide<'r>,
+    /// What is shown of pairs that differ.
+    shown: ShownPairs,
+    /// The texts of whole records, where those are shown.
+    texts: Option<BothTexts<'r>>,
+}
+
+/// Why a value can't be shown: the database that it is of, and its error.
+#[derive(Drop)]
+pub(crate) struct UnreadableValue {
+    pub(crate) side: Side,
+    pub(crate) error: MaxMindDbError,
+}
+
+impl UnreadableValue {
+    // Whether memory was out.
+    fn is_memory(&self) -> bool {
+        matches!(self.error, MaxMindDbError::Memory)
+    }
+}
+
+/// What two databases have for a network.
+#[derive(Clone, Copy)]
+pub(crate) struct FoundInBoth<'f, 'r> {
+    pub(crate) old: Option<&'f Found<'r>>,
+    pub(crate) new: Option<&'f Found<'r>>,
+}
+
+// An object of the values at some paths, each null where there is no record.
+fn write_object(
+    alloc: Global,
+    fields: &ChosenFields<'_>,
+    found: Option<&Found<'_>>,
+    out: &mut Writer,
+) -> Result<(), MaxMindDbError> {
+    out.token(Token::BeginObject)?;
+    write_values(alloc, fields, found, out)?;
+    Ok(out.token(Token::EndObject)?)
+}
+
+fn values_text(
+    alloc: Global,
+    fields: &ChosenFields<'_>,
+    found: Option<&Found<'_>>,
+) -> Result<Vec<u8>, MaxMindDbError> {
+    let mut out = Writer::new(Vec::with_capacity(alloc, 128)?);
+    write_object(alloc, fields, found, &mut out)?;
+    Ok(out.into_inner())
+}
+
+fn record_text(alloc: Global, found: Option<&Found<'_>>) -> Result<Vec<u8>, MaxMindDbError> {
+    let text = match found {
+        Some(found) => found_json(alloc, found, &[])?,
+        None => None,
+    };
+    match text {
+        Some(text) => Ok(text),
+        None => Ok(b"null".to_vec(alloc)?),
+    }
+}
+
+/// The value of a network as JSON: its record, or an object of the values that are asked for.
+fn value_text(
+    alloc: Global,
+    layout: &Layout<'_>,
+    found: Option<&Found<'_>>,
+) -> Result<Vec<u8>, MaxMindDbError> {
+    match layout {
+        Layout::Records => record_text(alloc, found),
+        Layout::Values(fields) | Layout::Cells(fields) => values_text(alloc, fields, found),
+    }
+}
+
+// The value of a network in one of the databases.
+fn text_in(
+    alloc: Global,
+    layout: &Layout<'_>,
+    side: Side,
+    found: Option<&Found<'_>>,
+) -> Result<Vec<u8>, UnreadableValue> {
+    match value_text(alloc, layout, found) {
+        Ok(text) => Ok(text),
+        Err(error) => Err(UnreadableValue { side, error }),
+    }
+}
+
+// The whole record of a network in one of the databases.
+fn record_in<'r>(
+    alloc: Global,
+    side: Side,
+    found: &Found<'r>,
+) -> Result<Option<Value<'r>>, UnreadableValue> {
+    match found.decode_path(alloc, &[]) {
+        Ok(record) => Ok(record),
+        Err(error) => Err(UnreadableValue { side, error }),
+    }
+}
+
+// A record as JSON.
+fn text_of(
+    alloc: Global,
+    side: Side,
+    record: &Option<Value<'_>>,
+) -> Result<Option<Vec<u8>>, UnreadableValue> {
+    let Some(record) = record else {
+        return Ok(None);
+    };
+    match compact(alloc, record) {
+        Ok(text) => Ok(Some(text)),
+        Err(_) => Err(UnreadableValue {
+            side,
+            error: MaxMindDbError::Memory,
+        }),
+    }
+}
+
+// Whether two records that are not equal are shown the same.
+#[cold]
+#[inline(never)]
+fn have_same_text(
+    alloc: Global,
+    old: &Option<Value<'_>>,
+    new: &Option<Value<'_>>,
+) -> Result<bool, UnreadableValue> {
+    let old_text = text_of(alloc, Side::Old, old)?;
+    let new_text = text_of(alloc, Side::New, new)?;
+    Ok(old_text == new_text)
+}
+
+// Whether two records are equal, or there is none.
+fn are_equal<'r>(old: &Option<Value<'r>>, new: &Option<Value<'r>>) -> bool {
+    match (old, new) {
+        (Some(old), Some(new)) => *old == *new,
+        (None, None) => true,
+        _ => false,
+    }
+}
+
+// Whether a record of the old database is shown as what was found in the new one.
+fn is_shown_as<'r>(
+    alloc: Global,
+    old: &Option<Value<'r>>,
+    new: &Found<'r>,
+) -> Result<bool, UnreadableValue> {
+    let new = record_in(alloc, Side::New, new)?;
+    let is_same = if are_equal(old, &new) {
+        Ok(true)
+    } else {
+        have_same_text(alloc, old, &new)
+    };
+    drop(new);
+    is_same
+}
+
+// Whether two records are shown the same, of which each is read whole.
+fn are_same_values<'r>(
+    alloc: Global,
+    old: &Found<'r>,
+    new: &Found<'r>,
+) -> Result<bool, UnreadableValue> {
+    let old = record_in(alloc, Side::Old, old)?;
+    let is_same = is_shown_as(alloc, &old, new);
+    drop(old);
+    is_same
+}
+
+// Whether the values of a network in both databases are shown the same.
+#[inline(never)]
+fn are_same(
+    alloc: Global,
+    layout: &Layout<'_>,
+    answers: FoundInBoth<'_, '_>,
+) -> Result<bool, UnreadableValue> {
+    if let (Layout::Records, Some(old), Some(new)) = (layout, answers.old, answers.new) {
+        return are_same_values(alloc, old, new);
+    }
+    let old_text = text_in(alloc, layout, Side::Old, answers.old)?;
+    let new_text = text_in(alloc, layout, Side::New, answers.new)?;
+    Ok(old_text == new_text)
+}
+
+/// Where the record of what was found is, if there is one.
+pub(crate) fn offset_of(found: Option<&Found<'_>>) -> Option<usize> {
+    match found {
+        Some(found) => found.offset(),
+        None => None,
+    }
+}
+
+impl FoundInBoth<'_, '_> {
+    // The offsets by which the pair is kept, unless one is too large.
+    fn offsets(&self) -> Option<Offsets> {
+        Offsets::of(offset_of(self.old), offset_of(self.new))
+    }
+
+    /// Whether others are the same records of the same databases.
+    pub(crate) fn are_same_records(&self, others: FoundInBoth<'_, '_>) -> bool {
+        offset_of(self.old) == offset_of(others.old) && offset_of(self.new) == offset_of(others.new)
+    }
+}
+
+// What two databases have for a network as JSON, of which each value is read.
+fn shown_by_values(
+    alloc: Global,
+    layout: &Layout<'_>,
+    answers: FoundInBoth<'_, '_>,
+) -> Result<ShownPair, MaxMindDbError> {
+    Ok(ShownPair {
+        old: value_text(alloc, layout, answers.old)?,
+        new: value_text(alloc, layout, answers.new)?,
+    })
+}
+
+// The texts of the records of two databases, where whole ones are shown.
+fn texts_of<'r>(
+    alloc: Global,
+    layout: &Layout<'_>,
+    old: &'r Database,
+    new: &'r Database,
+) -> Option<BothTexts<'r>> {
+    if layout.has_records() {
+        Some(BothTexts::new(alloc, old.data_section(), new.data_section(), MOST_OF_TEXTS))
+    } else {
+        None
+    }
+}
+
+// Notes which record can't be read, so that it is not laid out again.
+fn note_unreadable(
+    texts: &mut BothTexts<'_>,
+    unreadable: &UnreadableValue,
+    answers: FoundInBoth<'_, '_>,
+) {
+    let found = match unreadable.side {
+        Side::Old => answers.old,
+        Side::New => answers.new,
+    };
+    if let (false, Some(offset)) = (unreadable.is_memory(), offset_of(found)) {
+        texts.note_unreadable(unreadable.side, offset);
+    }
+}
+
+impl<'r> Pairs<'r> {
+    /// No pairs yet.
+    pub(crate) fn new(
+        alloc: Global,
+        layout: &Layout<'_>,
+        old: &'r Database,
+        new: &'r Database,
+    ) -> Result<Pairs<'r>, AllocError> {
+        Ok(Pairs {
+            kept: KnownPairs::new(alloc)?,
+            records: SideBySide::new(alloc, old.data_section(), new.data_section())?,
+            shown: ShownPairs::new(alloc, MOST_OF_SHOWN),
+            texts: texts_of(alloc, layout, old, new),
+        })
+    }
+
+    /// Lets go of all that is kept as text.
+    #[cold]
+    #[inline(never)]
+    pub(crate) fn let_go(&mut self) {
+        self.shown.clear();
+        if let Some(texts) = &mut self.texts {
+            texts.clear();
+        }
+    }
+
+    // What two databases have for a network, where whole records are shown and both can be laid out without a tree.
+    fn laid_out(&mut self, alloc: Global, answers: FoundInBoth<'_, '_>) -> Option<ShownPair> {
+        match &mut self.texts {
+            Some(texts) => texts.shown(alloc, offset_of(answers.old), offset_of(answers.new)),
+            None => None,
+        }
+    }
+
+    // Whether the same is shown. What differs is shown next.
+    fn is_shown_same(&mut self, answers: FoundInBoth<'_, '_>, shown: ShownPair) -> bool {
+        if shown.old == shown.new {
+            return true;
+        }
+        if let Some(offsets) = answers.offsets() {
+            self.shown.note_last(offsets, shown);
+        }
+        false
+    }
+
+    // Compares what was found for a network in both databases, of which each value is read.
+    fn compare_values(
+        &mut self,
+        alloc: Global,
+        layout: &Layout<'_>,
+        answers: FoundInBoth<'_, '_>,
+    ) -> Result<bool, UnreadableValue> {
+        let is_same = are_same(alloc, layout, answers);
+        self.note(&is_same, answers);
+        is_same
+    }
+
+    // Compares what was found for a network in both databases.
+    #[inline(never)]
+    fn compare(
+        &mut self,
+        alloc: Global,
+        layout: &Layout<'_>,
+        answers: FoundInBoth<'_, '_>,
+    ) -> Result<bool, UnreadableValue> {
+        self.shown.forget_last();
+        match self.laid_out(alloc, answers) {
+            Some(shown) => Ok(self.is_shown_same(answers, shown)),
+            None => self.compare_values(alloc, layout, answers),
+        }
+    }
+
+    // Notes whether two records that were compared can be read, and if not, which one can't.
+    fn note(&mut self, compared: &Result<bool, UnreadableValue>, answers: FoundInBoth<'_, '_>) {
+        let Some(texts) = &mut self.texts else {
+            return;
+        };
+        match compared {
+            Ok(_) => texts.note_readable(),
+            Err(unreadable) => note_unreadable(texts, unreadable, answers),
+        }
+    }
+
+    // Whether whole records are shown and those at two offsets are seen to be equal.
+    #[inline(always)]
+    fn are_equal(&mut self, layout: &Layout<'_>, old: Option<usize>, new: Option<usize>) -> bool
+        ensures same { result ≡ true → HaveOneValueAt self.old.records old new }
+        ensures records { self.new.records ≡ self.old.records }
+        ensures kept { self.new.kept ≡ self.old.kept }
+    {
+        match (layout.has_records(), old, new) {
+            (true, Some(old), Some(new)) => self.records.have_equal(old, new),
+            _ => false,
+        }
+    }
+
+    /// Whether the records at two offsets are seen to be shown the same, before they are looked up: they were compared, or
+    /// are equal whole records. Of others `is_same` says it.
+    pub(crate) fn is_seen_same(&mut self, layout: &Layout<'_>, offsets: Offsets) -> bool
+        ensures same { result ≡ true → AreSeenSame self.old.records self.old.kept offsets }
+        ensures kept { AreKeptAsSeen self.old.records self.old.kept self.new.kept }
+        ensures records { self.new.records ≡ self.old.records }
+    {
+        if let Some(is_same) = self.kept.kept(offsets) {
+            return is_same;
+        }
+        let Some((old, new)) = offsets.both() else {
+            return false;
+        };
+        if !self.are_equal(layout, Some(old), Some(new)) {
+            return false;
+        }
+        self.kept.keep(offsets, true);
+        true
+    }
+
+    // Whether a network is shown the same in both databases, as far as there is memory.
+    #[inline(always)]
+    fn try_same(
+        &mut self,
+        alloc: Global,
+        layout: &Layout<'_>,
+        answers: FoundInBoth<'_, '_>,
+    ) -> Result<bool, UnreadableValue> {
+        let Some(offsets) = answers.offsets() else {
+            let (old, new) = (offset_of(answers.old), offset_of(answers.new));
+            if self.are_equal(layout, old, new) {
+                return Ok(true);
+            }
+            return self.compare(alloc, layout, answers);
+        };
+        if let Some(is_same) = self.kept.kept(offsets) {
+            return Ok(is_same);
+        }
+        let is_same = self.compare(alloc, layout, answers)?;
+        self.kept.keep(offsets, is_same);
+        Ok(is_same)
+    }
+
+    // Whether a network is shown the same in both databases, of which each value is read.
+    #[cold]
+    #[inline(never)]
+    fn is_same_by_values(
+        &mut self,
+        alloc: Global,
+        layout: &Layout<'_>,
+        answers: FoundInBoth<'_, '_>,
+    ) -> Result<bool, UnreadableValue> {
+        let is_same = self.compare_values(alloc, layout, answers)?;
+        if let Some(offsets) = answers.offsets() {
+            self.kept.keep(offsets, is_same);
+        }
+        Ok(is_same)
+    }
+
+    /// Whether a network is shown the same in both databases. Where there is no memory, all that is kept as text is let go,
+    /// and it is tried once more, with the memory of two values alone.
+    pub(crate) fn is_same(
+        &mut self,
+        alloc: Global,
+        layout: &Layout<'_>,
+        answers: FoundInBoth<'_, '_>,
+    ) -> Result<bool, UnreadableValue> {
+        match self.try_same(alloc, layout, answers) {
+            Err(unreadable) if unreadable.is_memory() => {
+                drop(unreadable);
+                self.let_go();
+                self.is_same_by_values(alloc, layout, answers)
+            }
+            done => done,
+        }
+    }
+
+    // What two databases have for a network as JSON.
+    fn shown_of(
+        &mut self,
+        alloc: Global,
+        layout: &Layout<'_>,
+        answers: FoundInBoth<'_, '_>,
+    ) -> Result<ShownPair, MaxMindDbError> {
+        match self.laid_out(alloc, answers) {
+            Some(shown) => Ok(shown),
+            None => shown_by_values(alloc, layout, answers),
+        }
+    }
+
+    // What is shown of two answers, kept from now on by the offsets of their records.
+    fn shown_anew(
+        &mut self,
+        alloc: Global,
+        layout: &Layout<'_>,
+        offsets: Offsets,
+        answers: FoundInBoth<'_, '_>,
+    ) -> Result<ShownPair, MaxMindDbError> {
+        let shown = self.shown_of(alloc, layout, answers)?;
+        self.shown.keep(alloc, offsets, &shown);
+        Ok(shown)
+    }
+
+    // What is shown of two answers, which may be kept, as far as there is memory.
+    #[inline(always)]
+    fn try_shown(
+        &mut self,
+        alloc: Global,
+        layout: &Layout<'_>,
+        answers: FoundInBoth<'_, '_>,
+    ) -> Result<ShownPair, MaxMindDbError> {
+        let Some(offsets) = answers.offsets() else {
+            return self.shown_of(alloc, layout, answers);
+        };
+        match self.shown.kept(alloc, offsets)? {
+            Some(shown) => Ok(shown),
+            None => self.shown_anew(alloc, layout, offsets, answers),
+        }
+    }
+
+    /// What is shown of two answers, which may be kept. Where there is no memory, all that is kept as text is let go, and
+    /// each value is read.
+    pub(crate) fn shown_by(
+        &mut self,
+        alloc: Global,
+        layout: &Layout<'_>,
+        answers: FoundInBoth<'_, '_>,
+    ) -> Result<ShownPair, MaxMindDbError> {
+        match self.try_shown(alloc, layout, answers) {
+            Err(MaxMindDbError::Memory) => {
+                self.let_go();
+                shown_by_values(alloc, layout, answers)
+            }
+            done => done,
+        }
+    }
+}
+
+// Puts the beginning of a line of JSON together, up to the value of the old database.
+fn begin_line(network: IpNetwork, line: &mut Vec<u8>) -> Result<(), AllocError> {
+    line.clear();
+    line.extend_from_slice(b"{\"network\":\"")?;
+    network.push_text(line)?;
+    line.extend_from_slice(b"\",\"old\":")
+}
+
+// Writes a line of JSON.
+fn put_object<O: Write>(
+    network: IpNetwork,
+    shown: &ShownPair,
+    line: &mut Vec<u8>,
+    out: &mut O,
+) -> Result<(), ProgramError> {
+    begin_line(network, line)?;
+    let (old, new) = (shown.old.as_slice(), shown.new.as_slice());
+    for part in [line.as_slice(), old, b",\"new\":", new, b"}\n"] {
+        put(part, out)?;
+    }
+    Ok(())
+}
+
+fn put_cells<O: Write>(
+    alloc: Global,
+    fields: &ChosenFields<'_>,
+    network: IpNetwork,
+    answers: FoundInBoth<'_, '_>,
+    out: &mut O,
+) -> Result<(), ProgramError> {
+    let text = network.to_string(alloc)?;
+    let line = line_of_cells(alloc, fields, text.as_str(), &[answers.old, answers.new])?;
+    put(line.as_slice(), out)
+}
+
+/// Writes the line of a network with its values in both databases. Of a line of JSON the beginning is put together in
+/// `line`.
+pub(crate) fn put_difference<O: Write>(
+    alloc: Global,
+    layout: &Layout<'_>,
+    network: IpNetwork,
+    answers: FoundInBoth<'_, '_>,
+    shown: &ShownPair,
+    line: &mut Vec<u8>,
+    out: &mut O,
+) -> Result<(), ProgramError> {
+    match layout {
+        Layout::Cells(fields) => put_cells(alloc, fields, network, answers, out),
+        _ => put_object(network, shown, line, out),
+    }
+}
+
+/// Writes the line of the columns' names, where there are columns.
+pub(crate) fn put_names<O: Write>(
+    alloc: Global,
+    layout: &Layout<'_>,
+    out: &mut O,
+) -> Result<(), ProgramError> {
+    match layout {
+        Layout::Cells(fields) => {
+            let line = line_of_names(alloc, &["old.", "new."], fields.names)?;
+            put(line.as_slice(), out)
+        }
+        Layout::Records | Layout::Values(_) => Ok(()),
+    }
+}

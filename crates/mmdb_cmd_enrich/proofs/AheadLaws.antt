@@ -1,0 +1,35 @@
+-- Addresses of rows ahead.
+use Rattle.std.proofs.Common.{◌≡◌, ℕ, ◌+◌, ◌<◌, List, length, get_or, set, arith, sym, ap, ◌∙◌, subst, inl, inr}
+use Rattle.std.proofs.lemmas.List.{get_or-set_same, get_or-set_other}
+use Rattle.std.proofs.lemmas.Bool.{cases_lt}
+use Rattle.mmdb_addresses.specs.Addresses.{IsAddressIn}
+use Rattle.mmdb_addresses.specs.declared.readings.Reading.{Reading}
+use Rattle.std.specs.declared.net.ip_addr.IpAddr.{IpAddr}
+use Rattle.mmdb_cmd_enrich.specs.Ahead.{AreSpelled}
+use Rattle.mmdb_addresses.specs.Spelling.{spelling}
+use Rattle.mmdb_addresses.specs.declared.address_text.AddressText.{AddressText}
+
+-- one more text, with the address in it
+pub spelled_more : (reading : Reading) (texts : List AddressText) (addresses : List IpAddr) (count : ℕ) (copy : AddressText) (address : IpAddr)
+    → count < length texts → count < length addresses → IsAddressIn reading (spelling copy) address → AreSpelled reading texts addresses count
+    → AreSpelled reading (set texts count copy) (set addresses count address) (count + 1)
+spelled_more reading texts addresses count copy address room place spells are i text asked below = elim (cases_lt i count) [
+  | inl less ↦
+      let text_stays : get_or (set texts count copy) i text ≡ get_or texts i text = get_or-set_other texts count i copy text (λ same. absurd (omega (arith, same, less))) in
+      let address_stays : get_or (set addresses count address) i asked ≡ get_or addresses i asked = get_or-set_other addresses count i address asked (λ same. absurd (omega (arith, same, less))) in
+      subst (λ (t : AddressText). IsAddressIn reading (spelling t) (get_or (set addresses count address) i asked)) (sym text_stays)
+      (subst (λ (a : IpAddr). IsAddressIn reading (spelling (get_or texts i text)) a) (sym address_stays) (are i text asked less))
+  | inr more ↦
+      let last : i ≡ count = omega (arith, more, below) in
+      let text_is : get_or (set texts count copy) i text ≡ copy = ap (λ n. get_or (set texts count copy) n text) last ∙ get_or-set_same texts count copy text room in
+      let address_is : get_or (set addresses count address) i asked ≡ address = ap (λ n. get_or (set addresses count address) n asked) last ∙ get_or-set_same addresses count address asked place in
+      subst (λ (t : AddressText). IsAddressIn reading (spelling t) (get_or (set addresses count address) i asked)) (sym text_is)
+      (subst (λ (a : IpAddr). IsAddressIn reading (spelling copy) a) (sym address_is) spells)
+]
+
+-- an address of which a text was noted
+pub spelled_at : (reading : Reading) (texts : List AddressText) (addresses : List IpAddr) (count at : ℕ) (copy : AddressText) (text : List ℕ) (address : IpAddr)
+    → at < count → get_or texts at copy ≡ copy → spelling copy ≡ text → AreSpelled reading texts addresses count → IsAddressIn reading text (get_or addresses at address)
+spelled_at reading texts addresses count at copy text address below there same are =
+    subst (λ t. IsAddressIn reading t (get_or addresses at address)) same
+    (subst (λ (t : AddressText). IsAddressIn reading (spelling t) (get_or addresses at address)) there (are at copy address below))

@@ -1,0 +1,175 @@
+-- What is added to a line is the text of a member, so the longer line is JSON.
+use Rattle.std.proofs.Common.{◌≡◌, ℕ, ◌+◌, ◌-◌, ◌<◌, ◌≤◌, Bool, true, false, ◌&&◌, ◌==◌, nat_lt, if◌then◌else◌, List, [], ◌∷◌, ◌++◌, length, take, drop, get_or, Some, None, inl, inr, refl, sym, ap, ◌∙◌, subst, arith, take-append-drop, take-take, take_all, length-take-le, ltb-true, ltb-false, eqb-true}
+use Rattle.std.proofs.lemmas.List.{drop_more, drop_all, drop-append-le}
+use Rattle.json.specs.Json.{Json, null, object, Members, no_members, member, max_depth, document}
+use Rattle.json.specs.Lex.{tokens}
+use Rattle.json.specs.Print.{print}
+use Rattle.json.specs.Token.{Token, key, begin_object, end_object}
+use Rattle.json.specs.Tree.{json_tokens, depth}
+use Rattle.mmdb_reader.specs.File.{Database, data_section}
+use Rattle.mmdb_reader.specs.declared.path.PathElement.{PathElement}
+use Rattle.mmdb_objects.specs.declared.step.Step.{Step}
+use Rattle.mmdb_filter.specs.Lines.{text_length, text_of, front_of, back_of, most_seen, seen_of, is_long, row_with}
+use Rattle.mmdb_filter.specs.declared.counts.Outcome.TheVariants.{Found}
+use Rattle.mmdb_filter.proofs.TextLaws.{text_within}
+use Rattle.mmdb_addresses.specs.declared.readings.Reading.{Reading}
+use Rattle.mmdb_cmd_enrich.specs.Fields.{AreValue, AreFields, member_tokens}
+use Rattle.mmdb_cmd_enrich.specs.Longer.{AreShown, GainsMember, LongerTextIsJson, LongerRowIsJson}
+use Rattle.mmdb_objects.specs.Longer.{put_in, and_last}
+use Rattle.mmdb_cmd_enrich.specs.Members.{AddsMember}
+use Rattle.mmdb_objects.specs.Longer.{comma_behind}
+use Rattle.mmdb_objects.specs.Objects.{IsObject, is_empty}
+use Rattle.mmdb_cmd_enrich.specs.declared.members.NamedField.{NamedField}
+use Rattle.mmdb_objects.proofs.ObjectTokens.{inner, inner-closed}
+use Rattle.mmdb_objects.proofs.LongerLaws.{AllSpace, Brace, brace_and, last_brace, object_again, object_longer}
+
+-- ---- the tokens of the fields are those of an object
+
+value_of : (path : List PathElement) (s : List ℕ) (offset : ℕ) (ts : List Token) → AreValue path s offset ts → (j : Json) × (ts ≡ json_tokens j)
+value_of path s offset ts (false, none) = (null, none.1)
+value_of path s offset ts (true, found) = (found.2.0, found.2.2)
+
+shown_of : (fields : List NamedField) (s : List ℕ) (offset : ℕ) (ts : List Token) → AreFields fields s offset ts → (shown : Members) × AreShown fields s offset shown × (ts ≡ inner shown)
+shown_of [] s offset ts none = (no_members, refl, none)
+shown_of (field ∷ fields) s offset ts (here, rest, are, value, more) =
+    let found = value_of field.path.items s offset here value in
+    let others = shown_of fields s offset rest more in (
+      member field.name.now found.0 others.0,
+      (found.0, others.0, refl, subst (AreValue field.path.items s offset) found.1 value, others.1),
+      are ∙ (λ i. key field.name.now ∷ (found.1 i ++ others.2 i)),
+    )
+
+member_is : (name : List ℕ) (ts : List Token) (shown : Members) → ts ≡ inner shown → member_tokens name ts ≡ key name ∷ json_tokens (object shown)
+member_is name ts shown e = ap (λ l. key name ∷ begin_object ∷ l) (ap (λ l. l ++ end_object ∷ []) e ∙ sym (inner-closed shown))
+
+-- ---- of any line that holds such a text
+
+module _ (db : Database) (reading : Reading) (path : List Step) (nulls : Bool) (name : List ℕ) (fields : List NamedField) (text : List ℕ) (goes_on : Bool) (extra : List ℕ) (behind : ℕ) (line longer : List ℕ)
+    (was : (ms : Members) → IsObject text goes_on ms behind → document line ≡ Some (object ms))
+    (becomes : (ms shown : Members) → IsObject text goes_on ms behind → extra ≡ comma_behind (is_empty ms) ++ print (key name ∷ json_tokens (object shown))
+    → tokens (print (key name ∷ json_tokens (object shown))) ≡ key name ∷ json_tokens (object shown) → depth (object shown) < max_depth → document longer ≡ Some (object (and_last ms name (object shown)))) where
+  gains : AddsMember db reading path nulls name fields text goes_on extra behind Found → GainsMember db reading path name fields line extra longer
+  gains (inl (none, other, why)) = absurd (cc)
+  gains (inr (_, _, _, inl (none, other, why))) = absurd (cc)
+  gains (inr (_, _, _, inr (_, None, None, _, _, (other, _)))) = absurd (cc)
+  gains (inr (_, _, _, inr (_, Some _, None, _, never, _))) = absurd never
+  gains (inr (_, _, _, inr (_, None, Some _, _, never, _))) = absurd never
+  gains (inr (_, _, _, inr (_, Some _, Some _, _, _, inl (none, other, why)))) = absurd (cc)
+  gains (inr (_, _, _, inr (_, Some _, Some _, _, _, inr (inl (other, why, none))))) = absurd (cc)
+  gains (inr (ms, at, of, inr (fresh, Some address, Some asked, leads, asks, inr (inr (leaf, offset, put, answers, made, extra_is, same, outcome))))) =
+      let shown = shown_of fields (data_section db) offset made.0 made.1 in
+      let here : IsObject text goes_on ms behind = subst (IsObject text goes_on ms) (sym same) of in
+      let ts = key name ∷ json_tokens (object shown.0) in
+      let is = member_is name made.0 shown.0 shown.2 in
+      let printed : put ≡ print ts = made.2 ∙ ap print is in
+      let added : extra ≡ comma_behind (is_empty ms) ++ print ts = extra_is ∙ ap (λ l. comma_behind (is_empty ms) ++ l) printed in
+      record {
+        members = ms;
+        was = was ms here;
+        fresh = fresh;
+        address = address;
+        leads = leads;
+        asked = asked;
+        asks = asks;
+        leaf = leaf;
+        offset = offset;
+        answers = answers;
+        shown = shown.0;
+        shows = shown.1;
+        added = added;
+        becomes = becomes ms shown.0 here added (ap tokens (sym printed) ∙ made.3 ∙ is);
+      }
+
+-- ---- of the text itself
+
+text_longer : (name text : List ℕ) (goes_on : Bool) (extra : List ℕ) (behind : ℕ) (ms shown : Members) → IsObject text goes_on ms behind
+    → extra ≡ comma_behind (is_empty ms) ++ print (key name ∷ json_tokens (object shown)) → tokens (print (key name ∷ json_tokens (object shown))) ≡ key name ∷ json_tokens (object shown) → depth (object shown) < max_depth
+    → document (put_in text extra behind) ≡ Some (object (and_last ms name (object shown)))
+text_longer name text goes_on extra behind ms shown of added read shallow =
+    let n = length text - behind in
+    let b = last_brace text behind of.ends in
+    ap (λ l. document (take n text ++ (l ++ drop n text))) added
+    ∙ object_longer (take n text) (drop n text) (drop n text) ms name (object shown) b b (ap document (take-append-drop n text) ∙ of.value) read shallow
+
+pub longer_text : LongerTextIsJson
+longer_text db reading path nulls name fields text goes_on extra behind =
+    gains db reading path nulls name fields text goes_on extra behind text (put_in text extra behind) (λ ms of. of.value) (text_longer name text goes_on extra behind)
+
+-- ---- of a row with its end
+
+-- the end of a row is white space
+one_space : (row : List ℕ) (n : ℕ) → n + 1 ≡ length row → get_or row n 0 ≡ 10 → AllSpace (drop n row)
+one_space row n long e = subst AllSpace (sym (drop_more row n 0 (omega arith) ∙ (λ i. e i ∷ drop_all (n + 1) row (omega arith) i))) (refl, tt)
+
+two_spaces : (row : List ℕ) (n : ℕ) → n + 2 ≡ length row → get_or row n 0 ≡ 13 → get_or row (n + 1) 0 ≡ 10 → AllSpace (drop n row)
+two_spaces row n long e f = subst AllSpace (sym (drop_more row n 0 (omega arith) ∙ ap (λ x. x ∷ drop (n + 1) row) e)) (refl, one_space row (n + 1) (omega arith) f)
+
+end_is_space : (row : List ℕ) → AllSpace (drop (text_length row) row)
+unfolding text_length
+end_is_space row =
+    at (nat_lt 0 (length row)) (get_or row (length row - 1) 0 == 10) (nat_lt 1 (length row)) (get_or row (length row - 2) 0 == 13)
+    (ltb-true 0 (length row)) (eqb-true (get_or row (length row - 1) 0) 10) (ltb-true 1 (length row)) (eqb-true (get_or row (length row - 2) 0) 13)
+  where
+    at : (a b c d : Bool) → (a ≡ true → 0 < length row) → (b ≡ true → get_or row (length row - 1) 0 ≡ 10) → (c ≡ true → 1 < length row) → (d ≡ true → get_or row (length row - 2) 0 ≡ 13)
+        → AllSpace (drop (if a && b then (if c && d then length row - 2 else length row - 1) else length row) row)
+    at true true true true p q r s =
+        let some = r refl in
+        let next : length row - 2 + 1 ≡ length row - 1 = omega arith in
+        two_spaces row (length row - 2) (omega arith) (s refl) (ap (λ k. get_or row k 0) next ∙ q refl)
+    at true true true false p q r s = let some = p refl in one_space row (length row - 1) (omega arith) (q refl)
+    at true true false d p q r s = let some = p refl in one_space row (length row - 1) (omega arith) (q refl)
+    at true false c d p q r s = subst AllSpace (sym (drop_all (length row) row (omega arith))) tt
+    at false b c d p q r s = subst AllSpace (sym (drop_all (length row) row (omega arith))) tt
+
+-- all of a row's text is seen, so it is cut where its text is
+record Cut (row : List ℕ) (behind : ℕ) : Type 0 where
+  front : take (length (seen_of row) - behind) (seen_of row) ≡ front_of row behind
+  back : drop (length (seen_of row) - behind) (seen_of row) ++ drop (text_length row) row ≡ back_of row behind
+
+cut : (row : List ℕ) (behind : ℕ) → is_long row ≡ false → Cut row behind
+cut row behind short =
+    let t = text_length row in
+    let text = text_of row in
+    let within : t ≤ length row = (text_within row).0 in
+    let seen : seen_of row ≡ text = take_all most_seen text (ltb-false most_seen (length text) short) in
+    let long : length text ≡ t = length-take-le t row within in
+    let at : length (seen_of row) - behind ≡ t - behind = ap (λ l. length l - behind) seen ∙ ap (λ n. n - behind) long in
+    record {
+      front = (λ i. take (at i) (seen i)) ∙ take-take (t - behind) t row (omega arith);
+      back = ap (λ l. l ++ drop t row) (λ i. drop (at i) (seen i)) ∙ sym (drop-append-le (t - behind) text (drop t row) (omega arith)) ∙ ap (drop (t - behind)) (take-append-drop t row);
+    }
+
+module _ (name row extra : List ℕ) (behind : ℕ) (ms : Members) (of : IsObject (seen_of row) (is_long row) ms behind) where
+  abbrev front : List ℕ
+  front = take (length (seen_of row) - behind) (seen_of row)
+
+  abbrev back : List ℕ
+  back = drop (length (seen_of row) - behind) (seen_of row)
+
+  abbrev whole_back : List ℕ
+  whole_back = back ++ drop (text_length row) row
+
+  brace : Brace back
+  brace = last_brace (seen_of row) behind of.ends
+
+  whole_brace : Brace whole_back
+  whole_brace = brace_and back (drop (text_length row) row) brace (end_is_space row)
+
+  seen_was : document (front ++ back) ≡ Some (object ms)
+  seen_was = ap document (take-append-drop (length (seen_of row) - behind) (seen_of row)) ∙ of.value
+
+  row_was : document row ≡ Some (object ms)
+  row_was =
+      let c = cut row behind of.whole in
+      ap document (sym (take-append-drop (text_length row - behind) row) ∙ (λ i. sym c.front i ++ sym c.back i)) ∙ object_again front back whole_back ms brace whole_brace seen_was
+
+  row_longer : (shown : Members) → extra ≡ comma_behind (is_empty ms) ++ print (key name ∷ json_tokens (object shown)) → tokens (print (key name ∷ json_tokens (object shown))) ≡ key name ∷ json_tokens (object shown) → depth (object shown) < max_depth
+      → document (row_with row extra behind) ≡ Some (object (and_last ms name (object shown)))
+  row_longer shown added read shallow =
+      let c = cut row behind of.whole in
+      ap document (λ i. sym c.front i ++ (added i ++ sym c.back i)) ∙ object_longer front back whole_back ms name (object shown) brace whole_brace seen_was read shallow
+
+pub longer_row : LongerRowIsJson
+longer_row db reading path nulls name fields row extra behind =
+    gains db reading path nulls name fields (seen_of row) (is_long row) extra behind row (row_with row extra behind)
+    (λ ms of. row_was name row extra behind ms of) (λ ms shown of. row_longer name row extra behind ms of shown)

@@ -1,0 +1,31 @@
+-- What is added to a row: for each path a delimiter, and the text of the value to which it leads in the record of the
+-- address in the row.
+use Rattle.std.specs.Prelude.{◌≡◌, ◌⊎◌, ℕ, List, Option, Some, None, Bool, if◌then◌else◌}
+use Rattle.std.specs.declared.net.ip_addr.IpAddr.{IpAddr}
+use Rattle.mmdb_reader.specs.File.{Database, data_section}
+use Rattle.mmdb_reader.specs.Lookup.{CanAsk, IsInvalidAt, Answers, outcome_at}
+use Rattle.mmdb_reader.specs.declared.path.PathElement.{PathElement}
+use Rattle.mmdb_filter.specs.declared.rows.Rows.{Rows}
+use Rattle.mmdb_filter.specs.declared.counts.Outcome.{Outcome}
+use Rattle.mmdb_filter.specs.declared.counts.Outcome.TheVariants.{Found, Absent, Unreadable, Failed}
+use Rattle.mmdb_addresses.specs.declared.readings.Reading.{Reading}
+use Rattle.mmdb_cmd_enrich.specs.Asked.{AsksForRow}
+use Rattle.mmdb_cmd_enrich.specs.Cells.{AreCells, blanks, are_read}
+
+-- the cells of a record at an offset, or empty ones where there is none
+abbrev pub AddsAt : Database → Rows → List (List PathElement) → Option ℕ → List ℕ → Outcome → Type 0
+AddsAt db rows paths None extra outcome = (extra ≡ blanks rows paths) × (outcome ≡ Absent)
+AddsAt db rows paths (Some offset) extra outcome =
+    AreCells rows paths (data_section db) offset extra × (outcome ≡ (if are_read paths (data_section db) offset then Found else Failed))
+
+-- those of the record of an address; empty ones where there is no address, or its lookup fails
+abbrev pub AddsFor : Database → Rows → List (List PathElement) → Option IpAddr → List ℕ → Outcome → Type 0
+AddsFor db rows paths None extra outcome = (extra ≡ blanks rows paths) × (outcome ≡ Unreadable)
+AddsFor db rows paths (Some address) extra outcome =
+    ((¬ CanAsk db address ⊎ IsInvalidAt db address) × (extra ≡ blanks rows paths) × (outcome ≡ Failed))
+    ⊎ ((leaf : List Bool) × (offset : Option ℕ) × Answers db address leaf (outcome_at offset) × AddsAt db rows paths offset extra outcome)
+
+-- those of the address in the row, of which such a text is seen, that may go on
+abbrev pub AddsTo : Database → Rows → Reading → ℕ → List (List PathElement) → List ℕ → Bool → List ℕ → Outcome → Type 0
+AddsTo db rows reading column paths text goes_on extra outcome =
+    (asked : Option IpAddr) × AsksForRow db rows reading column text goes_on asked × AddsFor db rows paths asked extra outcome

@@ -1,0 +1,61 @@
+-- The cells of a record: for each path the text of the value to which it leads.
+use Rattle.std.specs.Prelude.{◌≡◌, ℕ, List, [], ◌∷◌, ◌++◌, Option, Some, None, Bool, true, false, not, ◌&&◌, ◌==◌, nat_lt, is_some}
+use Rattle.std.specs.Bool.{MatchBool}
+use Rattle.mmdb_format.specs.Contents.{text}
+use Rattle.mmdb_format.specs.Unfolding.{Tree, scalar}
+use Rattle.mmdb_value.specs.AnyValue.{value_at}
+use Rattle.mmdb_reader.specs.Selecting.{answer_along}
+use Rattle.mmdb_reader.specs.declared.path.PathElement.{PathElement}
+use Rattle.mmdb_json.specs.Texts.{IsCompact}
+use Rattle.mmdb_filter.specs.Cells.{csv_cell}
+use Rattle.mmdb_filter.specs.declared.rows.Rows.{Rows}
+use Rattle.mmdb_filter.specs.declared.rows.Rows.TheVariants.{Lines, Csv}
+use Rattle.mmdb_cmd_enrich.specs.Columns.{delimiter_of}
+
+-- no byte is a control character or the delimiter
+abbrev pub is_plain : ℕ → List ℕ → Bool
+is_plain delimiter [] = true
+is_plain delimiter (x ∷ xs) = nat_lt 31 x && not (x == delimiter) && is_plain delimiter xs
+
+abbrev pub is_plain_text : ℕ → Tree → Bool
+is_plain_text delimiter (scalar (text x)) = is_plain delimiter x
+is_plain_text delimiter _ = false
+
+abbrev pub text_bytes : Tree → List ℕ
+text_bytes (scalar (text x)) = x
+text_bytes _ = []
+
+abbrev pub is_any_text : Tree → Bool
+is_any_text (scalar (text x)) = true
+is_any_text _ = false
+
+-- In a line a text without control characters and delimiters is its own cell, and any other value the JSON that shows it. In CSV a
+-- cell is any text, or the JSON.
+abbrev pub ShowsCell : Rows → Tree → List ℕ → Type 0
+ShowsCell (Lines delimiter) v cell = MatchBool (is_plain_text delimiter v) (cell ≡ text_bytes v) (IsCompact v cell)
+ShowsCell (Csv delimiter) v cell = (value : List ℕ) × MatchBool (is_any_text v) (value ≡ text_bytes v) (IsCompact v value) × (cell ≡ csv_cell delimiter value)
+
+-- what is read along a path from the offset of a record
+abbrev pub read_at : List PathElement → List ℕ → ℕ → Option (Option Tree)
+read_at path s offset = answer_along path true (value_at true) s offset
+
+-- the cell of what was read: empty where nothing is there, or the way or the value failed
+abbrev pub IsCell : Rows → Option (Option Tree) → List ℕ → Type 0
+IsCell rows None cell = cell ≡ []
+IsCell rows (Some None) cell = cell ≡ []
+IsCell rows (Some (Some v)) cell = ShowsCell rows v cell
+
+-- a delimiter and a cell for each path
+abbrev pub AreCells : Rows → List (List PathElement) → List ℕ → ℕ → List ℕ → Type 0
+AreCells rows [] s offset cells = cells ≡ []
+AreCells rows (path ∷ paths) s offset cells = (cell rest : List ℕ) × (cells ≡ delimiter_of rows ∷ (cell ++ rest)) × IsCell rows (read_at path s offset) cell × AreCells rows paths s offset rest
+
+-- a delimiter for each path
+abbrev pub blanks : Rows → List (List PathElement) → List ℕ
+blanks rows [] = []
+blanks rows (path ∷ paths) = delimiter_of rows ∷ blanks rows paths
+
+-- no path and no value failed
+abbrev pub are_read : List (List PathElement) → List ℕ → ℕ → Bool
+are_read [] s offset = true
+are_read (path ∷ paths) s offset = is_some (read_at path s offset) && are_read paths s offset

@@ -1,0 +1,60 @@
+-- A line that gains a member: it is JSON again, the object that it was with one member more.
+use Rattle.std.specs.Prelude.{◌≡◌, ◌<◌, ℕ, List, [], ◌∷◌, ◌++◌, Some, Bool, false}
+use Rattle.std.specs.declared.net.ip_addr.IpAddr.{IpAddr}
+use Rattle.json.specs.Json.{Json, object, Members, no_members, member, max_depth, document}
+use Rattle.json.specs.Print.{print}
+use Rattle.json.specs.Token.{key}
+use Rattle.json.specs.Tree.{json_tokens, depth}
+use Rattle.mmdb_reader.specs.File.{Database, data_section}
+use Rattle.mmdb_reader.specs.Lookup.{Answers, outcome_at}
+use Rattle.mmdb_filter.specs.Lines.{seen_of, is_long, row_with}
+use Rattle.mmdb_filter.specs.declared.counts.Outcome.TheVariants.{Found}
+use Rattle.mmdb_addresses.specs.declared.readings.Reading.{Reading}
+use Rattle.mmdb_cmd_enrich.specs.Asked.{Asks}
+use Rattle.mmdb_cmd_enrich.specs.Fields.{AreValue}
+use Rattle.mmdb_cmd_enrich.specs.Members.{AddsMember}
+use Rattle.mmdb_objects.specs.Longer.{comma_behind, put_in, and_last}
+use Rattle.mmdb_objects.specs.declared.step.Step.{Step}
+use Rattle.mmdb_objects.specs.Objects.{LeadsToAddress, has_member, is_empty}
+use Rattle.mmdb_cmd_enrich.specs.declared.members.NamedField.{NamedField}
+
+-- for each field a member of its name: JSON that shows what stands along its path, or `null` where nothing does
+abbrev pub AreShown : List NamedField → List ℕ → ℕ → Members → Type 0
+AreShown [] s offset shown = shown ≡ no_members
+AreShown (field ∷ fields) s offset shown =
+    (j : Json) × (rest : Members) × (shown ≡ member field.name.now j rest) × AreValue field.path.items s offset (json_tokens j)
+    × AreShown fields s offset rest
+
+-- A line is an object, in which the path leads to an address. What is added is the text of a member, whose value is
+-- an object of the fields of that address's record. The longer line is the object with that member behind its own,
+-- where the value nests less deep than a reader goes.
+pub record GainsMember (db : Database) (reading : Reading) (path : List Step) (name : List ℕ) (fields : List NamedField)
+    (line extra longer : List ℕ) : Type 0 where
+  pub members : Members
+  pub was : document line ≡ Some (object members)
+  pub fresh : has_member name members ≡ false
+  pub address : IpAddr
+  pub leads : LeadsToAddress reading path members address
+  pub asked : IpAddr
+  pub asks : Asks db address asked
+  pub leaf : List Bool
+  pub offset : ℕ
+  pub answers : Answers db asked leaf (outcome_at (Some offset))
+  pub shown : Members
+  pub shows : AreShown fields (data_section db) offset shown
+  pub added : extra ≡ comma_behind (is_empty members) ++ print (key name ∷ json_tokens (object shown))
+  pub becomes : depth (object shown) < max_depth → document longer ≡ Some (object (and_last members name (object shown)))
+
+-- Where a member is added to a text, the text gains it.
+abbrev pub LongerTextIsJson : Type 0
+LongerTextIsJson =
+    (db : Database) (reading : Reading) (path : List Step) (nulls : Bool) (name : List ℕ) (fields : List NamedField) (text : List ℕ) (goes_on : Bool)
+    (extra : List ℕ) (behind : ℕ) → AddsMember db reading path nulls name fields text goes_on extra behind Found
+    → GainsMember db reading path name fields text extra (put_in text extra behind)
+
+-- The same of a row with its end, as a filter writes it.
+abbrev pub LongerRowIsJson : Type 0
+LongerRowIsJson =
+    (db : Database) (reading : Reading) (path : List Step) (nulls : Bool) (name : List ℕ) (fields : List NamedField) (row extra : List ℕ) (behind : ℕ)
+    → AddsMember db reading path nulls name fields (seen_of row) (is_long row) extra behind Found
+    → GainsMember db reading path name fields row extra (row_with row extra behind)

@@ -1,0 +1,25 @@
+-- What is wanted of records: cells behind a row, or a member of an object.
+use Rattle.std.specs.Prelude.{◌≡◌, ◌⊎◌, ℕ, List, [], Some}
+use Rattle.mmdb_reader.specs.File.{Database, data_section}
+use Rattle.mmdb_reader.specs.declared.path.PathElement.{PathElement}
+use Rattle.mmdb_filter.specs.declared.rows.Rows.{Rows}
+use Rattle.mmdb_filter.specs.declared.counts.Outcome.{Outcome}
+use Rattle.mmdb_filter.specs.declared.counts.Outcome.TheVariants.{Found, Failed}
+use Rattle.mmdb_cmd_enrich.specs.Added.{AddsAt}
+use Rattle.mmdb_cmd_enrich.specs.Fields.{IsMember, HasUnreadField}
+use Rattle.mmdb_cmd_enrich.specs.declared.members.NamedField.{NamedField}
+
+pub data Wanted : Type 0 where
+  cells : Database → Rows → List (List PathElement) → Wanted
+  member : Database → List ℕ → List NamedField → Wanted
+
+-- the text of a member, or none where a field can't be read
+abbrev pub MemberAt : Database → List ℕ → List NamedField → ℕ → List ℕ → Outcome → Type 0
+MemberAt db name fields offset text outcome =
+    (IsMember db name fields offset text × (outcome ≡ Found))
+    ⊎ (HasUnreadField fields (data_section db) offset × (text ≡ []) × (outcome ≡ Failed))
+
+-- what is added for the record at an offset
+abbrev pub AddsOf : Wanted → ℕ → List ℕ → Outcome → Type 0
+AddsOf (cells db rows paths) offset text outcome = AddsAt db rows paths (Some offset) text outcome
+AddsOf (member db name fields) offset text outcome = MemberAt db name fields offset text outcome

@@ -1,0 +1,183 @@
+//! What was added for the last records.
+ghost use Rattle.std.specs.Prelude.{◌≡◌, ◌≤◌, ◌⊎◌, [], ℕ, Some, None, IfOk, IfSome, true, length};
+ghost use Rattle.mmdb_cmd_enrich.specs.Kept.{IsEmptySlot, IsKept, AreKept};
+ghost use Rattle.mmdb_cmd_enrich.specs.KeptCells.{bytes_of, heap_of};
+ghost use Rattle.mmdb_cmd_enrich.specs.Wanted.{Wanted, AddsOf};
+
+use crate::kept_cells::KeptCells;
+use mmdb_filter::Outcome;
+use std::alloc::{AllocError, Global};
+use std::marker::Model;
+use std::mem;
+
+/// How many buckets there are for records, of which each keeps two.
+const BUCKETS: usize = 65_536;
+
+/// The most bytes of the cells of a record that is kept.
+const MOST_BYTES: usize = 512;
+
+/// The most bytes of the heap for cells.
+const MOST_HEAP: usize = 8 << 20;
+
+/// The cells of a record.
+#[derive(Drop)]
+pub(crate) struct Slot {
+    /// Where the record stands, if one is kept here.
+    offset: Option<usize>,
+    outcome: Outcome,
+    cells: KeptCells,
+}
+
+/// The last two records of a bucket.
+#[derive(Drop)]
+pub struct Bucket {
+    newer: Slot,
+    older: Slot,
+}
+
+/// What is kept of a record.
+#[derive(Clone, Copy)]
+pub(crate) struct KeptRecord<'c> {
+    pub(crate) cells: &'c [u8],
+    pub(crate) outcome: Outcome,
+}
+
+/// What was added for the last records, each at the bucket that its offset gives. At most 512 bytes of a record are
+/// kept, and those that do not stand in their bucket take at most 8 MiB.
+#[derive(Drop)]
+pub struct AddedCache {
+    alloc: Global,
+    buckets: Vec<Bucket>,
+    /// How many bytes of the heap are left for cells.
+    heap_left: usize,
+}
+
+impl Model for AddedCache {
+    ghost use Rattle.std.specs.Prelude.{List};
+    ghost use Rattle.mmdb_cmd_enrich.specs.Kept.{IsBounded};
+    ghost use Rattle.mmdb_cmd_enrich.specs.declared.cache.Bucket.{Bucket as SpecBucket};
+
+    ghost Value = { List SpecBucket };
+
+    ghost view = { λ cache. cache.buckets.items };
+
+    ghost invariant = { λ cache. IsBounded cache.buckets.items cache.heap_left };
+}
+
+impl Slot {
+    // Of no record.
+    fn empty() -> Slot
+        ensures offset { result.offset ≡ None }
+        ensures bytes { bytes_of result.cells ≡ [] }
+        ensures heap { heap_of result.cells ≡ 0 }
+    {
+        Slot {
+            offset: None,
+            outcome: Outcome::Absent,
+            cells: KeptCells::none(),
+        }
+    }
+
+    // Whether it keeps the record at an offset.
+    #[inline(always)]
+    fn is_of(&self, offset: usize) -> bool
+        ensures { result ≡ true → self.now.offset ≡ Some offset }
+    {
+        match self.offset {
+            Some(kept) => kept == offset,
+            None => false,
+        }
+    }
+}
+
+impl Bucket {
+    // Of no record.
+    fn empty() -> Bucket
+        ensures newer { IsEmptySlot result.newer }
+        ensures older { IsEmptySlot result.older }
+    {
+        Bucket {
+            newer: Slot::empty(),
+            older: Slot::empty(),
+        }
+    }
+
+    // Puts a newer record in the stead of the older one.
+    fn put(&mut self, slot: Slot)
+        ensures newer { self.new.newer ≡ slot }
+        ensures older { self.new.older ≡ self.old.newer }
+    {
+        self.older = mem::replace(&mut self.newer, slot);
+    }
+
+    // The slot that keeps the record at an offset, if one of them does. Both are looked at, so that no guess goes wrong
+    // of which it is.
+    #[inline(always)]
+    fn slot_of(&self, offset: usize) -> &Slot
+        ensures { (result.now ≡ self.now.newer) ⊎ (result.now ≡ self.now.older) }
+    {
+        if self.older.is_of(offset) {
+            &self.older
+        } else {
+            &self.newer
+        }
+    }
+}
+
+impl AddedCache {
+    /// Of no record. It takes memory for each bucket at once.
+    pub fn new(alloc: Global) -> Result<AddedCache, AllocError>
+        ensures { IfOk result (λ cache. (wanted : Wanted) → AreKept wanted cache) }
+    {
+        let mut buckets = Vec::with_capacity(alloc, BUCKETS)?;
+        for _ in 0..BUCKETS {
+            buckets.push(Bucket::empty())?;
+        }
+        Ok(AddedCache {
+            alloc,
+            buckets,
+            heap_left: MOST_HEAP,
+        })
+    }
+
+    /// What is kept of the record at an offset.
+    #[inline(always)]
+    pub(crate) fn kept(&self, offset: usize) -> Option<KeptRecord<'_>>
+        ensures { IfSome result (λ kept. (wanted : Wanted) → AreKept wanted self.now
+            → AddsOf wanted offset kept.cells.now kept.outcome) }
+    {
+        let slot = self.buckets[offset % BUCKETS].slot_of(offset);
+        if !slot.is_of(offset) {
+            return None;
+        }
+        Some(KeptRecord {
+            cells: slot.cells.as_slice(),
+            outcome: slot.outcome,
+        })
+    }
+
+    /// Keeps the cells of a record in the stead of the older one at its bucket, unless they are many or there is no
+    /// memory.
+    pub(crate) fn keep(&mut self, offset: usize, cells: &[u8], outcome: Outcome)
+        ensures { (wanted : Wanted) → AreKept wanted self.old
+            → AddsOf wanted offset cells.now outcome → AreKept wanted self.new }
+    {
+        if cells.len() > MOST_BYTES {
+            return;
+        }
+        let Ok(cells) = KeptCells::of(self.alloc, cells) else {
+            return;
+        };
+        let at = offset % BUCKETS;
+        let left = self.heap_left + self.buckets[at].older.cells.heap();
+        if cells.heap() > left {
+            return;
+        }
+        self.heap_left = left - cells.heap();
+        self.buckets[at].put(Slot {
+            offset: Some(offset),
+            outcome,
+            cells,
+        });
+    }
+}

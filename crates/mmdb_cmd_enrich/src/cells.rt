@@ -1,0 +1,152 @@
+//! The cells of a record.
+ghost use Rattle.std.specs.Prelude.{◌≡◌, ◌++◌, ℕ, Option, Some, IfOk, OnOk, map};
+ghost use Rattle.mmdb_filter.specs.declared.rows.Rows.TheVariants.{Lines, Csv};
+ghost use Rattle.mmdb_format.specs.Unfolding.{Tree};
+ghost use Rattle.mmdb_value.specs.Values.{value_tree};
+ghost use Rattle.mmdb_reader.specs.Found.{section_asked, offset_found};
+ghost use Rattle.mmdb_cmd_enrich.specs.Cells.{is_plain as spec_is_plain, blanks, are_read};
+ghost use Rattle.mmdb_cmd_enrich.specs.Working.{PutsShown, PutsCell, PutsCellAlong, PutsCells, IsReadAs};
+
+use crate::columns::delimiter_of;
+use mmdb_filter::{Rows, put_csv_cell};
+use mmdb_json::compact;
+use mmdb_reader::{LookupResult, MaxMindDbError, PathElement};
+use mmdb_value::Value;
+use std::alloc::{AllocError, Global};
+use std::convert::AsSlice;
+
+// Whether no byte is a control character or the delimiter.
+fn is_plain(delimiter: u8, text: &[u8]) -> bool
+    ensures { result ≡ spec_is_plain delimiter text.now }
+{
+    for at in 0..text.len() {
+        if text[at] < 32 || text[at] == delimiter {
+            return false;
+        }
+    }
+    true
+}
+
+// Adds the cell of a value in a line: a text without control characters and delimiters itself, any other value as JSON.
+fn put_line_value(
+    alloc: Global,
+    delimiter: u8,
+    value: &Value<'_>,
+    out: &mut Vec<u8>,
+) -> Result<(), AllocError>
+    ensures { OnOk result
+        (PutsShown (Lines delimiter) (value_tree value.now) out.old.items out.new.items) }
+{
+    if let Value::String(text) = value
+        && is_plain(delimiter, text.as_bytes())
+    {
+        return out.extend_from_slice(text.as_bytes());
+    }
+    let text = compact(alloc, value)?;
+    out.extend_from_slice(text.as_slice())
+}
+
+// Adds the cell of a value in CSV: a text itself, any other value as JSON, in quotes where it needs them.
+fn put_csv_value(
+    alloc: Global,
+    delimiter: u8,
+    value: &Value<'_>,
+    out: &mut Vec<u8>,
+) -> Result<(), AllocError>
+    ensures { OnOk result
+        (PutsShown (Csv delimiter) (value_tree value.now) out.old.items out.new.items) }
+{
+    if let Value::String(text) = value {
+        return put_csv_cell(delimiter, text.as_bytes(), out);
+    }
+    let text = compact(alloc, value)?;
+    put_csv_cell(delimiter, text.as_slice(), out)
+}
+
+// Adds the cell of a value.
+fn put_value(
+    alloc: Global,
+    rows: Rows,
+    value: &Value<'_>,
+    out: &mut Vec<u8>,
+) -> Result<(), AllocError>
+    ensures { OnOk result (PutsShown rows (value_tree value.now) out.old.items out.new.items) }
+{
+    match rows {
+        Rows::Lines { delimiter } => put_line_value(alloc, delimiter, value, out),
+        Rows::Csv { delimiter } => put_csv_value(alloc, delimiter, value, out),
+    }
+}
+
+// Adds the cell of what was read along a path, and says whether nothing failed.
+fn put_read(
+    alloc: Global,
+    rows: Rows,
+    read: &Result<Option<Value<'_>>, MaxMindDbError>,
+    out: &mut Vec<u8>,
+) -> Result<bool, AllocError>
+    ensures { IfOk result (λ addition. (answer : Option (Option Tree)) → IsReadAs answer read.now
+        → PutsCell rows answer addition out.old.items out.new.items) }
+{
+    match read {
+        Ok(Some(value)) => {
+            put_value(alloc, rows, value, out)?;
+            Ok(true)
+        }
+        Ok(None) => Ok(true),
+        Err(MaxMindDbError::Memory) => Err(AllocError),
+        Err(_) => Ok(false),
+    }
+}
+
+// Adds a delimiter and the cell at the end of a path, and says whether nothing failed.
+fn put_cell<S: AsSlice<u8> + Drop>(
+    alloc: Global,
+    rows: Rows,
+    found: &LookupResult<'_, S>,
+    path: &[PathElement<'_>],
+    out: &mut Vec<u8>,
+) -> Result<bool, AllocError>
+    ensures { IfOk result (λ read. (offset : ℕ) → offset_found found.now ≡ Some offset
+        → PutsCellAlong rows path.now (section_asked found.now) offset
+        read out.old.items out.new.items) }
+{
+    out.push(delimiter_of(rows))?;
+    let read: Result<Option<Value<'_>>, MaxMindDbError> = found.decode_path(alloc, path);
+    put_read(alloc, rows, &read, out)
+}
+
+/// Adds a delimiter and a cell for each path, and says whether nothing failed.
+pub(crate) fn put_cells<S: AsSlice<u8> + Drop>(
+    alloc: Global,
+    rows: Rows,
+    found: &LookupResult<'_, S>,
+    paths: &[Vec<PathElement<'_>>],
+    out: &mut Vec<u8>,
+) -> Result<bool, AllocError>
+    ensures { IfOk result (λ read. (offset : ℕ) → offset_found found.now ≡ Some offset
+        → PutsCells rows (map (λ path. path.items) paths.now) (section_asked found.now) offset
+        read out.old.items out.new.items) }
+{
+    let mut are_read = true;
+    for path in paths {
+        let is_read = put_cell(alloc, rows, found, path.as_slice(), out)?;
+        are_read &= is_read;
+    }
+    Ok(are_read)
+}
+
+/// Adds a delimiter for each path.
+pub(crate) fn put_blanks(
+    rows: Rows,
+    paths: &[Vec<PathElement<'_>>],
+    out: &mut Vec<u8>,
+) -> Result<(), AllocError>
+    ensures { OnOk result (out.new.items
+        ≡ out.old.items ++ blanks rows (map (λ path. path.items) paths.now)) }
+{
+    for _ in paths {
+        out.push(delimiter_of(rows))?;
+    }
+    Ok(())
+}

@@ -1,0 +1,32 @@
+//! The command `enrich`: rows with fields of records behind them, or in them.
+#![tactic(auto)]
+
+mod ahead;
+mod asked;
+mod cache;
+mod cells;
+mod columns;
+mod enrichment;
+mod fields;
+mod header;
+mod input;
+mod json_enrichment;
+mod kept_cells;
+pub mod laws;
+mod lines;
+mod members;
+mod notes;
+mod output;
+mod parts;
+mod row_memory;
+mod task;
+mod warnings;
+mod watch;
+
+pub use columns::delimiter_of;
+pub use enrichment::Enrichment;
+pub use json_enrichment::{JsonEnrichment, JsonMemory};
+pub use lines::enrich;
+pub use members::NamedField;
+pub use notes::{Notes, RowFailure};
+pub use row_memory::RowMemory;

@@ -1,0 +1,259 @@
+//! What `enrich` is asked for.
+use crate::fields::{AskedField, wanted_fields};
+use crate::members::NamedField;
+use crate::warnings::AddressPlace;
+use mmdb_addresses::Reading;
+use mmdb_arguments::{EnrichArguments, Hop, NoRequest};
+use mmdb_console::{paths_of, wanted_path};
+use mmdb_filter::Rows;
+use mmdb_objects::Step;
+use mmdb_reader::PathElement;
+use std::alloc::{AllocError, Global};
+
+/// A column of lines.
+#[derive(Clone, Copy)]
+pub(crate) enum Column<'a> {
+    /// Counted from 0.
+    Number(usize),
+    /// By its name in the first line.
+    Name(&'a str),
+}
+
+/// What `enrich` is asked for of rows: fields behind them.
+#[derive(Drop)]
+pub(crate) struct RowsTask<'a> {
+    pub(crate) rows: Rows,
+    pub(crate) reading: Reading,
+    pub(crate) column: Column<'a>,
+    pub(crate) names: &'a [&'a str],
+    pub(crate) paths: Vec<Vec<PathElement<'a>>>,
+    pub(crate) header: bool,
+}
+
+impl RowsTask<'_> {
+    /// Where the address of a row is looked for.
+    pub(crate) fn place<'a>(&self, arguments: &EnrichArguments<'a>) -> AddressPlace<'a> {
+        if arguments.anywhere {
+            return AddressPlace::Anywhere;
+        }
+        AddressPlace::Column {
+            text: arguments.column,
+            rows: self.rows,
+        }
+    }
+}
+
+/// What `enrich` is asked for of lines of JSON: fields in them.
+#[derive(Drop)]
+pub(crate) struct JsonTask<'a> {
+    pub(crate) reading: Reading,
+    /// The path of the address in an object.
+    pub(crate) path: Vec<Step<'a>>,
+    /// The name of the member that is added.
+    pub(crate) into: &'a str,
+    /// Whether objects without a record get it too.
+    pub(crate) nulls: bool,
+    pub(crate) fields: Vec<NamedField<'a>>,
+}
+
+// The column that a text stands for: a name only where there is a header.
+fn column_of<'a>(alloc: Global, text: &'a str, header: bool) -> Result<Column<'a>, NoRequest> {
+    match text.parse::<usize>() {
+        Ok(number) if number > 0 => Ok(Column::Number(number - 1)),
+        Err(_) if header => Ok(Column::Name(text)),
+        _ => Err(NoRequest::bad_argument(alloc, text, "not the number of a column")),
+    }
+}
+
+/// Lines of which tabs stand between the cells.
+pub(crate) const LINES: Rows = Rows::Lines { delimiter: b'\t' };
+
+// What rows are, by what stands between their cells: between those of a line tabs, or what is asked for where quotes mean
+// nothing; else they are CSV.
+fn rows_of(alloc: Global, delimiter: Option<&str>, no_quotes: bool) -> Result<Rows, NoRequest> {
+    let Some(text) = delimiter else {
+        return Ok(LINES);
+    };
+    match text.as_bytes() {
+        b"\t" | b"\\t" => Ok(LINES),
+        [b'"'] if !no_quotes => Err(bad_delimiter(alloc)),
+        [b'\n' | b'\r'] => Err(bad_delimiter(alloc)),
+        [delimiter] if no_quotes => Ok(Rows::Lines {
+            delimiter: *delimiter,
+        }),
+        [delimiter] => Ok(Rows::Csv {
+            delimiter: *delimiter,
+        }),
+        _ => Err(NoRequest::bad_argument(alloc, text, "not one ASCII character")),
+    }
+}
+
+// Where in a cell, a string or a row the address is.
+fn reading_of(arguments: &EnrichArguments<'_>) -> Reading {
+    match arguments.hop {
+        _ if arguments.anywhere => Reading::Anywhere,
+        _ if arguments.exact => Reading::Exact,
+        Hop::First => Reading::First,
+        Hop::Last => Reading::Last,
+    }
+}
+
+// That an option stands where it does nothing: where an address is looked for anywhere it is no cell's, nor one of a list.
+fn tested_reading(alloc: Global, arguments: &EnrichArguments<'_>) -> Result<Reading, NoRequest> {
+    let idle = match arguments.hop {
+        _ if !arguments.anywhere => None,
+        _ if arguments.exact => Some("--exact"),
+        Hop::Last => Some("--hop"),
+        Hop::First => None,
+    };
+    match idle {
+        Some(option) => Err(NoRequest::bad_argument(alloc, option, "of no use with --anywhere")),
+        None => Ok(reading_of(arguments)),
+    }
+}
+
+// The error of a delimiter that can stand between no cells.
+fn bad_delimiter(alloc: Global) -> NoRequest {
+    NoRequest::bad_argument(alloc, "--delimiter", "neither a quote nor a line break")
+}
+
+// The last step of a path, as it is written. In quotes it is what stands between them.
+fn last_step(path: &str) -> &str {
+    if let Some(text) = path.strip_suffix('"') {
+        return match text.rsplit_once('"') {
+            Some((_, step)) => step,
+            None => path,
+        };
+    }
+    match path.rsplit_once('.') {
+        Some((_, step)) => step,
+        None => path,
+    }
+}
+
+// The name of a field and its path: `NAME=PATH`, or a path alone, of which the last step is the name.
+fn named_path(text: &str) -> (&str, &str) {
+    match text.split_once('=') {
+        Some((name, path)) if !name.contains('"') => (name, path),
+        _ => (last_step(text), text),
+    }
+}
+
+// The error of a field whose name another one has.
+fn equal_name(alloc: Global, name: &str, text: &str, path: &str) -> NoRequest {
+    let wanted: Result<String, AllocError> = format!(in alloc;
+        "another field has the name {name} too; give one of them a name of its own, as NAME={path}"
+    );
+    match &wanted {
+        Ok(wanted) => NoRequest::bad_argument(alloc, text, wanted.as_str()),
+        Err(_) => NoRequest::Memory,
+    }
+}
+
+// Whether a field has this name.
+fn has_name(fields: &[NamedField<'_>], name: &str) -> bool {
+    for field in fields {
+        if field.name == name {
+            return true;
+        }
+    }
+    false
+}
+
+fn fields_of<'a>(alloc: Global, texts: &[&'a str]) -> Result<Vec<NamedField<'a>>, NoRequest> {
+    let mut fields = Vec::new(alloc);
+    for text in texts {
+        let (name, path) = named_path(*text);
+        if has_name(fields.as_slice(), name) {
+            return Err(equal_name(alloc, name, *text, path));
+        }
+        let path = wanted_path(alloc, path)?;
+        fields.push(NamedField { name, path })?;
+    }
+    Ok(fields)
+}
+
+/// The fields that members of objects are to have.
+pub(crate) fn wanted_members<'a>(
+    alloc: Global,
+    arguments: &EnrichArguments<'a>,
+) -> Result<Vec<AskedField<'a>>, AllocError> {
+    let mut texts = Vec::new(alloc);
+    for text in &arguments.fields {
+        texts.push(named_path(*text).1)?;
+    }
+    wanted_fields(alloc, texts.as_slice())
+}
+
+// A step of the path of an address in an object: a key, or an index from the front.
+fn step_of<'a>(alloc: Global, step: &PathElement<'a>, path: &str) -> Result<Step<'a>, NoRequest> {
+    match step {
+        PathElement::Key(key) => Ok(Step::Key(*key)),
+        PathElement::Index(index) => Ok(Step::Index(*index)),
+        PathElement::IndexFromEnd(_) => Err(NoRequest::bad_argument(
+            alloc,
+            path,
+            "an index from the end, of which --json knows none",
+        )),
+    }
+}
+
+// The path of an address in an object.
+fn address_path<'a>(alloc: Global, text: &'a str) -> Result<Vec<Step<'a>>, NoRequest> {
+    let path = wanted_path(alloc, text)?;
+    let mut steps = Vec::new(alloc);
+    for step in &path {
+        steps.push(step_of(alloc, step, text)?)?;
+    }
+    Ok(steps)
+}
+
+/// What the arguments of `enrich` ask for of lines of JSON, whose addresses are at a path. An `Err` where one is not what
+/// is wanted in its place.
+pub(crate) fn json_task<'a>(
+    alloc: Global,
+    path: &'a str,
+    arguments: &'a EnrichArguments<'a>,
+) -> Result<JsonTask<'a>, NoRequest> {
+    let into = arguments.into.unwrap_or("geo");
+    if into.is_empty() {
+        return Err(NoRequest::bad_argument(alloc, "--into", "an empty name"));
+    }
+    Ok(JsonTask {
+        reading: tested_reading(alloc, arguments)?,
+        path: address_path(alloc, path)?,
+        into,
+        nulls: arguments.nulls,
+        fields: fields_of(alloc, arguments.fields.as_slice())?,
+    })
+}
+
+/// What the arguments of `enrich` ask for of rows. An `Err` where one is not what is wanted in its place.
+pub(crate) fn rows_task<'a>(
+    alloc: Global,
+    arguments: &'a EnrichArguments<'a>,
+) -> Result<RowsTask<'a>, NoRequest> {
+    if arguments.into.is_some() {
+        return Err(NoRequest::bad_argument(alloc, "--into", "needs a --json"));
+    }
+    if arguments.nulls {
+        return Err(NoRequest::bad_argument(alloc, "--nulls", "needs a --json"));
+    }
+    if arguments.no_quotes && arguments.delimiter.is_none() {
+        return Err(NoRequest::bad_argument(alloc, "--no-quotes", "needs a --delimiter"));
+    }
+    let names = arguments.fields.as_slice();
+    let rows = rows_of(alloc, arguments.delimiter, arguments.no_quotes)?;
+    let column = column_of(alloc, arguments.column, arguments.header)?;
+    if names.is_empty() {
+        return Err(NoRequest::bad_argument(alloc, "enrich", "needs a --field"));
+    }
+    Ok(RowsTask {
+        rows,
+        reading: tested_reading(alloc, arguments)?,
+        column,
+        names,
+        paths: paths_of(alloc, names)?,
+        header: arguments.header,
+    })
+}

@@ -1,0 +1,258 @@
+//! What is said of rows besides how they fared.
+use crate::fields::AskedField;
+use crate::json_enrichment::JsonMemory;
+use crate::notes::Notes as Records;
+use crate::row_memory::RowMemory;
+use mmdb_arguments::EnrichArguments;
+use mmdb_console::{Console, DONE, FAILED, line_of};
+use mmdb_filter::{Counts, Rows};
+use mmdb_layout::{Database, absent_text};
+use std::alloc::{AllocError, Global};
+use std::io::Write;
+
+/// Of so many fields it is said that no record has them.
+const MOST_SAID: usize = 10;
+
+/// Where the address of a row is looked for.
+#[derive(Clone, Copy)]
+pub(crate) enum AddressPlace<'a> {
+    /// In a column with this number or name.
+    Column { text: &'a str, rows: Rows },
+    /// Anywhere in a line.
+    Anywhere,
+    /// At this path in an object.
+    Member(&'a str),
+}
+
+/// Who remembers what was amiss with records.
+pub(crate) trait Remembering {
+    fn records(&self) -> &Records;
+}
+
+impl Remembering for RowMemory {
+    fn records(&self) -> &Records {
+        &self.notes
+    }
+}
+
+impl Remembering for JsonMemory {
+    fn records(&self) -> &Records {
+        &self.notes
+    }
+}
+
+/// What is said of rows, and whether some of it is a failure.
+#[derive(Drop)]
+pub(crate) struct Warnings<'a> {
+    place: AddressPlace<'a>,
+    fields: Vec<AskedField<'a>>,
+    /// Whether it is left out what is amiss but sets no status.
+    is_quiet: bool,
+    is_strict: bool,
+    /// Whether it is said how rows fared.
+    says_counts: bool,
+    /// How many rows are before the first one that is enriched.
+    pub(crate) before: u64,
+    has_said_no_address: bool,
+    has_warned: bool,
+    /// How many failures are said.
+    failures: usize,
+    /// How many fields are said that no record has.
+    said: usize,
+    /// The number of the first row that has already what would be added.
+    pub(crate) occupied: Option<u64>,
+}
+
+// What stands between cells, in words.
+fn separators(alloc: Global, rows: Rows) -> Result<String, AllocError> {
+    let (Rows::Lines { delimiter } | Rows::Csv { delimiter }) = rows;
+    match delimiter {
+        b'\t' => String::from_str(alloc, "tabs"),
+        b' ' => String::from_str(alloc, "spaces"),
+        b',' => String::from_str(alloc, "commas"),
+        b';' => String::from_str(alloc, "semicolons"),
+        other => format!(in alloc; "{}", char::from(other)),
+    }
+}
+
+// That no row had an address.
+fn no_address(alloc: Global, place: AddressPlace<'_>) -> Result<String, AllocError> {
+    match place {
+        AddressPlace::Column { text, rows } => {
+            let separators = separators(alloc, rows)?;
+            format!(in alloc;
+                "mmdb: no line had an address in column {text}; columns are separated by {separators} here: see --delimiter, --anywhere"
+            )
+        }
+        AddressPlace::Anywhere => String::from_str(alloc, "mmdb: no line had an address"),
+        AddressPlace::Member(path) => format!(in alloc; "mmdb: no object had an address at {path}"),
+    }
+}
+
+// Whether rows passed, and none had an address.
+fn had_no_address(counts: Counts) -> bool {
+    let had = counts.found > 0 || counts.absent > 0 || counts.rejected > 0 || counts.occupied > 0;
+    !had && (counts.unreadable > 0 || counts.malformed > 0)
+}
+
+// Whether a record had a value at a field.
+fn is_met(records: &Records, field: usize) -> bool {
+    field < records.met.len() && records.met[field]
+}
+
+impl<'a> Warnings<'a> {
+    /// Nothing is said yet of rows behind so many others.
+    pub(crate) fn new(
+        place: AddressPlace<'a>,
+        fields: Vec<AskedField<'a>>,
+        before: u64,
+        arguments: &EnrichArguments<'_>,
+    ) -> Warnings<'a> {
+        Warnings {
+            place,
+            fields,
+            is_quiet: arguments.quiet && !arguments.strict,
+            is_strict: arguments.strict,
+            says_counts: !arguments.quiet,
+            before,
+            has_said_no_address: false,
+            has_warned: false,
+            failures: 0,
+            said: 0,
+            occupied: None,
+        }
+    }
+
+    /// Whether only what sets the status is said.
+    pub(crate) fn is_quiet(&self) -> bool {
+        self.is_quiet
+    }
+
+    /// So many rows stay in quotes, and this one is the first that has already what would be added.
+    pub(crate) fn add(&mut self, quoted: u64, occupied: Option<u64>) {
+        self.has_warned |= quoted > 0;
+        self.occupied = self.occupied.or(occupied);
+    }
+
+    // Says that no row had an address, once.
+    fn say_no_address<O: Write, E: Write>(&mut self, console: &mut Console<'_, O, E>) {
+        if !self.has_said_no_address {
+            self.has_said_no_address = true;
+            console.note(line_of(console.alloc, no_address(console.alloc, self.place)));
+        }
+    }
+
+    // Says which fields no such record has, each once.
+    fn say_missing<O: Write, E: Write>(
+        &mut self,
+        which: &str,
+        records: &Records,
+        database: &Database,
+        console: &mut Console<'_, O, E>,
+    ) {
+        let alloc = console.alloc;
+        for (at, field) in self.fields.iter_mut().enumerate() {
+            if self.said < MOST_SAID && !field.is_said && !is_met(records, at) {
+                field.is_said = true;
+                self.said = self.said.saturating_add(1);
+                let (section, offsets) = (database.data_section(), records.records.as_slice());
+                let text = absent_text(alloc, which, field.path, section, offsets);
+                console.note(line_of(alloc, text));
+            }
+        }
+    }
+
+    // Says why the records of the first rows that failed can't be read, each once.
+    fn say_failures<O: Write, E: Write>(
+        &mut self,
+        records: &Records,
+        console: &mut Console<'_, O, E>,
+    ) {
+        for at in self.failures..records.failures.len() {
+            let failure = &records.failures[at];
+            let row = failure.row.saturating_add(self.before);
+            let cause = failure.cause.as_str();
+            console.note(line_of(
+                console.alloc,
+                format!(in console.alloc; "mmdb: row {row}: {cause}"),
+            ));
+        }
+        self.failures = records.failures.len();
+    }
+
+    // Says what is amiss with the rows that passed, of which records are such, and was not said.
+    fn say<O: Write, E: Write>(
+        &mut self,
+        which: &str,
+        counts: Counts,
+        records: &Records,
+        database: &Database,
+        console: &mut Console<'_, O, E>,
+    ) {
+        self.say_failures(records, console);
+        if self.is_quiet {
+            return;
+        }
+        if had_no_address(counts) {
+            self.say_no_address(console);
+        }
+        if counts.found > 0 {
+            self.say_missing(which, records, database, console);
+        }
+    }
+
+    /// Says what is amiss with the rows so far.
+    pub(crate) fn check<O: Write, E: Write>(
+        &mut self,
+        counts: Counts,
+        records: &Records,
+        database: &Database,
+        console: &mut Console<'_, O, E>,
+    ) {
+        self.say("record so far", counts, records, database, console);
+    }
+
+    // Whether a record was found, and none has one of the fields.
+    fn has_missing(&self, counts: Counts, records: &Records) -> bool {
+        for at in 0..self.fields.len() {
+            if counts.found > 0 && !is_met(records, at) {
+                return true;
+            }
+        }
+        false
+    }
+
+    /// Says what is amiss with all rows of the input, and was not said.
+    pub(crate) fn finish<O: Write, E: Write>(
+        &mut self,
+        counts: Counts,
+        records: &Records,
+        database: &Database,
+        console: &mut Console<'_, O, E>,
+    ) {
+        self.say("record", counts, records, database, console);
+        self.has_warned |= had_no_address(counts)
+            || counts.occupied > 0
+            || self.has_missing(counts, records);
+    }
+
+    /// Says how the rows fared, and answers the status: so many of those with an error have an address that the database
+    /// can't be asked for.
+    pub(crate) fn end<O: Write, E: Write>(
+        &self,
+        counts: Counts,
+        unasked: u64,
+        text: Result<String, AllocError>,
+        console: &mut Console<'_, O, E>,
+    ) -> u8 {
+        if self.says_counts {
+            console.note(text);
+        }
+        let has_warned = self.has_warned || counts.rejected > 0;
+        if counts.rejected > unasked || self.is_strict && has_warned {
+            FAILED
+        } else {
+            DONE
+        }
+    }
+}

@@ -1,0 +1,96 @@
+//! What is said of rows while they pass.
+use mmdb_console::{Pace, Passed, ProgressLine, line_of};
+use mmdb_filter::{Counts, Progress};
+use std::alloc::Global;
+use std::cell::Cell;
+use std::io::Write;
+
+/// Of so many rows it is said that they stay in quotes.
+const MOST_SAID: u64 = 10;
+
+/// How many rows passed is shown on a terminal. Rows that stay in quotes are warned of.
+#[derive(Drop)]
+pub(crate) struct Watch<'e, E: Pace> {
+    alloc: Global,
+    line: ProgressLine<'e, E>,
+    /// How many bytes of the input passed, and how many it has where that is known.
+    bytes: &'e Cell<u64>,
+    size: Option<u64>,
+    /// Whether rows end once where that is asked first.
+    stops: bool,
+    is_quiet: bool,
+    /// How many rows are before the first one of the filter.
+    before: u64,
+    /// How many rows stay in quotes.
+    pub(crate) quoted: u64,
+    /// The number of the first row that has already what would be added.
+    pub(crate) occupied: Option<u64>,
+}
+
+impl<'e, E: Pace> Watch<'e, E> {
+    pub(crate) fn new(
+        alloc: Global,
+        line: ProgressLine<'e, E>,
+        bytes: &'e Cell<u64>,
+        size: Option<u64>,
+        stops: bool,
+        is_quiet: bool,
+        before: u64,
+    ) -> Watch<'e, E> {
+        Watch {
+            alloc,
+            line,
+            bytes,
+            size,
+            stops,
+            is_quiet,
+            before,
+            quoted: 0,
+            occupied: None,
+        }
+    }
+
+    // The number of the row behind so many.
+    fn number(&self, rows: u64) -> u64 {
+        rows.saturating_add(self.before).saturating_add(1)
+    }
+
+    /// Takes what is shown on a terminal away again.
+    pub(crate) fn clear(&mut self) {
+        self.line.clear();
+    }
+}
+
+impl<'e, E: Pace> Progress for Watch<'e, E> {
+    fn passed(&mut self, counts: Counts) -> bool {
+        if self.stops {
+            return false;
+        }
+        self.line.passed(Passed {
+            count: counts.total().unwrap_or(u64::MAX),
+            bytes: Some(self.bytes.get()),
+            size: self.size,
+        });
+        true
+    }
+
+    fn stays_quoted(&mut self, rows: u64) {
+        self.quoted = self.quoted.saturating_add(1);
+        if self.is_quiet || self.quoted > MOST_SAID {
+            return;
+        }
+        let row = self.number(rows);
+        self.line.note(line_of(
+            self.alloc,
+            format!(in self.alloc;
+                "mmdb: nothing closes a quote of row {row}, by the end of the input or within 65536 bytes; see --no-quotes"
+            ),
+        ));
+    }
+
+    fn is_occupied(&mut self, rows: u64) {
+        if self.occupied.is_none() {
+            self.occupied = Some(self.number(rows));
+        }
+    }
+}

@@ -1,0 +1,255 @@
+//! The chosen networks of a range, with what their records have or as the fewest blocks.
+use crate::sink::{NetworkSink, kind_of};
+use mmdb_blocks::Kinds;
+use mmdb_console::{Console, Pace, Passed, ProgramError, Where};
+use mmdb_layout::{Choice, Found};
+use mmdb_reader::MaxMindDbError;
+use std::alloc::{AllocError, Global};
+use std::io::Write;
+
+/// How many networks are looked at together.
+const MOST_WAITING: usize = 64;
+
+/// After so many times that those were written it is shown how many networks passed.
+const STEP: u64 = 1_024;
+
+/// An export of the chosen networks.
+#[derive(Drop)]
+pub(crate) struct Export<'a, 'r, W: NetworkSink> {
+    /// Which networks are chosen. None: all.
+    choice: Option<Choice<'a>>,
+    kinds: Kinds,
+    pub(crate) sink: W,
+    /// What was found in the last networks. What is kept of their records is looked for side by side, since each look
+    /// waits for memory.
+    waiting: Vec<Found<'r>>,
+    /// What was found in the network before them, chosen or not.
+    last: Option<Found<'r>>,
+    /// How many networks could not be written.
+    pub(crate) faults: u64,
+    /// How often networks that waited were written.
+    times: u64,
+}
+
+impl<'a, 'r, W: NetworkSink> Export<'a, 'r, W> {
+    /// Of no network yet.
+    pub(crate) fn new(
+        alloc: Global,
+        choice: Option<Choice<'a>>,
+        kinds: Kinds,
+        sink: W,
+    ) -> Result<Export<'a, 'r, W>, AllocError> {
+        Ok(Export {
+            choice,
+            kinds,
+            sink,
+            waiting: Vec::with_capacity(alloc, MOST_WAITING)?,
+            last: None,
+            faults: 0,
+            times: 0,
+        })
+    }
+
+    // Where a network comes that is not named.
+    fn next(&self) -> Result<Where, MaxMindDbError> {
+        match &self.last {
+            Some(found) => Ok(Where::Behind(found.network()?)),
+            None => Ok(Where::First),
+        }
+    }
+
+    // Reports why a network can't be written, behind what was written. Where there is no memory, all that is kept is let go,
+    // and it is tried once more: nothing was reported.
+    fn report<O: Write, E: Write>(
+        &mut self,
+        place: Where,
+        error: &MaxMindDbError,
+        console: &mut Console<'_, O, E>,
+    ) -> Result<(), ProgramError> {
+        self.faults = self.faults.saturating_add(1);
+        match console.report_behind(place.name(console.alloc), error) {
+            Err(problem) if problem.is_memory() && self.sink.let_go() => {
+                drop(problem);
+                console.report_behind(place.name(console.alloc), error)
+            }
+            done => done,
+        }
+    }
+
+    // Whether the network of an answer is chosen.
+    fn chooses(&mut self, found: &Found<'_>) -> Result<bool, MaxMindDbError> {
+        match &mut self.choice {
+            Some(choice) => choice.chooses(found),
+            None => Ok(true),
+        }
+    }
+
+    // Writes the network of an answer, if it is chosen, which is known of some.
+    #[inline(always)]
+    fn write_chosen<O: Write>(
+        &mut self,
+        found: &Found<'_>,
+        kept: Option<bool>,
+        out: &mut O,
+    ) -> Result<(), ProgramError> {
+        if kept != Some(true) && !self.chooses(found)? {
+            return Ok(());
+        }
+        self.sink.put(found, out)
+    }
+
+    // Reports a network that is not named and can't be read.
+    fn report_next<O: Write, E: Write>(
+        &mut self,
+        error: &MaxMindDbError,
+        console: &mut Console<'_, O, E>,
+    ) -> Result<(), ProgramError> {
+        self.report(self.next()?, error, console)
+    }
+
+    // Writes the network of an answer, if it is chosen, which is known of some. Where there is no memory, all that is kept is
+    // let go, and it is tried once more: a row that has no memory has written nothing.
+    #[inline(always)]
+    fn try_chosen<O: Write>(
+        &mut self,
+        found: &Found<'_>,
+        kept: Option<bool>,
+        out: &mut O,
+    ) -> Result<(), ProgramError> {
+        match self.write_chosen(found, kept, out) {
+            Err(error) if error.is_memory() && self.sink.let_go() => {
+                drop(error);
+                self.write_chosen(found, kept, out)
+            }
+            done => done,
+        }
+    }
+
+    // Writes the network of an answer, if it is chosen, or reports why it can't be.
+    #[inline(never)]
+    fn write_found<O: Write, E: Write>(
+        &mut self,
+        found: &Found<'_>,
+        kept: Option<bool>,
+        console: &mut Console<'_, O, E>,
+    ) -> Result<(), ProgramError> {
+        match self.try_chosen(found, kept, console.out) {
+            Err(ProgramError::Database(MaxMindDbError::Memory)) => Err(ProgramError::Memory),
+            Err(ProgramError::Database(error)) => {
+                let place = Where::At(found.network().unwrap());
+                let reported = self.report(place, &error, console);
+                drop(error);
+                reported
+            }
+            Err(error) => Err(error),
+            Ok(()) => Ok(()),
+        }
+    }
+
+    // What is known of the networks that wait: whether each is chosen.
+    #[inline(never)]
+    fn kept_of_waiting(&self) -> [Option<bool>; MOST_WAITING] {
+        let Some(choice) = &self.choice else {
+            return [Some(true); MOST_WAITING];
+        };
+        let mut all = [None; MOST_WAITING];
+        for (kept, found) in all.iter_mut().zip(&self.waiting) {
+            *kept = choice.kept(found);
+        }
+        all
+    }
+
+    // Takes a network that waits, where it is known to be chosen and all that it needs is at hand. Whether that was done, or
+    // it is of a kind that is not wanted. Most go this way, which has no large error to make.
+    #[inline(always)]
+    fn take_waiting<O: Write>(
+        &mut self,
+        index: usize,
+        kept: Option<bool>,
+        out: &mut O,
+    ) -> Result<bool, ProgramError> {
+        match self.waiting.get(index) {
+            Some(found) if !self.kinds.has(kind_of(found)) => Ok(true),
+            Some(found) if kept == Some(true) => self.sink.take(found, out),
+            _ => Ok(false),
+        }
+    }
+
+    // Writes a network that waits, if it is chosen, or reports why it can't be.
+    fn write_waiting_at<O: Write, E: Write>(
+        &mut self,
+        index: usize,
+        kept: Option<bool>,
+        console: &mut Console<'_, O, E>,
+    ) -> Result<(), ProgramError> {
+        match self.waiting.get(index).copied() {
+            Some(found) => self.write_found(&found, kept, console),
+            None => Ok(()),
+        }
+    }
+
+    // Writes the networks that wait, as far as they are chosen, or reports why they can't be.
+    #[inline(never)]
+    fn write_waiting<O: Write, E: Pace>(
+        &mut self,
+        console: &mut Console<'_, O, E>,
+    ) -> Result<(), ProgramError> {
+        for (index, kept) in self.kept_of_waiting().iter().enumerate() {
+            if *kept == Some(false) {
+                continue;
+            }
+            if !self.take_waiting(index, *kept, console.out)? {
+                self.write_waiting_at(index, *kept, console)?;
+            }
+        }
+        if let Some(found) = self.waiting.last() {
+            self.last = Some(*found);
+        }
+        self.waiting.clear();
+        self.show_passed(console);
+        Ok(())
+    }
+
+    // Shows on a terminal how many networks passed.
+    fn show_passed<O: Write, E: Pace>(&mut self, console: &mut Console<'_, O, E>) {
+        self.times = self.times.saturating_add(1);
+        if self.times % STEP == 0 {
+            let passed = self.times.saturating_mul(MOST_WAITING as u64);
+            console.show_progress("networks", Passed::of(passed));
+        }
+    }
+
+    /// Writes what was found in a network, if it is chosen, or reports why it can't be. Some networks wait for others.
+    #[inline(always)]
+    pub(crate) fn write<O: Write, E: Pace>(
+        &mut self,
+        found: Found<'r>,
+        console: &mut Console<'_, O, E>,
+    ) -> Result<(), ProgramError> {
+        self.waiting.push(found)?;
+        if self.waiting.len() < MOST_WAITING {
+            return Ok(());
+        }
+        self.write_waiting(console)
+    }
+
+    /// Reports a network that can't be read, behind those that wait.
+    #[inline(never)]
+    pub(crate) fn write_unread<O: Write, E: Pace>(
+        &mut self,
+        error: &MaxMindDbError,
+        console: &mut Console<'_, O, E>,
+    ) -> Result<(), ProgramError> {
+        self.write_waiting(console)?;
+        self.report_next(error, console)
+    }
+
+    /// Writes what waits, and what stands behind the last network.
+    pub(crate) fn finish<O: Write, E: Pace>(
+        &mut self,
+        console: &mut Console<'_, O, E>,
+    ) -> Result<(), ProgramError> {
+        self.write_waiting(console)?;
+        self.sink.finish(console.out)
+    }
+}

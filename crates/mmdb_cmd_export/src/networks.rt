@@ -1,0 +1,208 @@
+//! The chosen networks of a range, written out.
+use crate::blocks::Blocks;
+use crate::chosen::Export;
+use crate::missing::are_values_met;
+use crate::rows::ExportRows;
+use crate::sink::NetworkSink;
+use crate::task::{ExportTask, Shape, export_task};
+use mmdb_arguments::ExportArguments;
+use mmdb_console::{Console, DONE, FAILED, Pace, ProgramError, note_range};
+use mmdb_layout::{Choice, Condition, Database, Networks, networks_in, open_database};
+use mmdb_reader::MaxMindDbError;
+use std::alloc::{AllocError, Global};
+use std::io::Write;
+use std::rt::Files;
+
+// Reports how many networks could not be read, and answers the status.
+fn report_faults<O: Write, E: Pace>(
+    faults: u64,
+    console: &mut Console<'_, O, E>,
+) -> Result<u8, ProgramError> {
+    if faults == 0 {
+        return Ok(DONE);
+    }
+    let text: String = format!(in console.alloc; "mmdb: {faults} networks could not be read\n")?;
+    console.note(Ok(text));
+    Ok(FAILED)
+}
+
+// Reports a network that can't be read.
+#[inline(never)]
+fn report_unread<W: NetworkSink, O: Write, E: Pace>(
+    error: MaxMindDbError,
+    export: &mut Export<'_, '_, W>,
+    console: &mut Console<'_, O, E>,
+) -> Result<(), ProgramError> {
+    let reported = export.write_unread(&error, console);
+    drop(error);
+    reported
+}
+
+// Writes the chosen networks, and what stands behind them.
+fn export_all<'r, W: NetworkSink, O: Write, E: Pace>(
+    networks: Networks<'r>,
+    export: &mut Export<'_, 'r, W>,
+    console: &mut Console<'_, O, E>,
+) -> Result<(), ProgramError> {
+    for item in networks {
+        match item {
+            Ok(found) => export.write(found, console)?,
+            Err(error) => report_unread(error, export, console)?,
+        }
+    }
+    export.finish(console)
+}
+
+// The choice by these conditions. None where there are none, and all networks are chosen.
+fn choice_of<'a>(
+    alloc: Global,
+    conditions: &'a [Condition<'a>],
+) -> Result<Option<Choice<'a>>, AllocError> {
+    if conditions.is_empty() {
+        return Ok(None);
+    }
+    Ok(Some(Choice::new(alloc, conditions)?))
+}
+
+// Says of fields that no record had.
+fn note_absent<W: NetworkSink, O: Write, E: Pace>(
+    database: &Database,
+    task: &ExportTask<'_>,
+    sink: &mut W,
+    console: &mut Console<'_, O, E>,
+) -> Result<(), ProgramError> {
+    let (Some(met), Shape::Rows(layout)) = (sink.fields_met(), &task.shape) else {
+        return Ok(());
+    };
+    met.note_absent(layout.names(), database.data_section(), console)
+}
+
+// Writes the chosen networks, reports how many could not be read, and answers the status.
+fn export_with<'a, 'r, W: NetworkSink, O: Write, E: Pace>(
+    database: &'r Database,
+    task: &'a ExportTask<'a>,
+    networks: Networks<'r>,
+    export: Export<'a, 'r, W>,
+    console: &mut Console<'_, O, E>,
+) -> Result<u8, ProgramError> {
+    let mut export = export;
+    let exported = match export_all(networks, &mut export, console) {
+        Ok(()) => note_absent(database, task, &mut export.sink, console),
+        Err(error) => Err(error),
+    };
+    let faults = export.faults;
+    drop(export);
+    exported?;
+    report_faults(faults, console)
+}
+
+// Writes the chosen networks to a sink, if it could be begun.
+fn export_to<'a, 'r, W: NetworkSink, O: Write, E: Pace>(
+    database: &'r Database,
+    task: &'a ExportTask<'a>,
+    networks: Networks<'r>,
+    choice: Option<Choice<'a>>,
+    sink: Result<W, ProgramError>,
+    console: &mut Console<'_, O, E>,
+) -> Result<u8, ProgramError> {
+    match sink {
+        Ok(sink) => match Export::new(console.alloc, choice, task.kinds, sink) {
+            Ok(export) => export_with(database, task, networks, export, console),
+            Err(error) => {
+                drop(networks);
+                Err(ProgramError::from(error))
+            }
+        },
+        Err(error) => {
+            drop(networks);
+            drop(choice);
+            Err(error)
+        }
+    }
+}
+
+// Writes the networks that are chosen, as rows or as a list.
+fn export_chosen<'a, 'r, O: Write, E: Pace>(
+    database: &'r Database,
+    task: &'a ExportTask<'a>,
+    networks: Networks<'r>,
+    choice: Option<Choice<'a>>,
+    console: &mut Console<'_, O, E>,
+) -> Result<u8, ProgramError> {
+    let alloc = console.alloc;
+    match &task.shape {
+        Shape::Rows(layout) => {
+            let rows = ExportRows::begin(alloc, layout, database.data_section(), console.out);
+            export_to(database, task, networks, choice, rows, console)
+        }
+        Shape::List(syntax) => {
+            let may_be_empty = task.allow_empty || task.may_lack();
+            let blocks = Blocks::new(alloc, *syntax, task.kinds, task.range, may_be_empty);
+            export_to(database, task, networks, choice, blocks, console)
+        }
+    }
+}
+
+// Whether a list may be written by these conditions: rows may be.
+fn may_be_written<O: Write, E: Pace>(
+    database: &Database,
+    task: &ExportTask<'_>,
+    choice: &mut Option<Choice<'_>>,
+    console: &mut Console<'_, O, E>,
+) -> Result<bool, ProgramError> {
+    match (&task.shape, choice) {
+        (Shape::List(_), Some(choice)) => are_values_met(database, task, choice, console),
+        _ => Ok(true),
+    }
+}
+
+// Writes the chosen networks of a database, reports each that can't be read, and answers the status.
+fn export_database<'a, O: Write, E: Pace>(
+    database: &Database,
+    task: &'a ExportTask<'a>,
+    console: &mut Console<'_, O, E>,
+) -> Result<u8, ProgramError> {
+    let mut choice = choice_of(console.alloc, task.conditions.as_slice())?;
+    if !may_be_written(database, task, &mut choice, console)? {
+        return Ok(FAILED);
+    }
+    match networks_in(console.alloc, database, task.range) {
+        Ok(networks) => export_chosen(database, task, networks, choice, console),
+        Err(error) => {
+            drop(choice);
+            Err(ProgramError::from(error))
+        }
+    }
+}
+
+// Opens a file and writes its chosen networks, and answers the status.
+fn export_file<'a, R: Files, O: Write, E: Pace>(
+    rt: &R,
+    file: &str,
+    task: &'a ExportTask<'a>,
+    console: &mut Console<'_, O, E>,
+) -> Result<u8, ProgramError> {
+    match open_database(rt, file, console) {
+        Some(database) => {
+            let done = export_database(&database, task, console);
+            drop(database);
+            done
+        }
+        None => Ok(FAILED),
+    }
+}
+
+/// Writes the chosen networks of a range, reports each that can't be read, and answers the status. An `Err` where an
+/// argument is not what is wanted in its place, before the file is opened; where the range can't be asked, standard output
+/// can't be written, the networks do not ascend, or out of memory.
+pub fn export<R: Files, O: Write, E: Pace>(
+    rt: &R,
+    arguments: &ExportArguments<'_>,
+    console: &mut Console<'_, O, E>,
+) -> Result<u8, ProgramError> {
+    let task = export_task(console.alloc, arguments)?;
+    note_range(task.range, console);
+    let done = export_file(rt, arguments.file, &task, console);
+    drop(task);
+    done
+}

@@ -1,0 +1,29 @@
+//! What chosen networks are written as.
+use mmdb_blocks::Kind;
+use mmdb_console::ProgramError;
+use mmdb_layout::{FieldsMet, Found};
+use std::io::Write;
+
+/// What chosen networks are written as: rows, or a list of blocks. They come ascending.
+pub(crate) trait NetworkSink: Drop {
+    /// Takes a network where all that it needs is at hand, as of most. Whether it was taken; else `put` takes it.
+    fn take<O: Write>(&mut self, found: &Found<'_>, out: &mut O) -> Result<bool, ProgramError>;
+
+    /// Takes a network. An `Err` of memory comes before anything is written of it.
+    fn put<O: Write>(&mut self, found: &Found<'_>, out: &mut O) -> Result<(), ProgramError>;
+
+    /// Lets go of what is kept to be faster. Whether there may be some.
+    fn let_go(&mut self) -> bool;
+
+    /// Which fields the records have, where fields are written.
+    fn fields_met(&mut self) -> Option<&mut FieldsMet>;
+
+    /// Writes what stands behind the last network.
+    fn finish<O: Write>(&mut self, out: &mut O) -> Result<(), ProgramError>;
+}
+
+/// The kind of a network that was found.
+#[inline(always)]
+pub(crate) fn kind_of(found: &Found<'_>) -> Kind {
+    Kind::of_width(found.numbered_network().width)
+}

@@ -1,0 +1,11 @@
+//! The commands `show`, `info` and `verify`: what a database has for addresses, what it says of itself, and whether it is
+//! whole.
+#![tactic(auto)]
+
+mod answer;
+mod information;
+mod verification;
+
+pub use answer::{show, show_to};
+pub use information::{describe, info};
+pub use verification::verify;

@@ -1,0 +1,378 @@
+//! Whether files are whole and all their records can be read, and whether they are what is expected.
+use json::{Token, Writer};
+use mmdb_arguments::{NoRequest, VerifyArguments};
+use mmdb_console::{Console, DONE, FAILED, Pace, Passed, ProgramError, line_of, note_archive};
+use mmdb_json::write_value;
+use mmdb_layout::open_database;
+use mmdb_reader::{MaxMindDbError, Metadata, Reader};
+use mmdb_records::unreadable_records;
+use mmdb_value::Value;
+use std::alloc::{AllocError, Global};
+use std::io::Write;
+use std::rt::Files;
+use std::time::Clock;
+
+const SECONDS_OF_A_DAY: u64 = 86_400;
+
+/// How old a file may be.
+#[derive(Clone, Copy)]
+struct MostAge {
+    days: u64,
+    /// When it may be built first, in seconds since 1970.
+    since: u64,
+}
+
+/// What `verify` is asked for.
+#[derive(Clone, Copy)]
+struct VerifyTask<'a> {
+    /// Whether records are left out.
+    whole: bool,
+    /// The type, with a `*` at an end for any text there.
+    database_type: Option<&'a str>,
+    /// After which second since 1970 a file has to be built.
+    after: Option<u64>,
+    most_age: Option<MostAge>,
+    json: bool,
+    quiet: bool,
+}
+
+/// What was found of a file. What is not known of it is none.
+#[derive(Drop)]
+struct Verdict {
+    database_type: Option<String>,
+    build_epoch: Option<u64>,
+    node_count: Option<u64>,
+    /// How many of its records can't be read.
+    unreadable: Option<u64>,
+    /// What is wrong with it, if something is.
+    wrong: Option<String>,
+    /// Whether it is no MaxMind DB file.
+    is_no_database: bool,
+}
+
+// How old files may be, by a text that should be a number of days.
+fn most_age_of<R: Clock>(rt: &R, alloc: Global, text: &str) -> Result<MostAge, ProgramError> {
+    let Ok(days) = text.parse::<u64>() else {
+        let reason = NoRequest::bad_argument(alloc, "--max-age", "not a number of days");
+        return Err(ProgramError::Arguments(reason));
+    };
+    let now = rt.since_1970()?.as_secs();
+    Ok(MostAge {
+        days,
+        since: now.saturating_sub(days.saturating_mul(SECONDS_OF_A_DAY)),
+    })
+}
+
+// Whether a database type is as asked for.
+fn has_type(database_type: &str, wanted: &str) -> bool {
+    match (wanted.strip_prefix('*'), wanted.strip_suffix('*')) {
+        (Some(end), None) => database_type.ends_with(end),
+        (None, Some(front)) => database_type.starts_with(front),
+        (Some(_), Some(front)) => { database_type.contains(front.strip_prefix('*').unwrap_or("")) }
+        (None, None) => database_type == wanted,
+    }
+}
+
+// What is not as expected of a whole database, if something is.
+fn unexpected(
+    alloc: Global,
+    metadata: &Metadata,
+    task: VerifyTask<'_>,
+) -> Result<Option<String>, AllocError> {
+    let (database_type, built) = (metadata.database_type.as_str(), metadata.build_epoch);
+    if let Some(wanted) = task.database_type
+        && !has_type(database_type, wanted)
+    {
+        return Ok(Some(format!(in alloc; "its type is {database_type}, not {wanted}")?));
+    }
+    if let Some(after) = task.after
+        && built <= after
+    {
+        return Ok(Some(format!(in alloc; "it was built at {built}, not after {after}")?));
+    }
+    if let Some(MostAge { days, since }) = task.most_age
+        && built < since
+    {
+        return Ok(Some(format!(in alloc; "it was built at {built}, more than {days} days ago")?));
+    }
+    Ok(None)
+}
+
+// Why a database is not whole, if it is not.
+fn not_whole(alloc: Global, reader: &Reader<Vec<u8>>) -> Result<Option<String>, AllocError> {
+    match reader.verify(alloc) {
+        Ok(()) => Ok(None),
+        Err(error) => {
+            let text: Result<String, AllocError> = format!(in alloc; "{error}");
+            drop(error);
+            Ok(Some(text?))
+        }
+    }
+}
+
+// Why a database is not whole, or which of its records can't be read, if there are some.
+fn not_readable(
+    alloc: Global,
+    reader: &Reader<Vec<u8>>,
+    unreadable: &mut Option<u64>,
+) -> Result<Option<String>, AllocError> {
+    match unreadable_records(alloc, reader) {
+        Ok(None) => {
+            *unreadable = Some(0);
+            Ok(None)
+        }
+        Ok(Some(found)) => {
+            let (count, network, error) = (found.count, found.network, &found.error);
+            *unreadable = Some(count);
+            let text: Result<String, AllocError> = format!(in alloc;
+                "{count} records can't be read, the first at {network}: {error}"
+            );
+            drop(found);
+            Ok(Some(text?))
+        }
+        Err(error) => {
+            let text: Result<String, AllocError> = format!(in alloc; "{error}");
+            drop(error);
+            Ok(Some(text?))
+        }
+    }
+}
+
+// What is wrong with a database, if something is.
+fn wrong_with(
+    alloc: Global,
+    reader: &Reader<Vec<u8>>,
+    task: VerifyTask<'_>,
+    unreadable: &mut Option<u64>,
+) -> Result<Option<String>, AllocError> {
+    let damage = if task.whole {
+        not_whole(alloc, reader)?
+    } else {
+        not_readable(alloc, reader, unreadable)?
+    };
+    match damage {
+        Some(text) => Ok(Some(text)),
+        None => unexpected(alloc, reader.metadata(), task),
+    }
+}
+
+// What is found of a database.
+fn verdict_on(
+    alloc: Global,
+    reader: &Reader<Vec<u8>>,
+    task: VerifyTask<'_>,
+) -> Result<Verdict, AllocError> {
+    let metadata = reader.metadata();
+    let mut unreadable = None;
+    let wrong = wrong_with(alloc, reader, task, &mut unreadable)?;
+    Ok(Verdict {
+        database_type: Some(String::from_str(alloc, metadata.database_type.as_str())?),
+        build_epoch: Some(metadata.build_epoch),
+        node_count: Some(u64::from(metadata.node_count)),
+        unreadable,
+        wrong,
+        is_no_database: false,
+    })
+}
+
+// What is found of a file that can't be opened.
+fn verdict_of_error(alloc: Global, error: &MaxMindDbError) -> Result<Verdict, AllocError> {
+    Ok(Verdict {
+        database_type: None,
+        build_epoch: None,
+        node_count: None,
+        unreadable: None,
+        wrong: Some(format!(in alloc; "{error}")?),
+        is_no_database: matches!(error, MaxMindDbError::InvalidDatabase { .. }),
+    })
+}
+
+// What is found of a file.
+fn verdict_of<R: Files>(
+    rt: &R,
+    alloc: Global,
+    file: &str,
+    task: VerifyTask<'_>,
+) -> Result<Verdict, AllocError> {
+    match Reader::open_readfile(rt, alloc, file) {
+        Ok(reader) => {
+            let verdict = verdict_on(alloc, &reader, task);
+            drop(reader);
+            verdict
+        }
+        Err(error) => {
+            let verdict = verdict_of_error(alloc, &error);
+            drop(error);
+            verdict
+        }
+    }
+}
+
+// The line on a file that a person reads.
+fn line_on(alloc: Global, file: &str, verdict: &Verdict) -> Result<String, AllocError> {
+    line_of(
+        alloc,
+        match &verdict.wrong {
+            None => format!(in alloc; "{file}: ok"),
+            Some(wrong) => format!(in alloc; "{file}: {wrong}"),
+        },
+    )
+}
+
+// A member whose value is a text, or null.
+fn put_text(out: &mut Writer, key: &str, text: Option<&str>) -> Result<(), AllocError> {
+    out.token(Token::Key(key))?;
+    match text {
+        Some(text) => out.token(Token::String(text)),
+        None => out.token(Token::Null),
+    }
+}
+
+// A member whose value is a number, or null.
+fn put_number(
+    alloc: Global,
+    out: &mut Writer,
+    key: &str,
+    number: Option<u64>,
+) -> Result<(), AllocError> {
+    out.token(Token::Key(key))?;
+    match number {
+        Some(number) => write_value(alloc, &Value::U64(number), out),
+        None => out.token(Token::Null),
+    }
+}
+
+// The text of an option.
+fn text_in(text: &Option<String>) -> Option<&str> {
+    match text {
+        Some(text) => Some(text.as_str()),
+        None => None,
+    }
+}
+
+// The members of the object on a file.
+fn put_members(
+    alloc: Global,
+    file: &str,
+    verdict: &Verdict,
+    out: &mut Writer,
+) -> Result<(), AllocError> {
+    put_text(out, "path", Some(file))?;
+    out.token(Token::Key("ok"))?;
+    write_value(alloc, &Value::Bool(verdict.wrong.is_none()), out)?;
+    put_text(out, "type", text_in(&verdict.database_type))?;
+    put_number(alloc, out, "epoch", verdict.build_epoch)?;
+    put_number(alloc, out, "nodes", verdict.node_count)?;
+    put_number(alloc, out, "unreadable_records", verdict.unreadable)?;
+    put_text(out, "error", text_in(&verdict.wrong))
+}
+
+// The line on a file as an object.
+fn object_on(alloc: Global, file: &str, verdict: &Verdict) -> Result<Vec<u8>, AllocError> {
+    let mut out = Writer::new(Vec::with_capacity(alloc, 256)?);
+    out.token(Token::BeginObject)?;
+    put_members(alloc, file, verdict, &mut out)?;
+    out.token(Token::EndObject)?;
+    let mut line = out.into_inner();
+    line.push(b'\n')?;
+    Ok(line)
+}
+
+// Writes the line on a file, or where there is to be no output says on standard error what is wrong with it.
+fn put_line<O: Write, E: Pace>(
+    file: &str,
+    verdict: &Verdict,
+    task: VerifyTask<'_>,
+    console: &mut Console<'_, O, E>,
+) -> Result<(), ProgramError> {
+    if task.quiet {
+        if let Some(wrong) = &verdict.wrong {
+            console.report(file, wrong);
+        }
+        return Ok(());
+    }
+    if task.json {
+        let line = object_on(console.alloc, file, verdict)?;
+        return console.put(line.as_slice());
+    }
+    let line = line_on(console.alloc, file, verdict)?;
+    console.put(line.as_bytes())
+}
+
+// Writes of a file what is wrong with it, if something is, and answers whether nothing is.
+fn verify_one<R: Files, O: Write, E: Pace>(
+    rt: &R,
+    file: &str,
+    task: VerifyTask<'_>,
+    console: &mut Console<'_, O, E>,
+) -> Result<bool, ProgramError> {
+    let verdict = verdict_of(rt, console.alloc, file, task)?;
+    let is_right = verdict.wrong.is_none();
+    let may_be_packed = verdict.is_no_database;
+    let put = put_line(file, &verdict, task, console);
+    drop(verdict);
+    put?;
+    if may_be_packed {
+        note_archive(rt, file, console);
+    }
+    Ok(is_right)
+}
+
+// When a file was built, none where it can't be opened, which is reported.
+fn epoch_of<R: Files, O: Write, E: Pace>(
+    rt: &R,
+    file: &str,
+    console: &mut Console<'_, O, E>,
+) -> Option<u64> {
+    let database = open_database(rt, file, console)?;
+    let built = database.metadata().build_epoch;
+    drop(database);
+    Some(built)
+}
+
+// Verifies files as a task says, and answers the status.
+fn verify_all<R: Files, O: Write, E: Pace>(
+    rt: &R,
+    files: &[&str],
+    task: VerifyTask<'_>,
+    console: &mut Console<'_, O, E>,
+) -> Result<u8, ProgramError> {
+    let mut status = DONE;
+    for (passed, file) in files.iter().enumerate() {
+        if passed > 0 {
+            console.show_progress("files", Passed::of(passed as u64));
+        }
+        if !verify_one(rt, file, task, console)? {
+            status = FAILED;
+        }
+    }
+    Ok(status)
+}
+
+/// Writes of each file what is wrong with it, if something is, and answers the status: whether it is whole and, unless only that
+/// is asked, all its records can be read, and whether it is of the type and the time that are asked for. An `Err` where an
+/// argument is not what is wanted in its place, standard output can't be written, or out of memory.
+pub fn verify<R: Files + Clock, O: Write, E: Pace>(
+    rt: &R,
+    arguments: &VerifyArguments<'_>,
+    console: &mut Console<'_, O, E>,
+) -> Result<u8, ProgramError> {
+    let mut task = VerifyTask {
+        whole: arguments.whole,
+        database_type: arguments.database_type,
+        after: None,
+        most_age: None,
+        json: arguments.json,
+        quiet: arguments.quiet,
+    };
+    if let Some(days) = arguments.max_age {
+        task.most_age = Some(most_age_of(rt, console.alloc, days)?);
+    }
+    if let Some(old) = arguments.newer_than {
+        task.after = epoch_of(rt, old, console);
+        if task.after.is_none() {
+            return Ok(FAILED);
+        }
+    }
+    verify_all(rt, arguments.files.as_slice(), task, console)
+}

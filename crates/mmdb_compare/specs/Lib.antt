@@ -1,0 +1,9 @@
+-- What has to be believed: what contracts of public items name.
+pub mod Coming
+pub mod Listed
+pub mod Parts
+pub mod Same
+pub mod Kept
+-- What only contracts of private functions and proofs name.
+pub mod Walks
+pub mod SideBySide

@@ -1,0 +1,19 @@
+//! What changed between two databases: their networks side by side, as the largest blocks in which each has one answer,
+//! values of both that are read side by side, and what is kept of pairs of records.
+#![tactic(auto)]
+
+mod blocks;
+mod comparison;
+mod contents;
+mod equality;
+mod pairs;
+mod place;
+mod shown;
+mod walk;
+mod walks;
+
+pub use comparison::{Comparison, ComparisonPart, Side, Stretch};
+pub use equality::SideBySide;
+pub use pairs::{KnownPairs, Offsets};
+pub use shown::{ShownPair, ShownPairs};
+pub use walk::UnreadLeaf;

@@ -1,4 +1,0 @@
-use Rattle.mmdb_enrich.proofs.row_memory.RowMemory.new.Goals as goal
-
-pub returns : goal.returns
-returns c = λ db reading wanted. record { kept = c.in_ok-cache.ensures wanted; ahead = c.new-ahead.ensures db reading }

@@ -1,6 +1,0 @@
-use Rattle.std.proofs.Common.{refl}
-use Rattle.mmdb_equality.proofs.Known.{known_begin}
-use Rattle.mmdb_equality.proofs.equality.SideBySide.new.Goals as goal
-
-pub invariant_of-result-2 : goal.invariant_of-result-2
-invariant_of-result-2 c = known_begin _ _ _ refl c.in_ok-new.ensures

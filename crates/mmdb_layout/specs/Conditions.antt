@@ -1,0 +1,104 @@
+-- Which records meet conditions on the values at paths in them.
+use Rattle.std.specs.Prelude.{◌≡◌, ◌⊎◌, ℕ, ◌+◌, ◌%◌, ◌<◌, nat_eq, if◌then◌else◌, List, [], ◌∷◌, ◌++◌, length, slice_index, take, codes, map, Option, Some, None, Bool, true, false, not}
+use Rattle.std.specs.Borrow.{Bor}
+use Rattle.std.specs.List.{Contains}
+use Rattle.std.specs.declared.convert.AsSlice.{Ghosts}
+use Rattle.mmdb_format.specs.Contents.{text}
+use Rattle.mmdb_format.specs.Unfolding.{Tree, scalar, array, table}
+use Rattle.mmdb_value.specs.AnyValue.{value_at}
+use Rattle.mmdb_reader.specs.Found.{section_asked, offset_found}
+use Rattle.mmdb_reader.specs.Selecting.{answer_along}
+use Rattle.mmdb_reader.specs.declared.lookup_result.LookupResult.{LookupResult}
+use Rattle.mmdb_reader.specs.declared.path.PathElement.{PathElement}
+use Rattle.mmdb_json.specs.Texts.{IsCompact}
+use Rattle.mmdb_layout.specs.declared.condition.Condition.{Condition}
+use Rattle.mmdb_layout.specs.declared.condition.Requirement.{Requirement}
+use Rattle.mmdb_layout.specs.declared.condition.Requirement.TheVariants.{OneOf, NoneOf}
+
+-- a text is one of the texts
+abbrev pub IsOneOf : List ℕ → List (List ℕ) → Type 0
+IsOneOf own texts = Contains texts own
+
+-- a Bool says exactly whether it is
+abbrev pub SaysOneOf : List ℕ → List (List ℕ) → Bool → Type 0
+SaysOneOf own texts true = IsOneOf own texts
+SaysOneOf own texts false = ¬ IsOneOf own texts
+
+-- A Bool says whether a value is one of the texts: a text as it stands, and any other scalar by its JSON. An array or a
+-- map is none of them.
+abbrev pub SaysAmong : Tree → List (List ℕ) → Bool → Type 0
+SaysAmong (scalar (text own)) texts b = SaysOneOf own texts b
+SaysAmong (array _) texts b = b ≡ false
+SaysAmong (table _) texts b = b ≡ false
+SaysAmong v texts b = (json : List ℕ) × IsCompact v json × SaysOneOf json texts b
+
+-- a Bool says so of what was read along a path: where nothing is there, it is none of the texts
+abbrev pub SaysRead : Option Tree → List (List ℕ) → Bool → Type 0
+SaysRead None texts b = b ≡ false
+SaysRead (Some v) texts b = SaysAmong v texts b
+
+-- what is read along a path from the offset of a record; nothing where the way or the value can't be read
+abbrev pub read_at : List PathElement → List ℕ → ℕ → Option (Option Tree)
+read_at path s offset = answer_along path true (value_at true) s offset
+
+-- A Bool says whether the value along a path of the record at an offset is one of the texts. Without a record it is not.
+abbrev pub SaysFoundAt : List PathElement → List (List ℕ) → List ℕ → Option ℕ → Bool → Type 0
+SaysFoundAt path texts s None b = b ≡ false
+SaysFoundAt path texts s (Some offset) b = (value : Option Tree) × (read_at path s offset ≡ Some value) × SaysRead value texts b
+
+-- there is a record, and the way of a path in it or the value at its end can't be read
+abbrev pub IsUnreadAt : List PathElement → List ℕ → Option ℕ → Type 0
+IsUnreadAt path s None = ⊥
+IsUnreadAt path s (Some offset) = read_at path s offset ≡ None
+
+-- how many quotes there are
+abbrev pub quotes : List ℕ → ℕ
+quotes [] = 0
+quotes (byte ∷ bytes) = (if nat_eq byte 34 then 1 else 0) + quotes bytes
+
+-- an equals sign stands at a place outside quotes, which is behind an even number of them
+pub record IsSign (bytes : List ℕ) (place : ℕ) : Type 0 where
+  pub within : place < length bytes
+  pub sign : slice_index bytes place ≡ 61
+  pub outside : quotes (take place bytes) % 2 ≡ 0
+
+-- what stands before and behind the first such sign; none where there is none
+abbrev pub SplitsAtSign : List ℕ → Option (Bor (List ℕ) × Bor (List ℕ)) → Type 0
+SplitsAtSign bytes None = (place : ℕ) → ¬ IsSign bytes place
+SplitsAtSign bytes (Some parts) =
+    (bytes ≡ parts.0.now ++ codes "=" ++ parts.1.now) × IsSign bytes (length parts.0.now)
+    × ((place : ℕ) → place < length parts.0.now → ¬ IsSign bytes place)
+
+-- what a condition says where the value is one of its texts or not
+abbrev pub wants : Requirement → Bool → Bool
+wants OneOf is_found = is_found
+wants NoneOf is_found = not is_found
+
+-- the texts of a condition
+abbrev pub texts_of : Condition → List (List ℕ)
+texts_of condition = map (λ t. t.now) condition.texts.items
+
+-- a Bool says whether a condition is met by the record at an offset
+abbrev pub SaysMetAt : Condition → List ℕ → Option ℕ → Bool → Type 0
+SaysMetAt condition s offset b =
+    (is_found : Bool) × SaysFoundAt condition.path.items (texts_of condition) s offset is_found × (b ≡ wants condition.wanted is_found)
+
+-- A Bool says whether all conditions are met: true, or false where one is not met and those before it are.
+abbrev pub SaysAllMetAt : List Condition → List ℕ → Option ℕ → Bool → Type 0
+SaysAllMetAt [] s offset b = b ≡ true
+SaysAllMetAt (condition ∷ conditions) s offset b =
+    (SaysMetAt condition s offset false × (b ≡ false)) ⊎ (SaysMetAt condition s offset true × SaysAllMetAt conditions s offset b)
+
+-- what a condition is on can't be read, and those before it are met
+abbrev pub HasUnreadAt : List Condition → List ℕ → Option ℕ → Type 0
+HasUnreadAt [] s offset = ⊥
+HasUnreadAt (condition ∷ conditions) s offset =
+    IsUnreadAt condition.path.items s offset ⊎ (SaysMetAt condition s offset true × HasUnreadAt conditions s offset)
+
+-- a Bool says whether a condition is met by the record that a lookup found
+abbrev pub SaysMet : {S : Type 0} {G : Ghosts S ℕ} → Condition → LookupResult S G → Bool → Type 0
+SaysMet condition found b = SaysMetAt condition (section_asked found) (offset_found found) b
+
+-- what a condition is on can't be read in the record that a lookup found
+abbrev pub IsUnread : {S : Type 0} {G : Ghosts S ℕ} → Condition → LookupResult S G → Type 0
+IsUnread condition found = IsUnreadAt condition.path.items (section_asked found) (offset_found found)

@@ -1,0 +1,142 @@
+//! The choice of networks by their records.
+ghost use Rattle.std.specs.Prelude.{◌≡◌, ◌<◌, ℕ, List, Some, IfOk, IfErr, IfSome};
+ghost use Rattle.std.specs.List.{All};
+ghost use Rattle.mmdb_format.specs.Error.{MemoryApart};
+ghost use Rattle.mmdb_layout.specs.Choices.{SaysChosen, HasUnread, IsOfSection, IsOf};
+ghost use Rattle.mmdb_layout.specs.Working.{IsOfNone, Keeps};
+
+use crate::condition::Condition;
+use mmdb_cache::{Known, Table};
+use mmdb_reader::{LookupResult, MaxMindDbError};
+use std::alloc::{AllocError, Global};
+use std::convert::AsSlice;
+
+/// How many sets of answers are kept.
+const SETS: usize = 1 << 17;
+
+/// The offset of no record.
+const NO_RECORD: u32 = u32::MAX;
+
+/// The choice of networks whose record meets all conditions. Many networks share a record, so the last answers are
+/// kept by its offset.
+#[derive(Drop)]
+pub struct Choice<'a> {
+    alloc: Global,
+    conditions: &'a [Condition<'a>],
+    kept: Table<u32, bool, SETS>,
+}
+
+// The offset by which the answer for a record is kept, unless it is too large.
+#[inline(always)]
+fn kept_offset(offset: Option<usize>) -> Option<u32>
+    ensures { IfSome result (λ n. (offset ≡ Some n) × (n < 4294967295)) }
+{
+    match offset {
+        Some(offset) if offset < NO_RECORD as usize => Some(offset as u32),
+        _ => None,
+    }
+}
+
+// No answers.
+fn no_answers(alloc: Global) -> Result<Table<u32, bool, SETS>, AllocError>
+    ensures { IfOk result (All IsOfNone) }
+{
+    Table::new(
+        alloc,
+        Known {
+            key: NO_RECORD,
+            value: false,
+        },
+    )
+}
+
+impl<'a> Choice<'a> {
+    /// The choice by these conditions. All its memory is taken here, none where there are no conditions.
+    pub fn new(alloc: Global, conditions: &'a [Condition<'a>]) -> Result<Choice<'a>, AllocError>
+        ensures conditions { IfOk result (λ choice. choice.conditions.now ≡ conditions.now) }
+        ensures of { IfOk result (λ choice. (s : List ℕ) → IsOfSection choice s) }
+    {
+        let kept = if conditions.is_empty() {
+            Table::without_memory(alloc)
+        } else {
+            no_answers(alloc)?
+        };
+        Ok(Choice {
+            alloc,
+            conditions,
+            kept,
+        })
+    }
+
+    // Whether a record meets all conditions.
+    fn meets_all<S: AsSlice<u8> + Drop>(
+        &self,
+        found: &LookupResult<'_, S>,
+    ) -> Result<bool, MaxMindDbError>
+        ensures met { IfOk result (SaysChosen self.now found.now) }
+        ensures rejected { IfErr result (λ e. MemoryApart e (HasUnread self.now found.now)) }
+    {
+        for condition in self.conditions {
+            if !condition.holds(self.alloc, found)? {
+                return Ok(false);
+            }
+        }
+        Ok(true)
+    }
+
+    /// What was answered for a network with the same record, where that is kept.
+    #[inline(always)]
+    pub fn kept<S: AsSlice<u8> + Drop>(&self, found: &LookupResult<'_, S>) -> Option<bool>
+        ensures { IsOf self.now found.now → IfSome result (SaysChosen self.now found.now) }
+    {
+        self.kept.get(kept_offset(found.offset())?)
+    }
+
+    // Keeps the answer for the record at an offset.
+    fn keep(&mut self, offset: u32, is_chosen: bool)
+        ensures of { Keeps self.old (record { key = offset; value = is_chosen }) self.new }
+        ensures conditions { self.new.conditions ≡ self.old.conditions }
+    {
+        self.kept.put(offset, is_chosen);
+    }
+
+    // Answers anew, and keeps the answer.
+    #[inline(never)]
+    fn answer<S: AsSlice<u8> + Drop>(
+        &mut self,
+        found: &LookupResult<'_, S>,
+    ) -> Result<bool, MaxMindDbError>
+        ensures met { IfOk result (SaysChosen self.old found.now) }
+        ensures rejected { IfErr result (λ e. MemoryApart e (HasUnread self.old found.now)) }
+        ensures of { IsOf self.old found.now → IsOf self.new found.now }
+        ensures conditions { self.new.conditions ≡ self.old.conditions }
+    {
+        let is_chosen = self.meets_all(found)?;
+        if let Some(offset) = kept_offset(found.offset()) {
+            self.keep(offset, is_chosen);
+        }
+        Ok(is_chosen)
+    }
+
+    /// Whether a network is chosen: its record meets all conditions. They are asked in turn up to the first that is not
+    /// met. Answers are kept by the record's offset, so one choice is for the networks of one database.
+    ///
+    /// Fails, unless out of memory, only where what a condition is on can't be read, and those before it are met.
+    pub fn chooses<S: AsSlice<u8> + Drop>(
+        &mut self,
+        found: &LookupResult<'_, S>,
+    ) -> Result<bool, MaxMindDbError>
+        ensures chosen { IsOf self.old found.now → IfOk result (SaysChosen self.old found.now) }
+        ensures rejected { IfErr result (λ e. MemoryApart e (HasUnread self.old found.now)) }
+        ensures of { IsOf self.old found.now → IsOf self.new found.now }
+        ensures conditions { self.new.conditions ≡ self.old.conditions }
+    {
+        if self.conditions.is_empty() {
+            return Ok(true);
+        }
+        match self.kept(found) {
+            Some(is_chosen) => Ok(is_chosen),
+            None => self.answer(found),
+        }
+    }
+}

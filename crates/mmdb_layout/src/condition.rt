@@ -1,0 +1,147 @@
+//! Conditions on the value at a path of a record.
+ghost use Rattle.std.specs.Prelude.{◌≡◌, ◌<◌, ℕ, IfOk, IfErr, MatchOption, map, option_map};
+ghost use Rattle.mmdb_format.specs.Error.{MemoryApart};
+ghost use Rattle.mmdb_value.specs.Values.{value_tree};
+ghost use Rattle.mmdb_layout.specs.Conditions.{SaysOneOf, SaysAmong, wants as spec_wants, SaysMet, IsUnread, IsSign, SplitsAtSign};
+ghost use Rattle.mmdb_layout.specs.Working.{text_of as spec_text_of, is_container as spec_is_container, SaysFound};
+
+use mmdb_json::compact;
+use mmdb_reader::{LookupResult, MaxMindDbError, PathElement};
+use mmdb_value::Value;
+use std::alloc::{AllocError, Global};
+use std::convert::AsSlice;
+
+/// What a condition wants of the value at its path.
+#[derive(Clone, Copy, PartialEq, Eq)]
+pub enum Requirement {
+    /// That it is one of the texts.
+    OneOf,
+    /// That it is none of them, or that there is no value.
+    NoneOf,
+}
+
+/// A condition on the value at a path: a text is compared as it stands, any other scalar by its JSON, and a map or an
+/// array is none of the texts.
+#[derive(Drop)]
+pub struct Condition<'a> {
+    pub path: Vec<PathElement<'a>>,
+    pub texts: Vec<&'a str>,
+    pub wanted: Requirement,
+}
+
+// Whether a text is one of the texts.
+fn is_one_of(own: &[u8], texts: &[&str]) -> bool
+    ensures { SaysOneOf own.now (map (λ t. t.now) texts.now) result }
+{
+    for text in texts {
+        if text.as_bytes() == own {
+            return true;
+        }
+    }
+    false
+}
+
+// The text that a value is, if it is one.
+fn text_of<'t>(value: &'t Value<'_>) -> Option<&'t str>
+    ensures { option_map (λ t. t.now) result ≡ spec_text_of (value_tree value.now) }
+{
+    match value {
+        Value::String(own) => Some(*own),
+        _ => None,
+    }
+}
+
+// Whether a value is an array or a map.
+fn is_container(value: &Value<'_>) -> bool
+    ensures { result ≡ spec_is_container (value_tree value.now) }
+{
+    match value {
+        Value::Array(_) | Value::Map(_) => true,
+        _ => false,
+    }
+}
+
+// Whether a value is one of the texts.
+fn is_among(alloc: Global, value: &Value<'_>, texts: &[&str]) -> Result<bool, AllocError>
+    ensures { IfOk result (SaysAmong (value_tree value.now) (map (λ t. t.now) texts.now)) }
+{
+    if let Some(own) = text_of(value) {
+        return Ok(is_one_of(own.as_bytes(), texts));
+    }
+    if is_container(value) {
+        return Ok(false);
+    }
+    let json = compact(alloc, value)?;
+    Ok(is_one_of(json.as_slice(), texts))
+}
+
+impl Requirement {
+    // What a condition says where the value is one of its texts or not.
+    fn wants(self, is_found: bool) -> bool
+        ensures { result ≡ spec_wants self is_found }
+    {
+        match self {
+            Requirement::OneOf => is_found,
+            Requirement::NoneOf => !is_found,
+        }
+    }
+}
+
+impl Condition<'_> {
+    // Whether the value at the path is one of the texts.
+    fn finds<S: AsSlice<u8> + Drop>(
+        &self,
+        alloc: Global,
+        found: &LookupResult<'_, S>,
+    ) -> Result<bool, MaxMindDbError>
+        ensures found { IfOk result (SaysFound self.now found.now) }
+        ensures rejected { IfErr result (λ e. MemoryApart e (IsUnread self.now found.now)) }
+    {
+        let value: Option<Value<'_>> = found.decode_path(alloc, self.path.as_slice())?;
+        match &value {
+            Some(value) => Ok(is_among(alloc, value, self.texts.as_slice())?),
+            None => Ok(false),
+        }
+    }
+
+    /// Whether the condition is met by a record. Fails, unless out of memory, exactly where the way of the path in the
+    /// record, or the value at its end, can't be read.
+    pub fn holds<S: AsSlice<u8> + Drop>(
+        &self,
+        alloc: Global,
+        found: &LookupResult<'_, S>,
+    ) -> Result<bool, MaxMindDbError>
+        ensures met { IfOk result (SaysMet self.now found.now) }
+        ensures rejected { IfErr result (λ e. MemoryApart e (IsUnread self.now found.now)) }
+    {
+        let is_found = self.finds(alloc, found)?;
+        Ok(self.wanted.wants(is_found))
+    }
+}
+
+// Where the first equals sign stands that is not in quotes.
+fn place_of_equals(text: &[u8]) -> Option<usize>
+    ensures { MatchOption result ((place : ℕ) → ¬ IsSign text.now place)
+        (λ place. IsSign text.now place × ((i : ℕ) → i < place → ¬ IsSign text.now i)) }
+{
+    let mut is_quoted = false;
+    for place in 0..text.len() {
+        let byte = text[place];
+        if byte == b'=' && !is_quoted {
+            return Some(place);
+        }
+        is_quoted = is_quoted != (byte == b'"');
+    }
+    None
+}
+
+/// The path and the value of a text `PATH=VALUE`: what stands before and behind its first equals sign that is not in
+/// quotes. None where there is no such sign.
+pub fn split_condition(text: &str) -> Option<(&str, &str)>
+    ensures { SplitsAtSign text.now result }
+{
+    let place = place_of_equals(text.as_bytes())?;
+    let path = text.get(..place)?;
+    let value = text.get(place + 1..)?;
+    Some((path, value))
+}
