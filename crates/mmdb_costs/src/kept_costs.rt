@@ -10,7 +10,7 @@ use mmdb_format::content::{content_at, content_end, key_bytes_at};
 use mmdb_format::header::{Header, MAX_LEVELS, header_at, pointer_at};
 use mmdb_format::kind::{ARRAY, MAP, POINTER};
 use std::alloc::{AllocError, Global};
-use std::collections::HashMap;
+use std::collections::BTreeMap;
 use std::marker::Model;
 
 /// What is known of an offset that a pointer led to.
@@ -27,19 +27,21 @@ pub(crate) enum Known {
 #[derive(Drop)]
 pub struct KeptCosts<'s> {
     section: &'s [u8],
-    known: HashMap<usize, Known>,
+    // Ordered, since whoever makes a file chooses its offsets, and could choose ones whose hashes collide.
+    known: BTreeMap<usize, Known>,
 }
 
 impl<'s> Model for KeptCosts<'s> {
-    ghost use Rattle.std.specs.Prelude.{ℕ, List, nat_eq};
-    ghost use Rattle.std.specs.HashMap.{get};
+    ghost use Rattle.std.specs.Prelude.{ℕ, List};
+    ghost use Rattle.core.specs.Ordering.{nat_cmp};
+    ghost use Rattle.std.specs.BTreeMap.{get};
     ghost use Rattle.mmdb_costs.specs.Working.{AreKnown};
 
     ghost Value = { List ℕ };
 
     ghost view = { λ c. c.section.now };
 
-    ghost invariant = { λ c. AreKnown c.section.now (get nat_eq c.known) };
+    ghost invariant = { λ c. AreKnown c.section.now (get nat_cmp c.known) };
 }
 
 // The header at an offset.
@@ -96,7 +98,7 @@ impl<'s> KeptCosts<'s> {
     {
         KeptCosts {
             section,
-            known: HashMap::new(alloc),
+            known: BTreeMap::new(alloc),
         }
     }
 
