@@ -2,7 +2,7 @@
 use crate::change::change_between;
 use crate::percent::{Percent, percent_of};
 use mmdb_arguments::{InstallArguments, NoRequest};
-use mmdb_console::{Console, DONE, FAILED, ProgramError, line_of, reported};
+use mmdb_console::{Console, DONE, FAILED, ProgramError, line_of, note_archive, reported};
 use mmdb_files::{Standing, replace_file, standing_of};
 use mmdb_reader::{MaxMindDbError, Metadata, Reader};
 use mmdb_records::unreadable_records;
@@ -247,6 +247,7 @@ fn install_bytes<R: Files + Clock, O: Write, E: Write>(
     console: &mut Console<'_, O, E>,
 ) -> Result<u8, ProgramError> {
     let Some(new) = verified(task.new, bytes, console) else {
+        note_archive(rt, task.new, console);
         return Ok(FAILED);
     };
     if standing == Standing::Database {
@@ -270,6 +271,7 @@ pub fn install<R: Files + Clock, O: Write, E: Write>(
         return Ok(FAILED);
     };
     if standing_at(rt, task.new, false, console).is_none() {
+        note_archive(rt, task.new, console);
         return Ok(FAILED);
     }
     match read_file(rt, task.new, console) {

@@ -33,12 +33,18 @@ impl Passed {
     }
 }
 
+// How many of a unit there are, rounded.
+fn rounded(count: u64, unit: u64) -> u64 {
+    count.saturating_add(unit / 2) / unit.max(1)
+}
+
 // Appends how many bytes passed.
 fn put_bytes(alloc: Global, bytes: u64, text: &mut String) -> Result<(), AllocError> {
-    let (count, unit) = if bytes < MEGABYTE {
-        (bytes / KILOBYTE, "kB")
+    let kilobytes = rounded(bytes, KILOBYTE);
+    let (count, unit) = if kilobytes < MEGABYTE / KILOBYTE {
+        (kilobytes, "kB")
     } else {
-        (bytes / MEGABYTE, "MB")
+        (rounded(bytes, MEGABYTE), "MB")
     };
     let part: String = format!(in alloc; ", {count} {unit}")?;
     text.push_str(part.as_str())
@@ -60,7 +66,7 @@ fn put_rest(
     text: &mut String,
 ) -> Result<(), AllocError> {
     let done = bytes.min(size);
-    let percent = u128::from(done) * 100 / u128::from(size.max(1));
+    let percent = (u128::from(done) * 100 + u128::from(size / 2)) / u128::from(size.max(1));
     let seconds = u128::from(millis) * u128::from(size - done) / u128::from(done.max(1)) / 1_000;
     let part: String = if seconds < 120 {
         format!(in alloc; ", {percent} %, {seconds} s left")?

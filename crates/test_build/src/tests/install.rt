@@ -197,6 +197,41 @@ fn what_is_no_database_is_not_installed(rt: HostRuntime) {
     }
 }
 
+/// How files begin that are packed, and how each is unpacked.
+const PACKED: &[(&[u8], &str)] = &[
+    (
+        b"\x1F\x8B\x08",
+        "gzip; unpack it first: gzip -dc new.mmdb >new.mmdb.mmdb",
+    ),
+    (
+        b"\xFD7zXZ\0",
+        "xz; unpack it first: xz -dc new.mmdb >new.mmdb.mmdb",
+    ),
+    (b"PK\x03\x04", "zip; unpack it first: unzip new.mmdb"),
+    // a stored file in an archive, of which the marker is seen
+    (
+        b"PK\x03\x04\xAB\xCD\xEFMaxMind.com\xE0",
+        "zip; unpack it first: unzip new.mmdb",
+    ),
+];
+
+#[test]
+fn what_is_packed_is_named(rt: HostRuntime) {
+    let alloc = rt.alloc();
+    for (bytes, said) in PACKED {
+        let disk = disk_with(&rt, alloc, &[], OLD);
+        let _ = disk.put("new.mmdb", bytes);
+        let run = install_on(alloc, &disk, &arguments("out.mmdb", None, false));
+        assert!(rt;
+            run.status == Some(1)
+                && run.err().contains(said)
+                && are_same(&disk, "out.mmdb", "made.mmdb"),
+            "{said}: {}",
+            run.err()
+        );
+    }
+}
+
 // Where some bytes stand first.
 fn place_of(bytes: &[u8], wanted: &[u8]) -> Option<usize> {
     for at in 0..bytes.len() {

@@ -11,12 +11,12 @@ type Shown<'a> = (&'a str, u64, Option<u64>, Option<u64>, u64, &'a str);
 #[rattlefmt::skip]
 const SHOWN: &[Shown<'static>] = &[
     ("lines", 1000, None, None, 0, "mmdb: 1000 lines"),
-    ("lines", 1000, Some(999), Some(1_000_000), 999, "mmdb: 1000 lines, 0 kB"),
-    ("lines", 65_536, Some(6_553_600), None, 2000, "mmdb: 65536 lines, 6 MB, 32768 a second"),
+    ("lines", 1000, Some(999), Some(1_000_000), 999, "mmdb: 1000 lines, 1 kB"),
+    ("lines", 65_536, Some(6_553_600), None, 2000, "mmdb: 65536 lines, 7 MB, 32768 a second"),
     ("lines", 131_072, Some(13_107_200), Some(26_214_400), 4000, "mmdb: 131072 lines, 13 MB, 32768 a second, 50 %, 4 s left"),
-    ("lines", 10, Some(999_999), Some(1_000_000_000), 10_000, "mmdb: 10 lines, 999 kB, 1 a second, 0 %, 166 min left"),
-    ("lines", 10, Some(1_000_000), Some(120_000_000), 1000, "mmdb: 10 lines, 1 MB, 10 a second, 0 %, 119 s left"),
-    ("lines", 10, Some(1_000_000), Some(121_000_000), 1000, "mmdb: 10 lines, 1 MB, 10 a second, 0 %, 2 min left"),
+    ("lines", 10, Some(999_999), Some(1_000_000_000), 10_000, "mmdb: 10 lines, 1 MB, 1 a second, 0 %, 166 min left"),
+    ("lines", 10, Some(1_000_000), Some(120_000_000), 1000, "mmdb: 10 lines, 1 MB, 10 a second, 1 %, 119 s left"),
+    ("lines", 10, Some(1_000_000), Some(121_000_000), 1000, "mmdb: 10 lines, 1 MB, 10 a second, 1 %, 2 min left"),
     // an input that grew, and one that was empty
     ("lines", 5, Some(20_000), Some(10_000), 5000, "mmdb: 5 lines, 20 kB, 1 a second, 100 %, 0 s left"),
     ("lines", 5, Some(0), Some(0), 5000, "mmdb: 5 lines, 0 kB, 1 a second, 0 %, 0 s left"),
