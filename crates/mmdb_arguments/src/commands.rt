@@ -60,9 +60,9 @@ and the status is 1 at the end.
 With --where only networks whose record has this value at the path are written:
 a text as it stands, any other scalar as its JSON. PATH=@FILE has a value a line,
 and @@ stands for a @ that a value begins with. --where-contains wants a text
-that has this text in it, --where-above and --where-below a number, --where-has
-any value. Several values of one option at one path are alternatives, options
-and paths must all fit, and --where-not leaves out.
+that has this text in it, and --where-has any value. Several values of one option
+at one path are alternatives, options and paths must all fit, and --where-not
+leaves out.
 
 All other formats write no records but the fewest blocks that have the addresses
 of the networks, and those in the files of --also, but none in those of --except:
@@ -176,18 +176,6 @@ const WHERE_NOT: Argument = Argument::Values(
     "where-not",
     "PATH=VALUE",
     "No networks with this value at the path, nor one of PATH=@FILE; may be repeated",
-);
-
-const WHERE_ABOVE: Argument = Argument::Values(
-    "where-above",
-    "PATH=N",
-    "Only networks with a number above N at the path; may be repeated",
-);
-
-const WHERE_BELOW: Argument = Argument::Values(
-    "where-below",
-    "PATH=N",
-    "Only networks with a number below N at the path; may be repeated",
 );
 
 const WHERE_CONTAINS: Argument = Argument::Values(
@@ -364,8 +352,6 @@ const EXPORTING: &[Usage] = &[Usage {
         ),
         WHERE,
         WHERE_NOT,
-        WHERE_ABOVE,
-        WHERE_BELOW,
         WHERE_CONTAINS,
         WHERE_HAS,
         ALSO,
@@ -408,8 +394,6 @@ const COMPARING: &[Usage] = &[Usage {
         ),
         WHERE,
         WHERE_NOT,
-        WHERE_ABOVE,
-        WHERE_BELOW,
         WHERE_CONTAINS,
         WHERE_HAS,
         ALSO,

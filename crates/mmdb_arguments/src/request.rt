@@ -89,10 +89,6 @@ pub struct ConditionTexts<'a> {
     pub wheres: Vec<&'a str>,
     /// Texts that should be paths with values, of networks that are not wanted.
     pub where_nots: Vec<&'a str>,
-    /// Texts that should be paths with numbers below what is wanted.
-    pub aboves: Vec<&'a str>,
-    /// Texts that should be paths with numbers above what is wanted.
-    pub belows: Vec<&'a str>,
     /// Texts that should be paths with parts of texts that are wanted.
     pub contains: Vec<&'a str>,
     /// Texts that should be paths at which there is to be a value.
@@ -346,15 +342,11 @@ fn condition_texts<'a>(
 ) -> Result<ConditionTexts<'a>, AllocError> {
     let wheres = texts_of(alloc, matches, "where")?;
     let where_nots = texts_of(alloc, matches, "where-not")?;
-    let aboves = texts_of(alloc, matches, "where-above")?;
-    let belows = texts_of(alloc, matches, "where-below")?;
     let contains = texts_of(alloc, matches, "where-contains")?;
     let has = texts_of(alloc, matches, "where-has")?;
     Ok(ConditionTexts {
         wheres,
         where_nots,
-        aboves,
-        belows,
         contains,
         has,
     })
@@ -411,8 +403,6 @@ fn list_argument(arguments: &ExportArguments<'_>) -> Option<&'static str> {
     let given = [
         ("--where", !conditions.wheres.is_empty()),
         ("--where-not", !conditions.where_nots.is_empty()),
-        ("--where-above", !conditions.aboves.is_empty()),
-        ("--where-below", !conditions.belows.is_empty()),
         ("--where-contains", !conditions.contains.is_empty()),
         ("--where-has", !conditions.has.is_empty()),
         ("--also", !list.also.is_empty()),
