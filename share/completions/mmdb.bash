@@ -35,7 +35,7 @@ _mmdb() {
       options='--from --format --network-column --range-columns --type --types-like --equal --database-type --description'
       options+=' --language --build-epoch --ip-version --record-size --reserved --skip-bad --check'
       ;;
-    info) options='--json' ;;
+    info) options='--json --fields' ;;
     install) options='--max-change --dry-run' ;;
     verify) options='--whole --database-type --newer-than --max-age --json --quiet' ;;
     help) [ "$COMP_CWORD" -ne 2 ] || _mmdb_offer "$commands"; return ;;
@@ -84,7 +84,7 @@ _mmdb() {
   case $ended$typed in
     -*) _mmdb_offer "$options --help -h" ;;
     *)
-      if [ "$arguments" -eq 0 ] || [ "$command" = verify ] || [ "$command$arguments" = diff1 ] || [ "$command$arguments" = install1 ]; then
+      if [ "$arguments" -eq 0 ] || [ "$command" = verify ] || [ "$command" = info ] || [ "$command$arguments" = diff1 ] || [ "$command$arguments" = install1 ]; then
         _mmdb_files
       fi
       ;;

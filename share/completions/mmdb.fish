@@ -98,6 +98,7 @@ complete -c mmdb -n '__mmdb_is build' -l check -d 'Read the file back and compar
 complete -c mmdb -n '__mmdb_is build' -s h -l help -d 'Print help'
 
 complete -c mmdb -n '__mmdb_is info' -l json -d 'As JSON'
+complete -c mmdb -n '__mmdb_is info' -l fields -d 'Also the paths of its records'
 complete -c mmdb -n '__mmdb_is info' -s h -l help -d 'Print help'
 
 complete -c mmdb -n '__mmdb_is install' -F
@@ -115,6 +116,7 @@ complete -c mmdb -n '__mmdb_is verify' -s h -l help -d 'Print help'
 
 complete -c mmdb -n '__mmdb_is help' -a 'show enrich export diff build info install verify help'
 
-# The first argument is a file; all arguments of verify are.
-complete -c mmdb -n '__mmdb_wants_file show enrich export build info' -F
+# The first argument is a file; all arguments of info and verify are.
+complete -c mmdb -n '__mmdb_wants_file show enrich export build' -F
+complete -c mmdb -n '__mmdb_is info' -F
 complete -c mmdb -n '__mmdb_is verify' -F

@@ -10,8 +10,16 @@ steps; an integer is an index, negative from the end; a key in double quotes
 may hold dots or digits. The status is 0 if all were found, 6 if one was not,
 1 for an error, 2 for a usage error.";
 
-const INFO_EXAMPLE: &str = "Example:
-  mmdb info GeoLite2-City.mmdb --json";
+const INFO_EXAMPLE: &str = "Examples:
+  mmdb info GeoLite2-City.mmdb --json
+  mmdb info GeoLite2-City.mmdb --fields
+
+With --fields come the paths to the values of its records, as --field takes them,
+sorted: before each how many distinct records have a value there, and its type. All
+items of an array are counted at the index 0, and the empty path is that of whole
+records. Paths of more than 1,024 bytes, those that can't be written, and any after
+the first 65,536 are left out, which is said. Of several files each text or object
+begins with its file; the status is 1 where one can't be read.";
 
 const VERIFY_EXAMPLE: &str = "Examples:
   mmdb verify GeoLite2-City.mmdb GeoLite2-Country.mmdb
@@ -23,7 +31,7 @@ valid text, but one may still not be read: with a key that is no text, or that a
 pointer to a pointer leads to, or with more than 65,536 values or 2 MiB of texts.
 How many can't be read, the first network and why is said. With --whole files are
 only to be whole. With --json each file is an object with its path, ok, type,
-epoch, nodes, records and error: null where it is not known, or none.";
+epoch, nodes, unreadable_records and error: null where it is not known, or none.";
 
 const ENRICH_EXAMPLE: &str = "Examples:
   tail -F nginx/access.log | mmdb enrich GeoLite2-City.mmdb --field country.iso_code
@@ -238,7 +246,7 @@ const ALLOW_MISSING: Argument = Argument::Flag(
 /// What says of columns, which lines of JSON have not.
 const COLUMNS: &[&str] = &["column", "delimiter", "header"];
 
-/// The commands that read files.
+/// The commands that look at a file, or up in it.
 const READING: &[Usage] = &[
     Usage {
         name: "show",
@@ -262,7 +270,14 @@ const READING: &[Usage] = &[
         name: "info",
         about: "Show what a database says of itself",
         example: INFO_EXAMPLE,
-        arguments: &[FILE, Argument::Flag("json", "As JSON")],
+        arguments: &[
+            Argument::Several("FILE", "MaxMind DB files"),
+            Argument::Flag("json", "As JSON"),
+            Argument::Flag(
+                "fields",
+                "Also the paths of its records, with types and how many records have them",
+            ),
+        ],
     },
     Usage {
         name: "enrich",
@@ -420,7 +435,7 @@ const CHECKING: &[Usage] = &[Usage {
         Argument::Value(
             "database-type",
             "TYPE",
-            "The type that each file has to have; a * at its end or its beginning stands for any text",
+            "The type that each file has to have; a * at an end, and nowhere else, is any text",
         ),
         Argument::Value(
             "newer-than",

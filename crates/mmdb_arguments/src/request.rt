@@ -18,8 +18,10 @@ pub struct ShowArguments<'a> {
 /// The arguments of `info`.
 #[derive(Drop)]
 pub struct InfoArguments<'a> {
-    pub file: &'a str,
+    pub files: Vec<&'a str>,
     pub json: bool,
+    /// Whether the paths of its records are shown too.
+    pub fields: bool,
 }
 
 /// Which of several addresses in one cell is meant.
@@ -284,11 +286,12 @@ fn show<'a>(alloc: Global, matches: &ArgMatches<'a>) -> Result<Request<'a>, NoRe
     }))
 }
 
-fn info<'a>(matches: &ArgMatches<'a>) -> Request<'a> {
-    Request::Info(InfoArguments {
-        file: file_of(matches),
+fn info<'a>(alloc: Global, matches: &ArgMatches<'a>) -> Result<Request<'a>, NoRequest> {
+    Ok(Request::Info(InfoArguments {
+        files: texts_of(alloc, matches, "FILE")?,
         json: matches.get_flag("json"),
-    })
+        fields: matches.get_flag("fields"),
+    }))
 }
 
 fn hop_of(matches: &ArgMatches<'_>) -> Hop {
@@ -522,7 +525,7 @@ fn of_command<'a>(
     if name == "show" {
         show(alloc, matches)
     } else if name == "info" {
-        Ok(info(matches))
+        info(alloc, matches)
     } else if name == "enrich" {
         enrich(alloc, matches)
     } else if name == "export" {

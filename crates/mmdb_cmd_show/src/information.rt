@@ -1,10 +1,11 @@
-//! What a database says of itself.
+//! What a database says of itself, and which fields its records have.
+use crate::fields::{Field, Fields, fields_of};
 use jiff::Timestamp;
 use json::{Pretty, Token};
 use mmdb_arguments::{InfoArguments, shown_text};
 use mmdb_console::{Console, DONE, FAILED, ProgramError, line_of};
 use mmdb_json::write_value;
-use mmdb_layout::open_database;
+use mmdb_layout::{Database, open_database};
 use mmdb_reader::{Metadata, Reader, Sections};
 use mmdb_value::Value;
 use std::alloc::{AllocError, Global};
@@ -63,6 +64,17 @@ impl Lines {
     }
 }
 
+/// What is shown of a database.
+#[derive(Clone, Copy)]
+struct Described<'d> {
+    /// Its file, where several are shown.
+    path: Option<&'d str>,
+    metadata: &'d Metadata,
+    sections: &'d Sections,
+    /// The fields of its records, where they are asked for.
+    fields: Option<&'d Fields<'d>>,
+}
+
 // When a database was built, by the number of seconds since 1970.
 fn built_text(alloc: Global, seconds: u64) -> Result<String, AllocError> {
     match date_of(alloc, seconds)? {
@@ -106,11 +118,32 @@ fn add_numbers(alloc: Global, metadata: &Metadata, sections: &Sections, lines: &
     ));
 }
 
+// Adds how many distinct records there are, and the fields: how many of them have a value there, its type, and the path.
+fn add_fields(alloc: Global, fields: &Fields<'_>, lines: &mut Lines) -> Result<(), AllocError> {
+    let records = fields.records;
+    lines.add(format!(in alloc; "records:     {records}\n"));
+    for Field {
+        path,
+        type_name,
+        records,
+    } in fields.rows()? {
+        lines.add(format!(in alloc; "{records}\t{type_name}\t"));
+        lines.add_line(alloc, String::from_str(alloc, path));
+    }
+    Ok(())
+}
+
 // The lines that a person reads.
-fn text_of(alloc: Global, metadata: &Metadata, sections: &Sections) -> Result<String, AllocError> {
+fn text_of(alloc: Global, described: Described<'_>) -> Result<String, AllocError> {
     let mut lines = Lines::new(alloc);
-    add_texts(alloc, metadata, &mut lines);
-    add_numbers(alloc, metadata, sections, &mut lines);
+    if let Some(path) = described.path {
+        lines.add_line(alloc, format!(in alloc; "file:        {path}"));
+    }
+    add_texts(alloc, described.metadata, &mut lines);
+    add_numbers(alloc, described.metadata, described.sections, &mut lines);
+    if let Some(fields) = described.fields {
+        add_fields(alloc, fields, &mut lines)?;
+    }
     lines.finish()
 }
 
@@ -192,39 +225,58 @@ fn put_numbers(
     Ok(())
 }
 
-// The texts and numbers as an object.
-fn put_object(
-    alloc: Global,
-    out: &mut Pretty,
-    metadata: &Metadata,
-    sections: &Sections,
-) -> Result<(), AllocError> {
+// A field as an object.
+fn put_field(alloc: Global, out: &mut Pretty, field: Field<'_>) -> Result<(), AllocError> {
     out.token(Token::BeginObject)?;
-    put_texts(alloc, out, metadata)?;
-    put_numbers(alloc, out, metadata, sections)?;
+    put_text(out, "path", field.path)?;
+    put_text(out, "type", field.type_name)?;
+    put_number(alloc, out, "records", field.records)?;
+    out.token(Token::EndObject)
+}
+
+// How many distinct records there are, and the fields, as an array.
+fn put_fields(alloc: Global, out: &mut Pretty, fields: &Fields<'_>) -> Result<(), AllocError> {
+    put_number(alloc, out, "records", fields.records)?;
+    put_number(alloc, out, "unreadable_records", fields.unreadable)?;
+    out.token(Token::Key("fields"))?;
+    out.token(Token::BeginArray)?;
+    for field in fields.rows()? {
+        put_field(alloc, out, field)?;
+    }
+    out.token(Token::EndArray)?;
+    out.token(Token::Key("fields_are_cut"))?;
+    write_value(alloc, &Value::Bool(fields.is_cut), out)
+}
+
+// All that is shown as an object.
+fn put_object(alloc: Global, out: &mut Pretty, described: Described<'_>) -> Result<(), AllocError> {
+    out.token(Token::BeginObject)?;
+    if let Some(path) = described.path {
+        put_text(out, "path", path)?;
+    }
+    put_texts(alloc, out, described.metadata)?;
+    put_numbers(alloc, out, described.metadata, described.sections)?;
+    if let Some(fields) = described.fields {
+        put_fields(alloc, out, fields)?;
+    }
     out.token(Token::EndObject)
 }
 
 // The text of that object.
-fn json_of(alloc: Global, metadata: &Metadata, sections: &Sections) -> Result<Vec<u8>, AllocError> {
+fn json_of(alloc: Global, described: Described<'_>) -> Result<Vec<u8>, AllocError> {
     let mut out = Pretty::new(alloc);
-    put_object(alloc, &mut out, metadata, sections)?;
+    put_object(alloc, &mut out, described)?;
     let mut text = out.into_inner();
     text.push(b'\n')?;
     Ok(text)
 }
 
-// The text of what a file says of itself.
-fn info_text(
-    alloc: Global,
-    metadata: &Metadata,
-    sections: &Sections,
-    json: bool,
-) -> Result<Vec<u8>, AllocError> {
+// The text of what is shown.
+fn info_text(alloc: Global, described: Described<'_>, json: bool) -> Result<Vec<u8>, AllocError> {
     if json {
-        json_of(alloc, metadata, sections)
+        json_of(alloc, described)
     } else {
-        Ok(text_of(alloc, metadata, sections)?.into_bytes())
+        Ok(text_of(alloc, described)?.into_bytes())
     }
 }
 
@@ -233,27 +285,108 @@ fn info_text(
 /// Fails as `Reader::from_source` does.
 pub fn info(alloc: Global, bytes: &[u8], json: bool) -> Result<Vec<u8>, ProgramError> {
     let reader = Reader::from_source(alloc, bytes)?;
-    let text = info_text(alloc, reader.metadata(), &reader.sections(), json);
+    let described = Described {
+        path: None,
+        metadata: reader.metadata(),
+        sections: &reader.sections(),
+        fields: None,
+    };
+    let text = info_text(alloc, described, json);
     drop(reader);
     Ok(text?)
 }
 
-/// Writes what a database says of itself, or reports why its file can't be read, and answers the status. An `Err` where
-/// standard output can't be written, or out of memory.
+// Says what is wrong with the fields, behind what was written of them, and answers the status.
+fn note_fields<O: Write, E: Write>(
+    file: &str,
+    fields: &Fields<'_>,
+    console: &mut Console<'_, O, E>,
+) -> Result<u8, ProgramError> {
+    let alloc = console.alloc;
+    if fields.is_cut {
+        console.flush()?;
+        console.note(line_of(
+            alloc,
+            format!(in alloc; "mmdb: {file}: some paths are left out"),
+        ));
+    }
+    let Some(error) = &fields.error else {
+        return Ok(DONE);
+    };
+    let count = fields.unreadable;
+    let text: String = format!(in alloc; "{count} records can't be read, the first: {error}")?;
+    console.flush()?;
+    console.report(file, &text);
+    Ok(FAILED)
+}
+
+// Writes what a database says of itself, and the fields of its records if there are some, and answers the status.
+fn put_described<O: Write, E: Write>(
+    database: &Database,
+    path: Option<&str>,
+    fields: Option<&Fields<'_>>,
+    json: bool,
+    console: &mut Console<'_, O, E>,
+) -> Result<(), ProgramError> {
+    let described = Described {
+        path,
+        metadata: database.metadata(),
+        sections: &database.sections(),
+        fields,
+    };
+    let text = info_text(console.alloc, described, json)?;
+    console.put(text.as_slice())
+}
+
+// Writes what a database says of itself and the fields of its records, and answers the status.
+fn put_with_fields<O: Write, E: Write>(
+    database: &Database,
+    file: &str,
+    path: Option<&str>,
+    json: bool,
+    console: &mut Console<'_, O, E>,
+) -> Result<u8, ProgramError> {
+    let fields = fields_of(console.alloc, database)?;
+    put_described(database, path, Some(&fields), json, console)?;
+    note_fields(file, &fields, console)
+}
+
+// Writes what the database of a file says of itself, or reports why it can't be read, and answers the status.
+fn describe_file<R: Files, O: Write, E: Write>(
+    rt: &R,
+    file: &str,
+    arguments: &InfoArguments<'_>,
+    console: &mut Console<'_, O, E>,
+) -> Result<u8, ProgramError> {
+    let Some(database) = open_database(rt, file, console) else {
+        return Ok(FAILED);
+    };
+    let is_alone = arguments.files.len() == 1;
+    let path = if is_alone { None } else { Some(file) };
+    let done = if arguments.fields {
+        put_with_fields(&database, file, path, arguments.json, console)
+    } else {
+        match put_described(&database, path, None, arguments.json, console) {
+            Ok(()) => Ok(DONE),
+            Err(error) => Err(error),
+        }
+    };
+    drop(database);
+    done
+}
+
+/// Writes what each database says of itself, and the fields of its records where they are asked for, or reports why its file
+/// can't be read, and answers the status. An `Err` where standard output can't be written, or out of memory.
 pub fn describe<R: Files, O: Write, E: Write>(
     rt: &R,
     arguments: &InfoArguments<'_>,
     console: &mut Console<'_, O, E>,
 ) -> Result<u8, ProgramError> {
-    let Some(database) = open_database(rt, arguments.file, console) else {
-        return Ok(FAILED);
-    };
-    let (metadata, sections) = (database.metadata(), database.sections());
-    let text = info_text(console.alloc, metadata, &sections, arguments.json);
-    drop(database);
-    let text = text?;
-    let put = console.put(text.as_slice());
-    drop(text);
-    put?;
-    Ok(DONE)
+    let mut status = DONE;
+    for file in &arguments.files {
+        if describe_file(rt, file, arguments, console)? == FAILED {
+            status = FAILED;
+        }
+    }
+    Ok(status)
 }

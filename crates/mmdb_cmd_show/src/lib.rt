@@ -3,6 +3,7 @@
 #![tactic(auto)]
 
 mod answer;
+mod fields;
 mod information;
 mod verification;
 

@@ -22,13 +22,23 @@ struct MostAge {
     since: u64,
 }
 
+/// The database types that are wanted: those that are a name, or end, begin or go on with it.
+#[derive(Clone, Copy)]
+struct TypePattern<'a> {
+    /// As it is given, with a `*` or more at an end for any text there.
+    text: &'a str,
+    /// Without them.
+    name: &'a str,
+    is_open_before: bool,
+    is_open_behind: bool,
+}
+
 /// What `verify` is asked for.
 #[derive(Clone, Copy)]
 struct VerifyTask<'a> {
     /// Whether records are left out.
     whole: bool,
-    /// The type, with a `*` at an end for any text there.
-    database_type: Option<&'a str>,
+    database_type: Option<TypePattern<'a>>,
     /// After which second since 1970 a file has to be built.
     after: Option<u64>,
     most_age: Option<MostAge>,
@@ -46,13 +56,19 @@ struct Verdict {
     unreadable: Option<u64>,
     /// What is wrong with it, if something is.
     wrong: Option<String>,
-    /// Whether it is no MaxMind DB file.
-    is_no_database: bool,
+}
+
+// The number that a text of digits alone spells.
+fn number_of(text: &str) -> Option<u64> {
+    if !text.as_bytes().iter().all(|byte| byte.is_ascii_digit()) {
+        return None;
+    }
+    text.parse::<u64>().ok()
 }
 
 // How old files may be, by a text that should be a number of days.
 fn most_age_of<R: Clock>(rt: &R, alloc: Global, text: &str) -> Result<MostAge, ProgramError> {
-    let Ok(days) = text.parse::<u64>() else {
+    let Some(days) = number_of(text) else {
         let reason = NoRequest::bad_argument(alloc, "--max-age", "not a number of days");
         return Err(ProgramError::Arguments(reason));
     };
@@ -63,13 +79,30 @@ fn most_age_of<R: Clock>(rt: &R, alloc: Global, text: &str) -> Result<MostAge, P
     })
 }
 
-// Whether a database type is as asked for.
-fn has_type(database_type: &str, wanted: &str) -> bool {
-    match (wanted.strip_prefix('*'), wanted.strip_suffix('*')) {
-        (Some(end), None) => database_type.ends_with(end),
-        (None, Some(front)) => database_type.starts_with(front),
-        (Some(_), Some(front)) => { database_type.contains(front.strip_prefix('*').unwrap_or("")) }
-        (None, None) => database_type == wanted,
+// The pattern of a text. An `Err` where a `*` stands inside.
+fn pattern_of<'a>(alloc: Global, text: &'a str) -> Result<TypePattern<'a>, NoRequest> {
+    let pattern = TypePattern {
+        text,
+        name: text.trim_matches('*'),
+        is_open_before: text.starts_with('*'),
+        is_open_behind: text.ends_with('*'),
+    };
+    if pattern.name.contains('*') {
+        let wanted = "a * inside, and not at an end";
+        return Err(NoRequest::bad_argument(alloc, "--database-type", wanted));
+    }
+    Ok(pattern)
+}
+
+impl TypePattern<'_> {
+    // Whether a database type is as asked for.
+    fn fits(self, database_type: &str) -> bool {
+        match (self.is_open_before, self.is_open_behind) {
+            (true, true) => database_type.contains(self.name),
+            (true, false) => database_type.ends_with(self.name),
+            (false, true) => database_type.starts_with(self.name),
+            (false, false) => database_type == self.name,
+        }
     }
 }
 
@@ -80,9 +113,10 @@ fn unexpected(
     task: VerifyTask<'_>,
 ) -> Result<Option<String>, AllocError> {
     let (database_type, built) = (metadata.database_type.as_str(), metadata.build_epoch);
-    if let Some(wanted) = task.database_type
-        && !has_type(database_type, wanted)
+    if let Some(pattern) = task.database_type
+        && !pattern.fits(database_type)
     {
+        let wanted = pattern.text;
         return Ok(Some(format!(in alloc; "its type is {database_type}, not {wanted}")?));
     }
     if let Some(after) = task.after
@@ -171,7 +205,6 @@ fn verdict_on(
         node_count: Some(u64::from(metadata.node_count)),
         unreadable,
         wrong,
-        is_no_database: false,
     })
 }
 
@@ -183,7 +216,6 @@ fn verdict_of_error(alloc: Global, error: &MaxMindDbError) -> Result<Verdict, Al
         node_count: None,
         unreadable: None,
         wrong: Some(format!(in alloc; "{error}")?),
-        is_no_database: matches!(error, MaxMindDbError::InvalidDatabase { .. }),
     })
 }
 
@@ -308,11 +340,10 @@ fn verify_one<R: Files, O: Write, E: Pace>(
 ) -> Result<bool, ProgramError> {
     let verdict = verdict_of(rt, console.alloc, file, task)?;
     let is_right = verdict.wrong.is_none();
-    let may_be_packed = verdict.is_no_database;
     let put = put_line(file, &verdict, task, console);
     drop(verdict);
     put?;
-    if may_be_packed {
+    if !is_right {
         note_archive(rt, file, console);
     }
     Ok(is_right)
@@ -359,12 +390,15 @@ pub fn verify<R: Files + Clock, O: Write, E: Pace>(
 ) -> Result<u8, ProgramError> {
     let mut task = VerifyTask {
         whole: arguments.whole,
-        database_type: arguments.database_type,
+        database_type: None,
         after: None,
         most_age: None,
         json: arguments.json,
         quiet: arguments.quiet,
     };
+    if let Some(text) = arguments.database_type {
+        task.database_type = Some(pattern_of(console.alloc, text)?);
+    }
     if let Some(days) = arguments.max_age {
         task.most_age = Some(most_age_of(rt, console.alloc, days)?);
     }

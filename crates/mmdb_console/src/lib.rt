@@ -17,7 +17,7 @@ pub use mmdb_main::{BAD_ARGUMENTS, DONE, FAILED};
 pub use output::{
     Console, DIFFERENT, Io, NO_MEMORY, NOT_FOUND, Terminals, line_of, opened, put, reported,
 };
-pub use paths::{path_of, paths_of, wanted_path};
+pub use paths::{path_of, path_with_index, path_with_key, paths_of, wanted_path};
 pub use place::Where;
 pub use progress::{Pace, Paced, Passed, ProgressLine, text_of_progress};
 pub use ranges::{note_range, range_of};

@@ -111,3 +111,45 @@ pub fn paths_of<'a>(
     }
     Ok(paths)
 }
+
+// Whether a key stands for itself as a part between dots.
+fn is_plain(key: &str) -> bool {
+    let mut has_sign = key.is_empty() || key.starts_with('"');
+    for byte in key.as_bytes() {
+        has_sign |= *byte == b'.';
+    }
+    !has_sign && !is_integer(key)
+}
+
+// Whether a key can stand in quotes.
+fn is_quotable(key: &str) -> bool {
+    !key.as_bytes().iter().any(|byte| *byte == b'"')
+}
+
+// The path one step on, by the step's text.
+fn path_with(alloc: Global, path: &str, step: &str) -> Result<String, AllocError> {
+    if path.is_empty() {
+        String::from_str(alloc, step)
+    } else {
+        format!(in alloc; "{path}.{step}")
+    }
+}
+
+/// The text of a path with a key more, which `path_of` reads so. None where no text does: of a key with quotes that
+/// begins with them or has a dot.
+pub fn path_with_key(alloc: Global, path: &str, key: &str) -> Result<Option<String>, AllocError> {
+    if is_plain(key) {
+        return Ok(Some(path_with(alloc, path, key)?));
+    }
+    if !is_quotable(key) {
+        return Ok(None);
+    }
+    let step: String = format!(in alloc; "\"{key}\"")?;
+    Ok(Some(path_with(alloc, path, step.as_str())?))
+}
+
+/// The text of a path with an index more.
+pub fn path_with_index(alloc: Global, path: &str, index: usize) -> Result<String, AllocError> {
+    let step: String = format!(in alloc; "{index}")?;
+    path_with(alloc, path, step.as_str())
+}

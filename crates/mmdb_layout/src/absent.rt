@@ -1,6 +1,6 @@
 //! Fields that no record has: a path that is misspelt gives empty cells without a word.
 use crate::database::Found;
-use mmdb_console::{Console, ProgramError, Similar, line_of};
+use mmdb_console::{Console, ProgramError, Similar, line_of, path_with_index, path_with_key};
 use mmdb_reader::{MaxMindDbError, PathElement};
 use mmdb_value::{Decode, Decoder, Value};
 use std::alloc::{AllocError, Global};
@@ -34,28 +34,6 @@ struct ValueAtPath<'v, 'de> {
     value: &'v Value<'de>,
 }
 
-// Whether a key has to stand in quotes in a path.
-fn needs_quotes(key: &str) -> bool {
-    let mut is_number = !key.is_empty();
-    for c in key.chars() {
-        if c == '.' {
-            return true;
-        }
-        is_number &= c.is_ascii_digit();
-    }
-    is_number
-}
-
-// The path one step on.
-fn path_with(alloc: Global, path: &str, step: &str) -> Result<String, AllocError> {
-    match (path.is_empty(), needs_quotes(step)) {
-        (true, false) => String::from_str(alloc, step),
-        (true, true) => format!(in alloc; "\"{step}\""),
-        (false, false) => format!(in alloc; "{path}.{step}"),
-        (false, true) => format!(in alloc; "{path}.\"{step}\""),
-    }
-}
-
 // Adds the places in a map or an array.
 fn add_places<'v, 'de>(
     alloc: Global,
@@ -66,13 +44,14 @@ fn add_places<'v, 'de>(
     match place.value {
         Value::Map(pairs) => {
             for (key, value) in pairs {
-                let path = path_with(alloc, path, *key)?;
-                places.push(ValueAtPath { path, value })?;
+                if let Some(path) = path_with_key(alloc, path, *key)? {
+                    places.push(ValueAtPath { path, value })?;
+                }
             }
         }
         Value::Array(items) => {
             for (index, value) in items.iter().enumerate() {
-                let path = format!(in alloc; "{path}.{index}")?;
+                let path = path_with_index(alloc, path, index)?;
                 places.push(ValueAtPath { path, value })?;
             }
         }

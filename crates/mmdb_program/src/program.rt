@@ -44,7 +44,10 @@ fn put_reason<O: Write, E: Write>(reason: &NoRequest, console: &mut Console<'_, 
 fn subject_of<'a>(request: &Request<'a>) -> &'a str {
     match request {
         Request::Show(arguments) => arguments.file,
-        Request::Info(arguments) => arguments.file,
+        Request::Info(arguments) => match arguments.files.as_slice() {
+            [file] => file,
+            _ => "info",
+        },
         Request::Enrich(arguments) => arguments.file,
         Request::Export(arguments) => arguments.file,
         Request::Diff(_) => "diff",

@@ -54,6 +54,8 @@ const COMMANDS: &[&[&str]] = &[
     &["show", "here.mmdb", "200.0.0.1"],
     &["info", "here.mmdb"],
     &["info", "here.mmdb", "--json"],
+    &["info", "here.mmdb", "--fields"],
+    &["info", "here.mmdb", "--fields", "--json"],
     &["export", "here.mmdb", "--field", "", "--format", "csv"],
     &["export", "here.mmdb"],
     &["export", "here.mmdb", "--format", "ipset"],

@@ -66,7 +66,7 @@ const BASE_RUNS: &[Row<'static>] = &[
         "mmdb: access.log is no database; enrich reads standard input: < access.log\n",
     ),
     (&["frob"], 2, "", "frob"),
-    (&["info", "here.mmdb", "extra"], 2, "", "extra"),
+    (&["info"], 2, "", "FILE"),
     (&[], 2, "", "Usage"),
     (
         &["info", "here.mmdb"],
@@ -84,6 +84,12 @@ const NESTED_RUNS: &[Row<'static>] = &[
     (&["show", "here.mmdb", "200.0.0.1", "--path", "\"a.b\".-1.\"0\""], 0, "\"y\"\n", ""),
     (&["show", "here.mmdb", "200.0.0.1", "--path", "\"a.b\".0", "--path", "c"], 6, "1\nnull\n", "mmdb: no record has c\n"),
     (&["show", "here.mmdb", "200.0.0.1", "--path", "\"a.b\".1.0"], 1, "", "decoding error"),
+    (
+        &["info", "here.mmdb", "--fields"],
+        0,
+        "type:        T\ndescription: d (en)\nlanguages:  \nIP version:  4\nbuilt:       1970-01-01T00:00:01Z (1 s)\nformat:      2.0\nnodes:       1\nrecord size: 24 bits\ntree:        6 bytes\ndata:        14 bytes\nmetadata:    161 bytes\nrecords:     1\n1\tmap\t\n1\tarray\t\"a.b\"\n1\tuint16\t\"a.b\".0\n1\tmap\t\"a.b\".0\n1\tstring\t\"a.b\".0.\"0\"\n",
+        "",
+    ),
 ];
 
 /// Runs over a file of no bytes.
@@ -351,6 +357,11 @@ const VERIFIED: &[Row<'static>] = &[
     (&["verify", "here.mmdb", "--max-age", "11"], 1, "here.mmdb: it was built at 1, more than 11 days ago\n", ""),
     (&["verify", "here.mmdb", "--max-age", "18446744073709551615"], 0, "here.mmdb: ok\n", ""),
     (&["verify", "here.mmdb", "--max-age", "x"], 2, "", "mmdb: --max-age: not a number of days\n"),
+    (&["verify", "gone.mmdb", "--max-age", "+5"], 2, "", "mmdb: --max-age: not a number of days\n"),
+    (&["verify", "gone.mmdb", "--max-age", ""], 2, "", "mmdb: --max-age: not a number of days\n"),
+    (&["verify", "here.mmdb", "--database-type", "***"], 0, "here.mmdb: ok\n", ""),
+    (&["verify", "here.mmdb", "--database-type", "**T"], 0, "here.mmdb: ok\n", ""),
+    (&["verify", "gone.mmdb", "--database-type", "T*T"], 2, "", "mmdb: --database-type: a * inside, and not at an end\n"),
     (&["verify", "here.mmdb", "--newer-than", "here.mmdb"], 1, "here.mmdb: it was built at 1, not after 1\n", ""),
     (&["verify", "here.mmdb", "--newer-than", "gone.mmdb"], 1, "", "mmdb: gone.mmdb: i/o error: "),
     (&["verify", "here.mmdb", "--json"], 0, "{\"path\":\"here.mmdb\",\"ok\":true,\"type\":\"T\",\"epoch\":1,\"nodes\":1,\"unreadable_records\":0,\"error\":null}\n", ""),
@@ -358,6 +369,17 @@ const VERIFIED: &[Row<'static>] = &[
     (&["verify", "gone.mmdb", "--json"], 1, "{\"path\":\"gone.mmdb\",\"ok\":false,\"type\":null,\"epoch\":null,\"nodes\":null,\"unreadable_records\":null,\"error\":\"i/o error: entity not found\"}\n", ""),
     (&["verify", "here.mmdb", "--quiet"], 0, "", ""),
     (&["verify", "gone.mmdb", "--quiet"], 1, "", "mmdb: gone.mmdb: i/o error: entity not found\n"),
+];
+
+/// What `info` says of several files, and of the fields of records.
+#[rattlefmt::skip]
+const INFORMED: &[Row<'static>] = &[
+    (
+        &["info", "here.mmdb", "gone.mmdb", "here.mmdb", "--fields"],
+        1,
+        "file:        here.mmdb\ntype:        T\ndescription: d (en)\nlanguages:  \nIP version:  4\nbuilt:       1970-01-01T00:00:01Z (1 s)\nformat:      2.0\nnodes:       1\nrecord size: 24 bits\ntree:        6 bytes\ndata:        2 bytes\nmetadata:    161 bytes\nrecords:     1\n1\tstring\t\nfile:        here.mmdb\ntype:        T\ndescription: d (en)\nlanguages:  \nIP version:  4\nbuilt:       1970-01-01T00:00:01Z (1 s)\nformat:      2.0\nnodes:       1\nrecord size: 24 bits\ntree:        6 bytes\ndata:        2 bytes\nmetadata:    161 bytes\nrecords:     1\n1\tstring\t\n",
+        "mmdb: gone.mmdb: i/o error: ",
+    ),
 ];
 
 /// Bad words for lines of JSON.
@@ -426,6 +448,11 @@ const NOTES: &[Notes<'static>] = &[
 #[test]
 fn files_verified(rt: HostRuntime) {
     assert_runs(&rt, rt.alloc(), BASE_FILE, VERIFIED);
+}
+
+#[test]
+fn files_described(rt: HostRuntime) {
+    assert_runs(&rt, rt.alloc(), BASE_FILE, INFORMED);
 }
 
 #[test]
@@ -688,7 +715,12 @@ fn whole_files_of_records_that_are_not_shown(rt: HostRuntime) {
             rt.alloc(),
             bytes,
             &[
-                (&["verify", "here.mmdb", "--whole"], 0, "here.mmdb: ok\n", ""),
+                (
+                    &["verify", "here.mmdb", "--whole"],
+                    0,
+                    "here.mmdb: ok\n",
+                    "",
+                ),
                 (shown, 1, "", row.4),
             ],
         );
