@@ -66,26 +66,38 @@ whose record or field can't be read has no line: it is named on standard error,
 and the status is 1 at the end.
 
 With --where only networks whose record has this value at the path are written:
-a text as it stands, any other scalar as its JSON. Of one path several values
-are alternatives, several paths must all fit, and --where-not leaves out.
+a text as it stands, any other scalar as its JSON. PATH=@FILE has a value a line,
+and @@ stands for a @ that a value begins with. --where-contains wants a text
+that has this text in it, and --where-has any value. Several values of one option
+at one path are alternatives, options and paths must all fit, and --where-not
+leaves out.
 
-The formats cidr, nft and ipset write no records but the fewest blocks that have
-the addresses of the networks: one a line, or two sets NAME_ipv4 and NAME_ipv6
-as a file for nft -f (in the table inet mmdb) or for ipset restore. A list has
-no address outside RANGE. Where it would have no network, or no network has a
-value of a condition, nothing is written, so that a wrong value empties no set,
-and the status is 1. A row names a network as it is, even if it is wider than
-RANGE.";
+All other formats write no records but the fewest blocks that have the addresses
+of the networks, and those in the files of --also, but none in those of --except:
+a network, an address or FIRST-LAST a line, and comments behind #. They are one a
+line as cidr and pf, two sets NAME_ipv4 and NAME_ipv6 as a file for nft -f or for
+ipset restore, a chain NAME for iptables-restore --noflush and ip6tables-restore,
+a geo block of $NAME for nginx, or a map of haproxy. A list has no address
+outside RANGE but those of --also. Where it would have no network, or no network
+has a value of a condition, nothing is written, so that a wrong value empties no
+set, and the status is 1. A row names a network as it is, even if it is wider
+than RANGE.";
 
-const DIFF_EXAMPLE: &str = "Example:
+const DIFF_EXAMPLE: &str = "Examples:
   mmdb diff old/GeoLite2-Country.mmdb GeoLite2-Country.mmdb --field country.iso_code
+  mmdb diff old/GeoLite2-Country.mmdb GeoLite2-Country.mmdb \\
+      --where country.iso_code=DE --format nft | nft -f -
 
 Each line is a block of addresses, as large as it can be, in which both files
 have one answer each and the answers differ: with the old value and the new one,
 null where there is none. They come ascending. Files of which one has only IPv4
 are compared on IPv4. How many networks and IPv4 addresses were added, removed
 and changed is said on standard error at the end. A network that can't be read is
-named there too, and the status is 1 then.";
+named there too, and the status is 1 then.
+
+The formats cidr, nft and ipset write what changes in the list that export would
+write, with the same options: -BLOCK and +BLOCK, or what takes the blocks out of
+the sets that were filled from OLD, and puts new ones in.";
 
 const BUILD_EXAMPLE: &str = "Examples:
   mmdb export GeoLite2-City.mmdb |
@@ -162,11 +174,80 @@ const FIELDS: Argument = Argument::Values(
     "Only the value at a path, as country.iso_code; may be repeated",
 );
 
+const WHERE: Argument = Argument::Values(
+    "where",
+    "PATH=VALUE",
+    "Only networks with this value at the path, or one of PATH=@FILE; may be repeated",
+);
+
+const WHERE_NOT: Argument = Argument::Values(
+    "where-not",
+    "PATH=VALUE",
+    "No networks with this value at the path, nor one of PATH=@FILE; may be repeated",
+);
+
+const WHERE_CONTAINS: Argument = Argument::Values(
+    "where-contains",
+    "PATH=TEXT",
+    "Only networks with a text at the path that has TEXT in it; may be repeated",
+);
+
+const WHERE_HAS: Argument = Argument::Values(
+    "where-has",
+    "PATH",
+    "Only networks with any value at the path; may be repeated",
+);
+
+const ALSO: Argument = Argument::Values(
+    "also",
+    "FILE",
+    "Blocks that a list has too, - for standard input; may be repeated",
+);
+
+const EXCEPT: Argument = Argument::Values(
+    "except",
+    "FILE",
+    "Blocks that a list has not, - for standard input; may be repeated",
+);
+
+const IPV4: Argument = Argument::Flag("ipv4", "Only IPv4 networks");
+
+const IPV6: Argument = Argument::Flag("ipv6", "Only IPv6 networks");
+
+const NAME: Argument = Argument::Value(
+    "name",
+    "NAME",
+    "How the sets of nft and ipset begin, or a chain's or a variable's name, mmdb if not given",
+);
+
+const TABLE: Argument = Argument::Value(
+    "table",
+    "TABLE",
+    "The table of nft that has the sets, mmdb if not given",
+);
+
+const FAMILY: Argument = Argument::OneOf(
+    "family",
+    "FAMILY",
+    "The family of that table, inet if not given",
+    &["inet", "ip", "ip6", "bridge", "netdev"],
+);
+
+const ALLOW_EMPTY: Argument = Argument::Flag(
+    "allow-empty",
+    "Write a list of networks even where it has none",
+);
+
+const ALLOW_MISSING: Argument = Argument::Flag(
+    "allow-missing",
+    "Write a list even where no network has a value of a condition",
+);
+
 /// What says of columns, which lines of JSON have not.
 const COLUMNS: &[&str] = &["column", "delimiter", "header"];
 
 /// The commands that look at a file, or up in it.
-const LOOKING: &[Usage] = &[
+const READING: &[Usage] = &[
     Usage {
         name: "show",
         about: "Show the records of addresses as JSON",
@@ -264,92 +345,112 @@ const LOOKING: &[Usage] = &[
     },
 ];
 
-/// The commands that read whole files.
-const READING: &[Usage] = &[
-    Usage {
-        name: "export",
-        about: "Write every network that has data, with its record or fields of it",
-        example: EXPORT_EXAMPLE,
-        arguments: &[
-            FILE,
-            Argument::Optional(
-                "RANGE",
-                "Only networks inside this one, or the one around it",
-            ),
-            FIELDS,
-            Argument::Choice(
-                "format",
-                "FORMAT",
-                "csv needs a --field",
-                &["jsonl", "csv", "cidr", "nft", "ipset"],
-            ),
-            Argument::Values(
-                "where",
-                "PATH=VALUE",
-                "Only networks with this value at the path; may be repeated",
-            ),
-            Argument::Values(
-                "where-not",
-                "PATH=VALUE",
-                "No networks with this value at the path; may be repeated",
-            ),
-            Argument::Flag("ipv4", "Only IPv4 networks"),
-            Argument::Flag("ipv6", "Only IPv6 networks"),
-            Argument::Value(
-                "name",
-                "NAME",
-                "How the sets of nft and ipset begin, mmdb if not given",
-            ),
-            Argument::Flag(
-                "allow-empty",
-                "Write a list of networks even where it has none",
-            ),
-            Argument::Flag(
-                "allow-missing",
-                "Write a list even where no network has a value of a condition",
-            ),
-        ],
-    },
-    Usage {
-        name: "diff",
-        about: "Write what changed between two files",
-        example: DIFF_EXAMPLE,
-        arguments: &[
-            Argument::Required("OLD", "The MaxMind DB file before"),
-            Argument::Required("NEW", "The MaxMind DB file after"),
-            Argument::Optional("RANGE", "Only inside this network"),
-            FIELDS,
-            Argument::Choice("format", "FORMAT", "csv needs a --field", &["jsonl", "csv"]),
-            Argument::Flag("exit-code", "Status 7 where something differs"),
-        ],
-    },
-    Usage {
-        name: "verify",
-        about: "Check whether files are whole and all their records can be read",
-        example: VERIFY_EXAMPLE,
-        arguments: &[
-            Argument::Several("FILE", "MaxMind DB files"),
-            Argument::Flag("whole", "Only whether files are whole"),
-            Argument::Value(
-                "database-type",
-                "TYPE",
-                "The type that each file has to have; a * at an end, and nowhere else, is any text",
-            ),
-            Argument::Value(
-                "newer-than",
-                "OLD",
-                "The MaxMind DB file after which each file has to be built",
-            ),
-            Argument::Value(
-                "max-age",
-                "DAYS",
-                "How many days ago each file may be built at most",
-            ),
-            Argument::Flag("json", "An object for each file"),
-            Argument::Flag("quiet", "No output, only the status; errors are still said"),
-        ],
-    },
-];
+/// The command that writes networks.
+const EXPORTING: &[Usage] = &[Usage {
+    name: "export",
+    about: "Write every network that has data, with its record or fields of it",
+    example: EXPORT_EXAMPLE,
+    arguments: &[
+        FILE,
+        Argument::Optional(
+            "RANGE",
+            "Only networks inside this one, or the one around it",
+        ),
+        FIELDS,
+        Argument::Choice(
+            "format",
+            "FORMAT",
+            "csv needs a --field",
+            &[
+                "jsonl", "csv", "cidr", "nft", "ipset", "iptables", "nginx", "haproxy", "pf",
+            ],
+        ),
+        WHERE,
+        WHERE_NOT,
+        WHERE_CONTAINS,
+        WHERE_HAS,
+        ALSO,
+        EXCEPT,
+        IPV4,
+        IPV6,
+        NAME,
+        TABLE,
+        FAMILY,
+        Argument::Value(
+            "jump",
+            "TARGET",
+            "The target of the rules of iptables, DROP if not given",
+        ),
+        Argument::Value(
+            "value",
+            "VALUE",
+            "The value of each network for nginx and haproxy, 1 if not given",
+        ),
+        ALLOW_EMPTY,
+        ALLOW_MISSING,
+    ],
+}];
+
+/// The command that compares files.
+const COMPARING: &[Usage] = &[Usage {
+    name: "diff",
+    about: "Write what changed between two files",
+    example: DIFF_EXAMPLE,
+    arguments: &[
+        Argument::Required("OLD", "The MaxMind DB file before"),
+        Argument::Required("NEW", "The MaxMind DB file after"),
+        Argument::Optional("RANGE", "Only inside this network"),
+        FIELDS,
+        Argument::Choice(
+            "format",
+            "FORMAT",
+            "csv needs a --field",
+            &["jsonl", "csv", "cidr", "nft", "ipset"],
+        ),
+        WHERE,
+        WHERE_NOT,
+        WHERE_CONTAINS,
+        WHERE_HAS,
+        ALSO,
+        EXCEPT,
+        IPV4,
+        IPV6,
+        NAME,
+        TABLE,
+        FAMILY,
+        ALLOW_EMPTY,
+        ALLOW_MISSING,
+        Argument::Flag("exit-code", "Status 7 where something differs"),
+    ],
+}];
+
+/// The command that checks files.
+const CHECKING: &[Usage] = &[Usage {
+    name: "verify",
+    about: "Check whether files are whole and all their records can be read",
+    example: VERIFY_EXAMPLE,
+    arguments: &[
+        Argument::Several("FILE", "MaxMind DB files"),
+        Argument::Flag("whole", "Only whether files are whole"),
+        Argument::Value(
+            "database-type",
+            "TYPE",
+            "The type that each file has to have; a * at an end, and nowhere else, is any text",
+        ),
+        Argument::Value(
+            "newer-than",
+            "OLD",
+            "The MaxMind DB file after which each file has to be built",
+        ),
+        Argument::Value(
+            "max-age",
+            "DAYS",
+            "How many days ago each file may be built at most",
+        ),
+        Argument::Flag("json", "An object for each file"),
+        Argument::Flag("quiet", "No output, only the status; errors are still said"),
+    ],
+}];
 
 /// The commands that make files.
 const MAKING: &[Usage] = &[
@@ -535,21 +636,36 @@ fn with_commands<'a>(
     Ok(program)
 }
 
-// The proof of a function grows with the tables that it names, so each has its own.
-fn with_looking<'a>(
-    alloc: Global,
-    program: Command<'a>,
-    words: &[String],
-) -> Result<Command<'a>, AllocError> {
-    with_commands(alloc, program, words, LOOKING)
-}
-
 fn with_reading<'a>(
     alloc: Global,
     program: Command<'a>,
     words: &[String],
 ) -> Result<Command<'a>, AllocError> {
     with_commands(alloc, program, words, READING)
+}
+
+fn with_exporting<'a>(
+    alloc: Global,
+    program: Command<'a>,
+    words: &[String],
+) -> Result<Command<'a>, AllocError> {
+    with_commands(alloc, program, words, EXPORTING)
+}
+
+fn with_comparing<'a>(
+    alloc: Global,
+    program: Command<'a>,
+    words: &[String],
+) -> Result<Command<'a>, AllocError> {
+    with_commands(alloc, program, words, COMPARING)
+}
+
+fn with_checking<'a>(
+    alloc: Global,
+    program: Command<'a>,
+    words: &[String],
+) -> Result<Command<'a>, AllocError> {
+    with_commands(alloc, program, words, CHECKING)
 }
 
 fn with_making<'a>(
@@ -567,7 +683,9 @@ pub(crate) fn command<'a>(alloc: Global, words: &[String]) -> Result<Command<'a>
         .about("Read and make MaxMind DB files (GeoIP2, GeoLite2 and others)")
         .subcommand_required(true)
         .arg_required_else_help(true);
-    let program = with_looking(alloc, program, words)?;
     let program = with_reading(alloc, program, words)?;
+    let program = with_exporting(alloc, program, words)?;
+    let program = with_comparing(alloc, program, words)?;
+    let program = with_checking(alloc, program, words)?;
     with_making(alloc, program, words)
 }

@@ -8,7 +8,8 @@ mod shown;
 
 pub use rejected::{Message, NoRequest};
 pub use request::{
-    BuildArguments, DiffArguments, EnrichArguments, ExportArguments, Format, Hop, InfoArguments,
-    InstallArguments, Request, Reserved, RowFormat, ShowArguments, VerifyArguments, request_of,
+    BuildArguments, ConditionTexts, DiffArguments, EnrichArguments, ExportArguments, Format, Hop,
+    InfoArguments, InstallArguments, ListArguments, ListDiffArguments, Request, Reserved,
+    RowFormat, ShowArguments, VerifyArguments, request_of,
 };
 pub use shown::shown_text;

@@ -74,6 +74,52 @@ pub enum Format {
     Nft,
     /// Sets for ipset.
     Ipset,
+    /// A chain for iptables-restore.
+    Iptables,
+    /// A geo block of nginx.
+    Nginx,
+    /// A map of haproxy.
+    Haproxy,
+    /// The file of a table of pf.
+    Pf,
+}
+
+/// Conditions on records, as texts.
+#[derive(Drop)]
+pub struct ConditionTexts<'a> {
+    /// Texts that should be paths with values, of networks that are wanted.
+    pub wheres: Vec<&'a str>,
+    /// Texts that should be paths with values, of networks that are not wanted.
+    pub where_nots: Vec<&'a str>,
+    /// Texts that should be paths with parts of texts that are wanted.
+    pub contains: Vec<&'a str>,
+    /// Texts that should be paths at which there is to be a value.
+    pub has: Vec<&'a str>,
+}
+
+/// Which addresses a list of networks has, beside the conditions.
+#[derive(Drop)]
+pub struct ListArguments<'a> {
+    pub ipv4: bool,
+    pub ipv6: bool,
+    /// Files of blocks that are added, `-` for standard input.
+    pub also: Vec<&'a str>,
+    /// Files of blocks that are taken away, `-` for standard input.
+    pub except: Vec<&'a str>,
+    /// A text that should be the beginning of a set's name, or another name.
+    pub name: Option<&'a str>,
+    /// A text that should be the name of a table of nft.
+    pub table: Option<&'a str>,
+    /// The family of a table of nft.
+    pub family: Option<&'a str>,
+    /// A text that should be the target of rules of iptables.
+    pub jump: Option<&'a str>,
+    /// A text that should be the value of each network for nginx or haproxy.
+    pub value: Option<&'a str>,
+    /// Whether a list may have no networks.
+    pub allow_empty: bool,
+    /// Whether a list is written even where no network has a value of a condition.
+    pub allow_missing: bool,
 }
 
 /// The arguments of `export`.
@@ -85,18 +131,8 @@ pub struct ExportArguments<'a> {
     /// Texts that should be paths.
     pub fields: Vec<&'a str>,
     pub format: Format,
-    /// Texts that should be paths with values, of networks that are wanted.
-    pub wheres: Vec<&'a str>,
-    /// Texts that should be paths with values, of networks that are not wanted.
-    pub where_nots: Vec<&'a str>,
-    pub ipv4: bool,
-    pub ipv6: bool,
-    /// A text that should be the beginning of a set's name.
-    pub name: Option<&'a str>,
-    /// Whether a list may have no networks.
-    pub allow_empty: bool,
-    /// Whether a list is written even where no network has a value of a condition.
-    pub allow_missing: bool,
+    pub conditions: ConditionTexts<'a>,
+    pub list: ListArguments<'a>,
 }
 
 /// The arguments of `diff`.
@@ -109,6 +145,15 @@ pub struct DiffArguments<'a> {
     /// Texts that should be paths.
     pub fields: Vec<&'a str>,
     pub is_csv: bool,
+    pub exit_code: bool,
+}
+
+/// The arguments of `diff` where what changes in a list of networks is asked for.
+#[derive(Drop)]
+pub struct ListDiffArguments<'a> {
+    pub old: &'a str,
+    /// The new file, with what would be asked of it by `export`.
+    pub newer: ExportArguments<'a>,
     pub exit_code: bool,
 }
 
@@ -195,6 +240,8 @@ pub enum Request<'a> {
     Export(ExportArguments<'a>),
     /// What changed between two files.
     Diff(DiffArguments<'a>),
+    /// What changed in a list of networks.
+    ListDiff(ListDiffArguments<'a>),
     /// A file in the place of another one.
     Install(InstallArguments<'a>),
     /// A file that is made of rows.
@@ -284,38 +331,125 @@ fn format_of(matches: &ArgMatches<'_>) -> Format {
         Some("cidr") => Format::Cidr,
         Some("nft") => Format::Nft,
         Some("ipset") => Format::Ipset,
+        Some("iptables") => Format::Iptables,
+        Some("nginx") => Format::Nginx,
+        Some("haproxy") => Format::Haproxy,
+        Some("pf") => Format::Pf,
         _ => Format::JsonLines,
     }
 }
 
-fn export<'a>(alloc: Global, matches: &ArgMatches<'a>) -> Result<Request<'a>, NoRequest> {
-    let fields = texts_of(alloc, matches, "field")?;
+fn condition_texts<'a>(
+    alloc: Global,
+    matches: &ArgMatches<'a>,
+) -> Result<ConditionTexts<'a>, AllocError> {
     let wheres = texts_of(alloc, matches, "where")?;
     let where_nots = texts_of(alloc, matches, "where-not")?;
-    Ok(Request::Export(ExportArguments {
-        file: file_of(matches),
+    let contains = texts_of(alloc, matches, "where-contains")?;
+    let has = texts_of(alloc, matches, "where-has")?;
+    Ok(ConditionTexts {
+        wheres,
+        where_nots,
+        contains,
+        has,
+    })
+}
+
+fn list_arguments<'a>(
+    alloc: Global,
+    matches: &ArgMatches<'a>,
+) -> Result<ListArguments<'a>, AllocError> {
+    let also = texts_of(alloc, matches, "also")?;
+    let except = texts_of(alloc, matches, "except")?;
+    Ok(ListArguments {
+        ipv4: matches.get_flag("ipv4"),
+        ipv6: matches.get_flag("ipv6"),
+        also,
+        except,
+        name: matches.get_str("name"),
+        table: matches.get_str("table"),
+        family: matches.get_str("family"),
+        jump: matches.get_str("jump"),
+        value: matches.get_str("value"),
+        allow_empty: matches.get_flag("allow-empty"),
+        allow_missing: matches.get_flag("allow-missing"),
+    })
+}
+
+// What is asked of the networks of a file.
+fn export_arguments<'a>(
+    alloc: Global,
+    file: &'a str,
+    matches: &ArgMatches<'a>,
+) -> Result<ExportArguments<'a>, AllocError> {
+    let fields = texts_of(alloc, matches, "field")?;
+    let conditions = condition_texts(alloc, matches)?;
+    let list = list_arguments(alloc, matches)?;
+    Ok(ExportArguments {
+        file,
         range: matches.get_str("RANGE"),
         fields,
         format: format_of(matches),
-        wheres,
-        where_nots,
-        ipv4: matches.get_flag("ipv4"),
-        ipv6: matches.get_flag("ipv6"),
-        name: matches.get_str("name"),
-        allow_empty: matches.get_flag("allow-empty"),
-        allow_missing: matches.get_flag("allow-missing"),
-    }))
+        conditions,
+        list,
+    })
+}
+
+fn export<'a>(alloc: Global, matches: &ArgMatches<'a>) -> Result<Request<'a>, NoRequest> {
+    let arguments = export_arguments(alloc, file_of(matches), matches)?;
+    Ok(Request::Export(arguments))
+}
+
+// Which argument is of lists alone, among those that were given.
+fn list_argument(arguments: &ExportArguments<'_>) -> Option<&'static str> {
+    let (conditions, list) = (&arguments.conditions, &arguments.list);
+    let given = [
+        ("--where", !conditions.wheres.is_empty()),
+        ("--where-not", !conditions.where_nots.is_empty()),
+        ("--where-contains", !conditions.contains.is_empty()),
+        ("--where-has", !conditions.has.is_empty()),
+        ("--also", !list.also.is_empty()),
+        ("--except", !list.except.is_empty()),
+        ("--ipv4", list.ipv4),
+        ("--ipv6", list.ipv6),
+        ("--name", list.name.is_some()),
+        ("--table", list.table.is_some()),
+        ("--family", list.family.is_some()),
+        ("--allow-empty", list.allow_empty),
+        ("--allow-missing", list.allow_missing),
+    ];
+    for (name, is_given) in given {
+        if is_given {
+            return Some(name);
+        }
+    }
+    None
 }
 
 fn diff<'a>(alloc: Global, matches: &ArgMatches<'a>) -> Result<Request<'a>, NoRequest> {
+    let old = matches.get_str("OLD").unwrap_or("");
+    let file = matches.get_str("NEW").unwrap_or("");
+    let exit_code = matches.get_flag("exit-code");
+    let newer = export_arguments(alloc, file, matches)?;
+    if !matches!(newer.format, Format::JsonLines | Format::Csv) {
+        return Ok(Request::ListDiff(ListDiffArguments {
+            old,
+            newer,
+            exit_code,
+        }));
+    }
+    if let Some(name) = list_argument(&newer) {
+        return Err(NoRequest::bad_argument(alloc, name, "needs --format cidr, nft or ipset"));
+    }
+    let is_csv = matches!(newer.format, Format::Csv);
     let fields = texts_of(alloc, matches, "field")?;
     Ok(Request::Diff(DiffArguments {
-        old: matches.get_str("OLD").unwrap_or(""),
-        new: matches.get_str("NEW").unwrap_or(""),
-        range: matches.get_str("RANGE"),
+        old,
+        new: file,
+        range: newer.range,
         fields,
-        is_csv: matches.get_str("format") == Some("csv"),
-        exit_code: matches.get_flag("exit-code"),
+        is_csv,
+        exit_code,
     }))
 }
 

@@ -3,5 +3,7 @@ pub mod Blocks
 pub mod Joining
 pub mod Networks
 pub mod Kinds
+pub mod Ranges
+pub mod Deltas
 -- What only contracts of private functions and proofs name.
 pub mod Working

@@ -4,16 +4,23 @@
 #![tactic(auto)]
 
 mod block;
+mod delta;
+mod except;
 mod joiner;
 mod kind;
 pub mod laws;
 mod list;
+mod listed;
 mod network;
+mod ranges;
 mod syntax;
 mod waiting;
 
 pub use block::Block;
+pub use delta::blocks_without;
 pub use joiner::{JoinError, Joiner};
 pub use kind::{Kind, Kinds};
 pub use list::{List, ListError, Taken};
+pub use listed::listed_blocks;
+pub use ranges::{Range, Ranges, RangesError};
 pub use syntax::{Syntax, is_set_name};

@@ -23,7 +23,6 @@ use mmdb_filter::{Added, Additions, Outcome, Rows};
 use mmdb_reader::{LookupResult, MaxMindDbError, PathElement, Reader};
 use std::alloc::{AllocError, Global};
 use std::convert::AsSlice;
-use std::io;
 use std::net::IpAddr;
 
 /// Fields of the record of the address in a column, as columns behind each row.
@@ -241,7 +240,7 @@ impl<'a, 'f, S: AsSlice<u8> + Drop> Additions for Enrichment<'a, 'f, S> {
         text: &[u8],
         is_long: bool,
         out: &mut Vec<u8>,
-    ) -> io::Result<Added> {
+    ) -> Result<Added, AllocError> {
         memory.notes.pass_row();
         let outcome = match self.asked_for(text, is_long, &mut memory.ahead) {
             Some(asked) => self.put_address(asked, &mut memory.cache, &mut memory.notes, out)?,

@@ -14,7 +14,6 @@ use mmdb_objects::{Line, ReadLine, Step, read_line};
 use mmdb_reader::{LookupResult, Reader};
 use std::alloc::{AllocError, Global};
 use std::convert::AsSlice;
-use std::io;
 use std::net::IpAddr;
 
 /// Fields of the record of the address in an object, as its last member.
@@ -258,7 +257,7 @@ impl<'a, 'f, S: AsSlice<u8> + Drop> Additions for JsonEnrichment<'a, 'f, S> {
         text: &[u8],
         is_long: bool,
         out: &mut Vec<u8>,
-    ) -> io::Result<Added> {
+    ) -> Result<Added, AllocError> {
         memory.notes.pass_row();
         let path = self.path.as_slice();
         let scratch = &mut memory.scratch;
@@ -272,7 +271,7 @@ impl<'a, 'f, S: AsSlice<u8> + Drop> Additions for JsonEnrichment<'a, 'f, S> {
             scratch,
         )? {
             ReadLine::Object(line) => {
-                Ok(self.put_object(&line, &mut memory.cache, &mut memory.notes, out)?)
+                self.put_object(&line, &mut memory.cache, &mut memory.notes, out)
             }
             ReadLine::NoObject => Ok(nothing(Outcome::Malformed)),
         }

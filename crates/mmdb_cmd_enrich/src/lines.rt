@@ -253,48 +253,32 @@ fn enrich_json<I: Live, O: Write, E: Pace>(
     enrich_objects(&enrichment, input, passage, console)
 }
 
-// Opens a file and copies rows with fields of it behind each.
-fn enrich_columns_of<R: Files, I: Live, O: Write, E: Pace>(
-    rt: &R,
-    file: &str,
-    task: RowsTask<'_>,
-    input: &mut I,
-    passage: &mut Passage<'_, '_>,
-    console: &mut Console<'_, O, E>,
-) -> Result<u8, ProgramError> {
-    match open_database(rt, file, console) {
-        Some(database) => {
-            let done = enrich_columns(&database, task, input, passage, console);
-            drop(database);
-            done
-        }
-        None => {
-            drop(task);
-            Ok(FAILED)
-        }
-    }
+// What is done to rows.
+#[derive(Drop)]
+enum Task<'t> {
+    Columns(RowsTask<'t>),
+    Member(JsonTask<'t>),
 }
 
-// Opens a file and copies lines with a member more in each object.
-fn enrich_json_of<R: Files, I: Live, O: Write, E: Pace>(
+// Opens a file and copies rows with fields of it in each.
+fn enrich_from<R: Files, I: Live, O: Write, E: Pace>(
     rt: &R,
     file: &str,
-    task: JsonTask<'_>,
+    task: Task<'_>,
     input: &mut I,
     passage: &mut Passage<'_, '_>,
     console: &mut Console<'_, O, E>,
 ) -> Result<u8, ProgramError> {
-    match open_database(rt, file, console) {
-        Some(database) => {
-            let done = enrich_json(&database, task, input, passage, console);
-            drop(database);
-            done
-        }
-        None => {
-            drop(task);
-            Ok(FAILED)
-        }
-    }
+    let Some(database) = open_database(rt, file, console) else {
+        drop(task);
+        return Ok(FAILED);
+    };
+    let done = match task {
+        Task::Columns(task) => enrich_columns(&database, task, input, passage, console),
+        Task::Member(task) => enrich_json(&database, task, input, passage, console),
+    };
+    drop(database);
+    done
 }
 
 // Reports a second file: a log more often than another database.
@@ -331,7 +315,8 @@ pub fn enrich<R: Files, I: Live, O: Write, E: Pace>(
                 bytes: 0,
                 notes: &mut notes,
             };
-            enrich_json_of(rt, arguments.file, task, input, &mut passage, console)
+            let task = Task::Member(task);
+            enrich_from(rt, arguments.file, task, input, &mut passage, console)
         }
         None => {
             let task = rows_task(console.alloc, &*arguments)?;
@@ -343,7 +328,8 @@ pub fn enrich<R: Files, I: Live, O: Write, E: Pace>(
                 bytes: 0,
                 notes: &mut notes,
             };
-            enrich_columns_of(rt, arguments.file, task, input, &mut passage, console)
+            let task = Task::Columns(task);
+            enrich_from(rt, arguments.file, task, input, &mut passage, console)
         }
     }
 }

@@ -1,11 +1,15 @@
 -- How the rows that are left complete the whole.
-use Rattle.std.proofs.Common.{◌≡◌, ◌≢◌, ℕ, ◌<◌, ◌≤◌, List, [], ◌∷◌, ◌++◌, length, Option, Some, None, OnSome, refl, sym, ap, ◌∙◌, subst, append_assoc, append-nil, arith, length-append, ◌⊎◌, inl, inr}
-use Rattle.std.specs.Io.KnownBytes.{Appends, Keeps, IsAtEnd}
+use Rattle.std.proofs.Common.{◌≡◌, ◌≢◌, ℕ, ◌+◌, ◌<◌, ◌≤◌, List, [], ◌∷◌, ◌++◌, length, take, drop, Option, Some, None, OnSome, refl, sym, ap, ◌∙◌, subst, append_assoc, append-nil, take-append-drop, drop-drop, arith, length-append, ◌⊎◌, inl, inr}
+use Rattle.std.proofs.lemmas.List.{append_cancel_left}
+use Rattle.std.proofs.KnownBytes.{starts_with_rest}
+use Rattle.std.specs.Prelude.{IfSome, Result, Ok, Err, OnOk, OnErr}
+use Rattle.std.specs.Io.{StartsWith}
+use Rattle.std.specs.Io.KnownBytes.{Appends, Consumes, Keeps, IsAtEnd}
 use Rattle.std.proofs.KnownBytes.{Appends-nil, Appends-trans}
 use Rattle.mmdb_filter.specs.Counting.{count_one}
-use Rattle.mmdb_filter.specs.Rows.{row_from, rows_after, Leads}
-use Rattle.mmdb_filter.specs.Lines.{MayAdd, Line, AreLines, IsAdded, StandsBehind, seen_of, is_long, row_with, written, counted, IsFiltered, IsBegun}
-use Rattle.mmdb_filter.specs.Working.{Passes, PassesFront}
+use Rattle.mmdb_filter.specs.Rows.{row_from, rows_after, Goes, Leads}
+use Rattle.mmdb_filter.specs.Lines.{MayAdd, Line, AreLines, IsAdded, StandsBehind, seen_of, is_long, row_with, written, counted, AppendsFront, IsFiltered, IsBegun}
+use Rattle.mmdb_filter.specs.Working.{Passes, PassesFront, UnderWay, GoOn, IsBegunWith}
 use Rattle.mmdb_filter.specs.declared.counts.Counts.{Counts}
 use Rattle.mmdb_filter.specs.declared.counts.Outcome.{Outcome}
 use Rattle.mmdb_filter.specs.declared.rows.Rows.{Rows}
@@ -13,26 +17,18 @@ use Rattle.mmdb_filter.specs.declared.rows.Position.{Position}
 use Rattle.mmdb_filter.specs.declared.rows.Position.TheVariants.{Cell, Ended}
 use Rattle.mmdb_filter.proofs.FrontLaws.{appends_kept}
 use Rattle.mmdb_filter.proofs.PassLaws.{nothing_left}
-use Rattle.mmdb_filter.proofs.RowLaws.{row_from_some, row_from_empty, rows_after_nothing}
+use Rattle.mmdb_filter.proofs.RowLaws.{row_from_some, row_from_empty, row_from_ended, rows_after_ended, rows_after_nothing}
 use Rattle.mmdb_filter.proofs.TextLaws.{or_less, seen_same}
 
--- what was written, and that whatever rows are left complete those of the whole
-abbrev pub UnderWay : Rows → MayAdd → Option (List ℕ) → Option (List ℕ) → Option (List ℕ) → Option (List ℕ) → Counts → Counts → Type 0
-UnderWay rows Adds None left old now before c = Unit {0}
-UnderWay rows Adds (Some all) None old now before c = ⊥
-UnderWay rows Adds (Some all) (Some left) old now before c =
-    (done : List ℕ) × Appends old now done
-    × ((rest : List ℕ) (lines : List Line) → AreLines rows Adds lines left rest → (whole : List Line) × AreLines rows Adds whole all rest × (written whole ≡ done ++ written lines) × (counted before whole ≡ counted c lines))
-
-pub started : (rows : Rows) (Adds : MayAdd) (input old : Option (List ℕ)) (before : Counts) → UnderWay rows Adds input input old old before before
+pub started : (rows : Rows) (Adds : MayAdd) (input old : Option (List ℕ)) (before : Counts) → UnderWay rows Adds input input old old [] before before
 started rows Adds None old before = tt
 started rows Adds (Some all) old before = ([], Appends-nil old, λ rest lines are. (lines, are, refl, refl))
 
 -- the same where what was written was written out
-pub way_kept : (rows : Rows) (Adds : MayAdd) (input left old now new : Option (List ℕ)) (before c : Counts) → UnderWay rows Adds input left old now before c → Keeps now new → UnderWay rows Adds input left old new before c
-way_kept rows Adds None left old now new before c way k = tt
-way_kept rows Adds (Some all) None old now new before c way k = absurd way
-way_kept rows Adds (Some all) (Some xs) old now new before c way k = (way.0, appends_kept old now new way.0 way.1 k, way.2)
+pub way_kept : (rows : Rows) (Adds : MayAdd) (input left old now new : Option (List ℕ)) (ready : List ℕ) (before c : Counts) → UnderWay rows Adds input left old now ready before c → Keeps now new → UnderWay rows Adds input left old new ready before c
+way_kept rows Adds None left old now new ready before c way k = tt
+way_kept rows Adds (Some all) None old now new ready before c way k = absurd way
+way_kept rows Adds (Some all) (Some xs) old now new ready before c way k = (way.0, appends_kept old now new way.0 way.1 k, way.2)
 
 -- what is seen of a chunk is seen of the row
 pub seen_whole : (rows : Rows) (position : Position) (chunk ys : List ℕ) → (position ≢ Ended → length chunk < 65539 → ys ≡ [])
@@ -63,7 +59,7 @@ begins rows Adds left lines position chunk extra xs ys behind outcome leads read
 pub next_row : (rows : Rows) (Adds : MayAdd) (input left mid next old now new : Option (List ℕ)) (before c : Counts) (position : Position) (chunk extra : List ℕ) (behind : ℕ) (outcome : Outcome)
     → Leads rows Cell left chunk position mid → (position ≢ Ended → length chunk < 65539 → OnSome left (IsAtEnd mid)) → 0 < length chunk → IsAdded Adds chunk extra behind outcome
     → ((position ≢ Ended → length chunk < 65539 → IsAtEnd mid) → Passes rows position chunk extra behind mid next now new)
-    → UnderWay rows Adds input left old now before c → UnderWay rows Adds input next old new before (count_one c outcome)
+    → UnderWay rows Adds input left old now [] before c → UnderWay rows Adds input next old new [] before (count_one c outcome)
 next_row rows Adds None left mid next old now new before c position chunk extra behind outcome leads ready some added passes way = tt
 next_row rows Adds (Some all) None mid next old now new before c position chunk extra behind outcome leads ready some added passes way = absurd way
 next_row rows Adds (Some all) (Some xs) None next old now new before c position chunk extra behind outcome leads ready some added passes way = absurd leads
@@ -71,7 +67,7 @@ next_row rows Adds (Some all) (Some xs) (Some ys) next old now new before c posi
     let (done, appended, goes_on) = way in
     let (after, put) = passes ready in
     let line : Line = record { bytes = chunk ++ row_from rows position ys; extra = extra; behind = behind; outcome = outcome } in
-    subst (λ n. UnderWay rows Adds (Some all) n old new before (count_one c outcome)) (sym after) (
+    subst (λ n. UnderWay rows Adds (Some all) n old new [] before (count_one c outcome)) (sym after) (
       done ++ row_with line.bytes extra behind,
       Appends-trans old now new done (row_with line.bytes extra behind) appended put,
       λ rest lines are.
@@ -80,23 +76,21 @@ next_row rows Adds (Some all) (Some xs) (Some ys) next old now new before c posi
     )
 
 -- all was read
-pub finished : (rows : Rows) (Adds : MayAdd) (input left mid old now : Option (List ℕ)) (before c : Counts) (position : Position) (chunk : List ℕ)
-    → Leads rows Cell left chunk position mid → (position ≢ Ended → length chunk < 65539 → OnSome left (IsAtEnd mid)) → chunk ≡ [] → UnderWay rows Adds input left old now before c
-    → IsFiltered rows Adds input mid old now before c × OnSome input (IsAtEnd mid)
-finished rows Adds None left mid old now before c position chunk leads ready none way = (tt, tt)
-finished rows Adds (Some all) None mid old now before c position chunk leads ready none way = absurd way
-finished rows Adds (Some all) (Some xs) None old now before c position chunk leads ready none way = absurd leads
-finished rows Adds (Some all) (Some xs) (Some ys) old now before c position chunk leads ready none way =
-    let (done, appended, goes_on) = way in
+pub read_out : (rows : Rows) (Adds : MayAdd) (input left mid old now : Option (List ℕ)) (before c : Counts) (position : Position) (chunk : List ℕ)
+    → Leads rows Cell left chunk position mid → (position ≢ Ended → length chunk < 65539 → OnSome left (IsAtEnd mid)) → chunk ≡ [] → UnderWay rows Adds input left old now [] before c
+    → UnderWay rows Adds input mid old now [] before c × OnSome input (IsAtEnd mid)
+read_out rows Adds None left mid old now before c position chunk leads ready none way = (tt, tt)
+read_out rows Adds (Some all) None mid old now before c position chunk leads ready none way = absurd way
+read_out rows Adds (Some all) (Some xs) None old now before c position chunk leads ready none way = absurd leads
+read_out rows Adds (Some all) (Some xs) (Some ys) old now before c position chunk leads ready none way =
     let end = nothing_left rows position ys (λ e. ready e (omega (arith, ap length none))) in
     let left : row_from rows Cell xs ≡ [] = leads.0 ∙ ap (λ p. p ++ row_from rows position ys) none ∙ end.0 in
     let e : xs ≡ [] = row_from_empty rows xs left in
     let over : ys ≡ [] = sym end.1 ∙ sym leads.1 ∙ ap (rows_after rows Cell) e ∙ rows_after_nothing rows Cell in
-    let (whole, wholes, text, counts) = goes_on ys [] (over ∙ sym e) in
-    ((ys, whole, refl, wholes, subst (λ t. Appends old now t) (sym (text ∙ append-nil done)) appended, sym counts), over)
+    (subst (λ t. UnderWay rows Adds (Some all) (Some t) old now [] before c) (e ∙ sym over) way, over)
 
 -- it ends between two rows
-pub ended : (rows : Rows) (Adds : MayAdd) (input left old now : Option (List ℕ)) (before c : Counts) → UnderWay rows Adds input left old now before c → IsFiltered rows Adds input left old now before c
+pub ended : (rows : Rows) (Adds : MayAdd) (input left old now : Option (List ℕ)) (before c : Counts) → UnderWay rows Adds input left old now [] before c → IsFiltered rows Adds input left old now before c
 ended rows Adds None left old now before c way = tt
 ended rows Adds (Some all) None old now before c way = absurd way
 ended rows Adds (Some all) (Some xs) old now before c way =
@@ -104,19 +98,116 @@ ended rows Adds (Some all) (Some xs) old now before c way =
     let (whole, wholes, text, counts) = goes_on xs [] refl in
     (xs, whole, refl, wholes, subst (λ t. Appends old now t) (sym (text ∙ append-nil done)) appended, sym counts)
 
+-- what is ready was written
+pub ready_put : (rows : Rows) (Adds : MayAdd) (input left old now new : Option (List ℕ)) (ready : List ℕ) (before c : Counts) → UnderWay rows Adds input left old now ready before c → Appends now new ready → UnderWay rows Adds input left old new [] before c
+ready_put rows Adds None left old now new ready before c way put = tt
+ready_put rows Adds (Some all) None old now new ready before c way put = absurd way
+ready_put rows Adds (Some all) (Some xs) old now new ready before c way put =
+    let (done, appended, goes_on) = way in (
+      done ++ ready,
+      Appends-trans old now new done ready appended put,
+      λ rest lines are.
+          let (whole, wholes, text, counts) = goes_on rest lines are in
+          (whole, wholes, text ∙ sym (append_assoc done ready (written lines)), counts),
+    )
+
+-- rows at hand passed
+pub more_ready : (rows : Rows) (Adds : MayAdd) (input left next old now : Option (List ℕ)) (shown ready more : List ℕ) (n : ℕ) (before c after : Counts)
+    → n ≤ length shown → IfSome left (λ xs. StartsWith xs shown) → Consumes left next (take n shown) → GoOn rows Adds shown n ready more c after
+    → UnderWay rows Adds input left old now ready before c → UnderWay rows Adds input next old now more before after
+more_ready rows Adds None left next old now shown ready more n before c after few front taken on way = tt
+more_ready rows Adds (Some all) None next old now shown ready more n before c after few front taken on way = absurd way
+more_ready rows Adds (Some all) (Some xs) None old now shown ready more n before c after few front taken on way = absurd taken
+more_ready rows Adds (Some all) (Some xs) (Some ys) old now shown ready more n before c after few front taken on way =
+    let (done, appended, goes_on) = way in
+    let z = drop (length shown) xs in
+    let whole_is : xs ≡ shown ++ z = starts_with_rest xs shown front in
+    let left_is : drop n shown ++ z ≡ ys =
+    append_cancel_left (take n shown) (drop n shown ++ z) ys (sym (append_assoc (take n shown) (drop n shown) z) ∙ ap (λ t. t ++ z) (take-append-drop n shown) ∙ sym whole_is ∙ taken) in (
+      done,
+      appended,
+      λ rest lines are.
+          let (mid, mids, put, kept) = on z rest lines (subst (λ t. AreLines rows Adds lines t rest) (sym left_is) are) in
+          let (whole, wholes, text, counts) = goes_on rest mid (subst (λ t. AreLines rows Adds mid t rest) (sym whole_is) mids) in
+          (whole, wholes, text ∙ ap (λ t. done ++ t) put, counts ∙ kept),
+    )
+
+-- an input that was kept
+pub way_of_kept : (rows : Rows) (Adds : MayAdd) (input left next old now : Option (List ℕ)) (ready : List ℕ) (before c : Counts) → Keeps left next → UnderWay rows Adds input left old now ready before c → UnderWay rows Adds input next old now ready before c
+way_of_kept rows Adds None left next old now ready before c k way = tt
+way_of_kept rows Adds (Some all) None next old now ready before c k way = absurd way
+way_of_kept rows Adds (Some all) (Some xs) None old now ready before c k way = absurd k
+way_of_kept rows Adds (Some all) (Some xs) (Some ys) old now ready before c k way = subst (λ t. UnderWay rows Adds (Some all) (Some t) old now ready before c) (sym k) way
+
+-- what holds where bytes are left of a known input
+pub end_too : (rows : Rows) (Adds : MayAdd) (input left old now : Option (List ℕ)) (ready : List ℕ) (before c : Counts) (P : Type 0) → UnderWay rows Adds input left old now ready before c → OnSome left P → OnSome input P
+end_too rows Adds None left old now ready before c P way p = tt
+end_too rows Adds (Some all) None old now ready before c P way p = absurd way
+end_too rows Adds (Some all) (Some xs) old now ready before c P way p = p
+
+-- rows of some bytes
+pub go_nowhere : (rows : Rows) (Adds : MayAdd) (xs ready : List ℕ) (c : Counts) → GoOn rows Adds xs 0 ready ready c c
+go_nowhere rows Adds xs ready c = λ ys rest lines are. (lines, are, refl, refl)
+
+pub go_row : (rows : Rows) (Adds : MayAdd) (xs : List ℕ) (at n : ℕ) (row extra old now new : List ℕ) (behind : ℕ) (outcome : Outcome) (before c : Counts)
+    → row ≡ take n (drop at xs) → 0 < n → n ≤ length (drop at xs) → ((ys : List ℕ) → Goes rows Cell (drop at xs ++ ys) (take n (drop at xs)) Ended (drop n (drop at xs) ++ ys))
+    → IsAdded Adds row extra behind outcome → new ≡ now ++ row_with row extra behind → GoOn rows Adds xs at old now before c → GoOn rows Adds xs (at + n) old new before (count_one c outcome)
+go_row rows Adds xs at n row extra old now new behind outcome before c is some within goes added put on = λ ys rest lines are.
+    let line : Line = record { bytes = row; extra = extra; behind = behind; outcome = outcome } in
+    let here = drop at xs ++ ys in
+    let (row_is, rest_is) = goes ys in
+    let left : drop (at + n) xs ++ ys ≡ rows_after rows Cell here = ap (λ t. t ++ ys) (sym (drop-drop n at xs)) ∙ sym (rest_is ∙ rows_after_ended rows (drop n (drop at xs) ++ ys)) in
+    let more : 0 < length here = omega (arith, length-append (drop at xs) ys) in
+    let first : row ≡ row_from rows Cell here = is ∙ sym (row_is ∙ ap (λ t. take n (drop at xs) ++ t) (row_from_ended rows (drop n (drop at xs) ++ ys)) ∙ append-nil (take n (drop at xs))) in
+    let (whole, wholes, text, counts) = on ys rest (line ∷ lines) (more, first, added, subst (λ t. AreLines rows Adds lines t rest) left are) in
+    (whole, wholes, text ∙ sym (append_assoc now (row_with row extra behind) (written lines)) ∙ ap (λ t. t ++ written lines) (sym put), counts)
+
+-- it may have ended or failed
+pub either : {T E A B : Type 0} (r : Result T E) → OnOk r A → OnErr r B → (A → B) → B
+either (Ok x) a b f = f a
+either (Err e) a b f = b
+
 -- given up between two rows, and in a row
-pub given_up : (rows : Rows) (Adds : MayAdd) (input left old now : Option (List ℕ)) (before c : Counts) → UnderWay rows Adds input left old now before c → IsBegun rows Adds input old now
-given_up rows Adds None left old now before c way = tt
-given_up rows Adds (Some all) None old now before c way = absurd way
-given_up rows Adds (Some all) (Some xs) old now before c way =
+pub given_up : (rows : Rows) (Adds : MayAdd) (input left old now : Option (List ℕ)) (ready : List ℕ) (before c : Counts) → UnderWay rows Adds input left old now ready before c → IsBegunWith rows Adds input old now ready
+given_up rows Adds None left old now ready before c way = tt
+given_up rows Adds (Some all) None old now ready before c way = absurd way
+given_up rows Adds (Some all) (Some xs) old now ready before c way =
+    let (done, appended, goes_on) = way in
+    let (whole, wholes, text, counts) = goes_on xs [] refl in
+    (xs, whole, done, [], wholes, text, appended)
+
+pub given_up_between : (rows : Rows) (Adds : MayAdd) (input left old now : Option (List ℕ)) (before c : Counts) → UnderWay rows Adds input left old now [] before c → IsBegun rows Adds input old now
+given_up_between rows Adds None left old now before c way = tt
+given_up_between rows Adds (Some all) None old now before c way = absurd way
+given_up_between rows Adds (Some all) (Some xs) old now before c way =
     let (done, appended, goes_on) = way in
     let (whole, wholes, text, counts) = goes_on xs [] refl in
     (xs, whole, wholes, (done, [], text, appended))
 
+pub begun_with : (rows : Rows) (Adds : MayAdd) (input old now : Option (List ℕ)) → IsBegun rows Adds input old now → IsBegunWith rows Adds input old now []
+begun_with rows Adds None old now begun = tt
+begun_with rows Adds (Some xs) old now begun =
+    let (left, lines, are, part) = begun in
+    let (front, rest, split, put) = part in
+    (left, lines, front, rest, are, split, put)
+
+-- what is ready was written since, or a beginning of it
+pub written_out : (rows : Rows) (Adds : MayAdd) (input old now new : Option (List ℕ)) (ready : List ℕ) → IsBegunWith rows Adds input old now ready → Appends now new ready → IsBegun rows Adds input old new
+written_out rows Adds None old now new ready begun put = tt
+written_out rows Adds (Some xs) old now new ready begun put =
+    let (left, lines, done, rest, are, text, appended) = begun in
+    (left, lines, are, (done ++ ready, rest, text ∙ sym (append_assoc done ready rest), Appends-trans old now new done ready appended put))
+
+pub written_in : (rows : Rows) (Adds : MayAdd) (input old now new : Option (List ℕ)) (ready : List ℕ) → IsBegunWith rows Adds input old now ready → AppendsFront now new ready → IsBegun rows Adds input old new
+written_in rows Adds None old now new ready begun put = tt
+written_in rows Adds (Some xs) old now new ready begun (front, back, split, part) =
+    let (left, lines, done, rest, are, text, appended) = begun in
+    (left, lines, are, (done ++ front, back ++ rest, text ∙ ap (λ t. done ++ t) (ap (λ t. t ++ rest) split ∙ append_assoc front back rest) ∙ sym (append_assoc done front (back ++ rest)), Appends-trans old now new done front appended part))
+
 pub given_up_in : (rows : Rows) (Adds : MayAdd) (input left mid old now new : Option (List ℕ)) (before c : Counts) (position : Position) (chunk extra : List ℕ) (behind : ℕ) (outcome : Outcome)
     → Leads rows Cell left chunk position mid → (position ≢ Ended → length chunk < 65539 → OnSome left (IsAtEnd mid)) → 0 < length chunk → IsAdded Adds chunk extra behind outcome
     → ((position ≢ Ended → length chunk < 65539 → IsAtEnd mid) → PassesFront rows position chunk extra behind mid now new)
-    → UnderWay rows Adds input left old now before c → IsBegun rows Adds input old new
+    → UnderWay rows Adds input left old now [] before c → IsBegun rows Adds input old new
 given_up_in rows Adds None left mid old now new before c position chunk extra behind outcome leads ready some added passes way = tt
 given_up_in rows Adds (Some all) None mid old now new before c position chunk extra behind outcome leads ready some added passes way = absurd way
 given_up_in rows Adds (Some all) (Some xs) None old now new before c position chunk extra behind outcome leads ready some added passes way = absurd leads

@@ -1,8 +1,9 @@
 -- What contracts of private functions and proofs name.
-use Rattle.std.specs.Prelude.{ℕ, ◌-◌, ◌≡◌, ◌≢◌, ◌<◌, List, ◌++◌, length, get_or, Option, Some, None, ◌==◌, nat_le, if◌then◌else◌}
+use Rattle.std.specs.Prelude.{ℕ, ◌-◌, ◌≡◌, ◌≢◌, ◌<◌, List, ◌++◌, length, drop, get_or, Option, Some, None, IfSome, ◌==◌, nat_le, if◌then◌else◌}
 use Rattle.std.specs.Io.KnownBytes.{Appends, IsAtEnd}
 use Rattle.mmdb_filter.specs.Rows.{row_from, rows_after}
-use Rattle.mmdb_filter.specs.Lines.{row_with, AppendsFront}
+use Rattle.mmdb_filter.specs.Lines.{MayAdd, Line, AreLines, row_with, written, counted, AppendsFront}
+use Rattle.mmdb_filter.specs.declared.counts.Counts.{Counts}
 use Rattle.mmdb_filter.specs.declared.rows.Rows.{Rows}
 use Rattle.mmdb_filter.specs.declared.rows.Position.{Position}
 use Rattle.mmdb_filter.specs.declared.rows.Position.TheVariants.{Cell, Plain, Quoted, Ended}
@@ -31,3 +32,24 @@ position_past delimiter position x = if x == delimiter then Cell else Plain
 abbrev pub position_behind : ℕ → Position → List ℕ → ℕ → ℕ → Position
 position_behind delimiter position xs from to =
     if nat_le to from then position else position_past delimiter position (get_or xs (to - 1) 0)
+
+-- What was written and what is ready are the first rows with what is added, and whatever rows are left complete those of the
+-- whole.
+abbrev pub UnderWay : Rows → MayAdd → Option (List ℕ) → Option (List ℕ) → Option (List ℕ) → Option (List ℕ) → List ℕ → Counts → Counts → Type 0
+UnderWay rows Adds None left old now ready before c = Unit {0}
+UnderWay rows Adds (Some all) None old now ready before c = ⊥
+UnderWay rows Adds (Some all) (Some left) old now ready before c =
+    (done : List ℕ) × Appends old now done
+    × ((rest : List ℕ) (lines : List Line) → AreLines rows Adds lines left rest → (whole : List Line) × AreLines rows Adds whole all rest × (written whole ≡ done ++ (ready ++ written lines)) × (counted before whole ≡ counted c lines))
+
+-- So many bytes at the head of others are rows that became ready, whatever stands behind, and whatever rows are left complete
+-- those of the whole.
+abbrev pub GoOn : Rows → MayAdd → List ℕ → ℕ → List ℕ → List ℕ → Counts → Counts → Type 0
+GoOn rows Adds xs n old new before after =
+    (ys rest : List ℕ) (lines : List Line) → AreLines rows Adds lines (drop n xs ++ ys) rest
+    → (whole : List Line) × AreLines rows Adds whole (xs ++ ys) rest × (old ++ written whole ≡ new ++ written lines) × (counted before whole ≡ counted after lines)
+
+-- What was written, and then what is ready, is a beginning of the first rows with what is added.
+abbrev pub IsBegunWith : Rows → MayAdd → Option (List ℕ) → Option (List ℕ) → Option (List ℕ) → List ℕ → Type 0
+IsBegunWith rows Adds input old new ready =
+    IfSome input (λ xs. (left : List ℕ) × (lines : List Line) × (done rest : List ℕ) × AreLines rows Adds lines xs left × (written lines ≡ done ++ (ready ++ rest)) × Appends old new done)

@@ -113,33 +113,3 @@ pub(crate) fn read_live<R: Live, W: Write>(
     }
     Err(io::Error::from(ErrorKind::TimedOut))
 }
-
-/// Appends the bytes of a row from its beginning, as [`read_live`] does. Most rows stand whole in what the input has at hand, so
-/// the first read is inlined, and hands an `io::Result` back in no other place: it is large, and dear to copy for each row.
-#[inline(always)]
-pub(crate) fn read_row<R: Live, W: Write>(
-    input: &mut R,
-    rows: Rows,
-    chunk: &mut Vec<u8>,
-    out: &mut W,
-) -> io::Result<Position>
-    ensures leads { IfOk result (λ next.
-        GrowsAlong rows spec_position.Cell next chunk.old.items chunk.new.items
-        (R.remaining input.old) (R.remaining input.new)) }
-    ensures end { IfOk result (λ next. next ≢ spec_position.Ended
-        → length chunk.new.items < 65539
-        → OnSome (R.remaining input.old) (IsAtEnd (R.remaining input.new))) }
-    ensures kept { Keeps (W.contents out.old) (W.contents out.new) }
-{
-    if input.is_drained() {
-        out.flush()?;
-    }
-    let before = chunk.len();
-    let read = read_some(input, rows, Position::Cell, chunk)?;
-    let next = read.unwrap_or(Position::Cell);
-    if next == Position::Ended || (read.is_some() && chunk.len() == before) {
-        return Ok(next);
-    }
-    let next = read_live(input, rows, next, chunk, out)?;
-    Ok(next)
-}

@@ -1,18 +1,22 @@
 //! The filter.
-ghost use Rattle.std.specs.Prelude.{◌≡◌, ◌≢◌, ◌<◌, ◌++◌, List, ℕ, Bool, IfOk, OnOk, OnErr, OnSome, true, length};
-ghost use Rattle.std.specs.Io.KnownBytes.{Keeps, IsAtEnd};
+ghost use Rattle.std.specs.Prelude.{◌≡◌, ◌<◌, ◌-◌, ◌^◌, ◌++◌, [], List, ℕ, Bool, Option, IfOk, OnOk, OnErr, OnSome, true, false};
+ghost use Rattle.std.specs.Io.KnownBytes.{IsAtEnd};
+ghost use Rattle.mmdb_filter.specs.Counting.{total};
 ghost use Rattle.mmdb_filter.specs.Lines.{StandsBehind, IsFiltered, IsBegun};
-ghost use Rattle.mmdb_filter.specs.Rows.{GrowsAlong};
+ghost use Rattle.mmdb_filter.specs.Working.{UnderWay, IsBegunWith};
+ghost use Rattle.mmdb_filter.specs.declared.counts.Counts.{Counts as SpecCounts};
 ghost use Rattle.mmdb_filter.specs.declared.counts.Outcome.{Outcome as SpecOutcome};
-ghost use Rattle.mmdb_filter.specs.declared.rows.Position.TheVariants.{Cell, Ended};
 
-use crate::chunk::read_row;
+use crate::at_hand::{AtHand, READY, pass_at_hand};
+use crate::batch::Batch;
+use crate::chunk::read_live;
 use crate::counts::{Counts, Outcome};
 use crate::live::{Live, flush_before_read};
-use crate::pass::pass_on;
+use crate::pass::pass_chunks;
+use crate::put::put_ready;
 use crate::rows::{Position, Rows};
 use crate::text::seen;
-use std::alloc::Global;
+use std::alloc::{AllocError, Global};
 use std::io::{self, ErrorKind, Write};
 
 /// What was added to a row.
@@ -44,7 +48,7 @@ pub trait Additions {
         text: &[u8],
         is_long: bool,
         out: &mut Vec<u8>,
-    ) -> io::Result<Added>
+    ) -> Result<Added, AllocError>
         requires { fits self.now memory.old }
         ensures added { IfOk result (λ addition. (extra : List ℕ)
             × adds self.now text.now is_long extra addition.behind addition.outcome
@@ -95,68 +99,117 @@ fn next_asked(passed: u64) -> u64 {
     }
 }
 
-/// After so many rows additions are shown what comes.
-const AHEAD: u64 = 64;
-
-// Shows additions the bytes that the input has at hand, and says whether the input was found to be at its end. It waits where
-// the read of the row would, and fails as that would; where it was interrupted nothing is shown. Before a read, what is written
-// to `out` is written out.
+// Reads a row in chunks and passes it on, or says that there is none at the input's end. Nothing is ready before, nor then.
 #[inline(never)]
-fn look_ahead<A: Additions, R: Live, W: Write>(
-    additions: &A,
-    memory: &mut A::Memory,
-    input: &mut R,
-    out: &mut W,
-) -> io::Result<bool>
-    requires { A.fits additions.now memory.old }
-    ensures written { Keeps (W.contents out.old) (W.contents out.new) }
-    ensures kept { OnOk result (Keeps (R.remaining input.old) (R.remaining input.new)) }
-    ensures end { IfOk result (λ is_end. is_end ≡ true
-        → OnSome (R.remaining input.old) (IsAtEnd (R.remaining input.new))) }
-    ensures fits { A.fits additions.now memory.new }
-{
-    flush_before_read(input, out)?;
-    match input.fill_buf() {
-        Ok(shown) => {
-            additions.foresee(memory, shown);
-            Ok(shown.is_empty())
-        }
-        Err(error) => {
-            if error.kind() == ErrorKind::Interrupted {
-                Ok(false)
-            } else {
-                Err(error)
-            }
-        }
-    }
-}
-
-// Appends the bytes of a row, or those of its first chunk, and says the position behind them. Additions look ahead before the
-// first of each 64 rows; an input that has come to its end then is not read again.
-#[inline(always)]
-fn begin_row<A: Additions, R: Live, W: Write>(
+fn pass_read<A: Additions, R: Live, W: Write, P: Progress>(
     rows: Rows,
     additions: &A,
     memory: &mut A::Memory,
-    passed: u64,
     input: &mut R,
-    chunk: &mut Vec<u8>,
+    batch: &mut Batch,
     out: &mut W,
-) -> io::Result<Position>
-    requires { A.fits additions.now memory.old }
-    ensures written { Keeps (W.contents out.old) (W.contents out.new) }
-    ensures leads { IfOk result (λ next.
-        GrowsAlong rows Cell next chunk.old.items chunk.new.items
-        (R.remaining input.old) (R.remaining input.new)) }
-    ensures end { IfOk result (λ next. next ≢ Ended
-        → length chunk.new.items < 65539
-        → OnSome (R.remaining input.old) (IsAtEnd (R.remaining input.new))) }
+    progress: &mut P,
+) -> io::Result<bool>
+    requires fits { A.fits additions.now memory.old }
+    requires none { batch.old.ready.items ≡ [] }
+    requires few { total batch.old.counts ≡ batch.old.passed }
+    requires room { batch.old.passed < 2 ^ 64 - 1 }
+    ensures on { IfOk result (λ is_row. (all old : Option (List ℕ)) (before : SpecCounts)
+        → UnderWay rows (A.adds additions.now) all (R.remaining input.old)
+        old (W.contents out.old) [] before batch.old.counts
+        → UnderWay rows (A.adds additions.now) all (R.remaining input.new)
+        old (W.contents out.new) [] before batch.new.counts
+        × (is_row ≡ false → OnSome all (IsAtEnd (R.remaining input.new)))) }
+    ensures begun { OnErr result ((all old : Option (List ℕ)) (before : SpecCounts)
+        → UnderWay rows (A.adds additions.now) all (R.remaining input.old)
+        old (W.contents out.old) [] before batch.old.counts
+        → IsBegun rows (A.adds additions.now) all old (W.contents out.new)) }
+    ensures none { batch.new.ready.items ≡ [] }
+    ensures few { OnOk result (total batch.new.counts ≡ batch.new.passed) }
     ensures fits { A.fits additions.now memory.new }
 {
-    if passed % AHEAD == 0 && look_ahead(additions, memory, input, out)? {
-        return Ok(Position::Cell);
+    batch.chunk.clear();
+    let mut position = read_live(input, rows, Position::Cell, &mut batch.chunk, out)?;
+    if batch.chunk.is_empty() {
+        return Ok(false);
     }
-    read_row(input, rows, chunk, out)
+    batch.added.clear();
+    let (text, is_long) = seen(batch.chunk.as_slice());
+    let addition = additions.add(memory, text, is_long, &mut batch.added)?;
+    let is_quoted = position == Position::Quoted;
+    pass_chunks(
+        input,
+        rows,
+        &mut position,
+        &mut batch.chunk,
+        batch.added.as_slice(),
+        addition.behind,
+        &mut batch.ready,
+        out,
+    )?;
+    if is_quoted || position == Position::Quoted {
+        progress.stays_quoted(batch.passed);
+    }
+    if addition.outcome == Outcome::Occupied {
+        progress.is_occupied(batch.passed);
+    }
+    batch.counts.count(addition.outcome);
+    batch.passed += 1;
+    Ok(true)
+}
+
+// Passes rows until the input's end, or until it is asked to end, and says whether that was the input's end. What is still
+// ready then is to be written, where an error came too.
+fn pass_all<A: Additions, R: Live, W: Write, P: Progress>(
+    rows: Rows,
+    additions: &A,
+    memory: &mut A::Memory,
+    input: &mut R,
+    batch: &mut Batch,
+    out: &mut W,
+    progress: &mut P,
+) -> io::Result<bool>
+    requires fits { A.fits additions.now memory.old }
+    requires none { batch.old.ready.items ≡ [] }
+    requires few { total batch.old.counts ≡ batch.old.passed }
+    ensures way { OnOk result (UnderWay rows (A.adds additions.now)
+        (R.remaining input.old) (R.remaining input.new) (W.contents out.old) (W.contents out.new)
+        batch.new.ready.items batch.old.counts batch.new.counts) }
+    ensures end { IfOk result (λ is_end. is_end ≡ true
+        → OnSome (R.remaining input.old) (IsAtEnd (R.remaining input.new))) }
+    ensures begun { OnErr result (IsBegunWith rows (A.adds additions.now)
+        (R.remaining input.old) (W.contents out.old) (W.contents out.new)
+        batch.new.ready.items) }
+    ensures fits { A.fits additions.now memory.new }
+{
+    let mut asked = next_asked(batch.passed);
+    for _ in 0..u64::MAX {
+        if batch.passed == u64::MAX {
+            return Err(io::Error::from(ErrorKind::FileTooLarge));
+        }
+        if batch.passed == asked {
+            asked = next_asked(batch.passed);
+            if !progress.passed(batch.counts) {
+                return Ok(false);
+            }
+        }
+        if input.is_drained() || batch.ready.len() >= READY {
+            put_ready(out, &mut batch.ready)?;
+            flush_before_read(input, out)?;
+        }
+        match pass_at_hand(rows, additions, memory, input, asked, batch, progress)? {
+            AtHand::End => return Ok(true),
+            AtHand::Rows => {}
+            AtHand::Part => {
+                put_ready(out, &mut batch.ready)?;
+                if !pass_read(rows, additions, memory, input, batch, out, progress)? {
+                    return Ok(true);
+                }
+            }
+            AtHand::OutOfMemory => return Err(io::Error::from(ErrorKind::OutOfMemory)),
+        }
+    }
+    Err(io::Error::from(ErrorKind::FileTooLarge))
 }
 
 /// Copies rows, with what is added to each before its last bytes, and counts how they fared, with those that were counted
@@ -188,48 +241,11 @@ pub fn filter_rows<A: Additions, R: Live, W: Write, P: Progress>(
     let Some(first) = before.total() else {
         return Err(io::Error::from(ErrorKind::FileTooLarge));
     };
-    let mut counts = before;
-    let mut asked = next_asked(first);
-    let mut chunk = Vec::new(alloc);
-    let mut added = Vec::new(alloc);
-    for passed in first..u64::MAX {
-        if passed == asked {
-            asked = next_asked(passed);
-            if !progress.passed(counts) {
-                return Ok(Filtered {
-                    counts,
-                    is_end: false,
-                });
-            }
-        }
-        chunk.clear();
-        let mut position = begin_row(rows, additions, memory, passed, input, &mut chunk, out)?;
-        if chunk.is_empty() {
-            return Ok(Filtered {
-                counts,
-                is_end: true,
-            });
-        }
-        added.clear();
-        let (text, is_long) = seen(chunk.as_slice());
-        let addition = additions.add(memory, text, is_long, &mut added)?;
-        let is_quoted = position == Position::Quoted;
-        pass_on(
-            input,
-            rows,
-            &mut position,
-            &mut chunk,
-            &mut added,
-            addition.behind,
-            out,
-        )?;
-        if is_quoted || position == Position::Quoted {
-            progress.stays_quoted(passed);
-        }
-        if addition.outcome == Outcome::Occupied {
-            progress.is_occupied(passed);
-        }
-        counts.count(addition.outcome);
-    }
-    Err(io::Error::from(ErrorKind::FileTooLarge))
+    let mut batch = Batch::new(alloc, first, before);
+    let done = pass_all(rows, additions, memory, input, &mut batch, out, progress);
+    put_ready(out, &mut batch.ready)?;
+    Ok(Filtered {
+        counts: batch.counts,
+        is_end: done?,
+    })
 }

@@ -1,6 +1,8 @@
 //! A filter over rows, lines or rows of CSV: each is written whole, with something added before its last bytes.
 #![tactic(auto)]
 
+mod at_hand;
+mod batch;
 mod chunk;
 mod counts;
 mod filter;

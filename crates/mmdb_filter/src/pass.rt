@@ -1,5 +1,5 @@
-//! Rows longer than a chunk.
-ghost use Rattle.std.specs.Prelude.{◌≡◌, ◌-◌, ◌<◌, ◌≤◌, OnOk, OnErr, length, take, drop};
+//! Rows that are read in chunks.
+ghost use Rattle.std.specs.Prelude.{◌≡◌, ◌-◌, ◌<◌, ◌≤◌, [], OnOk, OnErr, length, take, drop};
 ghost use Rattle.std.specs.Io.KnownBytes.{Appends};
 ghost use Rattle.mmdb_filter.specs.Lines.{AppendsFront};
 ghost use Rattle.mmdb_filter.specs.Working.{EndsWithInput, Passes, PassesFront};
@@ -30,62 +30,37 @@ fn put_front<W: Write>(out: &mut W, chunk: &mut Vec<u8>) -> io::Result<()>
     Ok(())
 }
 
-// Writes a row, of which the first chunk was read, as `pass_on` does, in as many chunks as it has.
+/// Writes a row, of which the first chunk was read, with what is added before its end and so many bytes of its
+/// text: none, where the row is longer. The rest of it passes in chunks. The position then stands behind the row.
 #[inline(never)]
-fn pass_chunks<R: Live, W: Write>(
+pub(crate) fn pass_chunks<R: Live, W: Write>(
     input: &mut R,
     rows: Rows,
     position: &mut Position,
     chunk: &mut Vec<u8>,
-    added: &mut Vec<u8>,
+    added: &[u8],
     behind: usize,
+    ready: &mut Vec<u8>,
     out: &mut W,
 ) -> io::Result<()>
-    requires { 65539 ≤ length chunk.old.items → behind ≡ 0 }
+    requires front { 65539 ≤ length chunk.old.items → behind ≡ 0 }
+    requires none { ready.old.items ≡ [] }
     ensures whole { EndsWithInput position.old chunk.old.items (R.remaining input.old)
-        → OnOk result (Passes rows position.old chunk.old.items added.old.items behind
+        → OnOk result (Passes rows position.old chunk.old.items added.now behind
         (R.remaining input.old) (R.remaining input.new) (W.contents out.old) (W.contents out.new)) }
     ensures begun { EndsWithInput position.old chunk.old.items (R.remaining input.old)
-        → OnErr result (PassesFront rows position.old chunk.old.items added.old.items behind
+        → OnErr result (PassesFront rows position.old chunk.old.items added.now behind
         (R.remaining input.old) (W.contents out.old) (W.contents out.new)) }
+    ensures none { ready.new.items ≡ [] }
 {
     let mut now = *position;
     for _ in 0..u64::MAX {
         if now == Position::Ended || chunk.len() < CHUNK {
-            return put_row(out, chunk, added, behind);
+            return put_row(out, chunk.as_slice(), added, behind, ready);
         }
         put_front(out, chunk)?;
         now = read_live(input, rows, now, chunk, out)?;
         *position = now;
     }
     Err(io::Error::from(ErrorKind::FileTooLarge))
-}
-
-/// Writes a row, of which the first chunk was read, with what is added before its end and so many bytes of its
-/// text: none, where the row is longer. The rest of it passes in chunks. The position then stands behind the row. It is
-/// inlined, as what reads and writes a row is, since an `io::Result` is dear to hand back.
-#[inline(always)]
-pub(crate) fn pass_on<R: Live, W: Write>(
-    input: &mut R,
-    rows: Rows,
-    position: &mut Position,
-    chunk: &mut Vec<u8>,
-    added: &mut Vec<u8>,
-    behind: usize,
-    out: &mut W,
-) -> io::Result<()>
-    requires { 65539 ≤ length chunk.old.items → behind ≡ 0 }
-    ensures whole { EndsWithInput position.old chunk.old.items (R.remaining input.old)
-        → OnOk result (Passes rows position.old chunk.old.items added.old.items behind
-        (R.remaining input.old) (R.remaining input.new) (W.contents out.old) (W.contents out.new)) }
-    ensures begun { EndsWithInput position.old chunk.old.items (R.remaining input.old)
-        → OnErr result (PassesFront rows position.old chunk.old.items added.old.items behind
-        (R.remaining input.old) (W.contents out.old) (W.contents out.new)) }
-{
-    if *position == Position::Ended || chunk.len() < CHUNK {
-        put_row(out, chunk, added, behind)?;
-    } else {
-        pass_chunks(input, rows, position, chunk, added, behind, out)?;
-    }
-    Ok(())
 }

@@ -1,15 +1,16 @@
 //! Writing all of a text.
-ghost use Rattle.std.specs.Prelude.{◌≡◌, OnOk, OnErr};
+ghost use Rattle.std.specs.Prelude.{◌≡◌, ◌++◌, [], OnOk, OnErr};
 ghost use Rattle.std.specs.Io.KnownBytes.{Appends};
+ghost use Rattle.std.specs.Io.{StartsWith};
 ghost use Rattle.mmdb_filter.specs.Lines.{AppendsFront, row_with};
 
 use crate::text::text_length;
 use std::alloc::AllocError;
 use std::io::{self, ErrorKind, Write};
 
-// Writes all of the bytes, in as many writes as that takes.
+/// Writes all of the bytes, in as many writes as that takes. An interrupted write goes on.
 #[inline(never)]
-fn put_rest<W: Write>(out: &mut W, bytes: &[u8]) -> io::Result<()>
+pub(crate) fn put_all<W: Write>(out: &mut W, bytes: &[u8]) -> io::Result<()>
     ensures whole { OnOk result (Appends (W.contents out.old) (W.contents out.new) bytes.now) }
     ensures begun { OnErr result
         (AppendsFront (W.contents out.old) (W.contents out.new) bytes.now) }
@@ -32,51 +33,72 @@ fn put_rest<W: Write>(out: &mut W, bytes: &[u8]) -> io::Result<()>
     Err(io::Error::from(ErrorKind::TimedOut))
 }
 
-/// Writes all of the bytes. An interrupted write goes on. It is inlined, and mostly one write takes all: an `io::Result` is
-/// large, and dear to hand back for each row.
-#[inline(always)]
-pub(crate) fn put_all<W: Write>(out: &mut W, bytes: &[u8]) -> io::Result<()>
-    ensures whole { OnOk result (Appends (W.contents out.old) (W.contents out.new) bytes.now) }
+/// Writes what is ready. Nothing of it is ready then, whether all of it was written or not.
+pub(crate) fn put_ready<W: Write>(out: &mut W, ready: &mut Vec<u8>) -> io::Result<()>
+    ensures whole { OnOk result
+        (Appends (W.contents out.old) (W.contents out.new) ready.old.items) }
     ensures begun { OnErr result
-        (AppendsFront (W.contents out.old) (W.contents out.new) bytes.now) }
+        (AppendsFront (W.contents out.old) (W.contents out.new) ready.old.items) }
+    ensures none { ready.new.items ≡ [] }
 {
-    let written = match out.write(bytes) {
-        Ok(written) => written,
-        Err(error) if error.kind() == ErrorKind::Interrupted => 0,
-        Err(error) => return Err(error),
-    };
-    if written < bytes.len() {
-        put_rest(out, &bytes[written..])?;
-    }
-    Ok(())
+    let put = put_all(out, ready.as_slice());
+    ready.clear();
+    put
 }
 
-/// Writes a row, with what is added before its end and so many bytes of its text, all at once. The row grows by
-/// that.
+// Appends three texts, one behind the other. Some may stand there where memory runs out.
 #[inline(always)]
+fn append_three(
+    ready: &mut Vec<u8>,
+    first: &[u8],
+    second: &[u8],
+    third: &[u8],
+) -> Result<(), AllocError>
+    ensures whole { OnOk result
+        (ready.new.items ≡ ready.old.items ++ (first.now ++ (second.now ++ third.now))) }
+    ensures front { StartsWith ready.new.items ready.old.items }
+{
+    ready.extend_from_slice(first)?;
+    ready.extend_from_slice(second)?;
+    ready.extend_from_slice(third)
+}
+
+/// Appends a row, with what is added before its end and so many bytes of its text, or nothing where memory runs out.
+#[inline(always)]
+pub(crate) fn append_row(
+    ready: &mut Vec<u8>,
+    row: &[u8],
+    added: &[u8],
+    behind: usize,
+) -> Result<(), AllocError>
+    ensures whole { OnOk result
+        (ready.new.items ≡ ready.old.items ++ row_with row.now added.now behind) }
+    ensures none { OnErr result (ready.new.items ≡ ready.old.items) }
+{
+    let before = ready.len();
+    let (front, back) = row.split_at(text_length(row).saturating_sub(behind));
+    let appended = append_three(ready, front, added, back);
+    if appended.is_err() {
+        ready.truncate(before);
+    }
+    appended
+}
+
+/// Writes a row, with what is added before its end and so many bytes of its text, all at once.
 pub(crate) fn put_row<W: Write>(
     out: &mut W,
-    row: &mut Vec<u8>,
-    added: &mut Vec<u8>,
+    row: &[u8],
+    added: &[u8],
     behind: usize,
+    ready: &mut Vec<u8>,
 ) -> io::Result<()>
+    requires none { ready.old.items ≡ [] }
     ensures whole { OnOk result (Appends (W.contents out.old) (W.contents out.new)
-        (row_with row.old.items added.old.items behind)) }
+        (row_with row.now added.now behind)) }
     ensures begun { OnErr result (AppendsFront (W.contents out.old) (W.contents out.new)
-        (row_with row.old.items added.old.items behind)) }
+        (row_with row.now added.now behind)) }
+    ensures none { ready.new.items ≡ [] }
 {
-    add_before(row, added, behind)?;
-    put_all(out, row.as_slice())?;
-    Ok(())
-}
-
-// Adds bytes before the end of a row and so many bytes of its text. What was added grows by those.
-#[inline(always)]
-fn add_before(row: &mut Vec<u8>, added: &mut Vec<u8>, behind: usize) -> Result<(), AllocError>
-    ensures { OnOk result (row.new.items ≡ row_with row.old.items added.old.items behind) }
-{
-    let at = text_length(row.as_slice()).saturating_sub(behind);
-    added.extend_from_slice(&row.as_slice()[at..])?;
-    row.truncate(at);
-    row.extend_from_slice(added.as_slice())
+    append_row(ready, row, added, behind)?;
+    put_ready(out, ready)
 }

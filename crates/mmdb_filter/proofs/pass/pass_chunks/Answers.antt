@@ -15,8 +15,8 @@ returns-then-eq-clause-whole g c = λ ready.
       | then-eq-via-else-eq+then-len-lt-CHUNK w ↦ λ not. c.loop.invariant.ready ready not (search rules)
     ] in
     on_ok c.put_row.result
-    (λ put. passed c.args.rows c.args.position.now c.loop.now c.args.chunk.now.items c.loop.chunk.items c.args.added.now.items c.args.behind (g.R.Read.remaining c.args.input.now) (g.W.Write.contents c.args.out.now) (g.R.Read.remaining c.loop.input) (g.W.Write.contents c.loop.out) (g.W.Write.contents c.put_row.new.out) ending
-    (subst (λ a. Appends (g.W.Write.contents c.loop.out) (g.W.Write.contents c.put_row.new.out) (row_with c.loop.chunk.items a.items c.args.behind)) c.loop.invariant.same put) c.loop.invariant.way)
+    (λ put. passed c.args.rows c.args.position.now c.loop.now c.args.chunk.now.items c.loop.chunk.items c.args.added.now c.args.behind (g.R.Read.remaining c.args.input.now) (g.W.Write.contents c.args.out.now) (g.R.Read.remaining c.loop.input) (g.W.Write.contents c.loop.out) (g.W.Write.contents c.put_row.new.out) ending
+    (subst (λ r. Appends (g.W.Write.contents c.loop.out) (g.W.Write.contents c.put_row.new.out) (row_with r c.args.added.now c.args.behind)) c.as_slice.ensures.value put) c.loop.invariant.way)
     c.put_row.ensures.whole
 
 pub returns-then-eq-clause-begun : goal.returns-then-eq-clause-begun
@@ -27,8 +27,8 @@ returns-then-eq-clause-begun g c = λ ready.
       | then-eq-via-else-eq+then-len-lt-CHUNK w ↦ λ not. c.loop.invariant.ready ready not (search rules)
     ] in
     on_err c.put_row.result
-    (λ put. passed_in c.args.rows c.args.position.now c.loop.now c.args.chunk.now.items c.loop.chunk.items c.args.added.now.items c.args.behind (g.R.Read.remaining c.args.input.now) (g.W.Write.contents c.args.out.now) (g.R.Read.remaining c.loop.input) (g.W.Write.contents c.loop.out) (g.W.Write.contents c.put_row.new.out) ending
-    (subst (λ a. AppendsFront (g.W.Write.contents c.loop.out) (g.W.Write.contents c.put_row.new.out) (row_with c.loop.chunk.items a.items c.args.behind)) c.loop.invariant.same put) c.loop.invariant.way)
+    (λ put. passed_in c.args.rows c.args.position.now c.loop.now c.args.chunk.now.items c.loop.chunk.items c.args.added.now c.args.behind (g.R.Read.remaining c.args.input.now) (g.W.Write.contents c.args.out.now) (g.R.Read.remaining c.loop.input) (g.W.Write.contents c.loop.out) (g.W.Write.contents c.put_row.new.out) ending
+    (subst (λ r. AppendsFront (g.W.Write.contents c.loop.out) (g.W.Write.contents c.put_row.new.out) (row_with r c.args.added.now c.args.behind)) c.as_slice.ensures.value put) c.loop.invariant.way)
     c.put_row.ensures.begun
 
 pub returns-in_err-put_front-clause-begun : goal.returns-in_err-put_front-clause-begun
@@ -40,7 +40,7 @@ returns-in_err-put_front-clause-begun g c = λ ready.
     let none : c.args.behind ≡ 0 = c.loop.invariant.none (search rules) in
     let two : 2 ≤ length kept = omega (arith, length-drop (length chunk - 2) chunk) in
     on_any_err c.from_residual.result
-    (stopped_in c.args.rows c.args.position.now c.loop.now c.args.chunk.now.items chunk c.args.added.now.items front kept c.args.behind (g.R.Read.remaining c.args.input.now) (g.W.Write.contents c.args.out.now) (g.R.Read.remaining c.loop.input) (g.W.Write.contents c.loop.out) (g.W.Write.contents c.put_front.new.out) split two none c.in_err-put_front.ensures.begun c.loop.invariant.way)
+    (stopped_in c.args.rows c.args.position.now c.loop.now c.args.chunk.now.items chunk c.args.added.now front kept c.args.behind (g.R.Read.remaining c.args.input.now) (g.W.Write.contents c.args.out.now) (g.R.Read.remaining c.loop.input) (g.W.Write.contents c.loop.out) (g.W.Write.contents c.put_front.new.out) split two none c.in_err-put_front.ensures.begun c.loop.invariant.way)
 
 pub returns-in_err-now-clause-begun : goal.returns-in_err-now-clause-begun
 returns-in_err-now-clause-begun g c = λ ready.
@@ -51,11 +51,11 @@ returns-in_err-now-clause-begun g c = λ ready.
     let none : c.args.behind ≡ 0 = c.loop.invariant.none (search rules) in
     let two : 2 ≤ length kept = omega (arith, length-drop (length chunk - 2) chunk) in
     on_any_err c.from_residual-in_err-now.result
-    (stopped_in c.args.rows c.args.position.now c.loop.now c.args.chunk.now.items chunk c.args.added.now.items front kept c.args.behind (g.R.Read.remaining c.args.input.now) (g.W.Write.contents c.args.out.now) (g.R.Read.remaining c.loop.input) (g.W.Write.contents c.loop.out) (g.W.Write.contents c.read_live.new.out) split two none
+    (stopped_in c.args.rows c.args.position.now c.loop.now c.args.chunk.now.items chunk c.args.added.now front kept c.args.behind (g.R.Read.remaining c.args.input.now) (g.W.Write.contents c.args.out.now) (g.R.Read.remaining c.loop.input) (g.W.Write.contents c.loop.out) (g.W.Write.contents c.read_live.new.out) split two none
     (subst (λ t. AppendsFront (g.W.Write.contents c.loop.out) (g.W.Write.contents c.read_live.new.out) t) (append-nil front) (front_whole (g.W.Write.contents c.loop.out) (g.W.Write.contents c.read_live.new.out) front [] (appends_kept (g.W.Write.contents c.loop.out) (g.W.Write.contents c.put_front.new.out) (g.W.Write.contents c.read_live.new.out) front c.in_ok-put_front.ensures.whole c.read_live.ensures.kept))) c.loop.invariant.way)
 
 pub returns-clause-begun : goal.returns-clause-begun
-returns-clause-begun g c = λ ready. stopped c.args.rows c.args.position.now c.loop.now c.args.chunk.now.items c.loop.chunk.items c.args.added.now.items c.args.behind (g.R.Read.remaining c.args.input.now) (g.W.Write.contents c.args.out.now) (g.R.Read.remaining c.loop.input) (g.W.Write.contents c.loop.out) c.loop.invariant.way
+returns-clause-begun g c = λ ready. stopped c.args.rows c.args.position.now c.loop.now c.args.chunk.now.items c.loop.chunk.items c.args.added.now c.args.behind (g.R.Read.remaining c.args.input.now) (g.W.Write.contents c.args.out.now) (g.R.Read.remaining c.loop.input) (g.W.Write.contents c.loop.out) c.loop.invariant.way
 
 pub loop-preserved : goal.loop-preserved
 loop-preserved g c =
@@ -70,7 +70,7 @@ loop-preserved g c =
     record {
       way = passes_chunk c.args.rows c.args.position.now c.loop.now c.in_ok-now.now c.args.chunk.now.items chunk front kept bytes c.read_live.new.chunk.items c.args.behind (g.R.Read.remaining c.args.input.now) (g.W.Write.contents c.args.out.now) (g.R.Read.remaining c.loop.input) (g.W.Write.contents c.loop.out) (g.R.Read.remaining c.read_live.new.input) (g.W.Write.contents c.read_live.new.out)
           split two none (appends_kept (g.W.Write.contents c.loop.out) (g.W.Write.contents c.put_front.new.out) (g.W.Write.contents c.read_live.new.out) front c.in_ok-put_front.ensures.whole c.read_live.ensures.kept) next leads c.loop.invariant.way;
-      same = search rules;
+      empty = search rules;
       none = λ full. none;
       ready = λ first not short. at_end_too c.args.rows c.args.position.now c.loop.now c.args.chunk.now.items chunk c.args.behind (g.R.Read.remaining c.args.input.now) (g.W.Write.contents c.args.out.now) (g.R.Read.remaining c.loop.input) (g.W.Write.contents c.loop.out) (IsAtEnd (g.R.Read.remaining c.read_live.new.input)) c.loop.invariant.way (c.in_ok-now.ensures.end not short);
     }

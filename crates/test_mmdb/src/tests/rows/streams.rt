@@ -2,7 +2,7 @@
 ghost use Rattle.std.specs.Prelude.{⊤};
 
 use mmdb_filter::{Added, Additions, Counts, Outcome, Progress, Rows, filter_rows};
-use std::alloc::Global;
+use std::alloc::{AllocError, Global};
 use std::io::{self, BufReader, ErrorKind, Read, Write};
 use std::process::Abort;
 
@@ -100,7 +100,7 @@ impl Additions for Lengths {
         text: &[u8],
         is_long: bool,
         out: &mut Vec<u8>,
-    ) -> io::Result<Added> {
+    ) -> Result<Added, AllocError> {
         let len = text.len();
         let mut mark = [b'+'; 7];
         mark[0] = b'|';
@@ -138,7 +138,7 @@ impl Additions for Marks {
         text: &[u8],
         is_long: bool,
         out: &mut Vec<u8>,
-    ) -> io::Result<Added> {
+    ) -> Result<Added, AllocError> {
         if is_long {
             return Ok(Added {
                 outcome: Outcome::Unreadable,
