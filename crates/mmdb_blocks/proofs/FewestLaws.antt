@@ -1,13 +1,13 @@
 -- No list of blocks with the same addresses is shorter than the joined one.
-use Rattle.std.proofs.Common.{◌≡◌, ℕ, zero, suc, ◌+◌, ◌-◌, ◌*◌, ◌%◌, ◌^◌, ◌<◌, ◌≤◌, ◌⊎◌, ◌↔◌, List, [], ◌∷◌, length, refl, ap, arith, sym, ◌∙◌}
+use Rattle.std.proofs.Common.{◌≡◌, ℕ, ◌%◌, ◌^◌, ◌<◌, ◌≤◌, ◌⊎◌, List, [], ◌∷◌, length, arith}
 use Rattle.std.proofs.lemmas.Nat.{pow_pos}
 use Rattle.std.proofs.lemmas.Bool.{cases_lt}
 use Rattle.std.proofs.Common.{inl, inr}
 use Rattle.std.specs.List.{AllByRecursion}
 use Rattle.mmdb_blocks.specs.declared.block.Block.{Block}
-use Rattle.mmdb_blocks.specs.Blocks.{size, end, IsBlock, IsWithin, IsIn, SameAddresses, AscendsFrom, whole, AreHalves, IsApart, HasNoHalves, IsJoined}
+use Rattle.mmdb_blocks.specs.Blocks.{end, IsBlock, IsWithin, IsIn, SameAddresses, AscendsFrom, HasNoHalves, IsJoined}
 use Rattle.mmdb_blocks.proofs.NumberLaws.{lower, nested, same-start}
-use Rattle.mmdb_blocks.proofs.UniqueLaws.{level, first-within, after-start, in-others, in-first, as-large}
+use Rattle.mmdb_blocks.proofs.UniqueLaws.{level, first-within, after-start, in-others, as-large}
 
 -- all addresses of the one block are in the other
 abbrev pub IsInside : Block → Block → Type 0

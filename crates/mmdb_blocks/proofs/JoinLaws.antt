@@ -1,15 +1,15 @@
 -- What a joiner keeps, as blocks are joined, settle and wait.
-use Rattle.std.proofs.Common.{◌≡◌, ℕ, zero, suc, ◌+◌, ◌-◌, ◌*◌, ◌%◌, ◌^◌, ◌<◌, ◌≤◌, ◌⊎◌, ◌↔◌, List, [], ◌∷◌, ◌++◌, length, refl, ap, arith, sym, ◌∙◌, inl, inr, append_assoc}
+use Rattle.std.proofs.Common.{◌≡◌, ℕ, suc, ◌+◌, ◌-◌, ◌*◌, ◌%◌, ◌^◌, ◌<◌, ◌≤◌, ◌⊎◌, ◌↔◌, List, [], ◌∷◌, ◌++◌, length, refl, ap, arith, sym, ◌∙◌, inl, inr, append_assoc}
 use Rattle.std.proofs.lemmas.List.{append-nil}
 use Rattle.std.proofs.lemmas.Nat.{pow_pos}
 use Rattle.std.proofs.lemmas.Bool.{cases_lt}
 use Rattle.std.specs.List.{AllByRecursion}
 use Rattle.mmdb_blocks.specs.declared.block.Block.{Block}
-use Rattle.mmdb_blocks.specs.Blocks.{size, end, IsBlock, IsWithin, IsIn, SameAddresses, AscendsFrom, whole, AreHalves, IsApart, HasNoHalves, IsJoined}
-use Rattle.mmdb_blocks.specs.Joining.{IsSealed, IsJoining, IsAfter, DeepensFrom, IsReady, most_waiting}
+use Rattle.mmdb_blocks.specs.Blocks.{size, end, IsBlock, IsWithin, IsIn, SameAddresses, AscendsFrom, whole, AreHalves, HasNoHalves, IsJoined}
+use Rattle.mmdb_blocks.specs.Joining.{IsSealed, IsJoining, IsAfter, DeepensFrom, IsReady}
 use Rattle.mmdb_blocks.specs.Working.{AtLast, IsAtEnd, IsNoHalf, TakesHalf, IsPending}
 use Rattle.mmdb_blocks.proofs.NumberLaws.{right-half-level, doubled}
-use Rattle.mmdb_blocks.proofs.UniqueLaws.{level, after-start}
+use Rattle.mmdb_blocks.proofs.UniqueLaws.{level}
 
 -- ---- the end of a list
 

@@ -1,8 +1,8 @@
 -- What a joiner hands out, as blocks are taken.
-use Rattle.std.proofs.Common.{◌≡◌, ℕ, ◌+◌, ◌<◌, ◌≤◌, ◌⊎◌, ◌↔◌, List, [], ◌∷◌, ◌++◌, refl, arith, inl, inr, sym, subst, append_assoc}
+use Rattle.std.proofs.Common.{◌≡◌, ℕ, ◌+◌, ◌<◌, ◌≤◌, ◌⊎◌, ◌↔◌, List, [], ◌∷◌, ◌++◌, arith, inl, inr, sym, subst}
 use Rattle.std.proofs.lemmas.Bool.{cases_lt}
 use Rattle.mmdb_blocks.specs.declared.block.Block.{Block}
-use Rattle.mmdb_blocks.specs.Blocks.{end, IsBlock, IsWithin, IsIn, IsJoined}
+use Rattle.mmdb_blocks.specs.Blocks.{end, IsWithin, IsIn, IsJoined}
 use Rattle.mmdb_blocks.specs.Joining.{IsJoining}
 use Rattle.mmdb_blocks.specs.Working.{IsKept, Takes}
 use Rattle.mmdb_blocks.proofs.JoinLaws.{in-append}
@@ -76,7 +76,7 @@ start-kept blocks waiting no_blocks none h =
 
 -- all that was pushed is joined
 pub finished : (first waiting blocks later settled : List Block) (has : ℕ → Type 0) → first ≡ [] → waiting ≡ [] → Takes first waiting blocks later has
-  → IsJoined (blocks ++ later) (blocks ++ settled) → (a : ℕ) → IsIn a (blocks ++ settled) ↔ has a
+    → IsJoined (blocks ++ later) (blocks ++ settled) → (a : ℕ) → IsIn a (blocks ++ settled) ↔ has a
 finished first waiting blocks later settled has no_blocks none t j a = both-ways ((j.covers a).1, (j.covers a).0) (both-ways (taken.covers a) (to, λ h. inr h))
   where
     taken : Takes [] [] blocks later has

@@ -1,13 +1,12 @@
 -- What ranges have.
-use Rattle.std.proofs.Common.{◌≡◌, ℕ, zero, suc, ◌+◌, ◌-◌, ◌<◌, ◌≤◌, ◌⊎◌, ◌↔◌, List, [], ◌∷◌, ◌++◌, length, get_or, take, refl, ap, arith, sym, ◌∙◌, inl, inr, subst, max}
+use Rattle.std.proofs.Common.{◌≡◌, ℕ, zero, suc, ◌+◌, ◌-◌, ◌<◌, ◌≤◌, ◌⊎◌, ◌↔◌, List, [], ◌∷◌, ◌++◌, length, get_or, take, refl, ap, arith, sym, inl, inr, subst, max}
 use Rattle.std.proofs.lemmas.Bool.{cases_lt}
 use Rattle.std.proofs.lemmas.List.{take_more}
 use Rattle.std.proofs.lemmas.List.Sorted.{Contains-permutation, IsPermutation-sym}
-use Rattle.std.specs.List.{Contains}
 use Rattle.std.specs.List.Sorted.{IsPermutation, IsNonDecreasingBy}
 use Rattle.mmdb_blocks.specs.declared.ranges.Range.{Range}
 use Rattle.mmdb_blocks.specs.Ranges.{IsOfRange, IsAmong}
-use Rattle.mmdb_blocks.specs.Working.{BeginFrom, Begins, Reaches, BeginsAfter, BeginsWith, HasRest, TakesReached}
+use Rattle.mmdb_blocks.specs.Working.{BeginFrom, Begins, Reaches, BeginsAfter, BeginsWith, TakesReached}
 
 -- ---- either way
 

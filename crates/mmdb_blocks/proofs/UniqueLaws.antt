@@ -1,11 +1,11 @@
 -- The joined form of blocks is the only one.
-use Rattle.std.proofs.Common.{◌≡◌, ℕ, zero, suc, ◌+◌, ◌-◌, ◌*◌, ◌%◌, ◌^◌, ◌<◌, ◌≤◌, ◌⊎◌, ◌↔◌, List, [], ◌∷◌, refl, ap, arith, sym, ◌∙◌}
+use Rattle.std.proofs.Common.{◌≡◌, ℕ, zero, suc, ◌+◌, ◌-◌, ◌*◌, ◌%◌, ◌^◌, ◌<◌, ◌≤◌, List, [], ◌∷◌, refl, ap, arith, sym, ◌∙◌}
 use Rattle.std.proofs.lemmas.Nat.{pow_pos}
 use Rattle.std.proofs.lemmas.Bool.{cases_lt}
 use Rattle.std.proofs.Common.{inl, inr}
 use Rattle.std.specs.List.{AllByRecursion}
 use Rattle.mmdb_blocks.specs.declared.block.Block.{Block}
-use Rattle.mmdb_blocks.specs.Blocks.{size, end, IsBlock, IsWithin, IsIn, SameAddresses, AscendsFrom, whole, AreHalves, IsApart, HasNoHalves, IsJoined}
+use Rattle.mmdb_blocks.specs.Blocks.{end, IsBlock, IsWithin, IsIn, SameAddresses, AscendsFrom, IsApart, HasNoHalves, IsJoined}
 use Rattle.mmdb_blocks.proofs.NumberLaws.{lower, next-multiple, right-half-level, twice-le}
 
 -- what the address space leaves for the bits after the prefix

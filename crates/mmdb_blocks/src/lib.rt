@@ -1,6 +1,7 @@
 //! Joins ascending blocks of addresses into the fewest that have the same addresses: block by block, with as much
 //! memory as is taken at the start. It knows nothing of files, nor of what addresses are: IPv4 addresses are passed
-//! as numbers below 2 ^ 32, with prefixes of 96 and more. The lists of them that firewalls read are written here too.
+//! as numbers below 2 ^ 32, with prefixes of 96 and more. Ranges are added to a set of addresses here and taken away from
+//! it, and the lists that firewalls read are written.
 #![tactic(auto)]
 
 mod block;
@@ -23,4 +24,4 @@ pub use kind::{Kind, Kinds};
 pub use list::{List, ListError, Taken};
 pub use listed::listed_blocks;
 pub use ranges::{Range, Ranges, RangesError};
-pub use syntax::{Syntax, is_set_name};
+pub use syntax::{Action, Syntax, is_list_value, is_set_name, is_variable_name};

@@ -2,7 +2,8 @@
 use crate::block::Block;
 use crate::joiner::Joiner;
 use crate::kind::{Kind, Kinds};
-use crate::syntax::Syntax;
+use crate::ranges::RangesError;
+use crate::syntax::{Action, Syntax};
 use mmdb_net::{IpNetwork, IpNetworkError};
 use std::alloc::{AllocError, Global};
 use std::io::{self, Write};
@@ -21,6 +22,15 @@ pub enum ListError {
 impl From<AllocError> for ListError {
     fn from(_error: AllocError) -> ListError {
         ListError::Memory
+    }
+}
+
+impl From<RangesError> for ListError {
+    fn from(error: RangesError) -> ListError {
+        match error {
+            RangesError::OutOfOrder => ListError::OutOfOrder,
+            RangesError::Memory => ListError::Memory,
+        }
     }
 }
 
@@ -47,6 +57,7 @@ pub enum Taken {
 pub struct List<'a> {
     alloc: Global,
     syntax: Syntax<'a>,
+    action: Action,
     kinds: Kinds,
     joiner: Joiner,
     /// The kind of the last network.
@@ -87,14 +98,26 @@ fn halves_of(block: Block) -> [Block; 2] {
 impl<'a> List<'a> {
     /// A list without networks. All memory but that of what stands before networks is taken here.
     pub fn new(alloc: Global, syntax: Syntax<'a>, kinds: Kinds) -> Result<List<'a>, AllocError> {
+        List::of_action(alloc, syntax, Action::Fill, kinds)
+    }
+
+    /// A list without networks, which says what is done with those that come. Where they are taken out of sets or put into
+    /// them, nothing comes before them.
+    pub fn of_action(
+        alloc: Global,
+        syntax: Syntax<'a>,
+        action: Action,
+        kinds: Kinds,
+    ) -> Result<List<'a>, AllocError> {
         Ok(List {
             alloc,
             syntax,
+            action,
             kinds,
             joiner: Joiner::new(alloc)?,
             kind: None,
             has_written: false,
-            has_begun: false,
+            has_begun: action != Action::Fill,
             line: Vec::with_capacity(alloc, syntax.most_bytes())?,
         })
     }
@@ -121,7 +144,7 @@ impl<'a> List<'a> {
             return Ok(());
         }
         self.begin(out)?;
-        let text = self.syntax.opening(self.alloc, kind)?;
+        let text = self.syntax.opening(self.alloc, kind, self.action)?;
         put(text.as_bytes(), out)
     }
 
@@ -134,8 +157,13 @@ impl<'a> List<'a> {
     ) -> Result<(), ListError> {
         self.open(kind, out)?;
         self.line.clear();
-        self.syntax
-            .push_network(kind, !self.has_written, network, &mut self.line)?;
+        self.syntax.push_network(
+            kind,
+            self.action,
+            !self.has_written,
+            network,
+            &mut self.line,
+        )?;
         self.has_written = true;
         put(self.line.as_slice(), out)
     }
@@ -230,11 +258,16 @@ impl<'a> List<'a> {
         }
     }
 
-    /// Writes what is left.
+    /// Writes what is left of the networks.
     pub fn finish<O: Write>(&mut self, out: &mut O) -> Result<(), ListError> {
         match self.kind {
             Some(kind) => self.end_kind(kind, out),
             None => Ok(()),
         }
+    }
+
+    /// Writes what comes behind all networks.
+    pub fn end<O: Write>(&mut self, out: &mut O) -> Result<(), ListError> {
+        put(self.syntax.ending().as_bytes(), out)
     }
 }

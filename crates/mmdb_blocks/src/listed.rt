@@ -116,11 +116,6 @@ pub fn listed_blocks(
         ↔ IsListed address chosen.now also.now except.now) }
     ensures fewest { IfOk result (λ blocks. IsJoined blocks.items blocks.items) }
 {
-    let blocks = blocks_among(
-        alloc,
-        chosen.as_slice(),
-        also.as_slice(),
-        except.as_slice(),
-    )?;
+    let blocks = blocks_among(alloc, chosen.as_slice(), also.as_slice(), except.as_slice())?;
     Ok(blocks)
 }

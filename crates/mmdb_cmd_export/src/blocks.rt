@@ -1,6 +1,7 @@
 //! Lists of the fewest blocks.
-use crate::sink::{NetworkSink, kind_of};
-use mmdb_blocks::{Block, Kind, Kinds, List, ListError, Syntax, Taken};
+use crate::clip::Clip;
+use crate::sink::NetworkSink;
+use mmdb_blocks::{Kinds, List, ListError, Syntax, Taken};
 use mmdb_console::ProgramError;
 use mmdb_layout::{FieldsMet, Found};
 use mmdb_reader::IpNetwork;
@@ -11,24 +12,14 @@ use std::io::Write;
 #[derive(Drop)]
 pub(crate) struct Blocks<'a> {
     list: List<'a>,
-    /// The only addresses that are wanted.
-    range: Option<(Kind, Block)>,
+    clip: Clip,
     /// Whether there may be no networks.
     may_be_empty: bool,
 }
 
-// The kind and the block of a range.
-fn part_of_range(range: IpNetwork) -> (Kind, Block) {
-    let kind = match range {
-        IpNetwork::V4(_) => Kind::Ipv4,
-        IpNetwork::V6(_) => Kind::Ipv6,
-    };
-    (kind, Block::of_network(range))
-}
-
-// What a list answered, as the program reports it.
+/// What a list answered, as the program reports it.
 #[inline(always)]
-fn of_list(done: Result<(), ListError>) -> Result<(), ProgramError> {
+pub(crate) fn of_list(done: Result<(), ListError>) -> Result<(), ProgramError> {
     match done {
         Ok(()) => Ok(()),
         Err(ListError::Write(error)) => Err(ProgramError::Write(error)),
@@ -37,11 +28,18 @@ fn of_list(done: Result<(), ListError>) -> Result<(), ProgramError> {
     }
 }
 
-/// The block of a network that was found.
-#[inline(always)]
-pub(crate) fn block_of(found: &Found<'_>) -> Block {
-    let network = found.numbered_network();
-    Block::of_numbers(network.first, network.width, network.prefix)
+/// Writes what is left of a list, and what comes behind it. Without networks it is an error, unless it may be empty.
+pub(crate) fn end_list<O: Write>(
+    list: &mut List<'_>,
+    may_be_empty: bool,
+    out: &mut O,
+) -> Result<(), ProgramError> {
+    of_list(list.finish(out))?;
+    if list.is_empty() && !may_be_empty {
+        return Err(ProgramError::EmptyList);
+    }
+    of_list(list.begin(out))?;
+    of_list(list.end(out))
 }
 
 impl<'a> Blocks<'a> {
@@ -55,20 +53,9 @@ impl<'a> Blocks<'a> {
     ) -> Result<Blocks<'a>, ProgramError> {
         Ok(Blocks {
             list: List::new(alloc, syntax, kinds)?,
-            range: range.map(part_of_range),
+            clip: Clip::to(range),
             may_be_empty,
         })
-    }
-
-    // What a network has of the range, in which it lies or which it has. A block of IPv4 addresses stays one of IPv4.
-    #[inline(always)]
-    fn part_of(&self, found: &Found<'_>) -> (Kind, Block) {
-        let (kind, block) = (kind_of(found), block_of(found));
-        match self.range {
-            Some((Kind::Ipv4, range)) if block.prefix < range.prefix => (Kind::Ipv4, range),
-            Some((_, range)) if block.prefix < range.prefix => (kind, range),
-            _ => (kind, block),
-        }
     }
 
     // Writes the blocks that nothing can join any more.
@@ -82,7 +69,7 @@ impl<'a> Blocks<'a> {
 impl NetworkSink for Blocks<'_> {
     #[inline(always)]
     fn take<O: Write>(&mut self, found: &Found<'_>, out: &mut O) -> Result<bool, ProgramError> {
-        let (kind, block) = self.part_of(found);
+        let (kind, block) = self.clip.part_of(found);
         match self.list.take(kind, block) {
             Taken::Whole => Ok(true),
             Taken::Settled => self.write_settled(out),
@@ -91,7 +78,7 @@ impl NetworkSink for Blocks<'_> {
     }
 
     fn put<O: Write>(&mut self, found: &Found<'_>, out: &mut O) -> Result<(), ProgramError> {
-        let (kind, block) = self.part_of(found);
+        let (kind, block) = self.clip.part_of(found);
         of_list(self.list.push(kind, block, out))
     }
 
@@ -104,13 +91,6 @@ impl NetworkSink for Blocks<'_> {
     }
 
     fn finish<O: Write>(&mut self, out: &mut O) -> Result<(), ProgramError> {
-        of_list(self.list.finish(out))?;
-        if !self.list.is_empty() {
-            return Ok(());
-        }
-        if !self.may_be_empty {
-            return Err(ProgramError::EmptyList);
-        }
-        of_list(self.list.begin(out))
+        end_list(&mut self.list, self.may_be_empty, out)
     }
 }

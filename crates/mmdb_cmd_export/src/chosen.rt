@@ -1,4 +1,6 @@
 //! The chosen networks of a range, with what their records have or as the fewest blocks.
+use crate::gathering::Gathering;
+use crate::networks::Gathered;
 use crate::sink::{NetworkSink, kind_of};
 use mmdb_blocks::Kinds;
 use mmdb_console::{Console, Pace, Passed, ProgramError, Where};
@@ -251,5 +253,15 @@ impl<'a, 'r, W: NetworkSink> Export<'a, 'r, W> {
     ) -> Result<(), ProgramError> {
         self.write_waiting(console)?;
         self.sink.finish(console.out)
+    }
+}
+
+impl Export<'_, '_, Gathering> {
+    /// What was gathered.
+    pub(crate) fn into_gathered(self) -> Gathered {
+        Gathered {
+            gathering: self.sink,
+            faults: self.faults,
+        }
     }
 }

@@ -1,5 +1,6 @@
 //! Conditions as a person writes them.
-use mmdb_arguments::NoRequest;
+use crate::inputs::{Named, ValueFile, named_by, text_of_file, values_in};
+use mmdb_arguments::{ConditionTexts, NoRequest};
 use mmdb_console::{path_of, wanted_path};
 use mmdb_layout::{Condition, Requirement, split_condition};
 use mmdb_reader::PathElement;
@@ -19,53 +20,72 @@ fn place_of(
     None
 }
 
-// Adds a value to a condition.
-fn add_value<'a>(
+// Adds values to a condition.
+fn add_values<'a>(
     conditions: &mut [Condition<'a>],
     place: usize,
-    value: &'a str,
+    values: &[&'a str],
 ) -> Result<(), AllocError> {
     match conditions.get_mut(place) {
-        Some(condition) => Ok(condition.texts.push(value)?),
+        Some(condition) => condition.texts.extend_from_slice(values),
         None => Ok(()),
     }
 }
 
-// One value.
-fn one_value<'a>(alloc: Global, value: &'a str) -> Result<Vec<&'a str>, AllocError> {
-    let mut texts = Vec::new(alloc);
-    texts.push(value)?;
-    Ok(texts)
-}
-
-// A condition with one value.
+// A condition with some values.
 fn condition_of<'a>(
     alloc: Global,
     path: Vec<PathElement<'a>>,
     wanted: Requirement,
-    value: &'a str,
+    values: &[&'a str],
 ) -> Result<Condition<'a>, AllocError> {
     Ok(Condition {
         path,
-        texts: one_value(alloc, value)?,
+        texts: Vec::from_slice(alloc, values)?,
         wanted,
     })
 }
 
-// Adds the condition that a value stands at the end of a path.
+// Adds the condition that one of some values stands at the end of a path.
 fn put_condition<'a>(
     alloc: Global,
     path: Vec<PathElement<'a>>,
     wanted: Requirement,
-    value: &'a str,
+    values: &[&'a str],
     conditions: &mut Vec<Condition<'a>>,
 ) -> Result<(), AllocError> {
     match place_of(conditions.as_slice(), path.as_slice(), wanted) {
         Some(place) => {
             drop(path);
-            add_value(conditions.as_mut_slice(), place, value)
+            add_values(conditions.as_mut_slice(), place, values)
         }
-        None => Ok(conditions.push(condition_of(alloc, path, wanted, value)?)?),
+        None => Ok(conditions.push(condition_of(alloc, path, wanted, values)?)?),
+    }
+}
+
+// The values that a condition has: one, or those of a file.
+fn values_of<'a>(
+    alloc: Global,
+    text: &'a str,
+    value: &'a str,
+    files: &'a [ValueFile<'a>],
+) -> Result<Vec<&'a str>, AllocError> {
+    match named_by(value) {
+        Named::File(_) => values_in(alloc, text_of_file(files, text).unwrap_or("")),
+        Named::Value(value) => {
+            let mut values = Vec::new(alloc);
+            values.push(value)?;
+            Ok(values)
+        }
+    }
+}
+
+// The path and the value of a text `PATH=VALUE`.
+fn parts_of<'a>(alloc: Global, text: &'a str) -> Result<(&'a str, &'a str), NoRequest> {
+    match split_condition(text) {
+        Some((_, "@")) => Err(NoRequest::bad_argument(alloc, text, "no file behind the @")),
+        Some(parts) => Ok(parts),
+        None => Err(NoRequest::bad_argument(alloc, text, "not PATH=VALUE")),
     }
 }
 
@@ -74,29 +94,41 @@ fn add_condition<'a>(
     alloc: Global,
     text: &'a str,
     wanted: Requirement,
+    files: &'a [ValueFile<'a>],
     conditions: &mut Vec<Condition<'a>>,
 ) -> Result<(), NoRequest> {
-    let Some((path, value)) = split_condition(text) else {
-        return Err(NoRequest::bad_argument(alloc, text, "not PATH=VALUE"));
+    let (path, value) = parts_of(alloc, text)?;
+    let Some(path) = path_of(alloc, path)? else {
+        return Err(NoRequest::bad_argument(alloc, text, "not a path before the ="));
     };
-    match path_of(alloc, path)? {
-        Some(path) => Ok(put_condition(alloc, path, wanted, value, conditions)?),
-        None => Err(NoRequest::bad_argument(alloc, text, "not a path before the =")),
-    }
+    let values = values_of(alloc, text, value, files)?;
+    put_condition(alloc, path, wanted, values.as_slice(), conditions)?;
+    Ok(())
 }
 
 // Adds the conditions that texts spell.
 fn add_conditions<'a>(
     alloc: Global,
-    wheres: &[&'a str],
-    where_nots: &[&'a str],
+    texts: &[&'a str],
+    wanted: Requirement,
+    files: &'a [ValueFile<'a>],
     conditions: &mut Vec<Condition<'a>>,
 ) -> Result<(), NoRequest> {
-    for text in wheres {
-        add_condition(alloc, text, Requirement::OneOf, conditions)?;
+    for text in texts {
+        add_condition(alloc, *text, wanted, files, conditions)?;
     }
-    for text in where_nots {
-        add_condition(alloc, text, Requirement::NoneOf, conditions)?;
+    Ok(())
+}
+
+// Adds the conditions that there is a value at paths.
+fn add_paths<'a>(
+    alloc: Global,
+    paths: &[&'a str],
+    conditions: &mut Vec<Condition<'a>>,
+) -> Result<(), NoRequest> {
+    for path in paths {
+        let path = wanted_path(alloc, *path)?;
+        put_condition(alloc, path, Requirement::Present, &[], conditions)?;
     }
     Ok(())
 }
@@ -114,53 +146,99 @@ pub(crate) struct NamedValue<'a> {
 }
 
 impl NamedValue<'_> {
-    /// Whether another value is named of the same path.
+    /// Whether another value is named of the same path, of which the same is asked.
     pub(crate) fn has_path_of(&self, other: &NamedValue<'_>) -> bool {
-        self.condition.path.as_slice() == other.condition.path.as_slice()
+        self.condition.wanted == other.condition.wanted
+            && self.condition.path.as_slice() == other.condition.path.as_slice()
     }
 }
 
-// Adds the values that texts name.
+// Adds a value that a text names.
+fn push_named<'a>(named: NamedValue<'a>, all: &mut Vec<NamedValue<'a>>) -> Result<(), AllocError> {
+    all.push(named)?;
+    Ok(())
+}
+
+// Adds the values that texts name. Those of files are looked for together.
 fn add_named<'a>(
     alloc: Global,
     texts: &[&'a str],
+    wanted: Requirement,
     is_alternative: bool,
     all: &mut Vec<NamedValue<'a>>,
 ) -> Result<(), NoRequest> {
     for text in texts {
-        if let Some((path, value)) = split_condition(*text) {
-            let path = wanted_path(alloc, path)?;
-            let condition = condition_of(alloc, path, Requirement::OneOf, value)?;
-            all.push(NamedValue {
-                text: *text,
-                value,
-                condition,
-                is_alternative,
-            })?;
-        }
+        let (path, value) = parts_of(alloc, *text)?;
+        let Named::Value(value) = named_by(value) else {
+            continue;
+        };
+        let path = wanted_path(alloc, path)?;
+        let condition = condition_of(alloc, path, wanted, &[value])?;
+        let named = NamedValue {
+            text: *text,
+            value,
+            condition,
+            is_alternative,
+        };
+        push_named(named, all)?;
     }
     Ok(())
 }
 
-/// The values that texts `PATH=VALUE` name, of networks that are wanted and that are not.
+// Adds the paths at which there is to be a value.
+fn add_named_paths<'a>(
+    alloc: Global,
+    paths: &[&'a str],
+    all: &mut Vec<NamedValue<'a>>,
+) -> Result<(), NoRequest> {
+    for path in paths {
+        let steps = wanted_path(alloc, *path)?;
+        let condition = condition_of(alloc, steps, Requirement::Present, &[])?;
+        let named = NamedValue {
+            text: *path,
+            value: *path,
+            condition,
+            is_alternative: true,
+        };
+        push_named(named, all)?;
+    }
+    Ok(())
+}
+
+/// The values that conditions name one by one, of networks that are wanted and that are not.
 pub(crate) fn named_values<'a>(
     alloc: Global,
-    wheres: &[&'a str],
-    where_nots: &[&'a str],
+    texts: &ConditionTexts<'a>,
 ) -> Result<Vec<NamedValue<'a>>, NoRequest> {
     let mut all = Vec::new(alloc);
-    add_named(alloc, wheres, true, &mut all)?;
-    add_named(alloc, where_nots, false, &mut all)?;
+    let (wheres, where_nots) = (texts.wheres.as_slice(), texts.where_nots.as_slice());
+    let (parts, paths) = (texts.contains.as_slice(), texts.has.as_slice());
+    add_named(alloc, wheres, Requirement::OneOf, true, &mut all)?;
+    add_named(alloc, where_nots, Requirement::OneOf, false, &mut all)?;
+    add_named(alloc, parts, Requirement::Part, true, &mut all)?;
+    add_named_paths(alloc, paths, &mut all)?;
     Ok(all)
 }
 
-/// The conditions that texts `PATH=VALUE` spell: of one path several wanted values are alternatives.
+/// The conditions that texts spell, with the values of files: of one path several values that are asked for in the same way
+/// are alternatives.
 pub(crate) fn conditions_of<'a>(
     alloc: Global,
-    wheres: &[&'a str],
-    where_nots: &[&'a str],
+    texts: &ConditionTexts<'a>,
+    files: &'a [ValueFile<'a>],
 ) -> Result<Vec<Condition<'a>>, NoRequest> {
     let mut conditions = Vec::new(alloc);
-    add_conditions(alloc, wheres, where_nots, &mut conditions)?;
+    let (wheres, where_nots) = (texts.wheres.as_slice(), texts.where_nots.as_slice());
+    let (parts, paths) = (texts.contains.as_slice(), texts.has.as_slice());
+    add_conditions(alloc, wheres, Requirement::OneOf, files, &mut conditions)?;
+    add_conditions(
+        alloc,
+        where_nots,
+        Requirement::NoneOf,
+        files,
+        &mut conditions,
+    )?;
+    add_conditions(alloc, parts, Requirement::Part, files, &mut conditions)?;
+    add_paths(alloc, paths, &mut conditions)?;
     Ok(conditions)
 }

@@ -1,13 +1,21 @@
 //! The command `export`: the chosen networks of a range, with what their records have or as the fewest blocks.
 #![tactic(auto)]
 
+mod adjusted;
 mod blocks;
 mod chosen;
+mod clip;
 mod conditions;
+mod gathering;
+mod inputs;
+mod list_diff;
+mod listed_values;
 mod missing;
 mod networks;
 mod rows;
 mod sink;
+mod spelling;
 mod task;
 
+pub use list_diff::list_diff;
 pub use networks::export;

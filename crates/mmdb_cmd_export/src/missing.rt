@@ -1,5 +1,6 @@
 //! Values of conditions that no network has: a list by a value that is misspelt would have nothing, or too much.
 use crate::conditions::NamedValue;
+use crate::listed_values::{FileSearch, searches_of};
 use crate::sink::kind_of;
 use crate::task::ExportTask;
 use mmdb_blocks::Kinds;
@@ -24,6 +25,8 @@ struct Search<'t, 'a> {
     alloc: Global,
     named: &'t [NamedValue<'a>],
     are_met: Vec<bool>,
+    /// The values of files that no network has so far.
+    files: Vec<FileSearch<'a>>,
 }
 
 // Whether a value is met by a record. One that can't be read meets none: it is reported when the networks are written.
@@ -36,16 +39,21 @@ fn meets(alloc: Global, named: &NamedValue<'_>, found: &Found<'_>) -> Result<boo
 }
 
 impl<'t, 'a> Search<'t, 'a> {
-    fn new(alloc: Global, named: &'t [NamedValue<'a>]) -> Result<Search<'t, 'a>, AllocError> {
+    fn new(
+        alloc: Global,
+        named: &'t [NamedValue<'a>],
+        files: Vec<FileSearch<'a>>,
+    ) -> Result<Search<'t, 'a>, AllocError> {
         Ok(Search {
             alloc,
             named,
             are_met: vec![in alloc; false; named.len()]?,
+            files,
         })
     }
 
     fn is_done(&self) -> bool {
-        self.are_met.iter().all(|is_met| *is_met)
+        self.are_met.iter().all(|is_met| *is_met) && self.files.iter().all(|file| file.is_done())
     }
 
     // Marks the values that a record meets.
@@ -54,6 +62,9 @@ impl<'t, 'a> Search<'t, 'a> {
             if !*is_met {
                 *is_met = meets(self.alloc, named, found)?;
             }
+        }
+        for file in &mut self.files {
+            file.meet(self.alloc, found)?;
         }
         Ok(())
     }
@@ -213,6 +224,22 @@ fn report_refused<O: Write, E: Write>(
     Ok(count)
 }
 
+// Reports the values of files that no network has, and answers how many files have none that one has.
+fn report_files<O: Write, E: Write>(
+    task: &ExportTask<'_>,
+    search: &Search<'_, '_>,
+    console: &mut Console<'_, O, E>,
+) -> usize {
+    let mut count = 0usize;
+    for file in &search.files {
+        file.report(task.is_of_part(), console);
+        if file.is_all_missing() && !task.allow_missing && !task.allow_empty {
+            count = count.saturating_add(1);
+        }
+    }
+    count
+}
+
 /// Whether networks of a range have all the values that a list's conditions name, or may lack them. Those that none has are
 /// reported, each with one that may be meant. It is known before anything is written.
 pub(crate) fn are_values_met<O: Write, E: Write>(
@@ -221,9 +248,11 @@ pub(crate) fn are_values_met<O: Write, E: Write>(
     choice: &mut Choice<'_>,
     console: &mut Console<'_, O, E>,
 ) -> Result<bool, ProgramError> {
-    let mut search = Search::new(console.alloc, task.named.as_slice())?;
+    let files = searches_of(console.alloc, task.files)?;
+    let mut search = Search::new(console.alloc, task.named.as_slice(), files)?;
     let networks = networks_in(console.alloc, database, task.range)?;
     search.meet_all(networks, task.kinds, choice)?;
-    let is_complete = report_refused(database, task, &search, console)? == 0;
-    Ok(is_complete || task.may_lack())
+    let refused = report_refused(database, task, &search, console)?;
+    let missing = report_files(task, &search, console);
+    Ok((refused == 0 && missing == 0) || task.may_lack())
 }

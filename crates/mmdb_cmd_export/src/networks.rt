@@ -1,20 +1,24 @@
 //! The chosen networks of a range, written out.
+use crate::adjusted::write_adjusted;
 use crate::blocks::Blocks;
 use crate::chosen::Export;
+use crate::gathering::{Adjustment, Gathering};
+use crate::inputs::{ValueFile, check_inputs, read_adjustment, read_value_files};
 use crate::missing::are_values_met;
 use crate::rows::ExportRows;
 use crate::sink::NetworkSink;
 use crate::task::{ExportTask, Shape, export_task};
-use mmdb_arguments::ExportArguments;
+use mmdb_arguments::{ExportArguments, NoRequest};
+use mmdb_blocks::Syntax;
 use mmdb_console::{Console, DONE, FAILED, Pace, ProgramError, note_range};
 use mmdb_layout::{Choice, Condition, Database, Networks, networks_in, open_database};
 use mmdb_reader::MaxMindDbError;
 use std::alloc::{AllocError, Global};
-use std::io::Write;
+use std::io::{BufRead, Write};
 use std::rt::Files;
 
-// Reports how many networks could not be read, and answers the status.
-fn report_faults<O: Write, E: Pace>(
+/// Reports how many networks could not be read, and answers the status.
+pub(crate) fn report_faults<O: Write, E: Pace>(
     faults: u64,
     console: &mut Console<'_, O, E>,
 ) -> Result<u8, ProgramError> {
@@ -53,8 +57,8 @@ fn export_all<'r, W: NetworkSink, O: Write, E: Pace>(
     export.finish(console)
 }
 
-// The choice by these conditions. None where there are none, and all networks are chosen.
-fn choice_of<'a>(
+/// The choice by these conditions. None where there are none, and all networks are chosen.
+pub(crate) fn choice_of<'a>(
     alloc: Global,
     conditions: &'a [Condition<'a>],
 ) -> Result<Option<Choice<'a>>, AllocError> {
@@ -143,8 +147,46 @@ fn export_chosen<'a, 'r, O: Write, E: Pace>(
     }
 }
 
-// Whether a list may be written by these conditions: rows may be.
-fn may_be_written<O: Write, E: Pace>(
+/// The addresses of the chosen networks, and how many networks could not be read.
+#[derive(Drop)]
+pub(crate) struct Gathered {
+    pub(crate) gathering: Gathering,
+    pub(crate) faults: u64,
+}
+
+/// Gathers the addresses of the chosen networks, and reports each network that can't be read.
+pub(crate) fn gather<'a, O: Write, E: Pace>(
+    database: &Database,
+    task: &'a ExportTask<'a>,
+    choice: Option<Choice<'a>>,
+    console: &mut Console<'_, O, E>,
+) -> Result<Gathered, ProgramError> {
+    let networks = networks_in(console.alloc, database, task.range)?;
+    let sink = Gathering::new(console.alloc, task.range);
+    let mut export = Export::new(console.alloc, choice, task.kinds, sink)?;
+    export_all(networks, &mut export, console)?;
+    Ok(export.into_gathered())
+}
+
+// Writes the list of the chosen networks with what is added and without what is taken away, and answers the status.
+fn export_adjusted<'a, O: Write, E: Pace>(
+    database: &Database,
+    task: &'a ExportTask<'a>,
+    syntax: Syntax<'a>,
+    adjustment: &Adjustment,
+    choice: Option<Choice<'a>>,
+    console: &mut Console<'_, O, E>,
+) -> Result<u8, ProgramError> {
+    let gathered = gather(database, task, choice, console)?;
+    let chosen = &gathered.gathering.chosen;
+    write_adjusted(console.alloc, task, syntax, chosen, adjustment, console.out)?;
+    let faults = gathered.faults;
+    drop(gathered);
+    report_faults(faults, console)
+}
+
+/// Whether a list may be written by these conditions: rows may be.
+pub(crate) fn may_be_written<O: Write, E: Pace>(
     database: &Database,
     task: &ExportTask<'_>,
     choice: &mut Option<Choice<'_>>,
@@ -160,11 +202,15 @@ fn may_be_written<O: Write, E: Pace>(
 fn export_database<'a, O: Write, E: Pace>(
     database: &Database,
     task: &'a ExportTask<'a>,
+    adjustment: Option<&Adjustment>,
     console: &mut Console<'_, O, E>,
 ) -> Result<u8, ProgramError> {
     let mut choice = choice_of(console.alloc, task.conditions.as_slice())?;
     if !may_be_written(database, task, &mut choice, console)? {
         return Ok(FAILED);
+    }
+    if let (Shape::List(syntax), Some(adjustment)) = (&task.shape, adjustment) {
+        return export_adjusted(database, task, *syntax, adjustment, choice, console);
     }
     match networks_in(console.alloc, database, task.range) {
         Ok(networks) => export_chosen(database, task, networks, choice, console),
@@ -180,11 +226,12 @@ fn export_file<'a, R: Files, O: Write, E: Pace>(
     rt: &R,
     file: &str,
     task: &'a ExportTask<'a>,
+    adjustment: Option<&Adjustment>,
     console: &mut Console<'_, O, E>,
 ) -> Result<u8, ProgramError> {
     match open_database(rt, file, console) {
         Some(database) => {
-            let done = export_database(&database, task, console);
+            let done = export_database(&database, task, adjustment, console);
             drop(database);
             done
         }
@@ -192,17 +239,62 @@ fn export_file<'a, R: Files, O: Write, E: Pace>(
     }
 }
 
-/// Writes the chosen networks of a range, reports each that can't be read, and answers the status. An `Err` where an
-/// argument is not what is wanted in its place, before the file is opened; where the range can't be asked, standard output
-/// can't be written, the networks do not ascend, or out of memory.
-pub fn export<R: Files, O: Write, E: Pace>(
+// What is added to a list and taken away, if anything is; none where a file can't be read, which is reported.
+fn adjustment_of<R: Files, I: BufRead, O: Write, E: Pace>(
     rt: &R,
     arguments: &ExportArguments<'_>,
+    input: &mut I,
+    console: &mut Console<'_, O, E>,
+) -> Result<Option<Option<Adjustment>>, ProgramError> {
+    let list = &arguments.list;
+    if list.also.is_empty() && list.except.is_empty() {
+        return Ok(Some(None));
+    }
+    match read_adjustment(rt, list, input, console)? {
+        Some(adjustment) => Ok(Some(Some(adjustment))),
+        None => Ok(None),
+    }
+}
+
+// Writes the chosen networks by conditions with the values of files, and answers the status.
+fn export_with_values<R: Files, I: BufRead, O: Write, E: Pace>(
+    rt: &R,
+    arguments: &ExportArguments<'_>,
+    files: &[ValueFile<'_>],
+    input: &mut I,
     console: &mut Console<'_, O, E>,
 ) -> Result<u8, ProgramError> {
-    let task = export_task(console.alloc, arguments)?;
+    let task = export_task(console.alloc, arguments, files)?;
     note_range(task.range, console);
-    let done = export_file(rt, arguments.file, &task, console);
+    let Some(adjustment) = adjustment_of(rt, arguments, input, console)? else {
+        return Ok(FAILED);
+    };
+    export_file(rt, arguments.file, &task, adjustment.as_ref(), console)
+}
+
+/// Writes the chosen networks of a range, reports each that can't be read, and answers the status. An `Err` where an
+/// argument is not what is wanted in its place, before a file is opened; where the range can't be asked, standard output
+/// can't be written, the networks do not ascend, or out of memory.
+pub fn export<R: Files, I: BufRead, O: Write, E: Pace>(
+    rt: &R,
+    arguments: &ExportArguments<'_>,
+    input: &mut I,
+    console: &mut Console<'_, O, E>,
+) -> Result<u8, ProgramError> {
+    check_arguments(console.alloc, arguments)?;
+    let Some(files) = read_value_files(rt, arguments, input, console)? else {
+        return Ok(FAILED);
+    };
+    export_with_values(rt, arguments, files.as_slice(), input, console)
+}
+
+/// An `Err` where an argument is not what is wanted in its place.
+pub(crate) fn check_arguments(
+    alloc: Global,
+    arguments: &ExportArguments<'_>,
+) -> Result<(), NoRequest> {
+    check_inputs(alloc, arguments)?;
+    let task = export_task(alloc, arguments, &[])?;
     drop(task);
-    done
+    Ok(())
 }

@@ -1,5 +1,5 @@
 //! The rows of an export.
-use crate::blocks::block_of;
+use crate::clip::block_of;
 use crate::sink::{NetworkSink, kind_of};
 use mmdb_cache::Cache;
 use mmdb_console::{ProgramError, put};

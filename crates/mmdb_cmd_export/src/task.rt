@@ -1,7 +1,8 @@
 //! What `export` is asked for.
 use crate::conditions::{NamedValue, conditions_of, named_values};
-use mmdb_arguments::{ExportArguments, Format, NoRequest};
-use mmdb_blocks::{Kind, Kinds, Syntax, is_set_name};
+use crate::inputs::ValueFile;
+use mmdb_arguments::{ExportArguments, Format, ListArguments, NoRequest};
+use mmdb_blocks::{Kind, Kinds, Syntax, is_list_value, is_set_name, is_variable_name};
 use mmdb_console::range_of;
 use mmdb_layout::{Condition, Layout, layout_of};
 use mmdb_reader::IpNetwork;
@@ -21,8 +22,10 @@ pub(crate) enum Shape<'a> {
 pub(crate) struct ExportTask<'a> {
     pub(crate) range: Option<IpNetwork>,
     pub(crate) conditions: Vec<Condition<'a>>,
-    /// The values of the conditions, where a list is written.
+    /// The values that the conditions name one by one.
     pub(crate) named: Vec<NamedValue<'a>>,
+    /// The files of values that the conditions name.
+    pub(crate) files: &'a [ValueFile<'a>],
     pub(crate) kinds: Kinds,
     pub(crate) shape: Shape<'a>,
     /// Whether a list may have no networks.
@@ -43,16 +46,124 @@ impl ExportTask<'_> {
     }
 }
 
-// How sets are named, in a format that has some.
+// What an option says, where it may say that in a format that takes it, or else what is said without it.
+fn text_of<'a>(
+    alloc: Global,
+    text: Option<&'a str>,
+    default: &'a str,
+    is_taken: bool,
+    is_right: bool,
+    wrong: [&str; 3],
+) -> Result<&'a str, NoRequest> {
+    let [option, needs, not] = wrong;
+    match text {
+        None => Ok(default),
+        Some(_) if !is_taken => Err(NoRequest::bad_argument(alloc, option, needs)),
+        Some(text) if !is_right => Err(NoRequest::bad_argument(alloc, text, not)),
+        Some(text) => Ok(text),
+    }
+}
+
+// How sets, a chain or a variable are named, in a format that has some.
 fn name_of<'a>(alloc: Global, format: Format, name: Option<&'a str>) -> Result<&'a str, NoRequest> {
-    let has_sets = matches!(format, Format::Nft | Format::Ipset);
-    let (argument, wanted) = match name {
-        None => return Ok("mmdb"),
-        Some(name) if has_sets && is_set_name(name) => return Ok(name),
-        Some(name) if has_sets => (name, "not the beginning of a set's name"),
-        Some(_) => ("--name", "needs --format nft or ipset"),
+    let text = name.unwrap_or("");
+    let (is_right, not) = match format {
+        Format::Nginx => (is_variable_name(text), "not a variable's name"),
+        _ => (is_set_name(text), "not the beginning of a set's name"),
     };
-    Err(NoRequest::bad_argument(alloc, argument, wanted))
+    let is_taken = matches!(
+        format,
+        Format::Nft | Format::Ipset | Format::Iptables | Format::Nginx
+    );
+    let wrong = [
+        "--name",
+        "needs --format nft, ipset, iptables or nginx",
+        not,
+    ];
+    text_of(alloc, name, "mmdb", is_taken, is_right, wrong)
+}
+
+// The table of nft that has the sets.
+fn table_of<'a>(
+    alloc: Global,
+    format: Format,
+    table: Option<&'a str>,
+) -> Result<&'a str, NoRequest> {
+    let is_right = is_set_name(table.unwrap_or(""));
+    let wrong = ["--table", "needs --format nft", "not a table's name"];
+    text_of(
+        alloc,
+        table,
+        "mmdb",
+        matches!(format, Format::Nft),
+        is_right,
+        wrong,
+    )
+}
+
+// The family of that table.
+fn family_of<'a>(
+    alloc: Global,
+    format: Format,
+    family: Option<&'a str>,
+) -> Result<&'a str, NoRequest> {
+    let wrong = ["--family", "needs --format nft", "not a family"];
+    text_of(
+        alloc,
+        family,
+        "inet",
+        matches!(format, Format::Nft),
+        true,
+        wrong,
+    )
+}
+
+// The target of rules.
+fn target_of<'a>(
+    alloc: Global,
+    format: Format,
+    jump: Option<&'a str>,
+) -> Result<&'a str, NoRequest> {
+    let is_right = is_set_name(jump.unwrap_or(""));
+    let wrong = ["--jump", "needs --format iptables", "not a target"];
+    let is_taken = matches!(format, Format::Iptables);
+    text_of(alloc, jump, "DROP", is_taken, is_right, wrong)
+}
+
+// The value of each network.
+fn value_of<'a>(
+    alloc: Global,
+    format: Format,
+    value: Option<&'a str>,
+) -> Result<&'a str, NoRequest> {
+    let is_right = is_list_value(value.unwrap_or(""));
+    let not = "not 1 to 64 letters, digits, _, - and .";
+    let wrong = ["--value", "needs --format nginx or haproxy", not];
+    let is_taken = matches!(format, Format::Nginx | Format::Haproxy);
+    text_of(alloc, value, "1", is_taken, is_right, wrong)
+}
+
+// The first argument of lists alone that is given, where rows are written.
+fn argument_of_lists(list: &ListArguments<'_>) -> Option<&'static str> {
+    if !list.also.is_empty() {
+        Some("--also")
+    } else if !list.except.is_empty() {
+        Some("--except")
+    } else {
+        None
+    }
+}
+
+// Rows in a layout, which nothing is added to and taken from.
+fn rows_of<'a>(
+    alloc: Global,
+    is_csv: bool,
+    arguments: &'a ExportArguments<'a>,
+) -> Result<Shape<'a>, NoRequest> {
+    if let Some(argument) = argument_of_lists(&arguments.list) {
+        return Err(NoRequest::bad_argument(alloc, argument, "needs a list of networks"));
+    }
+    Ok(Shape::Rows(layout_of(alloc, is_csv, arguments.fields.as_slice())?))
 }
 
 // A list in a syntax, of which networks have no fields.
@@ -64,16 +175,34 @@ fn list_of<'a>(alloc: Global, syntax: Syntax<'a>, fields: &[&str]) -> Result<Sha
 }
 
 fn shape_of<'a>(alloc: Global, arguments: &'a ExportArguments<'a>) -> Result<Shape<'a>, NoRequest> {
-    let (format, fields) = (arguments.format, arguments.fields.as_slice());
-    let name = name_of(alloc, format, arguments.name)?;
+    let (format, list) = (arguments.format, &arguments.list);
+    let name = name_of(alloc, format, list.name)?;
+    let table = table_of(alloc, format, list.table)?;
+    let family = family_of(alloc, format, list.family)?;
+    let target = target_of(alloc, format, list.jump)?;
+    let value = value_of(alloc, format, list.value)?;
     let syntax = match format {
-        Format::JsonLines => return Ok(Shape::Rows(layout_of(alloc, false, fields)?)),
-        Format::Csv => return Ok(Shape::Rows(layout_of(alloc, true, fields)?)),
+        Format::JsonLines => return rows_of(alloc, false, arguments),
+        Format::Csv => return rows_of(alloc, true, arguments),
         Format::Cidr => Syntax::Cidr,
-        Format::Nft => Syntax::Nft { name },
+        Format::Nft => Syntax::Nft {
+            family,
+            table,
+            name,
+        },
         Format::Ipset => Syntax::Ipset { name },
+        Format::Iptables => Syntax::Iptables {
+            chain: name,
+            target,
+        },
+        Format::Nginx => Syntax::Nginx {
+            variable: name,
+            value,
+        },
+        Format::Haproxy => Syntax::Haproxy { value },
+        Format::Pf => Syntax::Pf,
     };
-    list_of(alloc, syntax, fields)
+    list_of(alloc, syntax, arguments.fields.as_slice())
 }
 
 // Which kinds of addresses are wanted: both where both are asked for, or none.
@@ -85,19 +214,20 @@ fn kinds_of(ipv4: bool, ipv6: bool) -> Kinds {
     }
 }
 
-/// What the arguments of `export` ask for. An `Err` where one is not what is wanted in its place.
+/// What the arguments of `export` ask for, with the values of files. An `Err` where one is not what is wanted in its place.
 pub(crate) fn export_task<'a>(
     alloc: Global,
     arguments: &'a ExportArguments<'a>,
+    files: &'a [ValueFile<'a>],
 ) -> Result<ExportTask<'a>, NoRequest> {
-    let (wheres, where_nots) = (arguments.wheres.as_slice(), arguments.where_nots.as_slice());
     Ok(ExportTask {
         range: range_of(alloc, arguments.range)?,
-        conditions: conditions_of(alloc, wheres, where_nots)?,
-        named: named_values(alloc, wheres, where_nots)?,
-        kinds: kinds_of(arguments.ipv4, arguments.ipv6),
+        conditions: conditions_of(alloc, &arguments.conditions, files)?,
+        named: named_values(alloc, &arguments.conditions)?,
+        files,
+        kinds: kinds_of(arguments.list.ipv4, arguments.list.ipv6),
         shape: shape_of(alloc, arguments)?,
-        allow_empty: arguments.allow_empty,
-        allow_missing: arguments.allow_missing,
+        allow_empty: arguments.list.allow_empty,
+        allow_missing: arguments.list.allow_missing,
     })
 }

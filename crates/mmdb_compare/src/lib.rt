@@ -2,7 +2,6 @@
 //! values of both that are read side by side, and what is kept of pairs of records.
 #![tactic(auto)]
 
-mod blocks;
 mod comparison;
 mod contents;
 mod equality;

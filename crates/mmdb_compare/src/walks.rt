@@ -2,7 +2,6 @@
 ghost use Rattle.std.specs.Prelude.{◌≡◌, ◌≤◌, ℕ, MatchOption, MatchBool};
 ghost use Rattle.mmdb_compare.specs.Walks.{IsMetIn, IsMetOn, AreGone, AreFrom, AreTaken, IsBoth, IsShared, IsNarrower, last_here, is_record_here, is_compared_here};
 
-use crate::blocks::largest_block;
 use crate::comparison::{Side, Stretch};
 use crate::walk::{Here, Walk};
 use mmdb_blocks::Block;
@@ -108,7 +107,7 @@ impl<'a, S: AsSlice<u8> + Drop> Walks<'a, S> {
             return BothAt::Skipped(last);
         }
         BothAt::Compared {
-            block: largest_block(at, last),
+            block: Block::largest(at, last),
             has_old: is_record(old),
             has_new: is_record(new),
             is_even: false,

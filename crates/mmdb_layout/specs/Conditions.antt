@@ -3,6 +3,7 @@ use Rattle.std.specs.Prelude.{◌≡◌, ◌⊎◌, ℕ, ◌+◌, ◌%◌, ◌<�
 use Rattle.std.specs.Borrow.{Bor}
 use Rattle.std.specs.List.{Contains}
 use Rattle.std.specs.declared.convert.AsSlice.{Ghosts}
+use Rattle.memchr.specs.Find.{OccursAt}
 use Rattle.mmdb_format.specs.Contents.{text}
 use Rattle.mmdb_format.specs.Unfolding.{Tree, scalar, array, table}
 use Rattle.mmdb_value.specs.AnyValue.{value_at}
@@ -13,7 +14,7 @@ use Rattle.mmdb_reader.specs.declared.path.PathElement.{PathElement}
 use Rattle.mmdb_json.specs.Texts.{IsCompact}
 use Rattle.mmdb_layout.specs.declared.condition.Condition.{Condition}
 use Rattle.mmdb_layout.specs.declared.condition.Requirement.{Requirement}
-use Rattle.mmdb_layout.specs.declared.condition.Requirement.TheVariants.{OneOf, NoneOf}
+use Rattle.mmdb_layout.specs.declared.condition.Requirement.TheVariants.{OneOf, NoneOf, Part, Present}
 
 -- a text is one of the texts
 abbrev pub IsOneOf : List ℕ → List (List ℕ) → Type 0
@@ -32,19 +33,55 @@ SaysAmong (array _) texts b = b ≡ false
 SaysAmong (table _) texts b = b ≡ false
 SaysAmong v texts b = (json : List ℕ) × IsCompact v json × SaysOneOf json texts b
 
--- a Bool says so of what was read along a path: where nothing is there, it is none of the texts
-abbrev pub SaysRead : Option Tree → List (List ℕ) → Bool → Type 0
-SaysRead None texts b = b ≡ false
-SaysRead (Some v) texts b = SaysAmong v texts b
+-- the text that a value is, if it is one
+abbrev pub text_of : Tree → Option (List ℕ)
+text_of (scalar (text own)) = Some own
+text_of _ = None
+
+-- a text stands somewhere in another one
+abbrev pub HasPart : List ℕ → List ℕ → Type 0
+HasPart own part = (place : ℕ) × OccursAt own part place
+
+-- one of the texts does
+abbrev pub HasAnyPart : List ℕ → List (List ℕ) → Type 0
+HasAnyPart own [] = ⊥
+HasAnyPart own (part ∷ parts) = HasPart own part ⊎ HasAnyPart own parts
+
+abbrev pub SaysAnyPart : List ℕ → List (List ℕ) → Bool → Type 0
+SaysAnyPart own texts true = HasAnyPart own texts
+SaysAnyPart own texts false = ¬ HasAnyPart own texts
+
+-- a Bool says whether there is a text, in which one of the texts stands
+abbrev pub SaysPartOf : Option (List ℕ) → List (List ℕ) → Bool → Type 0
+SaysPartOf None texts b = b ≡ false
+SaysPartOf (Some own) texts b = SaysAnyPart own texts b
+
+-- a Bool says so of a value
+abbrev pub SaysPart : Tree → List (List ℕ) → Bool → Type 0
+SaysPart v texts b = SaysPartOf (text_of v) texts b
+
+-- A Bool says whether a value is what is asked for: one of the texts, wanted or not; a text in which one of them stands;
+-- or any.
+abbrev pub SaysFits : Requirement → Tree → List (List ℕ) → Bool → Type 0
+SaysFits OneOf v texts b = SaysAmong v texts b
+SaysFits NoneOf v texts b = SaysAmong v texts b
+SaysFits Part v texts b = SaysPart v texts b
+SaysFits Present v texts b = b ≡ true
+
+-- a Bool says so of what was read along a path: where nothing is there, it is not
+abbrev pub SaysRead : Requirement → Option Tree → List (List ℕ) → Bool → Type 0
+SaysRead wanted None texts b = b ≡ false
+SaysRead wanted (Some v) texts b = SaysFits wanted v texts b
 
 -- what is read along a path from the offset of a record; nothing where the way or the value can't be read
 abbrev pub read_at : List PathElement → List ℕ → ℕ → Option (Option Tree)
 read_at path s offset = answer_along path true (value_at true) s offset
 
--- A Bool says whether the value along a path of the record at an offset is one of the texts. Without a record it is not.
-abbrev pub SaysFoundAt : List PathElement → List (List ℕ) → List ℕ → Option ℕ → Bool → Type 0
-SaysFoundAt path texts s None b = b ≡ false
-SaysFoundAt path texts s (Some offset) b = (value : Option Tree) × (read_at path s offset ≡ Some value) × SaysRead value texts b
+-- A Bool says whether the value along a path of the record at an offset is what is asked for. Without a record it is not.
+abbrev pub SaysFoundAt : Requirement → List PathElement → List (List ℕ) → List ℕ → Option ℕ → Bool → Type 0
+SaysFoundAt wanted path texts s None b = b ≡ false
+SaysFoundAt wanted path texts s (Some offset) b =
+    (value : Option Tree) × (read_at path s offset ≡ Some value) × SaysRead wanted value texts b
 
 -- there is a record, and the way of a path in it or the value at its end can't be read
 abbrev pub IsUnreadAt : List PathElement → List ℕ → Option ℕ → Type 0
@@ -69,10 +106,12 @@ SplitsAtSign bytes (Some parts) =
     (bytes ≡ parts.0.now ++ codes "=" ++ parts.1.now) × IsSign bytes (length parts.0.now)
     × ((place : ℕ) → place < length parts.0.now → ¬ IsSign bytes place)
 
--- what a condition says where the value is one of its texts or not
+-- what a condition says where the value is what it asks for or not
 abbrev pub wants : Requirement → Bool → Bool
 wants OneOf is_found = is_found
 wants NoneOf is_found = not is_found
+wants Part is_found = is_found
+wants Present is_found = is_found
 
 -- the texts of a condition
 abbrev pub texts_of : Condition → List (List ℕ)
@@ -81,7 +120,8 @@ texts_of condition = map (λ t. t.now) condition.texts.items
 -- a Bool says whether a condition is met by the record at an offset
 abbrev pub SaysMetAt : Condition → List ℕ → Option ℕ → Bool → Type 0
 SaysMetAt condition s offset b =
-    (is_found : Bool) × SaysFoundAt condition.path.items (texts_of condition) s offset is_found × (b ≡ wants condition.wanted is_found)
+    (is_found : Bool) × SaysFoundAt condition.wanted condition.path.items (texts_of condition) s offset is_found
+    × (b ≡ wants condition.wanted is_found)
 
 -- A Bool says whether all conditions are met: true, or false where one is not met and those before it are.
 abbrev pub SaysAllMetAt : List Condition → List ℕ → Option ℕ → Bool → Type 0

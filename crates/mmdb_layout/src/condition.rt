@@ -1,10 +1,11 @@
 //! Conditions on the value at a path of a record.
-ghost use Rattle.std.specs.Prelude.{◌≡◌, ◌<◌, ℕ, IfOk, IfErr, MatchOption, map, option_map};
+ghost use Rattle.std.specs.Prelude.{◌≡◌, ◌<◌, ◌↔◌, ℕ, IsTrue, IfOk, IfErr, MatchOption, map, option_map};
 ghost use Rattle.mmdb_format.specs.Error.{MemoryApart};
 ghost use Rattle.mmdb_value.specs.Values.{value_tree};
-ghost use Rattle.mmdb_layout.specs.Conditions.{SaysOneOf, SaysAmong, wants as spec_wants, SaysMet, IsUnread, IsSign, SplitsAtSign};
-ghost use Rattle.mmdb_layout.specs.Working.{text_of as spec_text_of, is_container as spec_is_container, SaysFound};
+ghost use Rattle.mmdb_layout.specs.Conditions.{SaysOneOf, SaysAmong, HasPart, SaysAnyPart, SaysPart, SaysFits, text_of as spec_text_of, wants as spec_wants, SaysMet, IsUnread, IsSign, SplitsAtSign};
+ghost use Rattle.mmdb_layout.specs.Working.{is_container as spec_is_container, SaysFound};
 
+use memchr::memmem;
 use mmdb_json::compact;
 use mmdb_reader::{LookupResult, MaxMindDbError, PathElement};
 use mmdb_value::Value;
@@ -18,10 +19,14 @@ pub enum Requirement {
     OneOf,
     /// That it is none of them, or that there is no value.
     NoneOf,
+    /// That it is a text in which one of the texts stands.
+    Part,
+    /// That there is one.
+    Present,
 }
 
 /// A condition on the value at a path: a text is compared as it stands, any other scalar by its JSON, and a map or an
-/// array is none of the texts.
+/// array is none of the texts. Only a text has others in it.
 #[derive(Drop)]
 pub struct Condition<'a> {
     pub path: Vec<PathElement<'a>>,
@@ -75,20 +80,63 @@ fn is_among(alloc: Global, value: &Value<'_>, texts: &[&str]) -> Result<bool, Al
     Ok(is_one_of(json.as_slice(), texts))
 }
 
+// Whether a text stands somewhere in another one.
+fn has_part(own: &[u8], part: &[u8]) -> bool
+    ensures { IsTrue result ↔ HasPart own.now part.now }
+{
+    match memmem::find(own, part) {
+        Some(_) => true,
+        None => false,
+    }
+}
+
+// Whether one of the texts stands in a text.
+fn has_any_part(own: &[u8], texts: &[&str]) -> bool
+    ensures { SaysAnyPart own.now (map (λ t. t.now) texts.now) result }
+{
+    for text in texts {
+        if has_part(own, text.as_bytes()) {
+            return true;
+        }
+    }
+    false
+}
+
+// Whether a value is a text in which one of the texts stands.
+fn has_part_among(value: &Value<'_>, texts: &[&str]) -> bool
+    ensures { SaysPart (value_tree value.now) (map (λ t. t.now) texts.now) result }
+{
+    match text_of(value) {
+        Some(own) => has_any_part(own.as_bytes(), texts),
+        None => false,
+    }
+}
+
 impl Requirement {
-    // What a condition says where the value is one of its texts or not.
+    // Whether a value is what is asked for, or what is not wanted.
+    fn fits(self, alloc: Global, value: &Value<'_>, texts: &[&str]) -> Result<bool, AllocError>
+        ensures { IfOk result (SaysFits self (value_tree value.now) (map (λ t. t.now) texts.now)) }
+    {
+        match self {
+            Requirement::OneOf | Requirement::NoneOf => is_among(alloc, value, texts),
+            Requirement::Part => Ok(has_part_among(value, texts)),
+            Requirement::Present => Ok(true),
+        }
+    }
+
+    // What a condition says where the value is what it asks for or not.
     fn wants(self, is_found: bool) -> bool
         ensures { result ≡ spec_wants self is_found }
     {
         match self {
-            Requirement::OneOf => is_found,
             Requirement::NoneOf => !is_found,
+            Requirement::OneOf | Requirement::Part | Requirement::Present => is_found,
         }
     }
 }
 
 impl Condition<'_> {
-    // Whether the value at the path is one of the texts.
+    // Whether the value at the path is what is asked for.
     fn finds<S: AsSlice<u8> + Drop>(
         &self,
         alloc: Global,
@@ -99,7 +147,7 @@ impl Condition<'_> {
     {
         let value: Option<Value<'_>> = found.decode_path(alloc, self.path.as_slice())?;
         match &value {
-            Some(value) => Ok(is_among(alloc, value, self.texts.as_slice())?),
+            Some(value) => Ok(self.wanted.fits(alloc, value, self.texts.as_slice())?),
             None => Ok(false),
         }
     }

@@ -3,7 +3,7 @@ use mmdb_arguments::{Message, NoRequest, Request, request_of};
 use mmdb_cmd_build::build;
 use mmdb_cmd_diff::diff;
 use mmdb_cmd_enrich::enrich;
-use mmdb_cmd_export::export;
+use mmdb_cmd_export::{export, list_diff};
 use mmdb_cmd_install::install;
 use mmdb_cmd_show::{describe, show, verify};
 use mmdb_console::{
@@ -50,7 +50,7 @@ fn subject_of<'a>(request: &Request<'a>) -> &'a str {
         },
         Request::Enrich(arguments) => arguments.file,
         Request::Export(arguments) => arguments.file,
-        Request::Diff(_) => "diff",
+        Request::Diff(_) | Request::ListDiff(_) => "diff",
         Request::Install(arguments) => arguments.dest,
         Request::Build(arguments) => arguments.out,
         Request::Verify(_) => "verify",
@@ -87,8 +87,9 @@ fn done_of<R: Files + Env + Clock, I: Live, O: Write, E: Pace>(
         Request::Show(arguments) => show(rt, arguments, console),
         Request::Info(arguments) => describe(rt, arguments, console),
         Request::Enrich(arguments) => enrich(rt, arguments, input, console),
-        Request::Export(arguments) => export(rt, arguments, console),
+        Request::Export(arguments) => export(rt, arguments, input, console),
         Request::Diff(arguments) => diff(rt, arguments, console),
+        Request::ListDiff(arguments) => list_diff(rt, arguments, input, console),
         Request::Install(arguments) => install(rt, arguments, console),
         Request::Build(arguments) => build(rt, arguments, input, console),
         Request::Verify(arguments) => verify(rt, arguments, console),

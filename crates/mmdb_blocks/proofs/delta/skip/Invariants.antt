@@ -1,4 +1,4 @@
-use Rattle.std.proofs.Common.{ℕ, ◌≤◌, ◌↔◌, length}
+use Rattle.std.proofs.Common.{◌≤◌, ◌↔◌, length}
 use Rattle.mmdb_blocks.specs.Blocks.{AscendsFrom}
 use Rattle.mmdb_blocks.specs.Deltas.{IsListedIn}
 use Rattle.mmdb_blocks.specs.declared.block.Block.{Block}

@@ -1,4 +1,4 @@
-use Rattle.std.proofs.Common.{◌≡◌, ℕ, ◌+◌, ◌<◌, ◌≤◌, arith}
+use Rattle.std.proofs.Common.{◌+◌, arith}
 use Rattle.mmdb_blocks.proofs.RangeLaws.{both-ways, either-right, up-to, up-to-free, put-up-to, among-after, among-begins, among-first, reaches-first}
 use Rattle.mmdb_blocks.proofs.except.put_rest.Goals as goal
 

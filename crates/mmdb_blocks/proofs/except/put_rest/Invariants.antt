@@ -1,4 +1,4 @@
-use Rattle.std.proofs.Common.{ℕ, ◌+◌, ◌-◌, ◌<◌, ◌≤◌, ◌⊎◌, ◌↔◌}
+use Rattle.std.proofs.Common.{ℕ, ◌-◌, ◌<◌, ◌≤◌, ◌⊎◌, ◌↔◌}
 use Rattle.mmdb_blocks.specs.Ranges.{IsAmong}
 use Rattle.mmdb_blocks.specs.Working.{Begins}
 use Rattle.mmdb_blocks.proofs.except.put_rest.Given as goal

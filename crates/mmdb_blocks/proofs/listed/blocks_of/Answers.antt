@@ -1,5 +1,4 @@
-use Rattle.std.proofs.Common.{◌≡◌, List, [], ◌++◌, ap}
-use Rattle.mmdb_blocks.specs.Blocks.{IsJoined}
+use Rattle.std.proofs.Common.{◌≡◌, [], ◌++◌, ap}
 use Rattle.mmdb_blocks.specs.Joining.{waiting_of, settled_of}
 use Rattle.mmdb_blocks.specs.Ranges.{IsAmong}
 use Rattle.mmdb_blocks.proofs.ListedLaws.{start-kept, finished, joined-of-itself}

@@ -1,6 +1,5 @@
-use Rattle.std.proofs.Common.{◌≡◌, ℕ, ◌+◌, ◌<◌, ◌≤◌, arith}
+use Rattle.std.proofs.Common.{◌≡◌, ◌+◌, ◌≤◌, arith}
 use Rattle.mmdb_blocks.specs.Blocks.{end}
-use Rattle.mmdb_blocks.specs.Joining.{waiting_of}
 use Rattle.mmdb_blocks.proofs.RangeLaws.{both-ways, other-way, up-to}
 use Rattle.mmdb_blocks.proofs.ListedLaws.{takes-both, next-block}
 use Rattle.mmdb_blocks.proofs.listed.push_range.Goals as goal

@@ -1,4 +1,4 @@
-use Rattle.std.proofs.Common.{ℕ, ◌-◌, ◌<◌, ◌≤◌}
+use Rattle.std.proofs.Common.{◌-◌, ◌<◌, ◌≤◌}
 use Rattle.mmdb_blocks.specs.Joining.{waiting_of}
 use Rattle.mmdb_blocks.specs.Working.{IsKept, Takes}
 use Rattle.mmdb_blocks.proofs.listed.push_range.Given as goal

@@ -1,4 +1,4 @@
-use Rattle.std.proofs.Common.{◌<◌, List, length, subst}
+use Rattle.std.proofs.Common.{List, subst}
 use Rattle.std.proofs.lemmas.List.{take_all}
 use Rattle.mmdb_blocks.specs.Joining.{waiting_of}
 use Rattle.mmdb_blocks.specs.Ranges.{IsAmong}

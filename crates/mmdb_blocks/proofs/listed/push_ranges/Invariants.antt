@@ -1,4 +1,4 @@
-use Rattle.std.proofs.Common.{ℕ, take}
+use Rattle.std.proofs.Common.{take}
 use Rattle.mmdb_blocks.specs.Ranges.{IsAmong}
 use Rattle.mmdb_blocks.specs.Joining.{waiting_of}
 use Rattle.mmdb_blocks.specs.Working.{IsKept, Takes}

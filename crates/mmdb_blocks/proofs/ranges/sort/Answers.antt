@@ -1,4 +1,4 @@
-use Rattle.std.proofs.Common.{rules, ℕ}
+use Rattle.std.proofs.Common.{rules}
 use Rattle.std.proofs.lemmas.List.Sorted.{IsNonDecreasingBy-from_sort_by_key}
 use Rattle.mmdb_blocks.specs.declared.ranges.Range.{Range}
 use Rattle.mmdb_blocks.proofs.RangeLaws.{among-sorted, begins-sorted}

@@ -1,4 +1,4 @@
-use Rattle.std.proofs.Common.{◌≡◌, ◌∙◌, ◌<◌, length, refl, ap, arith, vec_len, vec_capacity}
+use Rattle.std.proofs.Common.{◌∙◌, refl, ap, arith}
 use Rattle.std.proofs.lemmas.Bool.{false≢true}
 use Rattle.mmdb_blocks.proofs.JoinLaws.{room-of, ready-alone, ready-after, joins-alone, joins-after}
 use Rattle.mmdb_blocks.proofs.waiting.add.Goals as goal

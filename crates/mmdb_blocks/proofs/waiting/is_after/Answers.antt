@@ -1,4 +1,4 @@
-use Rattle.std.proofs.Common.{◌≡◌, ◌<◌, ◌≤◌, ◌+◌, ℕ, arith, ltb-true, lt-ltb}
+use Rattle.std.proofs.Common.{◌≤◌, arith, ltb-true, lt-ltb}
 use Rattle.mmdb_blocks.specs.Blocks.{end}
 use Rattle.mmdb_blocks.proofs.JoinLaws.{at-end-of, from-end-of}
 use Rattle.mmdb_blocks.proofs.waiting.is_after.Goals as goal

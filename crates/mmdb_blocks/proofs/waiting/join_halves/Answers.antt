@@ -1,4 +1,4 @@
-use Rattle.std.proofs.Common.{◌≡◌, ◌∙◌}
+use Rattle.std.proofs.Common.{◌∙◌}
 use Rattle.mmdb_blocks.proofs.JoinLaws.{takes-ready, takes-block, takes-pending}
 use Rattle.mmdb_blocks.proofs.waiting.join_halves.Goals as goal
 

@@ -1,4 +1,3 @@
-use Rattle.std.proofs.Common.{◌≡◌}
 use Rattle.std.proofs.lemmas.Bool.{false≢true}
 use Rattle.mmdb_blocks.specs.Working.{IsNoHalf}
 use Rattle.mmdb_blocks.proofs.JoinLaws.{at-end-same}

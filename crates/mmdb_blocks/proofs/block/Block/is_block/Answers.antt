@@ -1,5 +1,4 @@
-use Rattle.std.proofs.Common.{◌≡◌, ◌-◌, ◌<◌, ◌^◌, ℕ, sym, ◌∙◌, arith, eqb-true, eq-eqb}
-use Rattle.mmdb_blocks.specs.Blocks.{IsBlock}
+use Rattle.std.proofs.Common.{◌-◌, sym, ◌∙◌, arith, eqb-true, eq-eqb}
 use Rattle.mmdb_blocks.proofs.NumberLaws.{masked}
 use Rattle.mmdb_blocks.proofs.block.Block.is_block.Goals as goal
 

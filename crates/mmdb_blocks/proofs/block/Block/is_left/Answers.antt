@@ -1,4 +1,4 @@
-use Rattle.std.proofs.Common.{◌≡◌, ◌-◌, ◌<◌, ℕ, sym, ◌∙◌, arith, eqb-true, eq-eqb}
+use Rattle.std.proofs.Common.{◌-◌, sym, ◌∙◌, eqb-true, eq-eqb}
 use Rattle.mmdb_blocks.proofs.NumberLaws.{masked}
 use Rattle.mmdb_blocks.proofs.block.Block.is_left.Goals as goal
 

@@ -1,5 +1,4 @@
-use Rattle.std.proofs.Common.{◌≡◌, ◌-◌, ◌<◌, ℕ, arith}
-use Rattle.mmdb_blocks.specs.Blocks.{AreHalves}
+use Rattle.std.proofs.Common.{arith}
 use Rattle.mmdb_blocks.proofs.block.Block.is_left_half.Goals as goal
 
 pub returns-then-is_before : goal.returns-then-is_before

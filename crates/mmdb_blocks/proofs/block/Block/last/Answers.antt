@@ -1,4 +1,4 @@
-use Rattle.std.proofs.Common.{◌≡◌, ◌-◌, ◌<◌, ◌≤◌, ◌+◌, ◌^◌, ℕ, refl, arith}
+use Rattle.std.proofs.Common.{◌-◌, refl, arith}
 use Rattle.mmdb_blocks.proofs.NumberLaws.{nested}
 use Rattle.mmdb_blocks.proofs.block.Block.last.Goals as goal
 

@@ -1,4 +1,4 @@
-use Rattle.std.proofs.Common.{◌≡◌, ◌∙◌, List, [], ◌∷◌, ◌++◌, refl, ap}
+use Rattle.std.proofs.Common.{◌∙◌, [], ◌∷◌, ◌++◌, refl, ap}
 use Rattle.std.proofs.lemmas.Bool.{false≢true}
 use Rattle.mmdb_blocks.specs.Joining.{waiting_of}
 use Rattle.mmdb_blocks.proofs.JoinLaws.{pend-of, after-pushed-of, pushed-after-of}

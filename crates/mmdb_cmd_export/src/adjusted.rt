@@ -1,0 +1,57 @@
+//! Lists of chosen networks with blocks that are added and without blocks that are taken away.
+use crate::blocks::{end_list, of_list};
+use crate::gathering::{Addresses, Adjustment, of_ranges};
+use crate::task::ExportTask;
+use mmdb_blocks::{Block, Kind, List, Syntax};
+use mmdb_console::ProgramError;
+use std::alloc::Global;
+use std::io::Write;
+
+/// Both kinds of addresses, in the order in which lists have them.
+pub(crate) const KINDS: [Kind; 2] = [Kind::Ipv4, Kind::Ipv6];
+
+/// Writes blocks of a kind.
+pub(crate) fn push_blocks<O: Write>(
+    kind: Kind,
+    blocks: &[Block],
+    list: &mut List<'_>,
+    out: &mut O,
+) -> Result<(), ProgramError> {
+    for block in blocks {
+        of_list(list.push(kind, *block, out))?;
+    }
+    Ok(())
+}
+
+// Writes the blocks of a kind.
+fn push_kind<O: Write>(
+    alloc: Global,
+    kind: Kind,
+    chosen: &Addresses,
+    adjustment: &Adjustment,
+    list: &mut List<'_>,
+    out: &mut O,
+) -> Result<(), ProgramError> {
+    match adjustment.blocks_of(alloc, chosen, kind) {
+        Ok(blocks) => push_blocks(kind, blocks.as_slice(), list, out),
+        Err(error) => Err(of_ranges(error)),
+    }
+}
+
+/// Writes the list of the chosen addresses with what is added and without what is taken away.
+pub(crate) fn write_adjusted<'a, O: Write>(
+    alloc: Global,
+    task: &ExportTask<'_>,
+    syntax: Syntax<'a>,
+    chosen: &Addresses,
+    adjustment: &Adjustment,
+    out: &mut O,
+) -> Result<(), ProgramError> {
+    let mut list = List::new(alloc, syntax, task.kinds)?;
+    for kind in KINDS {
+        if task.kinds.has(kind) {
+            push_kind(alloc, kind, chosen, adjustment, &mut list, out)?;
+        }
+    }
+    end_list(&mut list, task.allow_empty || task.may_lack(), out)
+}

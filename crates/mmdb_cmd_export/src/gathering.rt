@@ -1,0 +1,126 @@
+//! The addresses of chosen networks, gathered.
+use crate::clip::Clip;
+use crate::sink::NetworkSink;
+use mmdb_blocks::{Block, Kind, Range, Ranges, RangesError, listed_blocks};
+use mmdb_console::ProgramError;
+use mmdb_layout::{FieldsMet, Found};
+use mmdb_reader::IpNetwork;
+use std::alloc::{AllocError, Global};
+use std::io::Write;
+
+/// Addresses of both kinds.
+#[derive(Drop)]
+pub(crate) struct Addresses {
+    ipv4: Ranges,
+    ipv6: Ranges,
+}
+
+/// What ranges answered, as the program reports it.
+pub(crate) fn of_ranges(error: RangesError) -> ProgramError {
+    match error {
+        RangesError::OutOfOrder => ProgramError::OutOfOrder,
+        RangesError::Memory => ProgramError::Memory,
+    }
+}
+
+impl Addresses {
+    pub(crate) fn new(alloc: Global) -> Addresses {
+        Addresses {
+            ipv4: Ranges::new(alloc),
+            ipv6: Ranges::new(alloc),
+        }
+    }
+
+    fn of(&self, kind: Kind) -> &Ranges {
+        match kind {
+            Kind::Ipv4 => &self.ipv4,
+            Kind::Ipv6 => &self.ipv6,
+        }
+    }
+
+    /// Adds the addresses of a range of a kind.
+    pub(crate) fn add(&mut self, kind: Kind, range: Range) -> Result<(), AllocError> {
+        match kind {
+            Kind::Ipv4 => self.ipv4.add(range),
+            Kind::Ipv6 => self.ipv6.add(range),
+        }
+    }
+
+    // Adds the addresses of a block of a kind.
+    fn add_block(&mut self, kind: Kind, block: Block) -> Result<(), ProgramError> {
+        let added = match kind {
+            Kind::Ipv4 => self.ipv4.add_block(block),
+            Kind::Ipv6 => self.ipv6.add_block(block),
+        };
+        match added {
+            Ok(()) => Ok(()),
+            Err(error) => Err(of_ranges(error)),
+        }
+    }
+}
+
+/// Which addresses a list has beside those of the chosen networks, and which it has not.
+#[derive(Drop)]
+pub(crate) struct Adjustment {
+    pub(crate) also: Addresses,
+    pub(crate) except: Addresses,
+}
+
+impl Adjustment {
+    /// The fewest blocks of a kind that have the chosen addresses, with what is added and without what is taken away.
+    pub(crate) fn blocks_of(
+        &self,
+        alloc: Global,
+        chosen: &Addresses,
+        kind: Kind,
+    ) -> Result<Vec<Block>, RangesError> {
+        listed_blocks(
+            alloc,
+            chosen.of(kind),
+            self.also.of(kind),
+            self.except.of(kind),
+        )
+    }
+}
+
+/// Gathers the addresses of networks.
+#[derive(Drop)]
+pub(crate) struct Gathering {
+    pub(crate) chosen: Addresses,
+    clip: Clip,
+}
+
+impl Gathering {
+    /// Of no networks yet, and of no address outside a range.
+    pub(crate) fn new(alloc: Global, range: Option<IpNetwork>) -> Gathering {
+        Gathering {
+            chosen: Addresses::new(alloc),
+            clip: Clip::to(range),
+        }
+    }
+}
+
+impl NetworkSink for Gathering {
+    fn take<O: Write>(&mut self, found: &Found<'_>, _out: &mut O) -> Result<bool, ProgramError> {
+        let (kind, block) = self.clip.part_of(found);
+        self.chosen.add_block(kind, block)?;
+        Ok(true)
+    }
+
+    fn put<O: Write>(&mut self, found: &Found<'_>, _out: &mut O) -> Result<(), ProgramError> {
+        let (kind, block) = self.clip.part_of(found);
+        self.chosen.add_block(kind, block)
+    }
+
+    fn let_go(&mut self) -> bool {
+        false
+    }
+
+    fn fields_met(&mut self) -> Option<&mut FieldsMet> {
+        None
+    }
+
+    fn finish<O: Write>(&mut self, _out: &mut O) -> Result<(), ProgramError> {
+        Ok(())
+    }
+}

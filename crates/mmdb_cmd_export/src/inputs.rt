@@ -1,0 +1,339 @@
+//! What is read beside a database: files of blocks and of values.
+use crate::gathering::{Addresses, Adjustment};
+use crate::spelling::{Spelt, block_in};
+use mmdb_arguments::{ExportArguments, ListArguments, NoRequest};
+use mmdb_console::{Console, ProgramError, line_of};
+use mmdb_layout::split_condition;
+use std::alloc::{AllocError, Global};
+use std::fs::File;
+use std::io::{self, BufRead, Read, Write};
+use std::rt::Files;
+
+/// What stands for standard input in the place of a file.
+const STANDARD_INPUT: &str = "-";
+
+/// A value as it is written in a condition.
+#[derive(Clone, Copy)]
+pub(crate) enum Named<'a> {
+    /// Itself.
+    Value(&'a str),
+    /// A file with a value a line.
+    File(&'a str),
+}
+
+/// What a value of a condition names: behind `@` a file, and behind `@@` a value that begins with one.
+pub(crate) fn named_by(value: &str) -> Named<'_> {
+    match value.strip_prefix('@') {
+        Some(rest) if rest.starts_with('@') => Named::Value(rest),
+        Some(file) => Named::File(file),
+        None => Named::Value(value),
+    }
+}
+
+/// The values of a file that a condition names.
+#[derive(Drop)]
+pub(crate) struct ValueFile<'a> {
+    /// The condition as it is written.
+    pub(crate) condition: &'a str,
+    pub(crate) text: String,
+}
+
+/// The lines of a text that are values.
+pub(crate) fn values_in<'t>(alloc: Global, text: &'t str) -> Result<Vec<&'t str>, AllocError> {
+    let mut values = Vec::new(alloc);
+    for line in text.split('\n') {
+        let value = line.strip_suffix('\r').unwrap_or(line);
+        if !value.is_empty() {
+            values.push(value)?;
+        }
+    }
+    Ok(values)
+}
+
+/// The values of a condition's file, among those that were read.
+pub(crate) fn text_of_file<'f>(files: &'f [ValueFile<'_>], condition: &str) -> Option<&'f str> {
+    for file in files {
+        if file.condition == condition {
+            return Some(file.text.as_str());
+        }
+    }
+    None
+}
+
+// The file that a condition names, if it names one.
+fn file_in(condition: &str) -> Option<&str> {
+    let (_, value) = split_condition(condition)?;
+    match named_by(value) {
+        Named::File(file) => Some(file),
+        Named::Value(_) => None,
+    }
+}
+
+// How many conditions name standard input.
+fn count_inputs(conditions: &[&str]) -> usize {
+    let mut count = 0usize;
+    for condition in conditions {
+        if file_in(*condition) == Some(STANDARD_INPUT) {
+            count = count.saturating_add(1);
+        }
+    }
+    count
+}
+
+// How many files are standard input.
+fn count_standard(files: &[&str]) -> usize {
+    let mut count = 0usize;
+    for file in files {
+        if *file == STANDARD_INPUT {
+            count = count.saturating_add(1);
+        }
+    }
+    count
+}
+
+/// An `Err` where standard input is named more than once.
+pub(crate) fn check_inputs(
+    alloc: Global,
+    arguments: &ExportArguments<'_>,
+) -> Result<(), NoRequest> {
+    let (conditions, list) = (&arguments.conditions, &arguments.list);
+    let count = count_inputs(conditions.wheres.as_slice())
+        .saturating_add(count_inputs(conditions.where_nots.as_slice()))
+        .saturating_add(count_inputs(conditions.contains.as_slice()))
+        .saturating_add(count_standard(list.also.as_slice()))
+        .saturating_add(count_standard(list.except.as_slice()));
+    if count > 1 {
+        return Err(NoRequest::bad_argument(alloc, STANDARD_INPUT, "standard input is read once"));
+    }
+    Ok(())
+}
+
+// The bytes of a file, or of standard input.
+fn read_bytes<R: Files, I: BufRead>(
+    rt: &R,
+    alloc: Global,
+    file: &str,
+    input: &mut I,
+) -> io::Result<Vec<u8>> {
+    let mut bytes = Vec::new(alloc);
+    if file == STANDARD_INPUT {
+        input.read_to_end(&mut bytes)?;
+    } else {
+        File::open(rt, file)?.read_to_end(&mut bytes)?;
+    }
+    Ok(bytes)
+}
+
+// The bytes of a file, or of standard input; none where they can't be read, which is reported.
+fn read_input<R: Files, I: BufRead, O: Write, E: Write>(
+    rt: &R,
+    file: &str,
+    input: &mut I,
+    console: &mut Console<'_, O, E>,
+) -> Result<Option<Vec<u8>>, ProgramError> {
+    match read_bytes(rt, console.alloc, file, input) {
+        Ok(bytes) => Ok(Some(bytes)),
+        Err(error) if error.kind() == io::ErrorKind::OutOfMemory => Err(ProgramError::Memory),
+        Err(error) => {
+            console.report(file, &error);
+            drop(error);
+            Ok(None)
+        }
+    }
+}
+
+// Reports what is wrong with a line of a file.
+fn report_line<O: Write, E: Write>(
+    file: &str,
+    line: usize,
+    wrong: &str,
+    console: &mut Console<'_, O, E>,
+) {
+    let text = format!(in console.alloc; "mmdb: {file}:{line}: {wrong}");
+    console.note(line_of(console.alloc, text));
+}
+
+// Says of a network with address bits after its prefix as which it is read.
+fn note_spelling<O: Write, E: Write>(
+    file: &str,
+    line: usize,
+    text: &str,
+    spelt: &Spelt,
+    console: &mut Console<'_, O, E>,
+) {
+    if let Some(network) = spelt.read_as {
+        let (network, prefix) = (network.network(), network.prefix());
+        let text = format!(in console.alloc;
+            "mmdb: {file}:{line}: {text} is read as {network}/{prefix}"
+        );
+        console.note(line_of(console.alloc, text));
+    }
+}
+
+// The text of a line without its comment and the blanks around it.
+fn without_comment(line: &str) -> &str {
+    match line.split_once('#') {
+        Some((text, _)) => text.trim(),
+        None => line.trim(),
+    }
+}
+
+// Adds the blocks of a line of a file. Whether it is one of blocks; else what is wrong is reported.
+fn add_line<O: Write, E: Write>(
+    file: &str,
+    line: usize,
+    text: &str,
+    addresses: &mut Addresses,
+    console: &mut Console<'_, O, E>,
+) -> Result<bool, ProgramError> {
+    if text.is_empty() {
+        return Ok(true);
+    }
+    match block_in(text) {
+        Ok(spelt) => {
+            note_spelling(file, line, text, &spelt, console);
+            addresses.add(spelt.kind, spelt.range)?;
+            Ok(true)
+        }
+        Err(wrong) => {
+            let text: String = format!(in console.alloc; "{text}: {wrong}")?;
+            report_line(file, line, text.as_str(), console);
+            Ok(false)
+        }
+    }
+}
+
+// Adds the blocks of the lines of a file. Whether all are blocks; else what is wrong with the first that is not is reported.
+fn add_lines<O: Write, E: Write>(
+    file: &str,
+    bytes: &[u8],
+    addresses: &mut Addresses,
+    console: &mut Console<'_, O, E>,
+) -> Result<bool, ProgramError> {
+    let mut line = 0usize;
+    for bytes in bytes.split(|byte| *byte == b'\n') {
+        line = line.saturating_add(1);
+        let Ok(text) = str::from_utf8(bytes) else {
+            report_line(file, line, "not valid UTF-8", console);
+            return Ok(false);
+        };
+        if !add_line(file, line, without_comment(text), addresses, console)? {
+            return Ok(false);
+        }
+    }
+    Ok(true)
+}
+
+// Adds the blocks of files. Whether all could be read; else why not is reported.
+fn add_files<R: Files, I: BufRead, O: Write, E: Write>(
+    rt: &R,
+    files: &[&str],
+    addresses: &mut Addresses,
+    input: &mut I,
+    console: &mut Console<'_, O, E>,
+) -> Result<bool, ProgramError> {
+    for file in files {
+        let Some(bytes) = read_input(rt, *file, input, console)? else {
+            return Ok(false);
+        };
+        let is_read = add_lines(*file, bytes.as_slice(), addresses, console)?;
+        drop(bytes);
+        if !is_read {
+            return Ok(false);
+        }
+    }
+    Ok(true)
+}
+
+/// What files add to a list and take away; none where they can't be read, which is reported.
+pub(crate) fn read_adjustment<R: Files, I: BufRead, O: Write, E: Write>(
+    rt: &R,
+    arguments: &ListArguments<'_>,
+    input: &mut I,
+    console: &mut Console<'_, O, E>,
+) -> Result<Option<Adjustment>, ProgramError> {
+    let mut also = Addresses::new(console.alloc);
+    let mut except = Addresses::new(console.alloc);
+    let (added, taken) = (arguments.also.as_slice(), arguments.except.as_slice());
+    let is_read = add_files(rt, added, &mut also, input, console)?
+        && add_files(rt, taken, &mut except, input, console)?;
+    if !is_read {
+        return Ok(None);
+    }
+    Ok(Some(Adjustment { also, except }))
+}
+
+// The text of a file; none where it can't be read, which is reported.
+fn read_text<R: Files, I: BufRead, O: Write, E: Write>(
+    rt: &R,
+    file: &str,
+    input: &mut I,
+    console: &mut Console<'_, O, E>,
+) -> Result<Option<String>, ProgramError> {
+    let Some(bytes) = read_input(rt, file, input, console)? else {
+        return Ok(None);
+    };
+    match str::from_utf8(bytes.as_slice()) {
+        Ok(text) => Ok(Some(String::from_str(console.alloc, text)?)),
+        Err(_) => {
+            console.note(line_of(
+                console.alloc,
+                format!(in console.alloc; "mmdb: {file}: not valid UTF-8"),
+            ));
+            Ok(None)
+        }
+    }
+}
+
+// Reads the files of values that conditions name. Whether all could be read; else why not is reported.
+fn read_values<'a, R: Files, I: BufRead, O: Write, E: Write>(
+    rt: &R,
+    conditions: &[&'a str],
+    files: &mut Vec<ValueFile<'a>>,
+    input: &mut I,
+    console: &mut Console<'_, O, E>,
+) -> Result<bool, ProgramError> {
+    for condition in conditions {
+        let Some(file) = file_in(*condition) else {
+            continue;
+        };
+        let Some(text) = read_text(rt, file, input, console)? else {
+            return Ok(false);
+        };
+        files.push(ValueFile {
+            condition: *condition,
+            text,
+        })?;
+    }
+    Ok(true)
+}
+
+/// The files of values that conditions name; none where one can't be read, which is reported.
+pub(crate) fn read_value_files<'a, R: Files, I: BufRead, O: Write, E: Write>(
+    rt: &R,
+    arguments: &'a ExportArguments<'a>,
+    input: &mut I,
+    console: &mut Console<'_, O, E>,
+) -> Result<Option<Vec<ValueFile<'a>>>, ProgramError> {
+    let conditions = &arguments.conditions;
+    let mut files = Vec::new(console.alloc);
+    let is_read = read_values(rt, conditions.wheres.as_slice(), &mut files, input, console)?
+        && read_values(
+            rt,
+            conditions.where_nots.as_slice(),
+            &mut files,
+            input,
+            console,
+        )?
+        && read_values(
+            rt,
+            conditions.contains.as_slice(),
+            &mut files,
+            input,
+            console,
+        )?;
+    if !is_read {
+        return Ok(None);
+    }
+    Ok(Some(files))
+}

@@ -1,0 +1,221 @@
+//! What changes in a list of networks.
+use crate::adjusted::{KINDS, push_blocks};
+use crate::blocks::of_list;
+use crate::gathering::{Adjustment, of_ranges};
+use crate::inputs::{ValueFile, read_adjustment, read_value_files};
+use crate::networks::{
+    Gathered, check_arguments, choice_of, gather, may_be_written, report_faults,
+};
+use crate::task::{ExportTask, Shape, export_task};
+use mmdb_arguments::ListDiffArguments;
+use mmdb_blocks::{Action, Block, Kind, List, RangesError, Syntax, blocks_without};
+use mmdb_console::{Console, DIFFERENT, DONE, FAILED, Pace, ProgramError, note_range};
+use mmdb_layout::{Database, open_database};
+use std::alloc::Global;
+use std::io::{BufRead, Write};
+use std::rt::Files;
+
+/// What changes in a list, of one kind of addresses.
+#[derive(Drop)]
+struct Changes {
+    removed: Vec<Block>,
+    added: Vec<Block>,
+    /// Whether the new list has blocks.
+    has_new: bool,
+}
+
+/// What changes in a list.
+#[derive(Drop)]
+struct ListChanges {
+    ipv4: Changes,
+    ipv6: Changes,
+}
+
+impl ListChanges {
+    fn of(&self, kind: Kind) -> &Changes {
+        match kind {
+            Kind::Ipv4 => &self.ipv4,
+            Kind::Ipv6 => &self.ipv6,
+        }
+    }
+
+    // Whether the new list has no blocks.
+    fn is_empty(&self) -> bool {
+        !self.ipv4.has_new && !self.ipv6.has_new
+    }
+
+    // Whether nothing changes.
+    fn is_none(&self) -> bool {
+        self.ipv4.is_none() && self.ipv6.is_none()
+    }
+}
+
+impl Changes {
+    fn is_none(&self) -> bool {
+        self.removed.is_empty() && self.added.is_empty()
+    }
+
+    fn blocks(&self, action: Action) -> &[Block] {
+        match action {
+            Action::Remove => self.removed.as_slice(),
+            Action::Fill | Action::Add => self.added.as_slice(),
+        }
+    }
+}
+
+// What changes between the lists of two databases, of a kind.
+fn changes_of(
+    alloc: Global,
+    old: &Gathered,
+    newer: &Gathered,
+    adjustment: &Adjustment,
+    kind: Kind,
+) -> Result<Changes, RangesError> {
+    let old = adjustment.blocks_of(alloc, &old.gathering.chosen, kind)?;
+    let newer = adjustment.blocks_of(alloc, &newer.gathering.chosen, kind)?;
+    let removed = blocks_without(alloc, &old, &newer)?;
+    let added = blocks_without(alloc, &newer, &old)?;
+    Ok(Changes {
+        removed,
+        added,
+        has_new: !newer.is_empty(),
+    })
+}
+
+// What changes between the lists of two databases.
+fn list_changes(
+    alloc: Global,
+    old: &Gathered,
+    newer: &Gathered,
+    adjustment: &Adjustment,
+) -> Result<ListChanges, RangesError> {
+    let ipv4 = changes_of(alloc, old, newer, adjustment, Kind::Ipv4)?;
+    let ipv6 = changes_of(alloc, old, newer, adjustment, Kind::Ipv6)?;
+    Ok(ListChanges { ipv4, ipv6 })
+}
+
+// Writes what is done with the blocks that are taken out, or put in.
+fn write_action<O: Write>(
+    alloc: Global,
+    task: &ExportTask<'_>,
+    syntax: Syntax<'_>,
+    changes: &ListChanges,
+    action: Action,
+    out: &mut O,
+) -> Result<(), ProgramError> {
+    let mut list = List::of_action(alloc, syntax, action, task.kinds)?;
+    for kind in KINDS {
+        push_blocks(kind, changes.of(kind).blocks(action), &mut list, out)?;
+    }
+    of_list(list.finish(out))
+}
+
+// Writes what changes, first what is taken out.
+fn write_changes<O: Write>(
+    alloc: Global,
+    task: &ExportTask<'_>,
+    changes: &ListChanges,
+    out: &mut O,
+) -> Result<(), ProgramError> {
+    let Shape::List(syntax) = &task.shape else {
+        return Ok(());
+    };
+    if changes.is_empty() && !task.allow_empty && !task.may_lack() {
+        return Err(ProgramError::EmptyList);
+    }
+    write_action(alloc, task, *syntax, changes, Action::Remove, out)?;
+    write_action(alloc, task, *syntax, changes, Action::Add, out)
+}
+
+// The chosen addresses of the old database.
+fn gather_old<O: Write, E: Pace>(
+    database: &Database,
+    task: &ExportTask<'_>,
+    console: &mut Console<'_, O, E>,
+) -> Result<Gathered, ProgramError> {
+    let choice = choice_of(console.alloc, task.conditions.as_slice())?;
+    gather(database, task, choice, console)
+}
+
+// The chosen addresses of the new database; none where no list may be written, which is reported.
+fn gather_new<O: Write, E: Pace>(
+    database: &Database,
+    task: &ExportTask<'_>,
+    console: &mut Console<'_, O, E>,
+) -> Result<Option<Gathered>, ProgramError> {
+    let mut choice = choice_of(console.alloc, task.conditions.as_slice())?;
+    if !may_be_written(database, task, &mut choice, console)? {
+        return Ok(None);
+    }
+    Ok(Some(gather(database, task, choice, console)?))
+}
+
+// Writes what changes between the lists of two databases, and answers the status.
+fn compare<O: Write, E: Pace>(
+    old: &Database,
+    newer: &Database,
+    task: &ExportTask<'_>,
+    adjustment: &Adjustment,
+    exit_code: bool,
+    console: &mut Console<'_, O, E>,
+) -> Result<u8, ProgramError> {
+    let Some(newer) = gather_new(newer, task, console)? else {
+        return Ok(FAILED);
+    };
+    let old = gather_old(old, task, console)?;
+    let changes = match list_changes(console.alloc, &old, &newer, adjustment) {
+        Ok(changes) => changes,
+        Err(error) => return Err(of_ranges(error)),
+    };
+    write_changes(console.alloc, task, &changes, console.out)?;
+    let status = report_faults(old.faults.saturating_add(newer.faults), console)?;
+    if status == DONE && exit_code && !changes.is_none() {
+        return Ok(DIFFERENT);
+    }
+    Ok(status)
+}
+
+// Opens both files and writes what changes between their lists, and answers the status.
+fn compare_files<R: Files, I: BufRead, O: Write, E: Pace>(
+    rt: &R,
+    arguments: &ListDiffArguments<'_>,
+    files: &[ValueFile<'_>],
+    input: &mut I,
+    console: &mut Console<'_, O, E>,
+) -> Result<u8, ProgramError> {
+    let task = export_task(console.alloc, &arguments.newer, files)?;
+    note_range(task.range, console);
+    let Some(adjustment) = read_adjustment(rt, &arguments.newer.list, input, console)? else {
+        return Ok(FAILED);
+    };
+    let Some(old) = open_database(rt, arguments.old, console) else {
+        return Ok(FAILED);
+    };
+    let Some(newer) = open_database(rt, arguments.newer.file, console) else {
+        return Ok(FAILED);
+    };
+    compare(
+        &old,
+        &newer,
+        &task,
+        &adjustment,
+        arguments.exit_code,
+        console,
+    )
+}
+
+/// Writes what changes in a list of networks between two files: what takes the blocks out that only the old list has, and
+/// what puts those in that only the new list has. Reports each network that can't be read, and answers the status. An `Err`
+/// as of `export`.
+pub fn list_diff<R: Files, I: BufRead, O: Write, E: Pace>(
+    rt: &R,
+    arguments: &ListDiffArguments<'_>,
+    input: &mut I,
+    console: &mut Console<'_, O, E>,
+) -> Result<u8, ProgramError> {
+    check_arguments(console.alloc, &arguments.newer)?;
+    let Some(files) = read_value_files(rt, &arguments.newer, input, console)? else {
+        return Ok(FAILED);
+    };
+    compare_files(rt, arguments, files.as_slice(), input, console)
+}

@@ -1,0 +1,77 @@
+//! Blocks as a person writes them: a network, an address, or the first address and the last one.
+use mmdb_blocks::{Block, Kind, Range};
+use mmdb_reader::IpNetwork;
+use std::net::IpAddr;
+
+const NOT_A_BLOCK: &str = "not a network, an address or FIRST-LAST";
+
+/// The addresses that a text spells.
+#[derive(Clone, Copy)]
+pub(crate) struct Spelt {
+    pub(crate) kind: Kind,
+    pub(crate) range: Range,
+    /// The network as which one is read that has address bits after its prefix.
+    pub(crate) read_as: Option<IpNetwork>,
+}
+
+// The kind and the number of an address.
+fn number_of(address: IpAddr) -> (Kind, u128) {
+    match address {
+        IpAddr::V4(address) => (Kind::Ipv4, u128::from(address.to_bits())),
+        IpAddr::V6(address) => (Kind::Ipv6, address.to_bits()),
+    }
+}
+
+// The addresses from one to another one, as texts.
+fn range_between(first: &str, last: &str) -> Result<Spelt, &'static str> {
+    let (Ok(first), Ok(last)) = (
+        first.trim().parse::<IpAddr>(),
+        last.trim().parse::<IpAddr>(),
+    ) else {
+        return Err(NOT_A_BLOCK);
+    };
+    let ((kind, first), (other, last)) = (number_of(first), number_of(last));
+    if kind != other {
+        return Err("a range from IPv4 to IPv6 or back");
+    }
+    if first > last {
+        return Err("the last address is below the first");
+    }
+    Ok(Spelt {
+        kind,
+        range: Range { first, last },
+        read_as: None,
+    })
+}
+
+// The addresses of a network.
+fn of_network(network: IpNetwork) -> Spelt {
+    let kind = match network {
+        IpNetwork::V4(_) => Kind::Ipv4,
+        IpNetwork::V6(_) => Kind::Ipv6,
+    };
+    let block = Block::of_network(network);
+    let is_exact = network.ip() == network.network();
+    Spelt {
+        kind,
+        range: Range {
+            first: block.first,
+            last: block.last(),
+        },
+        read_as: (!is_exact).then_some(network),
+    }
+}
+
+/// The addresses that a text spells, or what is wrong with it.
+pub(crate) fn block_in(text: &str) -> Result<Spelt, &'static str> {
+    if let Some((first, last)) = text.split_once('-') {
+        return range_between(first, last);
+    }
+    if text.contains('/') {
+        return match text.parse::<IpNetwork>() {
+            Ok(network) => Ok(of_network(network)),
+            Err(_) => Err(NOT_A_BLOCK),
+        };
+    }
+    range_between(text, text)
+}
