@@ -33,7 +33,7 @@ pub struct KeptCosts<'s> {
 
 impl<'s> Model for KeptCosts<'s> {
     ghost use Rattle.std.specs.Prelude.{ℕ, List};
-    ghost use Rattle.core.specs.Ordering.{nat_cmp};
+    ghost use Rattle.std.specs.Ordering.{nat_cmp};
     ghost use Rattle.std.specs.BTreeMap.{get};
     ghost use Rattle.mmdb_costs.specs.Working.{AreKnown};
 
