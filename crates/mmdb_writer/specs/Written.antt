@@ -1,5 +1,5 @@
 -- What was written: a whole file that says of each address what the rows say.
-use Rattle.std.specs.Prelude.{◌≡◌, ◌↔◌, ℕ, ◌-◌, List, [], ◌∷◌, ◌++◌, Bool, length, map, Option, Some, None, true, false, string_bytes}
+use Rattle.std.specs.Prelude.{◌≡◌, ◌≤◌, ◌↔◌, ℕ, ◌-◌, List, [], ◌∷◌, ◌++◌, Bool, length, map, Option, Some, None, true, false, string_bytes}
 use Rattle.std.specs.List.{Contains}
 use Rattle.std.specs.declared.net.ip_addr.IpAddr.{IpAddr}
 use Rattle.mmdb_format.specs.Unfolding.{Tree}
