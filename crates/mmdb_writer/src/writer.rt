@@ -98,7 +98,8 @@ impl Writer {
     ///
     /// On `Ok` a reader opens the file, with the metadata that the options ask for, and records of the size that was asked for or
     /// of the least that serves; `verify` accepts it; and each lookup that may be asked succeeds and finds what the rows say, which
-    /// `decode::<Value>` gives back. The file is read back before it is handed out: what is not proved of it is tested then.
+    /// `decode::<Value>` gives back. A list of all networks has exactly the largest blocks that have one value, save that all
+    /// addresses are two of them. The file is read back before it is handed out: what is not proved of it is tested then.
     ///
     /// It fails for memory; as `TooLarge`, where nodes, the 16 bytes of the separator and the bytes of the values are together more
     /// than the numbers of a record (2^32, or 2 to the power of the bits that were asked for), or a text of the metadata is longer,
