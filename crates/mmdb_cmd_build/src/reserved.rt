@@ -2,8 +2,8 @@
 use mmdb_blocks::Block;
 use mmdb_net::IpNetwork;
 
-/// The reserved networks, as MaxMind's writers leave them out: the number of the first address, and the prefix. Those of IPv4
-/// stand behind 96 zeros.
+/// The reserved networks, as MaxMind's writers leave them out: the number of the first address, and the prefix, ascending. Those
+/// of IPv4 stand behind 96 zeros.
 const RESERVED: &[(u128, u8)] = &[
     // 0.0.0.0/8, 10.0.0.0/8, 100.64.0.0/10, 127.0.0.0/8, 169.254.0.0/16, 172.16.0.0/12, 192.0.0.0/29, 192.0.2.0/24
     (0x0000_0000, 104),
@@ -53,7 +53,9 @@ fn is_in(block: Block, first: u128, prefix: u8) -> bool {
 /// Whether a network lies in a reserved one.
 pub(crate) fn is_reserved(network: IpNetwork) -> bool {
     let block = Block::of_network(network);
-    RESERVED
-        .iter()
-        .any(|reserved| is_in(block, reserved.0, reserved.1))
+    let behind = RESERVED.partition_point(|reserved| reserved.0 <= block.first);
+    match RESERVED[..behind].last() {
+        Some(reserved) => is_in(block, reserved.0, reserved.1),
+        None => false,
+    }
 }

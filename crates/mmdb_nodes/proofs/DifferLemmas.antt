@@ -1,7 +1,7 @@
 -- Blocks whose addresses differ.
-use Rattle.std.proofs.Common.{◌≡◌, ◌⊎◌, ℕ, zero, suc, ◌+◌, ◌-◌, ◌^◌, ◌<◌, ◌≤◌, inl, inr, Bool, true, false, List, [], ◌∷◌, ◌++◌, Option, length, replicate, refl, ap, sym, ◌∙◌, arith, subst, append-nil, append_assoc, length-append}
+use Rattle.std.proofs.Common.{◌≡◌, ◌⊎◌, ℕ, zero, suc, ◌+◌, ◌-◌, ◌^◌, ◌<◌, ◌≤◌, inl, inr, Bool, true, false, List, [], ◌∷◌, ◌++◌, Option, length, replicate, refl, ap, sym, ◌∙◌, arith, subst, append_assoc, length-append}
 use Rattle.std.specs.List.{slice_get}
-use Rattle.mmdb_net.specs.Bits.{bits_of, number_of, IsPrefix}
+use Rattle.mmdb_net.specs.Bits.{bits_of, number_of}
 use Rattle.mmdb_tree.specs.Tree.{walk, walk_from, SearchTree}
 use Rattle.mmdb_tree.proofs.HighBits.{number-below}
 use Rattle.mmdb_nodes.specs.declared.entry.Entry.{Entry}
@@ -46,7 +46,7 @@ numbered w bits len = record {
 
 -- ---- where bits lead, one after the other
 
-lead-append : (nodes : List SpecNode) (r : Record) (a b : List Bool) → lead nodes r (a ++ b) ≡ lead nodes (lead nodes r a) b
+pub lead-append : (nodes : List SpecNode) (r : Record) (a b : List Bool) → lead nodes r (a ++ b) ≡ lead nodes (lead nodes r a) b
 unfolding lead
 lead-append nodes r [] b = refl
 lead-append nodes r (x ∷ a) b = lead-append nodes (step nodes r x) a b
@@ -55,7 +55,7 @@ lead-one : (nodes : List SpecNode) (n : ℕ) (x : Bool) (b : List Bool) → lead
 unfolding lead
 lead-one nodes n x b = refl
 
-below_lead : (nodes : List SpecNode) (bound : ℕ) → IsSound 0 bound nodes → (r : Record) (bits : List Bool) → IsBelow (length nodes) bound r → IsBelow (length nodes) bound (lead nodes r bits)
+pub below_lead : (nodes : List SpecNode) (bound : ℕ) → IsSound 0 bound nodes → (r : Record) (bits : List Bool) → IsBelow (length nodes) bound r → IsBelow (length nodes) bound (lead nodes r bits)
 unfolding lead
 below_lead nodes bound sound r [] below = below
 below_lead nodes bound sound (Node n) (x ∷ bits) below = below_lead nodes bound sound (side (slice_get nodes n) x) bits (sound n x (omega arith) below)

@@ -217,17 +217,17 @@ module _ (old n1 n2 n3 : List SpecNode) (h : AreHalves old n1 n2 n3) where
   node_there : length old < length n3
   node_there = let a = behind_place in let b = left_longer in let c = right_longer in omega arith
 
-  left_kept : (k : ℕ) → k < length n2 → slice_get n3 k ≡ slice_get n2 k
+  pub left_kept : (k : ℕ) → k < length n2 → slice_get n3 k ≡ slice_get n2 k
   left_kept k lt = ap (λ (xs : List SpecNode). slice_get xs k) h.right_grown ∙ slice_get-append_left n2 h.rights k lt
 
   module _ (left right r : Record) (new : List SpecNode) (node : IsNode (length old) left right n3 new r) where
     pub new_length : length new ≡ length n3
     new_length = ap length node.nodes ∙ length-set n3 (length old) _
 
-    at_place : slice_get new (length old) ≡ Some (record { left = left; right = right })
+    pub at_place : slice_get new (length old) ≡ Some (record { left = left; right = right })
     at_place = ap (λ (xs : List SpecNode). slice_get xs (length old)) node.nodes ∙ slice_get-set_same n3 (length old) _ node_there
 
-    above_place : (k : ℕ) → length old < k → slice_get new k ≡ slice_get n3 k
+    pub above_place : (k : ℕ) → length old < k → slice_get new k ≡ slice_get n3 k
     above_place k lt = ap (λ (xs : List SpecNode). slice_get xs k) node.nodes ∙ slice_get-set_above n3 (length old) k _ lt
 
     pub keeps_left : (all : List SpecNode) → Keeps (length old) new all → Keeps (length n1) n2 all

@@ -5,4 +5,5 @@ pub mod LongestLemmas
 pub mod DifferLemmas
 pub mod CountLemmas
 pub mod SplitLemmas
+pub mod ForestLemmas
 pub mod TreeLemmas

@@ -9,9 +9,10 @@ use Rattle.mmdb_nodes.specs.declared.node.Record.{Record}
 use Rattle.mmdb_nodes.specs.declared.node.Record.TheVariants.{Node}
 use Rattle.mmdb_nodes.specs.Entries.{width, offset_in}
 use Rattle.mmdb_nodes.specs.Trees.{splits, nodes_for}
-use Rattle.mmdb_nodes.specs.Working.{leaf, lead, ends, Leads, IsBelow, IsSound, HasNoTwins, HasAsMany, NeedsTooMany, AreNodesOf}
+use Rattle.mmdb_nodes.specs.Working.{leaf, lead, ends, Leads, IsBelow, IsSound, HasNoTwins, IsForest, HasAsMany, NeedsTooMany, AreNodesOf}
 use Rattle.mmdb_nodes.proofs.LeadLemmas.{lone_leads, lone_sound, Keeps-refl}
 use Rattle.mmdb_nodes.proofs.CountLemmas.{lone_few}
+use Rattle.mmdb_nodes.proofs.ForestLemmas.{lone_forest}
 use Rattle.mmdb_nodes.proofs.SplitLemmas.{leaf_says, splits-none}
 
 pub width_fits : (version : IpVersion) → width version ≤ 128
@@ -30,6 +31,7 @@ pub record IsPlanted (version : IpVersion) (es : List Entry) (data_len : ℕ) (n
   pub preorder : (n : ℕ) → r ≡ Node n → (n ≡ 0) × (n < length nodes)
   pub few : ends nodes r (width version) ≤ 1 + length nodes
   pub reduced : HasNoTwins 0 nodes
+  pub forest : IsForest 0 nodes
   pub many : HasAsMany 0 (length nodes) r 0 (width version) None es
 
 module _ (version : IpVersion) (es : List Entry) (data_len : ℕ) (nodes : List SpecNode) (r : Record) (p : IsPlanted version es data_len nodes r) where
@@ -47,6 +49,7 @@ module _ (version : IpVersion) (es : List Entry) (data_len : ℕ) (nodes : List 
         sound = p.sound;
         few = let e = ap (λ (x : Record). ends nodes x (width version)) root in let f = p.few in omega arith;
         reduced = inl p.reduced;
+        forest = p.forest;
         count = let c = p.many.count in omega arith;
       }
 
@@ -63,6 +66,7 @@ module _ (version : IpVersion) (es : List Entry) (data_len : ℕ) (nodes : List 
         some = omega arith;
         sound = lone_sound (length nodes) data_len r v lone is one p.below;
         few = lone_few r v lone (width version) is one;
+        forest = lone_forest v r lone is one;
         reduced = inr (v, one ∙ ap (λ (x : Record). (record { left = x; right = x }) ∷ []) is);
         count = omega arith;
       }

@@ -85,6 +85,11 @@ abbrev pub HasSplitNodes : IpVersion → List Entry → SearchTree → Type 0
 HasSplitNodes version entries tree = (behind : List ℕ) (bits : List Bool) → ¬ (bits ≡ []) → length bits ≤ width version
     → walk (tree_in tree behind) bits < tree.node_count → IsSplit version entries bits
 
+-- No two bit strings lead to one node.
+abbrev pub HasOneWayToEach : SearchTree → Type 0
+HasOneWayToEach tree = (behind : List ℕ) (one other : List Bool) → walk (tree_in tree behind) one < tree.node_count
+    → walk (tree_in tree behind) one ≡ walk (tree_in tree behind) other → one ≡ other
+
 -- ---- how many nodes
 
 abbrev pub is_same : Option ℕ → Option ℕ → Bool

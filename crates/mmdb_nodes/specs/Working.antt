@@ -85,6 +85,12 @@ IsSound from bound nodes = (k : ℕ) (right : Bool) → from ≤ k → k < lengt
 abbrev pub HasNoTwins : ℕ → List SpecNode → Type 0
 HasNoTwins from nodes = (k : ℕ) (v : Option ℕ) → from ≤ k → k < length nodes → side (slice_get nodes k) false ≡ leaf v → side (slice_get nodes k) true ≡ leaf v → ⊥
 
+-- Each node from a number on leads to later ones alone, and one to which a bit leads says from which and by which bit.
+pub record IsForest (from : ℕ) (nodes : List SpecNode) : Type 0 where
+  pub parent : ℕ → ℕ × Bool
+  pub onward : (k n : ℕ) (right : Bool) → from ≤ k → k < length nodes → side (slice_get nodes k) right ≡ Node n → (k < n) × (n < length nodes)
+  pub own : (k n : ℕ) (right : Bool) → from ≤ k → k < length nodes → side (slice_get nodes k) right ≡ Node n → parent n ≡ (k, right)
+
 -- ---- what stands for two halves
 
 -- they have not both the same leaf
@@ -140,6 +146,7 @@ pub record AreNodesOf (version : IpVersion) (entries : List Entry) (data_len : �
   pub sound : IsSound 0 data_len nodes
   pub few : ends nodes (Node 0) (width version) ≤ 1 + length nodes
   pub reduced : HasNoTwins 0 nodes ⊎ IsLone nodes
+  pub forest : IsForest 0 nodes
   pub count : length nodes ≡ nodes_for version entries
 
 -- ---- nodes as bytes

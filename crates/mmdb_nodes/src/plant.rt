@@ -3,7 +3,7 @@ ghost use Rattle.std.specs.Prelude.{◌≡◌, ◌≤◌, ◌<◌, ◌^◌, ◌+
 ghost use Rattle.std.specs.List.{AllByRecursion};
 ghost use Rattle.mmdb_nodes.specs.Entries.{IsOrdered, offset_after};
 ghost use Rattle.mmdb_nodes.specs.Trees.{splits};
-ghost use Rattle.mmdb_nodes.specs.Working.{IsInside, HasOffsetBelow, IsUnder, Leads, IsSound, IsBelow, HasNoTwins, HasFewEnds, HasAsMany, NeedsTooMany};
+ghost use Rattle.mmdb_nodes.specs.Working.{IsInside, HasOffsetBelow, IsUnder, Leads, IsSound, IsBelow, HasNoTwins, IsForest, HasFewEnds, HasAsMany, NeedsTooMany};
 ghost use Rattle.mmdb_nodes.specs.declared.node.Node.{Node as SpecNode};
 
 use crate::entry::{Entry, cut_at, skip_whole};
@@ -46,6 +46,7 @@ pub(crate) fn plant(
         → (n ≡ length nodes.old.items) × (n < length nodes.new.items)) }
     ensures few { IfOk result (λ r. HasFewEnds (length nodes.old.items) nodes.new.items r free) }
     ensures reduced { OnOk result (HasNoTwins (length nodes.old.items) nodes.new.items) }
+    ensures forest { OnOk result (IsForest (length nodes.old.items) nodes.new.items) }
     ensures count { let from = length nodes.old.items in let to = length nodes.new.items in
         IfOk result (λ r. HasAsMany from to r first free found entries.now) }
     ensures too_large { IfErr result (λ e. e ≡ TreeError.TooLarge

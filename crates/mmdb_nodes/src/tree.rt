@@ -4,7 +4,7 @@ ghost use Rattle.std.specs.List.{AllByRecursion};
 ghost use Rattle.mmdb_net.specs.Bits.{bits_of};
 ghost use Rattle.mmdb_tree.specs.Tree.{node_bytes};
 ghost use Rattle.mmdb_nodes.specs.Entries.{width, IsEntry, IsOrdered, offset_in};
-ghost use Rattle.mmdb_nodes.specs.Trees.{bits_in, numbers_of, most_numbers, nodes_for, IsSizeFor, LeadsByPrefix, IsAlwaysClean, HasNoEqualLeaves, HasSplitNodes};
+ghost use Rattle.mmdb_nodes.specs.Trees.{bits_in, numbers_of, most_numbers, nodes_for, IsSizeFor, LeadsByPrefix, IsAlwaysClean, HasNoEqualLeaves, HasSplitNodes, HasOneWayToEach};
 ghost use Rattle.mmdb_nodes.specs.Working.{AreNodes, AreNodesOf, HasOffsetBelow, IsBelow, IsSound, leaf, number_in};
 
 use crate::bytes::push_node;
@@ -124,9 +124,9 @@ fn plant_tree(
 /// The search tree of entries in order, before a data section of `data_len` bytes, with records of the size that is asked
 /// for, or else of the least that serves. The bits of each address lead to the offset of the longest prefix that has it, of
 /// equal ones to that of the last entry; where none has it, to no data. There is a node for each block whose addresses have
-/// not all the same offset, and one where there is no such block. So no node leads both bits to the same leaf, unless it is the
-/// only one, each leaf but one for half of all addresses is a largest block that has one offset, and a verification stops at most
-/// three times for each node.
+/// not all the same offset, and one where there is no such block; one string of bits leads to it. So no node leads both bits to
+/// the same leaf, unless it is the only one, each leaf but one for half of all addresses is a largest block that has one offset, no
+/// bits are an alias of others, and a verification stops at most three times for each node.
 ///
 /// `are_ordered` and `all_fit` say whether entries are as they have to be. Unless out of memory it fails exactly where records
 /// of the size have not enough numbers for nodes, separator and offsets: `TooLarge`.
@@ -143,6 +143,7 @@ pub fn search_tree(
     ensures clean { IfOk result (IsAlwaysClean version data_len) }
     ensures reduced { IfOk result HasNoEqualLeaves }
     ensures split { IfOk result (HasSplitNodes version entries.now) }
+    ensures one_way { IfOk result HasOneWayToEach }
     ensures nodes { IfOk result (λ tree. tree.node_count ≡ nodes_for version entries.now) }
     ensures len { IfOk result (λ tree.
         length tree.bytes.items ≡ tree.node_count * node_bytes (bits_in tree.record_size)) }

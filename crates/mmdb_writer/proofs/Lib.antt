@@ -4,5 +4,6 @@ pub mod KeyLemmas
 pub mod ReadLemmas
 pub mod LastLemmas
 pub mod RowLemmas
+pub mod NetworkLemmas
 pub mod FileLemmas
 pub mod MakingLemmas

@@ -23,6 +23,7 @@ use Rattle.mmdb_writer.specs.declared.row.Row.{Row}
 use Rattle.mmdb_writer.specs.declared.writer.Writer.{Writer}
 use Rattle.mmdb_writer.specs.Errors.{IsErrorOf, AreMetadataLarge}
 use Rattle.mmdb_writer.specs.Limits.{CanBeRead}
+use Rattle.mmdb_reader.specs.Metadata.{MetadataDatum}
 use Rattle.mmdb_writer.specs.Written.{asked, IsWritten}
 
 -- for each of the trees a value begins at the offset
@@ -77,11 +78,15 @@ pub record BeginsWith (tree section file : List ℕ) : Type 0 where
   pub behind : List ℕ
   pub whole : file ≡ tree ++ (separator ++ (section ++ behind))
 
+-- the metadata that options ask for, with this tree
+abbrev pub asked_with : Options → SearchTree → MetadataDatum
+asked_with options tree = asked options tree.node_count (bits_in tree.record_size)
+
 -- what reading back tells: a whole database with these metadata, and so many bytes of data
 pub record IsCertified (file : List ℕ) (options : Options) (tree : SearchTree) (data_len : ℕ) : Type 0 where
   pub db : Database
   pub database : IsDatabaseOf file db
-  pub metadata : db.metadata ≡ asked options tree.node_count (bits_in tree.record_size)
+  pub metadata : db.metadata ≡ asked_with options tree
   pub section_len : data_length db ≡ data_len
   pub whole : IsWhole db
 

@@ -5,7 +5,7 @@ use Rattle.mmdb_section.specs.declared.value.Part.{Part}
 use Rattle.mmdb_section.specs.Known.{AreKnown, PairsAreKnown, IsKnownPart, KnowsAll, HasEachOnce}
 use Rattle.mmdb_section.specs.Sections.{Tile, IsPart, AreParts, ArePairs, SectionView, most_size}
 use Rattle.mmdb_value.specs.AnyValue.{trees_of, pairs_of}
-use Rattle.mmdb_nodes.specs.Trees.{bits_in, numbers_of, IsSizeFor, LeadsByPrefix, HasSplitNodes}
+use Rattle.mmdb_nodes.specs.Trees.{bits_in, numbers_of, IsSizeFor, LeadsByPrefix, HasSplitNodes, HasOneWayToEach}
 use Rattle.mmdb_nodes.specs.declared.tree.SearchTree.{SearchTree}
 use Rattle.mmdb_writer.specs.declared.options.Options.{Options}
 use Rattle.std.specs.List.{AllByRecursion, filter}
@@ -131,6 +131,7 @@ pub record IsFileOf (options : Options) (section : List ℕ) (given : List Entry
   pub tree : SearchTree
   pub leads : LeadsByPrefix options.ip_version (length section) entries tree
   pub split : HasSplitNodes options.ip_version entries tree
+  pub one_way : HasOneWayToEach tree
   pub serves : IsSizeFor options.record_size (numbers_of tree.node_count (length section)) tree.record_size
   pub len : length tree.bytes.items ≡ tree.node_count * node_bytes (bits_in tree.record_size)
   pub begins : BeginsWith tree.bytes.items section file

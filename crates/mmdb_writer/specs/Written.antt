@@ -1,5 +1,6 @@
 -- What was written: a whole file that says of each address what the rows say.
-use Rattle.std.specs.Prelude.{◌≡◌, ◌↔◌, ℕ, ◌-◌, List, [], ◌∷◌, ◌++◌, Bool, length, map, Option, Some, None, true, string_bytes}
+use Rattle.std.specs.Prelude.{◌≡◌, ◌≤◌, ◌↔◌, ℕ, ◌-◌, List, [], ◌∷◌, ◌++◌, Bool, length, map, Option, Some, None, true, false, string_bytes}
+use Rattle.std.specs.List.{Contains}
 use Rattle.std.specs.declared.net.ip_addr.IpAddr.{IpAddr}
 use Rattle.mmdb_format.specs.Unfolding.{Tree}
 use Rattle.mmdb_value.specs.Standing.{WholeValue}
@@ -8,8 +9,12 @@ use Rattle.mmdb_reader.specs.Metadata.{MetadataDatum}
 use Rattle.mmdb_net.specs.Bits.{zero_bits, IsPrefix}
 use Rattle.mmdb_tree.specs.declared.record.TreeRecord.TheVariants.{Data}
 use Rattle.mmdb_reader.specs.File.{Database, width, data_section, data_length}
+use Rattle.mmdb_reader.specs.declared.options.WithinOptions.{WithinOptions}
+use Rattle.mmdb_reader.specs.Alias.{IsAlias}
 use Rattle.mmdb_reader.specs.Leaves.{IsLeaf}
+use Rattle.mmdb_reader.specs.Listing.{Listed, listed_with, IsListing}
 use Rattle.mmdb_reader.specs.Lookup.{CanAsk, Answers, outcome_at}
+use Rattle.mmdb_reader.specs.Options.{includes_without_data, skips_empty}
 use Rattle.mmdb_reader.specs.Source.{IsDatabaseOf}
 use Rattle.mmdb_reader.specs.Whole.{IsWhole}
 use Rattle.mmdb_nodes.specs.declared.entry.IpVersion.{IpVersion}
@@ -84,6 +89,32 @@ pub record IsMixed (db : Database) (values : List Value) (rows : List Row) (bloc
 abbrev pub HasLargestBlocks : Database → List Value → List Row → Type 0
 HasLargestBlocks db values rows = (leaf wider rest : List Bool) (x : Bool) → IsLeaf db leaf → leaf ≡ wider ++ x ∷ rest → ¬ (wider ≡ []) → IsMixed db values rows wider
 
+-- No bits lead to the node where IPv4 begins but its own, so that no list of networks leaves out a leaf as an alias.
+abbrev pub HasNoAliases : Database → Type 0
+HasNoAliases db = (bits : List Bool) → ¬ IsAlias db bits
+
+-- A largest block of addresses that have this value: the rows say it of each address that begins with these bits, and do not say
+-- the same of all in the next wider block, unless that is the block of all addresses.
+pub record IsNetwork (db : Database) (values : List Value) (rows : List Row) (block : List Bool) (v : Tree) : Type 0 where
+  pub some : ¬ (block ≡ [])
+  pub short : length block ≤ width db
+  pub alike : (bits : List Bool) → length bits ≡ width db → IsPrefix block bits → Says values rows (widened db bits) (Some v)
+  pub largest : (wider : List Bool) (x : Bool) → block ≡ wider ++ x ∷ [] → ¬ (wider ≡ []) → IsMixed db values rows wider
+
+-- the block is listed with an offset at which the value is read
+abbrev pub IsListedWith : Database → List Listed → List Bool → Tree → Type 0
+IsListedWith db list block v = (offset : ℕ) × Contains list (listed_with block (Data offset)) × WholeValue true (data_section db) offset v
+
+-- The list has these blocks, and nothing else.
+pub record ListsNetworks (db : Database) (values : List Value) (rows : List Row) (list : List Listed) : Type 0 where
+  pub all : (block : List Bool) (v : Tree) → IsNetwork db values rows block v → IsListedWith db list block v
+  pub only : (m : Listed) → Contains list m → (v : Tree) × IsNetwork db values rows m.leaf v × IsListedWith db list m.leaf v
+
+-- So does each list of all networks with data, aliased ones asked for or not.
+abbrev pub HandsOutNetworks : Database → List Value → List Row → Type 0
+HandsOutNetworks db values rows =
+    (options : WithinOptions) (list : List Listed) → includes_without_data options ≡ false → skips_empty options ≡ false → IsListing db options [] list → ListsNetworks db values rows list
+
 -- The file is a database with these metadata, whole, and agrees with the rows.
 pub record IsWritten (values : List Value) (rows : List Row) (options : Options) (file : List ℕ) : Type 0 where
   pub db : Database
@@ -93,3 +124,5 @@ pub record IsWritten (values : List Value) (rows : List Row) (options : Options)
   pub lookups : LookupsAgree db values rows
   pub shared : SharesEqualValues db
   pub largest : HasLargestBlocks db values rows
+  pub clear : HasNoAliases db
+  pub networks : HandsOutNetworks db values rows

@@ -1,10 +1,8 @@
 //! Reads back what was written.
 ghost use Rattle.std.specs.Prelude.{◌≡◌, IfOk, IfErr, IsTrue, false};
-ghost use Rattle.mmdb_nodes.specs.Trees.{bits_in};
 ghost use Rattle.mmdb_format.specs.Error.{MemoryApart};
 ghost use Rattle.mmdb_reader.specs.Metadata.{metadata_datum};
-ghost use Rattle.mmdb_writer.specs.Written.{asked};
-ghost use Rattle.mmdb_writer.specs.Making.{IsCertified};
+ghost use Rattle.mmdb_writer.specs.Making.{asked_with, IsCertified};
 
 use crate::error::WriteError;
 use crate::options::Options;
@@ -28,10 +26,10 @@ impl From<MaxMindDbError> for WriteError {
 
 // Whether the metadata say what was asked for, and what the tree has.
 fn say_what_was_asked(metadata: &Metadata, options: &Options, tree: &SearchTree) -> bool
-    ensures asked { let datum = asked options.now tree.now.node_count (bits_in tree.now.record_size) in
-        IsTrue result → metadata_datum metadata.now ≡ datum }
-    ensures other { let datum = asked options.now tree.now.node_count (bits_in tree.now.record_size) in
-        result ≡ false → ¬ (metadata_datum metadata.now ≡ datum) }
+    ensures asked { IsTrue result
+        → metadata_datum metadata.now ≡ asked_with options.now tree.now }
+    ensures other { result ≡ false
+        → ¬ (metadata_datum metadata.now ≡ asked_with options.now tree.now) }
 {
     if metadata.binary_format_major_version != 2 {
         return false;

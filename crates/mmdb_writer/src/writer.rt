@@ -50,8 +50,8 @@ impl Writer {
     }
 
     /// Adds a value, and answers its index: how many were added before. One that no reading gives back is rejected. Else it fails
-    /// for memory, and as `TooLarge`, where texts, arrays, maps or all values have more bytes or parts than the format can say.
-    /// After an error the file has the values and rows that it had.
+    /// for memory, and as `TooLarge` where the data section has 2^32 bytes already, after which no pointer can lead to a value: a
+    /// value within the limits of readings is itself never too large. After an error the file has the values and rows that it had.
     pub fn add_value(&mut self, alloc: Global, value: &Value<'_>) -> Result<usize, WriteError>
         ensures added { IfOk result (AddsValue value.now self.old self.new) }
         ensures explained { IfErr result (IsErrorAfterValue value.now self.old) }
@@ -98,10 +98,13 @@ impl Writer {
     ///
     /// On `Ok` a reader opens the file, with the metadata that the options ask for, and records of the size that was asked for or
     /// of the least that serves; `verify` accepts it; and each lookup that may be asked succeeds and finds what the rows say, which
-    /// `decode::<Value>` gives back. The file is read back before it is handed out: what is not proved of it is tested then.
+    /// `decode::<Value>` gives back. A list of all networks has exactly the largest blocks that have one value, save that all
+    /// addresses are two of them. The file is read back before it is handed out: what is not proved of it is tested then.
     ///
-    /// It fails for memory; as `TooLarge`, where nodes, values or metadata have more bytes or numbers than the format can say; and
-    /// as `NotAsMeant`, where the file is not read back as it was meant, as with metadata that pass a reader's limits.
+    /// It fails for memory; as `TooLarge`, where nodes, the 16 bytes of the separator and the bytes of the values are together more
+    /// than the numbers of a record (2^32, or 2 to the power of the bits that were asked for), or a text of the metadata is longer,
+    /// or a list of them has more texts, than 16,843,036; and as `NotAsMeant`, where the file is not read back as it was meant, as
+    /// with metadata that pass a reader's limits.
     pub fn write(self, alloc: Global) -> Result<Vec<u8>, WriteError>
         ensures written { IfOk result (λ file. Writes self file.items) }
         ensures explained { IfErr result (IsErrorAfter self) }

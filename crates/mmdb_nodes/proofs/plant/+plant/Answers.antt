@@ -9,6 +9,7 @@ use Rattle.mmdb_nodes.specs.Working.{IsJoined, HasFewEnds, HasAsMany, Leads}
 use Rattle.mmdb_nodes.proofs.LeadLemmas.{joined_place, free_positive, halves_of, own_leads, AreHalves, joined_grown, joined_sound, joined_below, joined_reduced, cut_low_values, cut_high_values, made_cut, cut_low_order, cut_high_order, cut_low_aligned, cut_high_aligned, cut_low_inside, cut_high_inside, cut_leads}
 use Rattle.std.proofs.Common.{length-append}
 use Rattle.mmdb_nodes.proofs.CountLemmas.{joined_few}
+use Rattle.mmdb_nodes.proofs.ForestLemmas.{own_forest, joined_forest}
 use Rattle.mmdb_nodes.proofs.SplitLemmas.{own_many, left_too_many, right_too_many, kept_too_many, joined_many}
 use Rattle.mmdb_nodes.proofs.plant.+plant.Goals as goal
 
@@ -183,3 +184,14 @@ returns-clause-too_large t c = IfErr-weaker c.join.result _ _ (λ e kept is.
     let many : 2 ^ 32 ≤ length c.args.nodes.now.items = subst (λ (n : ℕ). 2 ^ 32 ≤ n) place both.1 in
     kept_too_many _ _ _ _ _ _ cut s.result.0 c.args.found c.args.entries.now (λ a lt. s.ensures.value c.args.first a c.requires.inside lt) _ _ _ _ h c.in_ok-left.left c.in_ok-right.right
     c.in_ok-left.ensures.count c.in_ok-left.ensures.leads c.in_ok-right.ensures.count c.in_ok-right.ensures.leads both.0 many) c.join.ensures.too_large
+
+pub returns-then-is_empty-clause-forest : goal.returns-then-is_empty-clause-forest
+returns-then-is_empty-clause-forest t c = own_forest c.args.nodes.now.items
+
+pub returns-clause-forest : goal.returns-clause-forest
+returns-clause-forest t c = IfOk-weaker c.join.result _ _ (λ r joined.
+    let place : c.len-place.result ≡ length c.args.nodes.now.items = search rules in
+    let h = halves c.args.nodes.now.items c.push.new.self.items c.plant.new.nodes.items c.plant-2.new.nodes.items _ c.in_ok-push.ensures.items c.in_ok-left.ensures.grown c.in_ok-right.ensures.grown in
+    joined_forest _ _ _ _ h c.in_ok-left.left c.in_ok-right.right r c.join.new.nodes.items
+    (subst (λ (n : ℕ). IsJoined n c.in_ok-left.left c.in_ok-right.right c.plant-2.new.nodes.items c.join.new.nodes.items r) place joined)
+    c.in_ok-left.ensures.forest c.in_ok-right.ensures.forest c.in_ok-left.ensures.preorder c.in_ok-right.ensures.preorder) c.join.ensures.ok

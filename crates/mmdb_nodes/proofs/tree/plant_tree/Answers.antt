@@ -8,7 +8,7 @@ use Rattle.mmdb_nodes.specs.declared.node.Node.{Node as SpecNode}
 use Rattle.mmdb_nodes.specs.declared.node.Record.{Record}
 use Rattle.mmdb_nodes.specs.declared.node.Record.TheVariants.{Node}
 use Rattle.mmdb_nodes.specs.Entries.{width}
-use Rattle.mmdb_nodes.specs.Working.{Leads, IsBelow, IsSound, IsInside, HasNoTwins, HasFewEnds, HasAsMany, NeedsTooMany}
+use Rattle.mmdb_nodes.specs.Working.{Leads, IsBelow, IsSound, IsInside, HasNoTwins, IsForest, HasFewEnds, HasAsMany, NeedsTooMany}
 use Rattle.mmdb_nodes.proofs.EntryLemmas.{all_inside, all_below}
 use Rattle.mmdb_nodes.proofs.LeadLemmas.{cases_of, Keeps-refl}
 use Rattle.mmdb_nodes.proofs.TreeLemmas.{width_fits, IsPlanted, node_tree, leaf_tree, whole_too_many}
@@ -28,9 +28,9 @@ plant-requires-clause-room c =
 -- the clauses of what was planted behind no nodes
 planted : (version : IpVersion) (es : List Entry) (data_len : ℕ) (nodes old : List SpecNode) (r : Record) (free : ℕ) → old ≡ [] → free ≡ width version
     → Leads (length old) nodes r 0 free None es → IsSound (length old) data_len nodes → IsBelow (length nodes) data_len r
-    → ((n : ℕ) → r ≡ Node n → (n ≡ length old) × (n < length nodes)) → HasFewEnds (length old) nodes r free → HasNoTwins (length old) nodes
+    → ((n : ℕ) → r ≡ Node n → (n ≡ length old) × (n < length nodes)) → HasFewEnds (length old) nodes r free → HasNoTwins (length old) nodes → IsForest (length old) nodes
     → HasAsMany (length old) (length nodes) r 0 free None es → IsPlanted version es data_len nodes r
-planted version es data_len nodes old r free none is leads sound below preorder few reduced many =
+planted version es data_len nodes old r free none is leads sound below preorder few reduced forest many =
     let zero : length old ≡ 0 = ap length none in record {
       leads = subst (λ (n : ℕ). Leads n nodes r 0 (width version) None es) zero (subst (λ (k : ℕ). Leads (length old) nodes r 0 k None es) is leads);
       sound = subst (λ (n : ℕ). IsSound n data_len nodes) zero sound;
@@ -38,6 +38,7 @@ planted version es data_len nodes old r free none is leads sound below preorder 
       preorder = λ n at. ((preorder n at).0 ∙ zero, (preorder n at).1);
       few = let f = subst (HasFewEnds (length old) nodes r) is few in let g = f.few nodes (Keeps-refl (length old) nodes) in omega arith;
       reduced = subst (λ (n : ℕ). HasNoTwins n nodes) zero reduced;
+      forest = subst (λ (n : ℕ). IsForest n nodes) zero forest;
       many = subst (λ (n : ℕ). HasAsMany n (length nodes) r 0 (width version) None es) zero (subst (λ (k : ℕ). HasAsMany (length old) (length nodes) r 0 k None es) is many);
     }
 
@@ -54,14 +55,14 @@ returns-in-Node-clause-ok c =
     let e = c.in_ok-root.ensures in
     let below = all_below c.args.version c.args.data_len c.args.entries.now c.requires.entries in
     node_tree c.args.version c.args.entries.now c.args.data_len c.plant.new.nodes.items c.in_ok-root.root
-    (planted _ _ _ _ _ _ _ c.new-nodes.ensures.items c.width.ensures e.leads (e.sound c.args.data_len below tt) (e.below c.args.data_len below tt) e.preorder e.few e.reduced e.count)
+    (planted _ _ _ _ _ _ _ c.new-nodes.ensures.items c.width.ensures e.leads (e.sound c.args.data_len below tt) (e.below c.args.data_len below tt) e.preorder e.few e.reduced e.forest e.count)
     c.in-Node.field-0 c.in-Node.is
 
 pub returns-in_ok-lone_node-in_default : goal.returns-in_ok-lone_node-in_default
 returns-in_ok-lone_node-in_default c =
     let e = c.in_ok-root.ensures in
     let below = all_below c.args.version c.args.data_len c.args.entries.now c.requires.entries in
-    let p = planted _ _ _ _ _ _ _ c.new-nodes.ensures.items c.width.ensures e.leads (e.sound c.args.data_len below tt) (e.below c.args.data_len below tt) e.preorder e.few e.reduced e.count in
+    let p = planted _ _ _ _ _ _ _ c.new-nodes.ensures.items c.width.ensures e.leads (e.sound c.args.data_len below tt) (e.below c.args.data_len below tt) e.preorder e.few e.reduced e.forest e.count in
     let one = c.in_ok-lone_node-in_default.ensures in
     elim (cases_of c.in_ok-root.root) [
       | inr node ↦ absurd (c.in_default.not-Node node.0 node.1)

@@ -8,6 +8,7 @@ use Rattle.mmdb_nodes.proofs.EntryLemmas.{all_below, offset_below}
 use Rattle.mmdb_nodes.proofs.LongestLemmas.{last_is_longest}
 use Rattle.mmdb_nodes.proofs.ByteLemmas.{is_size, with_behind, bytes_lead, no_equal_leaves}
 use Rattle.mmdb_nodes.proofs.CountLemmas.{clean}
+use Rattle.mmdb_nodes.proofs.ForestLemmas.{one_way}
 use Rattle.mmdb_nodes.proofs.tree.search_tree.Goals as goal
 
 pub nodes_as_bytes-requires-clause-sound : goal.nodes_as_bytes-requires-clause-sound
@@ -55,3 +56,13 @@ returns-clause-split c behind bits some len on =
     let are : AreNodes (bits_in c.in-Some.size) c.in_ok-nodes.nodes.items c.in_ok-bytes.bytes.items = subst (λ (xs : List SpecNode). AreNodes (bits_in c.in-Some.size) xs c.in_ok-bytes.bytes.items) c.deref.ensures.value c.in_ok-bytes.ensures in
     blocks_differ c.args.version c.args.entries.now c.args.data_len nodes c.in_ok-nodes.ensures.ok (tree_in (record { bytes = c.in_ok-bytes.bytes; node_count = c.len-2.result; record_size = c.in-Some.size }) behind)
     count (with_behind size nodes c.in_ok-bytes.bytes.items behind (is_size c.in-Some.size) are) bits some len on
+
+pub returns-clause-one_way : goal.returns-clause-one_way
+returns-clause-one_way c behind one other on same =
+    let nodes = c.in_ok-nodes.nodes.items in
+    let size = bits_in c.in-Some.size in
+    let count : c.len-2.result ≡ length c.in_ok-nodes.nodes.items = search rules in
+    let are : AreNodes (bits_in c.in-Some.size) c.in_ok-nodes.nodes.items c.in_ok-bytes.bytes.items = subst (λ (xs : List SpecNode). AreNodes (bits_in c.in-Some.size) xs c.in_ok-bytes.bytes.items) c.deref.ensures.value c.in_ok-bytes.ensures in
+    let of = c.in_ok-nodes.ensures.ok in
+    one_way (tree_in (record { bytes = c.in_ok-bytes.bytes; node_count = c.len-2.result; record_size = c.in-Some.size }) behind) nodes c.args.data_len
+    count (with_behind size nodes c.in_ok-bytes.bytes.items behind (is_size c.in-Some.size) are) of.sound of.forest of.some one other on same

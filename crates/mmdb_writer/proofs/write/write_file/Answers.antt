@@ -22,6 +22,7 @@ returns-then-is_certified-clause-ok c =
       tree = tree;
       leads = subst (λ (es : List Entry). LeadsByPrefix options.ip_version len es tree) c.deref.ensures.value c.in_ok-tree.ensures.leads;
       split = subst (λ (es : List Entry). HasSplitNodes options.ip_version es tree) c.deref.ensures.value c.in_ok-tree.ensures.split;
+      one_way = c.in_ok-tree.ensures.one_way;
       serves = c.in_ok-tree.ensures.size;
       len = c.in_ok-tree.ensures.len;
       begins = c.in_ok-file.ensures.ok;
