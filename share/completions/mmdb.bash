@@ -29,8 +29,11 @@ _mmdb() {
     enrich)
       options='--column --delimiter --field --header --json --into --nulls --hop --anywhere --exact --no-quotes --strict --quiet'
       ;;
-    export) options='--field --format --where --where-not --ipv4 --ipv6 --name --allow-empty --allow-missing' ;;
-    diff) options='--field --format --exit-code' ;;
+    export | diff)
+      options='--field --format --where --where-not --where-contains --where-has --also --except --ipv4 --ipv6 --name --table'
+      options+=' --family --allow-empty --allow-missing'
+      if [ "$command" = diff ]; then options+=' --exit-code'; else options+=' --jump --value'; fi
+      ;;
     build)
       options='--from --format --network-column --range-columns --type --types-like --equal --database-type --description'
       options+=' --language --build-epoch --ip-version --record-size --reserved --skip-bad --check'
@@ -48,7 +51,8 @@ _mmdb() {
     case $ended$word in
       --) ended=ended ;;
       *[\<\>]) at=$((at + 1)) ;;
-      --path | --column | --delimiter | --field | --format | --where | --where-not | --name | --into | --json | --hop | \
+      --path | --column | --delimiter | --field | --format | --where | --where-not | --where-contains | --where-has | \
+        --also | --except | --name | --table | --family | --jump | --value | --into | --json | --hop | \
         --from | --network-column | --range-columns | --type | --types-like | --equal | --database-type | --description | \
         --language | --build-epoch | --ip-version | --record-size | --reserved | --max-change | --newer-than | --max-age)
         case $word$command in --jsoninfo | --jsonverify) continue ;; esac
@@ -65,20 +69,22 @@ _mmdb() {
   case $ended$before in
     --format)
       case $command in
-        diff) _mmdb_offer 'jsonl csv' ;;
+        diff) _mmdb_offer 'jsonl csv cidr nft ipset' ;;
         build) _mmdb_offer 'jsonl csv tsv' ;;
-        *) _mmdb_offer 'jsonl csv cidr nft ipset' ;;
+        *) _mmdb_offer 'jsonl csv cidr nft ipset iptables nginx haproxy pf' ;;
       esac
       return
       ;;
     --equal) _mmdb_offer 'last error'; return ;;
+    --family) _mmdb_offer 'inet ip ip6 bridge netdev'; return ;;
     --hop) _mmdb_offer 'first last'; return ;;
     --ip-version) _mmdb_offer '6 4'; return ;;
     --record-size) _mmdb_offer '24 28 32'; return ;;
     --reserved) _mmdb_offer 'keep skip error'; return ;;
     --network-column | --range-columns | --type | --database-type | --description | --language | --build-epoch | --max-change | --max-age) return ;;
-    --from | --types-like | --newer-than) _mmdb_files; return ;;
-    --path | --column | --delimiter | --field | --where | --where-not | --name | --into) return ;;
+    --from | --types-like | --newer-than | --also | --except) _mmdb_files; return ;;
+    --path | --column | --delimiter | --field | --where | --where-not | --where-contains | --where-has) return ;;
+    --name | --table | --jump | --value | --into) return ;;
     --json) if [ "$command" = enrich ]; then return; fi ;;
   esac
   case $ended$typed in

@@ -20,7 +20,7 @@ function __mmdb_wants_file
     for word in $words[3..-1]
         if test $value = yes
             set value no
-        else if contains -- $word --path --column --delimiter --field --format --where --where-not --name --into --hop --from --network-column --range-columns --type --types-like --equal --database-type --description --language --build-epoch --ip-version --record-size --reserved --max-change --newer-than --max-age; or test "$words[2]$word" = enrich--json
+        else if contains -- $word --path --column --delimiter --field --format --where --where-not --where-contains --where-has --also --except --name --table --family --jump --value --into --hop --from --network-column --range-columns --type --types-like --equal --database-type --description --language --build-epoch --ip-version --record-size --reserved --max-change --newer-than --max-age; or test "$words[2]$word" = enrich--json
             set value yes
         else if not string match -q -- '-*' $word
             return 1
@@ -63,19 +63,40 @@ complete -c mmdb -n '__mmdb_is enrich' -l quiet -d 'No notes on standard error'
 complete -c mmdb -n '__mmdb_is enrich' -s h -l help -d 'Print help'
 
 complete -c mmdb -n '__mmdb_is export' -l field -x -d 'Only the value at a path'
-complete -c mmdb -n '__mmdb_is export' -l format -x -a 'jsonl csv cidr nft ipset' -d 'How networks are written'
+complete -c mmdb -n '__mmdb_is export' -l format -x -a 'jsonl csv cidr nft ipset iptables nginx haproxy pf' -d 'How networks are written'
 complete -c mmdb -n '__mmdb_is export' -l where -x -d 'Only networks with this value at the path'
 complete -c mmdb -n '__mmdb_is export' -l where-not -x -d 'No networks with this value at the path'
+complete -c mmdb -n '__mmdb_is export' -l where-contains -x -d 'Only networks with a text there that has this one in it'
+complete -c mmdb -n '__mmdb_is export' -l where-has -x -d 'Only networks with any value at the path'
+complete -c mmdb -n '__mmdb_is export' -l also -r -F -d 'Blocks that a list has too'
+complete -c mmdb -n '__mmdb_is export' -l except -r -F -d 'Blocks that a list has not'
 complete -c mmdb -n '__mmdb_is export' -l ipv4 -d 'Only IPv4 networks'
 complete -c mmdb -n '__mmdb_is export' -l ipv6 -d 'Only IPv6 networks'
-complete -c mmdb -n '__mmdb_is export' -l name -x -d 'How the sets of nft and ipset begin'
+complete -c mmdb -n '__mmdb_is export' -l name -x -d 'How sets begin, or the name of a chain or a variable'
+complete -c mmdb -n '__mmdb_is export' -l table -x -d 'The table of nft that has the sets'
+complete -c mmdb -n '__mmdb_is export' -l family -x -a 'inet ip ip6 bridge netdev' -d 'The family of that table'
+complete -c mmdb -n '__mmdb_is export' -l jump -x -d 'The target of the rules of iptables'
+complete -c mmdb -n '__mmdb_is export' -l value -x -d 'The value of each network for nginx and haproxy'
 complete -c mmdb -n '__mmdb_is export' -l allow-empty -d 'Write a list even where it has no network'
 complete -c mmdb -n '__mmdb_is export' -l allow-missing -d 'Write a list even where a value is not met'
 complete -c mmdb -n '__mmdb_is export' -s h -l help -d 'Print help'
 
 complete -c mmdb -n '__mmdb_is diff' -F
 complete -c mmdb -n '__mmdb_is diff' -l field -x -d 'Only the value at a path'
-complete -c mmdb -n '__mmdb_is diff' -l format -x -a 'jsonl csv' -d 'How lines are written'
+complete -c mmdb -n '__mmdb_is diff' -l format -x -a 'jsonl csv cidr nft ipset' -d 'How lines are written'
+complete -c mmdb -n '__mmdb_is diff' -l where -x -d 'Only networks with this value at the path'
+complete -c mmdb -n '__mmdb_is diff' -l where-not -x -d 'No networks with this value at the path'
+complete -c mmdb -n '__mmdb_is diff' -l where-contains -x -d 'Only networks with a text there that has this one in it'
+complete -c mmdb -n '__mmdb_is diff' -l where-has -x -d 'Only networks with any value at the path'
+complete -c mmdb -n '__mmdb_is diff' -l also -r -F -d 'Blocks that a list has too'
+complete -c mmdb -n '__mmdb_is diff' -l except -r -F -d 'Blocks that a list has not'
+complete -c mmdb -n '__mmdb_is diff' -l ipv4 -d 'Only IPv4 networks'
+complete -c mmdb -n '__mmdb_is diff' -l ipv6 -d 'Only IPv6 networks'
+complete -c mmdb -n '__mmdb_is diff' -l name -x -d 'How sets begin, or the name of a chain or a variable'
+complete -c mmdb -n '__mmdb_is diff' -l table -x -d 'The table of nft that has the sets'
+complete -c mmdb -n '__mmdb_is diff' -l family -x -a 'inet ip ip6 bridge netdev' -d 'The family of that table'
+complete -c mmdb -n '__mmdb_is diff' -l allow-empty -d 'Write a list even where it has no network'
+complete -c mmdb -n '__mmdb_is diff' -l allow-missing -d 'Write a list even where a value is not met'
 complete -c mmdb -n '__mmdb_is diff' -l exit-code -d 'Status 7 where something differs'
 complete -c mmdb -n '__mmdb_is diff' -s h -l help -d 'Print help'
 
