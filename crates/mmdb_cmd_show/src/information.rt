@@ -64,17 +64,6 @@ impl Lines {
     }
 }
 
-/// What is shown of a database.
-#[derive(Clone, Copy)]
-struct Described<'d> {
-    /// Its file, where several are shown.
-    path: Option<&'d str>,
-    metadata: &'d Metadata,
-    sections: &'d Sections,
-    /// The fields of its records, where they are asked for.
-    fields: Option<&'d Fields<'d>>,
-}
-
 // When a database was built, by the number of seconds since 1970.
 fn built_text(alloc: Global, seconds: u64) -> Result<String, AllocError> {
     match date_of(alloc, seconds)? {
@@ -134,14 +123,20 @@ fn add_fields(alloc: Global, fields: &Fields<'_>, lines: &mut Lines) -> Result<(
 }
 
 // The lines that a person reads.
-fn text_of(alloc: Global, described: Described<'_>) -> Result<String, AllocError> {
+fn text_of(
+    alloc: Global,
+    path: Option<&str>,
+    metadata: &Metadata,
+    sections: &Sections,
+    fields: Option<&Fields<'_>>,
+) -> Result<String, AllocError> {
     let mut lines = Lines::new(alloc);
-    if let Some(path) = described.path {
+    if let Some(path) = path {
         lines.add_line(alloc, format!(in alloc; "file:        {path}"));
     }
-    add_texts(alloc, described.metadata, &mut lines);
-    add_numbers(alloc, described.metadata, described.sections, &mut lines);
-    if let Some(fields) = described.fields {
+    add_texts(alloc, metadata, &mut lines);
+    add_numbers(alloc, metadata, sections, &mut lines);
+    if let Some(fields) = fields {
         add_fields(alloc, fields, &mut lines)?;
     }
     lines.finish()
@@ -249,34 +244,55 @@ fn put_fields(alloc: Global, out: &mut Pretty, fields: &Fields<'_>) -> Result<()
 }
 
 // All that is shown as an object.
-fn put_object(alloc: Global, out: &mut Pretty, described: Described<'_>) -> Result<(), AllocError> {
+fn put_object(
+    alloc: Global,
+    out: &mut Pretty,
+    path: Option<&str>,
+    metadata: &Metadata,
+    sections: &Sections,
+    fields: Option<&Fields<'_>>,
+) -> Result<(), AllocError> {
     out.token(Token::BeginObject)?;
-    if let Some(path) = described.path {
+    if let Some(path) = path {
         put_text(out, "path", path)?;
     }
-    put_texts(alloc, out, described.metadata)?;
-    put_numbers(alloc, out, described.metadata, described.sections)?;
-    if let Some(fields) = described.fields {
+    put_texts(alloc, out, metadata)?;
+    put_numbers(alloc, out, metadata, sections)?;
+    if let Some(fields) = fields {
         put_fields(alloc, out, fields)?;
     }
     out.token(Token::EndObject)
 }
 
 // The text of that object.
-fn json_of(alloc: Global, described: Described<'_>) -> Result<Vec<u8>, AllocError> {
+fn json_of(
+    alloc: Global,
+    path: Option<&str>,
+    metadata: &Metadata,
+    sections: &Sections,
+    fields: Option<&Fields<'_>>,
+) -> Result<Vec<u8>, AllocError> {
     let mut out = Pretty::new(alloc);
-    put_object(alloc, &mut out, described)?;
+    put_object(alloc, &mut out, path, metadata, sections, fields)?;
     let mut text = out.into_inner();
     text.push(b'\n')?;
     Ok(text)
 }
 
-// The text of what is shown.
-fn info_text(alloc: Global, described: Described<'_>, json: bool) -> Result<Vec<u8>, AllocError> {
+// The text of what a file says of itself, with its path where several are shown, and with the fields of its records where
+// they are asked for.
+fn info_text(
+    alloc: Global,
+    path: Option<&str>,
+    metadata: &Metadata,
+    sections: &Sections,
+    fields: Option<&Fields<'_>>,
+    json: bool,
+) -> Result<Vec<u8>, AllocError> {
     if json {
-        json_of(alloc, described)
+        json_of(alloc, path, metadata, sections, fields)
     } else {
-        Ok(text_of(alloc, described)?.into_bytes())
+        Ok(text_of(alloc, path, metadata, sections, fields)?.into_bytes())
     }
 }
 
@@ -285,13 +301,8 @@ fn info_text(alloc: Global, described: Described<'_>, json: bool) -> Result<Vec<
 /// Fails as `Reader::from_source` does.
 pub fn info(alloc: Global, bytes: &[u8], json: bool) -> Result<Vec<u8>, ProgramError> {
     let reader = Reader::from_source(alloc, bytes)?;
-    let described = Described {
-        path: None,
-        metadata: reader.metadata(),
-        sections: &reader.sections(),
-        fields: None,
-    };
-    let text = info_text(alloc, described, json);
+    let (metadata, sections) = (reader.metadata(), reader.sections());
+    let text = info_text(alloc, None, metadata, &sections, None, json);
     drop(reader);
     Ok(text?)
 }
@@ -320,7 +331,7 @@ fn note_fields<O: Write, E: Write>(
     Ok(FAILED)
 }
 
-// Writes what a database says of itself, and the fields of its records if there are some, and answers the status.
+// Writes what a database says of itself, and the fields of its records where they are asked for.
 fn put_described<O: Write, E: Write>(
     database: &Database,
     path: Option<&str>,
@@ -328,13 +339,8 @@ fn put_described<O: Write, E: Write>(
     json: bool,
     console: &mut Console<'_, O, E>,
 ) -> Result<(), ProgramError> {
-    let described = Described {
-        path,
-        metadata: database.metadata(),
-        sections: &database.sections(),
-        fields,
-    };
-    let text = info_text(console.alloc, described, json)?;
+    let (metadata, sections) = (database.metadata(), database.sections());
+    let text = info_text(console.alloc, path, metadata, &sections, fields, json)?;
     console.put(text.as_slice())
 }
 
