@@ -48,6 +48,20 @@ impl<'t> RowReader<'t> {
         matches!(self, RowReader::Header)
     }
 
+    // Takes a header. It stands apart from `entry`, which else would clear as many bytes as a reader has for each row.
+    #[inline(never)]
+    fn take_header(
+        &mut self,
+        alloc: Global,
+        task: &BuildTask<'t>,
+        types: &'t Types,
+        header: &[u8],
+    ) -> Result<(), InputError> {
+        let cells = Cells::new(alloc, task.rows(), task.columns, types, header)?;
+        *self = RowReader::Cells(cells);
+        Ok(())
+    }
+
     /// What a row says. None of a header, and of a row with nothing but white space.
     pub(crate) fn entry<V: Values>(
         &mut self,
@@ -63,8 +77,7 @@ impl<'t> RowReader<'t> {
             RowReader::Json(lines) => Ok(Some(lines.entry(alloc, text, values)?)),
             RowReader::Cells(cells) => Ok(Some(cells.entry(alloc, text, values)?)),
             RowReader::Header => {
-                let cells = Cells::new(alloc, task.rows(), task.columns, types, text)?;
-                *self = RowReader::Cells(cells);
+                self.take_header(alloc, task, types, text)?;
                 Ok(None)
             }
         }
