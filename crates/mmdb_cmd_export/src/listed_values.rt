@@ -21,7 +21,7 @@ pub(crate) struct FileSearch<'a> {
     path: Vec<PathElement<'a>>,
     values: Vec<&'a str>,
     /// The values that no network has so far.
-    left: HashSet<&'a str>,
+    left: HashSet<String>,
     /// How many there were.
     count: usize,
 }
@@ -35,7 +35,7 @@ fn search_of<'a>(alloc: Global, file: &'a ValueFile<'a>) -> Result<FileSearch<'a
     let values = values_in(alloc, file.text.as_str())?;
     let mut left = HashSet::new(alloc);
     for value in &values {
-        left.insert(*value)?;
+        left.insert(String::from_str(alloc, *value)?)?;
     }
     let count = left.len();
     Ok(FileSearch {
@@ -74,13 +74,13 @@ impl FileSearch<'_> {
     fn take_value(&mut self, alloc: Global, value: &Value<'_>) -> Result<(), AllocError> {
         match value {
             Value::String(text) => {
-                self.left.remove(text);
+                self.left.remove(*text);
             }
             Value::Map(_) | Value::Array(_) => {}
             value => {
                 let json = compact(alloc, value)?;
                 if let Ok(text) = str::from_utf8(json.as_slice()) {
-                    self.left.remove(&text);
+                    self.left.remove(text);
                 }
             }
         }
@@ -109,7 +109,7 @@ impl FileSearch<'_> {
                 names.push_str(", ..")?;
                 break;
             }
-            if self.left.contains(value) {
+            if self.left.contains(*value) {
                 names.push_str(if count == 0 { " " } else { ", " })?;
                 names.push_str(value)?;
                 count = count.saturating_add(1);
