@@ -271,7 +271,7 @@ impl<'a, 'f, S: AsSlice<u8> + Drop> Additions for JsonEnrichment<'a, 'f, S> {
             scratch,
         )? {
             ReadLine::Object(line) => {
-                self.put_object(&line, &mut memory.cache, &mut memory.notes, out)
+                Ok(self.put_object(&line, &mut memory.cache, &mut memory.notes, out)?)
             }
             ReadLine::NoObject => Ok(nothing(Outcome::Malformed)),
         }

@@ -6,9 +6,9 @@ mod blocks;
 mod chosen;
 mod clip;
 mod conditions;
+mod delta;
 mod gathering;
 mod inputs;
-mod list_diff;
 mod listed_values;
 mod missing;
 mod networks;
@@ -17,5 +17,5 @@ mod sink;
 mod spelling;
 mod task;
 
-pub use list_diff::list_diff;
+pub use delta::list_diff;
 pub use networks::export;

@@ -45,7 +45,7 @@ fn subject_of<'a>(request: &Request<'a>) -> &'a str {
     match request {
         Request::Show(arguments) => arguments.file,
         Request::Info(arguments) => match arguments.files.as_slice() {
-            [file] => file,
+            [file] => *file,
             _ => "info",
         },
         Request::Enrich(arguments) => arguments.file,

@@ -27,7 +27,10 @@ const HELPS: &[(&[&str], &[&str])] = &[
             "Example:\n  mmdb show ",
         ],
     ),
-    (&["info", "--help"], &["--json", "Example:\n  mmdb info "]),
+    (
+        &["info", "--help"],
+        &["--json", "--fields", "Examples:\n  mmdb info "],
+    ),
     (
         &["enrich", "--help"],
         &[

@@ -358,7 +358,6 @@ const VERIFIED: &[Row<'static>] = &[
     (&["verify", "here.mmdb", "--max-age", "18446744073709551615"], 0, "here.mmdb: ok\n", ""),
     (&["verify", "here.mmdb", "--max-age", "x"], 2, "", "mmdb: --max-age: not a number of days\n"),
     (&["verify", "gone.mmdb", "--max-age", "+5"], 2, "", "mmdb: --max-age: not a number of days\n"),
-    (&["verify", "gone.mmdb", "--max-age", ""], 2, "", "mmdb: --max-age: not a number of days\n"),
     (&["verify", "here.mmdb", "--database-type", "***"], 0, "here.mmdb: ok\n", ""),
     (&["verify", "here.mmdb", "--database-type", "**T"], 0, "here.mmdb: ok\n", ""),
     (&["verify", "gone.mmdb", "--database-type", "T*T"], 2, "", "mmdb: --database-type: a * inside, and not at an end\n"),
