@@ -157,7 +157,8 @@ fn block_of(text: &str) -> Option<Block> {
     }
 }
 
-fn blocks_of(alloc: Global, texts: &str) -> Result<Vec<Block>, AllocError> {
+/// The blocks that texts name, with a space between them.
+pub(crate) fn blocks_of(alloc: Global, texts: &str) -> Result<Vec<Block>, AllocError> {
     let mut blocks = Vec::new(alloc);
     for text in texts.split_whitespace() {
         let named = block_of(text).unwrap_or(Block {

@@ -7,6 +7,8 @@ mod blocks;
 #[cfg(test)]
 mod lines;
 #[cfg(test)]
+mod listed;
+#[cfg(test)]
 mod networks;
 #[cfg(test)]
 mod readings;

@@ -176,6 +176,221 @@ const OF_DAMAGED: &[Row<'static>] = &[
     ),
 ];
 
+/// Words, standard input, standard output, what each line of standard error has to hold, and the status.
+type InputRow<'a> = (&'a [&'a str], &'a str, &'a str, &'a [&'a str], u8);
+
+#[rattlefmt::skip]
+const WITH_INPUT: &[InputRow<'static>] = &[
+    (
+        &["export", "here.mmdb", "--where", "c.i=AT", "--format", "cidr", "--also", "-"],
+        "# ours\n\n 10.0.0.9 \t# one\r\n96.0.0.0-127.255.255.255\n2001:db8::/32\n10.0.0.8\n",
+        "10.0.0.8/31\n64.0.0.0/2\n2001:db8::/32\n",
+        &[],
+        0,
+    ),
+    (
+        &["export", "here.mmdb", "--where", "c.i=AT", "--format", "cidr", "--except", "-", "--ipv4"],
+        "64.0.0.0/4\n::/0\n80.0.0.0 - 87.255.255.255\n",
+        "88.0.0.0/5\n",
+        &[],
+        0,
+    ),
+    // all is taken away
+    (
+        &["export", "here.mmdb", "--where", "c.i=AT", "--format", "nft", "--except", "-"],
+        "0.0.0.0/0\n",
+        "",
+        NONE,
+        1,
+    ),
+    (
+        &["export", "here.mmdb", "--format", "pf", "--except", "-"],
+        "10.0.0.0/8\n10.0.0.0/33 # no\n",
+        "",
+        &["-:2: 10.0.0.0/33: not a network, an address or FIRST-LAST"],
+        1,
+    ),
+    (
+        &["export", "here.mmdb", "--format", "pf", "--except", "-"],
+        "10.0.0.9-10.0.0.8\n",
+        "",
+        &["-:1: 10.0.0.9-10.0.0.8: the last address is below the first"],
+        1,
+    ),
+    (
+        &["export", "here.mmdb", "--format", "pf", "--except", "-"],
+        "10.0.0.9-::1\n",
+        "",
+        &["-:1: 10.0.0.9-::1: a range from IPv4 to IPv6 or back"],
+        1,
+    ),
+    (
+        &["export", "here.mmdb", "--where", "c.i=AT", "--format", "pf", "--also", "-"],
+        "10.1.2.3/8",
+        "10.0.0.0/8\n64.0.0.0/3\n",
+        &["-:1: 10.1.2.3/8 is read as 10.0.0.0/8"],
+        0,
+    ),
+    (
+        &["export", "here.mmdb", "--format", "pf", "--also", "-", "--except", "-"],
+        "",
+        "",
+        &["-: standard input is read once"],
+        2,
+    ),
+    (
+        &["export", "here.mmdb", "--also", "-"],
+        "",
+        "",
+        &["--also: needs a list of networks"],
+        2,
+    ),
+    // values of a file: some that no network has, or all
+    (
+        &["export", "here.mmdb", "--where", "c.i=@-", "--format", "pf"],
+        "FR\nAT\r\n\n",
+        "64.0.0.0/3\n",
+        &["c.i=@-: no network has 1 of the 2 values: FR"],
+        0,
+    ),
+    (
+        &["export", "here.mmdb", "--where", "c.i=@-", "--format", "pf"],
+        "FR\nCH\n",
+        "",
+        &["c.i=@-: no network has 2 of the 2 values: FR, CH"],
+        1,
+    ),
+    (
+        &["export", "here.mmdb", "--where-contains", "c.i=A", "--format", "cidr"],
+        "",
+        "64.0.0.0/3\n",
+        &[],
+        0,
+    ),
+    (
+        &["export", "here.mmdb", "--where-has", "n", "--where-not", "n=7", "--format", "cidr"],
+        "",
+        "64.0.0.0/3\n",
+        &[],
+        0,
+    ),
+    (
+        &["export", "here.mmdb", "--where-has", "x", "--format", "pf"],
+        "",
+        "",
+        &["no network has x; --allow-empty writes an empty list"],
+        1,
+    ),
+    (
+        &["export", "here.mmdb", "--where", "c.i=@@x", "--format", "pf"],
+        "",
+        "",
+        &["no network has c.i=@@x; --allow-empty writes an empty list"],
+        1,
+    ),
+    (
+        &["export", "here.mmdb", "--where", "c.i=@", "--format", "pf"],
+        "",
+        "",
+        &["c.i=@: no file behind the @"],
+        2,
+    ),
+    (
+        &["export", "here.mmdb", "--where", "c.i=AT", "--format", "iptables", "--name", "geo", "--jump", "REJECT"],
+        "",
+        "*filter\n:geo - [0:0]\n-A geo -4 -s 64.0.0.0/3 -j REJECT\nCOMMIT\n",
+        &[],
+        0,
+    ),
+    (
+        &["export", "here.mmdb", "--where", "c.i=AT", "--format", "nginx", "--name", "geo", "--value", "at"],
+        "",
+        "geo $geo {\n    64.0.0.0/3 at;\n}\n",
+        &[],
+        0,
+    ),
+    (
+        &["export", "here.mmdb", "--where", "c.i=AT", "--format", "haproxy"],
+        "",
+        "64.0.0.0/3 1\n",
+        &[],
+        0,
+    ),
+    (
+        &["export", "here.mmdb", "--where", "c.i=FR", "--format", "iptables", "--allow-empty"],
+        "",
+        "*filter\n:mmdb - [0:0]\nCOMMIT\n",
+        &[],
+        0,
+    ),
+    (
+        &["export", "here.mmdb", "--where", "c.i=AT", "--format", "nft", "--ipv4", "--table", "t", "--family", "ip"],
+        "",
+        "add table ip t
+add set ip t mmdb_ipv4 { type ipv4_addr; flags interval; }
+flush set ip t mmdb_ipv4
+add element ip t mmdb_ipv4 {
+64.0.0.0/3
+}
+",
+        &[],
+        0,
+    ),
+    (
+        &["export", "here.mmdb", "--format", "nginx", "--value", "a b"],
+        "",
+        "",
+        &["a b: not 1 to 64 letters, digits, _, - and ."],
+        2,
+    ),
+    (
+        &["export", "here.mmdb", "--format", "nginx", "--name", "a-b"],
+        "",
+        "",
+        &["a-b: not a variable's name"],
+        2,
+    ),
+    // what changes: nothing, where both files are one
+    (
+        &["diff", "here.mmdb", "here.mmdb", "--where", "c.i=AT", "--format", "cidr", "--exit-code"],
+        "",
+        "",
+        &[],
+        0,
+    ),
+    (
+        &["diff", "here.mmdb", "here.mmdb", "--where", "c.i=FR", "--format", "nft"],
+        "",
+        "",
+        &["no network has c.i=FR; --allow-empty writes an empty list"],
+        1,
+    ),
+    (
+        &["diff", "here.mmdb", "here.mmdb", "--where", "c.i=AT"],
+        "",
+        "",
+        &["--where: needs --format cidr, nft or ipset"],
+        2,
+    ),
+];
+
+// Asserts what the rows say of runs with standard input.
+fn assert_input_rows(rt: &impl Abort, alloc: Global, bytes: &[u8], rows: &[InputRow<'_>]) {
+    for (words, input, written, message, status) in rows {
+        let run = run_of(alloc, bytes, words, input);
+        let holds = run.out() == *written
+            && run.status == *status
+            && lines_hold(run.err(), message);
+        assert_of(rt, words, &run, holds);
+    }
+}
+
+#[test]
+fn lists_with_standard_input(rt: HostRuntime) {
+    let bytes = file_of_nodes(&rt, rt.alloc(), WHOLE, b"\xC1\x07", DATA);
+    assert_input_rows(&rt, rt.alloc(), bytes.as_slice(), WITH_INPUT);
+}
+
 // Asserts what the rows say of exports from a file.
 fn assert_rows(rt: &impl Abort, alloc: Global, bytes: &[u8], rows: &[Row<'_>]) {
     for (texts, written, message) in rows {
