@@ -20,7 +20,7 @@ use std::alloc::AllocError;
 use std::io::{self, BufRead, ErrorKind};
 
 /// What is ready is written when it has so many bytes.
-pub(crate) const READY: usize = 2_048;
+pub(crate) const READY: usize = 16_384;
 
 /// After so many rows additions are shown what comes.
 const AHEAD: u64 = 64;
