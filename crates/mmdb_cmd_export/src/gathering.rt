@@ -1,4 +1,7 @@
 //! The addresses of chosen networks, gathered.
+ghost use Rattle.std.specs.Prelude.{IfOk};
+ghost use Rattle.mmdb_blocks.specs.Blocks.{IsJoined};
+
 use crate::clip::Clip;
 use crate::sink::NetworkSink;
 use mmdb_blocks::{Block, Kind, Range, Ranges, RangesError, listed_blocks};
@@ -73,7 +76,9 @@ impl Adjustment {
         alloc: Global,
         chosen: &Addresses,
         kind: Kind,
-    ) -> Result<Vec<Block>, RangesError> {
+    ) -> Result<Vec<Block>, RangesError>
+        ensures fewest { IfOk result (λ blocks. IsJoined blocks.items blocks.items) }
+    {
         listed_blocks(
             alloc,
             chosen.of(kind),
