@@ -2,9 +2,6 @@
 use mmdb_console::ProgramError;
 use std::io::{self, ErrorKind, Write};
 
-/// How many bytes are handed on at once. What is filtered comes in batches, and so much is copied in registers.
-const PIECE: usize = 2_048;
-
 /// An output that knows whether it failed. A filter of rows reports the error of a read or of a write alike. What a filter
 /// flushes before each read goes out where the input is live. It ends at a write of no byte, and goes on after an interrupted
 /// one.
@@ -35,9 +32,9 @@ impl<'o, O: Write> Output<'o, O> {
 }
 
 impl<'o, O: Write> Write for Output<'o, O> {
+    #[inline(always)]
     fn write(&mut self, bytes: &[u8]) -> io::Result<usize> {
-        let piece = &bytes[..bytes.len().min(PIECE)];
-        match self.out.write(piece) {
+        match self.out.write(bytes) {
             Ok(count) => {
                 self.has_failed |= count == 0;
                 Ok(count)

@@ -19,8 +19,11 @@ use crate::text::seen;
 use std::alloc::AllocError;
 use std::io::{self, BufRead, ErrorKind};
 
-/// What is ready is written when it has so many bytes.
-pub(crate) const READY: usize = 16_384;
+/// What is ready is written when it has so many bytes: as many as a buffered output hands on as they are, with no copy.
+pub(crate) const READY: usize = 65_536;
+
+/// Room for what is ready: most rows begin before its end and end within this.
+pub(crate) const ROOM: usize = READY + 8_192;
 
 /// After so many rows additions are shown what comes.
 const AHEAD: u64 = 64;

@@ -1,9 +1,9 @@
 //! Rows that passed and are not written yet.
-ghost use Rattle.std.specs.Prelude.{◌≡◌, []};
-ghost use Rattle.mmdb_filter.specs.Counting.{total};
+ghost use Rattle.std.specs.Prelude.{◌≡◌, [], IfOk};
 
+use crate::at_hand::ROOM;
 use crate::counts::Counts;
-use std::alloc::Global;
+use std::alloc::{AllocError, Global};
 
 /// How far a filter is, and what of the rows that passed is to be written.
 #[derive(Drop)]
@@ -21,18 +21,18 @@ pub(crate) struct Batch {
 }
 
 impl Batch {
-    /// Of no row behind those that were counted before.
-    pub(crate) fn new(alloc: Global, passed: u64, counts: Counts) -> Batch
-        ensures passed { result.passed ≡ passed }
-        ensures counts { result.counts ≡ counts }
-        ensures none { result.ready.items ≡ [] }
+    /// Of no row behind those that were counted before. It takes room for what is ready at once.
+    pub(crate) fn new(alloc: Global, passed: u64, counts: Counts) -> Result<Batch, AllocError>
+        ensures passed { IfOk result (λ batch. batch.passed ≡ passed) }
+        ensures counts { IfOk result (λ batch. batch.counts ≡ counts) }
+        ensures none { IfOk result (λ batch. batch.ready.items ≡ []) }
     {
-        Batch {
+        Ok(Batch {
             passed,
             counts,
-            ready: Vec::new(alloc),
+            ready: Vec::with_capacity(alloc, ROOM)?,
             added: Vec::new(alloc),
             chunk: Vec::new(alloc),
-        }
+        })
     }
 }

@@ -241,7 +241,7 @@ pub fn filter_rows<A: Additions, R: Live, W: Write, P: Progress>(
     let Some(first) = before.total() else {
         return Err(io::Error::from(ErrorKind::FileTooLarge));
     };
-    let mut batch = Batch::new(alloc, first, before);
+    let mut batch = Batch::new(alloc, first, before)?;
     let done = pass_all(rows, additions, memory, input, &mut batch, out, progress);
     put_ready(out, &mut batch.ready)?;
     Ok(Filtered {
