@@ -150,7 +150,8 @@ fn gather_new<O: Write, E: Pace>(
     Ok(Some(gather(database, task, choice, console)?))
 }
 
-// Writes what changes between the lists of two databases, and answers the status.
+// Writes what changes between the lists of two databases, and answers the status. Where a network can't be read nothing is
+// written, since it may be in a list, and a block of it would be taken out.
 fn compare<O: Write, E: Pace>(
     old: &Database,
     newer: &Database,
@@ -163,16 +164,19 @@ fn compare<O: Write, E: Pace>(
         return Ok(FAILED);
     };
     let old = gather_old(old, task, console)?;
+    let faults = old.faults.saturating_add(newer.faults);
+    if faults > 0 {
+        return report_faults(faults, console);
+    }
     let changes = match list_changes(console.alloc, &old, &newer, adjustment) {
         Ok(changes) => changes,
         Err(error) => return Err(of_ranges(error)),
     };
     write_changes(console.alloc, task, &changes, console.out)?;
-    let status = report_faults(old.faults.saturating_add(newer.faults), console)?;
-    if status == DONE && exit_code && !changes.is_none() {
+    if exit_code && !changes.is_none() {
         return Ok(DIFFERENT);
     }
-    Ok(status)
+    Ok(DONE)
 }
 
 // Opens both files and writes what changes between their lists, and answers the status.
@@ -205,8 +209,8 @@ fn compare_files<R: Files, I: BufRead, O: Write, E: Pace>(
 }
 
 /// Writes what changes in a list of networks between two files: what takes the blocks out that only the old list has, and
-/// what puts those in that only the new list has. Reports each network that can't be read, and answers the status. An `Err`
-/// as of `export`.
+/// what puts those in that only the new list has; nothing where a network can't be read. Reports each of these, and answers
+/// the status. An `Err` as of `export`.
 pub fn list_diff<R: Files, I: BufRead, O: Write, E: Pace>(
     rt: &R,
     arguments: &ListDiffArguments<'_>,

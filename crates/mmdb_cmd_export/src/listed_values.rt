@@ -65,9 +65,9 @@ impl FileSearch<'_> {
         self.left.is_empty()
     }
 
-    /// Whether no network has any of them.
+    /// Whether there are some, and no network has any of them.
     pub(crate) fn is_all_missing(&self) -> bool {
-        self.left.len() == self.count
+        !self.is_done() && self.left.len() == self.count
     }
 
     // Takes out the value that a record has.
