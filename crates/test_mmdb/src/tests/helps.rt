@@ -81,7 +81,7 @@ const HELPS: &[(&[&str], &[&str])] = &[
             "--format",
             "jsonl, csv",
             "--exit-code",
-            "Example:\n  mmdb diff ",
+            "Examples:\n  mmdb diff ",
         ],
     ),
     (

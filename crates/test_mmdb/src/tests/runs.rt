@@ -53,7 +53,7 @@ const BASE_RUNS: &[Row<'static>] = &[
     (&["export", "gone.mmdb", "--where", "\"a=b\""], 2, "", "\"a=b\": not PATH=VALUE"),
     (&["export", "gone.mmdb", "--where-not", "a.+1=b"], 2, "", "a.+1=b: not a path before the ="),
     (&["export", "gone.mmdb", "--format", "cidr", "--field", "a"], 2, "", "--field: not with a list of networks"),
-    (&["export", "gone.mmdb", "--format", "cidr", "--name", "a"], 2, "", "--name: needs --format nft or ipset"),
+    (&["export", "gone.mmdb", "--format", "cidr", "--name", "a"], 2, "", "--name: needs --format nft, ipset, iptables or nginx"),
     (&["export", "gone.mmdb", "--format", "nft", "--name", "a b"], 2, "", "a b: not the beginning of a set's name"),
     (&["export", "gone.mmdb", "--format", "ipset", "--name", "1a"], 2, "", "1a: not the beginning of a set's name"),
     (&["export", "here.mmdb", "::/0", "--field", "", "--format", "csv"], 1, "", "here.mmdb: invalid input"),
