@@ -78,6 +78,6 @@ pub fn check_records(
     ensures ok { OnOk result (AreReadable section.now offsets.now) }
     ensures err { IfErr result (λ e. MemoryApart e (¬ AreReadable section.now offsets.now)) }
 {
-    let mut costs = KeptCosts::new(alloc, section);
+    let mut costs = KeptCosts::new(alloc, section)?;
     check_each(alloc, &mut costs, section, offsets)
 }

@@ -9,6 +9,7 @@ use mmdb_decode::failed::Failed;
 use mmdb_format::content::{content_at, content_end, key_bytes_at};
 use mmdb_format::header::{Header, MAX_LEVELS, header_at, pointer_at};
 use mmdb_format::kind::{ARRAY, MAP, POINTER};
+use mmdb_offsets::OffsetSet;
 use std::alloc::{AllocError, Global};
 use std::collections::BTreeMap;
 use std::marker::Model;
@@ -22,17 +23,19 @@ pub(crate) enum Known {
     Unreadable,
 }
 
-/// A section of a file, and what values in it cost a reading. The cost of a container that a pointer leads to is kept: one
-/// that is shared is passed once.
+/// A section of a file, and what values in it cost a reading. The cost of a container that pointers lead to is kept from the
+/// second time on: one that is shared is passed twice, and of one that is not a bit alone is kept.
 #[derive(Drop)]
 pub struct KeptCosts<'s> {
     section: &'s [u8],
+    // Where pointers led to.
+    met: OffsetSet,
     // Ordered, since whoever makes a file chooses its offsets, and could choose ones whose hashes collide.
     known: BTreeMap<usize, Known>,
 }
 
 impl<'s> Model for KeptCosts<'s> {
-    ghost use Rattle.std.specs.Prelude.{ℕ, List};
+    ghost use Rattle.std.specs.Prelude.{◌≡◌, ℕ, List, length};
     ghost use Rattle.std.specs.Ordering.{nat_cmp};
     ghost use Rattle.std.specs.BTreeMap.{get};
     ghost use Rattle.mmdb_costs.specs.Working.{AreKnown};
@@ -41,7 +44,8 @@ impl<'s> Model for KeptCosts<'s> {
 
     ghost view = { λ c. c.section.now };
 
-    ghost invariant = { λ c. AreKnown c.section.now (get nat_cmp c.known) };
+    ghost invariant = { λ c. (length c.met ≡ length c.section.now)
+        × AreKnown c.section.now (get nat_cmp c.known) };
 }
 
 // The header at an offset.
@@ -92,14 +96,28 @@ fn has_parts(header: Header) -> bool {
 }
 
 impl<'s> KeptCosts<'s> {
-    /// Of a section of which nothing is known yet.
-    pub fn new(alloc: Global, section: &'s [u8]) -> KeptCosts<'s>
-        ensures { result ≡ section.now }
+    /// Of a section of which nothing is known yet, unless out of memory.
+    pub fn new(alloc: Global, section: &'s [u8]) -> Result<KeptCosts<'s>, AllocError>
+        ensures { IfOk result (λ costs. costs ≡ section.now) }
     {
-        KeptCosts {
+        Ok(KeptCosts {
             section,
+            met: OffsetSet::new(alloc, section.len())?,
             known: BTreeMap::new(alloc),
+        })
+    }
+
+    // Whether a pointer led to an offset before. From now on one did.
+    #[inline(always)]
+    fn was_met(&mut self, offset: usize) -> bool
+        ensures { self.new ≡ self.old }
+    {
+        if offset >= self.section.len() {
+            return false;
         }
+        let was_met = self.met.contains(offset);
+        self.met.insert(offset);
+        was_met
     }
 
     // What is known of an offset.
@@ -217,7 +235,8 @@ impl<'s> KeptCosts<'s> {
         self.part_behind(header, levels)
     }
 
-    // What the value costs that a pointer leads to. What holds no others is read again, and the rest is kept.
+    // What the value costs that a pointer leads to. What holds no others is read again, and the rest is kept when it is met
+    // again.
     #[cycle(cost)]
     fn cost_at(&mut self, offset: usize, levels: usize) -> Result<Cost, Failed>
         ensures cost { IfOk result (HasSomeCost self.old offset) }
@@ -226,6 +245,9 @@ impl<'s> KeptCosts<'s> {
         let header = header_here(self.section, offset)?;
         if !has_parts(header) {
             return Ok(scalar_part(self.section, header)?.cost);
+        }
+        if !self.was_met(offset) {
+            return Ok(self.part_behind(header, levels)?.cost);
         }
         match self.known_at(offset) {
             Some(Known::Costs(cost)) => return Ok(cost),

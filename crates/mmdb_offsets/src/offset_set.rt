@@ -58,6 +58,15 @@ impl OffsetSet {
         self.words[offset / 64] |= 1 << (offset % 64);
     }
 
+    /// Whether an offset of the section is in the set.
+    #[inline(always)]
+    pub fn contains(&self, offset: usize) -> bool
+        requires { offset < length self.now }
+        ensures { result ≡ holds self.now offset }
+    {
+        (self.words[offset / 64] >> (offset % 64)) & 1 == 1
+    }
+
     /// The first offset of the set from this one on.
     pub fn next_from(&self, first: usize) -> Option<usize>
         ensures next { MatchOption result (HasNoneFrom self.now first) (IsNext self.now first) }

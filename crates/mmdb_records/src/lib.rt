@@ -101,7 +101,7 @@ fn counted<S: AsSlice<u8> + Drop>(
         alloc,
         met: HashSet::new(alloc),
         last: None,
-        costs: KeptCosts::new(alloc, database.data_section()),
+        costs: KeptCosts::new(alloc, database.data_section())?,
         unreadable: None,
     };
     for item in database.networks(alloc, WithinOptions::default())? {
