@@ -63,7 +63,8 @@ fn put_rest<'a>(
 ) -> Result<&'a [Range], RangesError>
     requires span { first ≤ last }
     requires begins { Begins others.now }
-    ensures { IfOk result (λ rest. HasRest first last others.now left.old.items left.new.items rest.now) }
+    ensures { IfOk result
+        (λ rest. HasRest first last others.now left.old.items left.new.items rest.now) }
 {
     let mut from = first;
     let mut rest = others;
