@@ -15,13 +15,16 @@ const MESSAGES: Messages<'static> = Messages {
     reports_closed: false,
 };
 
-/// How many bytes are read and written at once.
-const BUFFER: usize = 1 << 16;
+/// How many bytes of standard input are read at once.
+const READ: usize = 1 << 16;
+
+/// How many bytes are gathered for standard output. What is longer is written as it is.
+const WRITE: usize = 1 << 15;
 
 // Runs the program on arguments, and answers its status.
 fn program_on(rt: &HostRuntime, arguments: &[String]) -> io::Result<u8> {
-    let mut out = BufWriter::with_capacity(rt.alloc(), BUFFER, rt.stdout())?;
-    let mut input = BufReader::with_capacity(rt.alloc(), BUFFER, rt.stdin())?;
+    let mut out = BufWriter::with_capacity(rt.alloc(), WRITE, rt.stdout())?;
+    let mut input = BufReader::with_capacity(rt.alloc(), READ, rt.stdin())?;
     let mut err = rt.stderr();
     let io = Io {
         input: &mut input,

@@ -157,6 +157,29 @@ enum Argument {
     Without(&'static str, &'static str, &'static str, &'static [&'static str]),
 }
 
+impl Argument {
+    // The name of an option that may be left out and has no value then.
+    fn optional_name(self) -> Option<&'static str> {
+        match self {
+            Argument::Flag(name, _) => Some(name),
+            Argument::Value(name, _, _) => Some(name),
+            Argument::Values(name, _, _) => Some(name),
+            Argument::OneOf(name, _, _, _) => Some(name),
+            Argument::Without(name, _, _, _) => Some(name),
+            _ => None,
+        }
+    }
+}
+
+/// Which options of a command are made. Each start pays for what is made.
+#[derive(Clone, Copy, PartialEq, Eq)]
+pub(crate) enum Options {
+    /// Those that the words of the command line give, and those that have a value else: all that is looked for.
+    Given,
+    /// All: what help and errors may name.
+    All,
+}
+
 /// A command with what its help says.
 #[derive(Clone, Copy)]
 struct Usage {
@@ -600,13 +623,36 @@ fn argument_of<'a>(alloc: Global, argument: Argument) -> Result<Arg<'a>, AllocEr
     })
 }
 
+// Whether a word of the command line gives this option.
+fn is_given(words: &[String], name: &str) -> bool {
+    words.iter().any(|word| match word.as_str().strip_prefix("--") {
+        Some(option) => option.split('=').next() == Some(name),
+        None => false,
+    })
+}
+
+// Whether an argument is made.
+fn is_made(argument: Argument, words: &[String], options: Options) -> bool {
+    match argument.optional_name() {
+        Some(name) => options == Options::All || is_given(words, name),
+        None => true,
+    }
+}
+
 // A command with its arguments.
-fn command_of<'a>(alloc: Global, usage: &Usage) -> Result<Command<'a>, AllocError> {
+fn command_of<'a>(
+    alloc: Global,
+    usage: &Usage,
+    words: &[String],
+    options: Options,
+) -> Result<Command<'a>, AllocError> {
     let mut command = Command::new(alloc, usage.name)
         .about(usage.about)
         .after_help(usage.example);
     for argument in usage.arguments {
-        command = command.arg(argument_of(alloc, *argument)?)?;
+        if is_made(*argument, words, options) {
+            command = command.arg(argument_of(alloc, *argument)?)?;
+        }
     }
     Ok(command)
 }
@@ -616,18 +662,19 @@ fn is_among(words: &[String], name: &str) -> bool {
     words.iter().any(|word| word.as_str() == name)
 }
 
-// A program with more commands. Each start pays for arguments that are made, so a command has its own only where its name
-// stands in the command line: else nobody asks for it or its help.
+// A program with more commands. A command has its own arguments only where its name stands in the command line: else nobody
+// asks for it or its help.
 fn with_commands<'a>(
     alloc: Global,
     program: Command<'a>,
     words: &[String],
+    options: Options,
     usages: &[Usage],
 ) -> Result<Command<'a>, AllocError> {
     let mut program = program;
     for usage in usages {
         let command = if is_among(words, usage.name) {
-            command_of(alloc, usage)?
+            command_of(alloc, usage, words, options)?
         } else {
             Command::new(alloc, usage.name).about(usage.about)
         };
@@ -640,52 +687,61 @@ fn with_reading<'a>(
     alloc: Global,
     program: Command<'a>,
     words: &[String],
+    options: Options,
 ) -> Result<Command<'a>, AllocError> {
-    with_commands(alloc, program, words, READING)
+    with_commands(alloc, program, words, options, READING)
 }
 
 fn with_exporting<'a>(
     alloc: Global,
     program: Command<'a>,
     words: &[String],
+    options: Options,
 ) -> Result<Command<'a>, AllocError> {
-    with_commands(alloc, program, words, EXPORTING)
+    with_commands(alloc, program, words, options, EXPORTING)
 }
 
 fn with_comparing<'a>(
     alloc: Global,
     program: Command<'a>,
     words: &[String],
+    options: Options,
 ) -> Result<Command<'a>, AllocError> {
-    with_commands(alloc, program, words, COMPARING)
+    with_commands(alloc, program, words, options, COMPARING)
 }
 
 fn with_checking<'a>(
     alloc: Global,
     program: Command<'a>,
     words: &[String],
+    options: Options,
 ) -> Result<Command<'a>, AllocError> {
-    with_commands(alloc, program, words, CHECKING)
+    with_commands(alloc, program, words, options, CHECKING)
 }
 
 fn with_making<'a>(
     alloc: Global,
     program: Command<'a>,
     words: &[String],
+    options: Options,
 ) -> Result<Command<'a>, AllocError> {
-    with_commands(alloc, program, words, MAKING)
+    with_commands(alloc, program, words, options, MAKING)
 }
 
-/// The program's commands, of which those that the words of a command line name have their arguments.
-pub(crate) fn command<'a>(alloc: Global, words: &[String]) -> Result<Command<'a>, AllocError> {
+/// The program's commands, of which those that the words of a command line name have arguments: these options.
+pub(crate) fn command<'a>(
+    alloc: Global,
+    words: &[String],
+    options: Options,
+) -> Result<Command<'a>, AllocError> {
     let program = Command::new(alloc, "mmdb")
         .version("0.1.0")
         .about("Read and make MaxMind DB files (GeoIP2, GeoLite2 and others)")
         .subcommand_required(true)
         .arg_required_else_help(true);
-    let program = with_reading(alloc, program, words)?;
-    let program = with_exporting(alloc, program, words)?;
-    let program = with_comparing(alloc, program, words)?;
-    let program = with_checking(alloc, program, words)?;
-    with_making(alloc, program, words)
+    let program = with_reading(alloc, program, words, options)?;
+    let program = with_exporting(alloc, program, words, options)?;
+    let program = with_comparing(alloc, program, words, options)?;
+    let program = with_checking(alloc, program, words, options)?;
+    with_making(alloc, program, words, options)
 }

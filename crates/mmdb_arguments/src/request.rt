@@ -1,5 +1,5 @@
 //! What a command line asks for.
-use crate::commands::command;
+use crate::commands::{Options, command};
 use crate::rejected::NoRequest;
 use clap::ArgMatches;
 use std::alloc::{AllocError, Global};
@@ -541,11 +541,24 @@ fn of_command<'a>(
     }
 }
 
+// What clap finds in a command line, with these options.
+fn matches_of<'a>(
+    alloc: Global,
+    arguments: &'a [String],
+    options: Options,
+) -> Result<ArgMatches<'a>, NoRequest> {
+    match command(alloc, arguments, options)?.try_get_matches_from(arguments) {
+        Ok(matches) => Ok(matches),
+        Err(error) => Err(NoRequest::from_clap(alloc, &error)),
+    }
+}
+
 /// What a command line asks for, the program's name first.
 pub fn request_of<'a>(alloc: Global, arguments: &'a [String]) -> Result<Request<'a>, NoRequest> {
-    let matches = match command(alloc, arguments)?.try_get_matches_from(arguments) {
+    let matches = match matches_of(alloc, arguments, Options::Given) {
         Ok(matches) => matches,
-        Err(error) => return Err(NoRequest::from_clap(alloc, &error)),
+        // help names all options, and an error those that are alike
+        Err(_) => matches_of(alloc, arguments, Options::All)?,
     };
     match matches.subcommand() {
         Some((name, matches)) => of_command(alloc, name, matches),

@@ -56,23 +56,26 @@ begins rows Adds left lines position chunk extra xs ys behind outcome leads read
       subst (λ t. AreLines rows Adds lines t left) (sym leads.1) are,
     )
 
+regroup_row : (done front last rest : List ℕ) → done ++ ((front ++ last) ++ rest) ≡ (done ++ front) ++ (last ++ rest)
+regroup_row done front last rest = simp append_assoc
+
 pub next_row : (rows : Rows) (Adds : MayAdd) (input left mid next old now new : Option (List ℕ)) (before c : Counts) (position : Position) (chunk extra : List ℕ) (behind : ℕ) (outcome : Outcome)
     → Leads rows Cell left chunk position mid → (position ≢ Ended → length chunk < 65539 → OnSome left (IsAtEnd mid)) → 0 < length chunk → IsAdded Adds chunk extra behind outcome
-    → ((position ≢ Ended → length chunk < 65539 → IsAtEnd mid) → Passes rows position chunk extra behind mid next now new)
-    → UnderWay rows Adds input left old now [] before c → UnderWay rows Adds input next old new [] before (count_one c outcome)
-next_row rows Adds None left mid next old now new before c position chunk extra behind outcome leads ready some added passes way = tt
-next_row rows Adds (Some all) None mid next old now new before c position chunk extra behind outcome leads ready some added passes way = absurd way
-next_row rows Adds (Some all) (Some xs) None next old now new before c position chunk extra behind outcome leads ready some added passes way = absurd leads
-next_row rows Adds (Some all) (Some xs) (Some ys) next old now new before c position chunk extra behind outcome leads ready some added passes way =
+    → (last : List ℕ) → ((position ≢ Ended → length chunk < 65539 → IsAtEnd mid) → Passes rows position chunk extra behind mid next now new last)
+    → UnderWay rows Adds input left old now [] before c → UnderWay rows Adds input next old new last before (count_one c outcome)
+next_row rows Adds None left mid next old now new before c position chunk extra behind outcome leads ready some added last passes way = tt
+next_row rows Adds (Some all) None mid next old now new before c position chunk extra behind outcome leads ready some added last passes way = absurd way
+next_row rows Adds (Some all) (Some xs) None next old now new before c position chunk extra behind outcome leads ready some added last passes way = absurd leads
+next_row rows Adds (Some all) (Some xs) (Some ys) next old now new before c position chunk extra behind outcome leads ready some added last passes way =
     let (done, appended, goes_on) = way in
-    let (after, put) = passes ready in
+    let (after, (front, make, put)) = passes ready in
     let line : Line = record { bytes = chunk ++ row_from rows position ys; extra = extra; behind = behind; outcome = outcome } in
-    subst (λ n. UnderWay rows Adds (Some all) n old new [] before (count_one c outcome)) (sym after) (
-      done ++ row_with line.bytes extra behind,
-      Appends-trans old now new done (row_with line.bytes extra behind) appended put,
+    subst (λ n. UnderWay rows Adds (Some all) n old new last before (count_one c outcome)) (sym after) (
+      done ++ front,
+      Appends-trans old now new done front appended put,
       λ rest lines are.
           let (whole, wholes, text, counts) = goes_on rest (line ∷ lines) (begins rows Adds rest lines position chunk extra xs ys behind outcome leads ready some added are) in
-          (whole, wholes, text ∙ sym (append_assoc done (row_with line.bytes extra behind) (written lines)), counts),
+          (whole, wholes, text ∙ ap (λ row. done ++ (row ++ written lines)) make ∙ regroup_row done front last (written lines), counts),
     )
 
 -- all was read

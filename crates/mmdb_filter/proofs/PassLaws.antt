@@ -58,25 +58,16 @@ nothing_left rows Closing ys h = at_end rows Closing ys (h (λ e. absurd (cc)))
 whole_row : (done chunk rest extra all : List ℕ) (behind : ℕ) → all ≡ done ++ (chunk ++ rest) → rest ≡ [] → (done ≡ []) ⊎ ((2 ≤ length chunk) × (behind ≡ 0)) → row_with all extra behind ≡ done ++ row_with chunk extra behind
 whole_row done chunk rest extra all behind e none seam = ap (λ a. row_with a extra behind) (e ∙ ap (λ r. done ++ (chunk ++ r)) none ∙ ap (λ p. done ++ p) (append-nil chunk)) ∙ row_behind done chunk extra behind seam
 
-pub passed : (rows : Rows) (first position : Position) (begun chunk extra : List ℕ) (behind : ℕ) (input old left now new : Option (List ℕ))
-    → (position ≢ Ended → OnSome input (IsAtEnd left)) → Appends now new (row_with chunk extra behind) → Passing rows first begun behind input old position chunk left now → Passes rows first begun extra behind input left old new
-passed rows first position begun chunk extra behind None old left now new ready put way = tt
-passed rows first position begun chunk extra behind (Some xs) old None now new ready put way = absurd way
-passed rows first position begun chunk extra behind (Some xs) old (Some ys) now new ready put way =
+pub passed : (rows : Rows) (first position : Position) (begun chunk extra : List ℕ) (behind : ℕ) (input old left now : Option (List ℕ))
+    → (position ≢ Ended → OnSome input (IsAtEnd left)) → (last : List ℕ) → last ≡ row_with chunk extra behind → Passing rows first begun behind input old position chunk left now → Passes rows first begun extra behind input left old now last
+passed rows first position begun chunk extra behind None old left now ready last is way = tt
+passed rows first position begun chunk extra behind (Some xs) old None now ready last is way = absurd way
+passed rows first position begun chunk extra behind (Some xs) old (Some ys) now ready last is way =
     let (done, appended, same, after_same, seam) = way in
     let none = nothing_left rows position ys ready in (
       ap Some (sym (after_same ∙ none.1)),
-      subst (λ t. Appends old new t) (sym (whole_row done chunk (row_from rows position ys) extra _ behind same none.0 seam)) (Appends-trans old now new done (row_with chunk extra behind) appended put),
+      (done, whole_row done chunk (row_from rows position ys) extra _ behind same none.0 seam ∙ ap (λ t. done ++ t) (sym is), appended),
     )
-
-pub passed_in : (rows : Rows) (first position : Position) (begun chunk extra : List ℕ) (behind : ℕ) (input old left now new : Option (List ℕ))
-    → (position ≢ Ended → OnSome input (IsAtEnd left)) → AppendsFront now new (row_with chunk extra behind) → Passing rows first begun behind input old position chunk left now → PassesFront rows first begun extra behind input old new
-passed_in rows first position begun chunk extra behind None old left now new ready put way = tt
-passed_in rows first position begun chunk extra behind (Some xs) old None now new ready put way = absurd way
-passed_in rows first position begun chunk extra behind (Some xs) old (Some ys) now new ready put way =
-    let (done, appended, same, after_same, seam) = way in
-    let none = nothing_left rows position ys ready in
-    subst (λ t. AppendsFront old new t) (sym (whole_row done chunk (row_from rows position ys) extra _ behind same none.0 seam)) (front_then old now new done (row_with chunk extra behind) appended put)
 
 -- given up with a front of the chunk, behind which two bytes at least stand
 seam_behind : (done front kept rest extra all : List ℕ) (behind : ℕ) → all ≡ done ++ ((front ++ kept) ++ rest) → 2 ≤ length kept → behind ≡ 0 → row_with all extra behind ≡ (done ++ front) ++ row_with (kept ++ rest) extra behind

@@ -12,11 +12,12 @@ use Rattle.mmdb_filter.specs.declared.rows.Position.TheVariants.{Cell, Plain, Qu
 abbrev pub EndsWithInput : Position → List ℕ → Option (List ℕ) → Type 0
 EndsWithInput position chunk left = position ≢ Ended → length chunk < 65539 → IsAtEnd left
 
--- all of the row was read and written, with what is added
-abbrev pub Passes : Rows → Position → List ℕ → List ℕ → ℕ → Option (List ℕ) → Option (List ℕ) → Option (List ℕ) → Option (List ℕ) → Type 0
-Passes rows position chunk extra behind None next old new = Unit {0}
-Passes rows position chunk extra behind (Some xs) next old new =
-    (next ≡ Some (rows_after rows position xs)) × Appends old new (row_with (chunk ++ row_from rows position xs) extra behind)
+-- all of the row was read, and what was written of it and what is ready make it, with what is added
+abbrev pub Passes : Rows → Position → List ℕ → List ℕ → ℕ → Option (List ℕ) → Option (List ℕ) → Option (List ℕ) → Option (List ℕ) → List ℕ → Type 0
+Passes rows position chunk extra behind None next old new ready = Unit {0}
+Passes rows position chunk extra behind (Some xs) next old new ready =
+    (next ≡ Some (rows_after rows position xs))
+    × ((done : List ℕ) × (row_with (chunk ++ row_from rows position xs) extra behind ≡ done ++ ready) × Appends old new done)
 
 -- a beginning of it was written
 abbrev pub PassesFront : Rows → Position → List ℕ → List ℕ → ℕ → Option (List ℕ) → Option (List ℕ) → Option (List ℕ) → Type 0

@@ -19,8 +19,9 @@ use crate::text::seen;
 use std::alloc::AllocError;
 use std::io::{self, BufRead, ErrorKind};
 
-/// What is ready is written when it has so many bytes: as many as a buffered output hands on as they are, with no copy.
-pub(crate) const READY: usize = 65_536;
+/// What is ready is written when it has so many bytes, or before a read. It is more than what 64 KiB at hand mostly become, so
+/// that they go out in one write, and a buffered output of fewer bytes hands that on with no copy.
+pub(crate) const READY: usize = 114_688;
 
 /// Room for what is ready: most rows begin before its end and end within this.
 pub(crate) const ROOM: usize = READY + 8_192;

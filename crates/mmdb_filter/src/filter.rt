@@ -99,7 +99,8 @@ fn next_asked(passed: u64) -> u64 {
     }
 }
 
-// Reads a row in chunks and passes it on, or says that there is none at the input's end. Nothing is ready before, nor then.
+// Reads a row in chunks and passes it on, or says that there is none at the input's end. Nothing is ready before; then the
+// row's last chunk is.
 #[inline(never)]
 fn pass_read<A: Additions, R: Live, W: Write, P: Progress>(
     rows: Rows,
@@ -118,13 +119,13 @@ fn pass_read<A: Additions, R: Live, W: Write, P: Progress>(
         → UnderWay rows (A.adds additions.now) all (R.remaining input.old)
         old (W.contents out.old) [] before batch.old.counts
         → UnderWay rows (A.adds additions.now) all (R.remaining input.new)
-        old (W.contents out.new) [] before batch.new.counts
+        old (W.contents out.new) batch.new.ready.items before batch.new.counts
         × (is_row ≡ false → OnSome all (IsAtEnd (R.remaining input.new)))) }
     ensures begun { OnErr result ((all old : Option (List ℕ)) (before : SpecCounts)
         → UnderWay rows (A.adds additions.now) all (R.remaining input.old)
         old (W.contents out.old) [] before batch.old.counts
         → IsBegun rows (A.adds additions.now) all old (W.contents out.new)) }
-    ensures none { batch.new.ready.items ≡ [] }
+    ensures none { OnErr result (batch.new.ready.items ≡ []) }
     ensures few { OnOk result (total batch.new.counts ≡ batch.new.passed) }
     ensures fits { A.fits additions.now memory.new }
 {

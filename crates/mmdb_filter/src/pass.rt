@@ -7,7 +7,7 @@ ghost use Rattle.mmdb_filter.specs.declared.rows.Position.TheVariants as spec_po
 
 use crate::chunk::{CHUNK, read_live};
 use crate::live::Live;
-use crate::put::{put_all, put_row};
+use crate::put::{append_row, put_all};
 use crate::rows::{Position, Rows};
 use std::io::{self, ErrorKind, Write};
 
@@ -30,8 +30,9 @@ fn put_front<W: Write>(out: &mut W, chunk: &mut Vec<u8>) -> io::Result<()>
     Ok(())
 }
 
-/// Writes a row, of which the first chunk was read, with what is added before its end and so many bytes of its
-/// text: none, where the row is longer. The rest of it passes in chunks. The position then stands behind the row.
+/// Passes a row, of which the first chunk was read, with what is added before its end and so many bytes of its text:
+/// none, where the row is longer. What stands before its last chunk is written, and the rest is ready. The position then
+/// stands behind the row.
 #[inline(never)]
 pub(crate) fn pass_chunks<R: Live, W: Write>(
     input: &mut R,
@@ -47,16 +48,18 @@ pub(crate) fn pass_chunks<R: Live, W: Write>(
     requires none { ready.old.items ≡ [] }
     ensures whole { EndsWithInput position.old chunk.old.items (R.remaining input.old)
         → OnOk result (Passes rows position.old chunk.old.items added.now behind
-        (R.remaining input.old) (R.remaining input.new) (W.contents out.old) (W.contents out.new)) }
+        (R.remaining input.old) (R.remaining input.new) (W.contents out.old) (W.contents out.new)
+        ready.new.items) }
     ensures begun { EndsWithInput position.old chunk.old.items (R.remaining input.old)
         → OnErr result (PassesFront rows position.old chunk.old.items added.now behind
         (R.remaining input.old) (W.contents out.old) (W.contents out.new)) }
-    ensures none { ready.new.items ≡ [] }
+    ensures none { OnErr result (ready.new.items ≡ []) }
 {
     let mut now = *position;
     for _ in 0..u64::MAX {
         if now == Position::Ended || chunk.len() < CHUNK {
-            return put_row(out, chunk.as_slice(), added, behind, ready);
+            append_row(ready, chunk.as_slice(), added, behind)?;
+            return Ok(());
         }
         put_front(out, chunk)?;
         now = read_live(input, rows, now, chunk, out)?;

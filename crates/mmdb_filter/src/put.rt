@@ -83,22 +83,3 @@ pub(crate) fn append_row(
     }
     appended
 }
-
-/// Writes a row, with what is added before its end and so many bytes of its text, all at once.
-pub(crate) fn put_row<W: Write>(
-    out: &mut W,
-    row: &[u8],
-    added: &[u8],
-    behind: usize,
-    ready: &mut Vec<u8>,
-) -> io::Result<()>
-    requires none { ready.old.items ≡ [] }
-    ensures whole { OnOk result (Appends (W.contents out.old) (W.contents out.new)
-        (row_with row.now added.now behind)) }
-    ensures begun { OnErr result (AppendsFront (W.contents out.old) (W.contents out.new)
-        (row_with row.now added.now behind)) }
-    ensures none { ready.new.items ≡ [] }
-{
-    append_row(ready, row, added, behind)?;
-    put_ready(out, ready)
-}

@@ -216,7 +216,6 @@ returns-then-not-branch-clause-way g c =
     let put = g.W.Write.contents c.put_ready-in-Part.new.out in
     let way_put : UnderWay rows adds input next old put [] before passed.counts = ready_put rows adds input next old out put passed.ready.items before passed.counts way_on c.in_ok-put_ready-in-Part.ensures.whole in
     let new = g.W.Write.contents c.pass_read.new.out in
-    subst (λ r. UnderWay rows adds input (g.R.Read.remaining c.pass_read.new.input) old new r before c.pass_read.new.batch.counts) (sym c.in_ok-pass_read-in-Part.ensures.none)
     (c.in_ok-pass_read-in-Part.ensures.on input old before way_put).0
 
 pub returns-then-not-branch-clause-end : goal.returns-then-not-branch-clause-end
@@ -325,7 +324,7 @@ loop-preserved g c =
             way = subst (λ b. UnderWay rows adds input (g.R.Read.remaining m.input) old (g.W.Write.contents m.out) b.ready.items before b.counts) (sym w.batch-is)
                 (subst (λ i. UnderWay rows adds input (g.R.Read.remaining i) old (g.W.Write.contents m.out) read.batch.ready.items before read.batch.counts) (sym w.input-is)
                 (subst (λ o. UnderWay rows adds input (g.R.Read.remaining read.input) old (g.W.Write.contents o) read.batch.ready.items before read.batch.counts) (sym w.out-is)
-                (subst (λ r. UnderWay rows adds input (g.R.Read.remaining read.input) old (g.W.Write.contents read.out) r before read.batch.counts) (sym w.in_ok-pass_read-in-Part.ensures.none) way_read)));
+                way_read));
             fits = subst (λ m. g.A.Additions.fits c.args.additions.now m) (sym w.memory-is) w.in_ok-pass_read-in-Part.ensures.fits;
             few = subst (λ b. total b.counts ≡ b.passed) (sym w.batch-is) w.in_ok-pass_read-in-Part.ensures.few;
           }

@@ -44,7 +44,7 @@ returns-then-is_empty-clause-on g c = λ all old before way.
     read_out c.args.rows adds all left (g.R.Read.remaining c.read_live.new.input) old new before c.args.batch.now.counts c.in_ok-position.position chunk
     (subst (λ p. Leads c.args.rows Cell left p c.in_ok-position.position (g.R.Read.remaining c.read_live.new.input)) (sym same) leads)
     c.in_ok-position.ensures.end (empty_list chunk none) (way_kept c.args.rows adds all left old now new [] before c.args.batch.now.counts way c.read_live.ensures.kept) in
-    (under, λ _. end)
+    (subst (λ r. UnderWay c.args.rows adds all (g.R.Read.remaining c.read_live.new.input) old new r before c.args.batch.now.counts) (sym c.requires.none) under, λ _. end)
 
 pub pass_chunks-requires-clause-front : goal.pass_chunks-requires-clause-front
 pass_chunks-requires-clause-front g c = λ full.
@@ -106,5 +106,5 @@ returns-clause-on g c = λ all old before way.
     let leading = subst (λ p. Leads c.args.rows Cell left p c.in_ok-position.position mid) (sym same) leads in
     let way_next =
     next_row c.args.rows adds all left mid next old kept new before c.args.batch.now.counts c.in_ok-position.position chunk cells addition.behind addition.outcome
-    leading c.in_ok-position.ensures.end some may c.in_ok-pass_chunks.ensures.whole (way_kept c.args.rows adds all left old now kept [] before c.args.batch.now.counts way c.read_live.ensures.kept) in
-    (subst (λ n. UnderWay c.args.rows adds all next old new [] before n) (sym c.count.ensures.counted) way_next, λ e. absurd (cc))
+    leading c.in_ok-position.ensures.end some may c.pass_chunks.new.ready.items c.in_ok-pass_chunks.ensures.whole (way_kept c.args.rows adds all left old now kept [] before c.args.batch.now.counts way c.read_live.ensures.kept) in
+    (subst (λ n. UnderWay c.args.rows adds all next old new c.pass_chunks.new.ready.items before n) (sym c.count.ensures.counted) way_next, λ e. absurd (cc))

@@ -2,8 +2,8 @@ use Rattle.std.proofs.Common.{rules, ◌≡◌, ◌≢◌, ◌≤◌, ◌-◌, �
 use Rattle.std.specs.Io.KnownBytes.{Appends, IsAtEnd}
 use Rattle.mmdb_filter.specs.Lines.{row_with, AppendsFront}
 use Rattle.mmdb_filter.specs.declared.rows.Position.TheVariants as spec_position
-use Rattle.mmdb_filter.proofs.FrontLaws.{on_any_err, on_err, on_ok, front_whole, appends_kept}
-use Rattle.mmdb_filter.proofs.PassLaws.{passes_chunk, passed, passed_in, stopped, stopped_in, at_end_too}
+use Rattle.mmdb_filter.proofs.FrontLaws.{on_any_err, front_whole, appends_kept}
+use Rattle.mmdb_filter.proofs.PassLaws.{passes_chunk, passed, stopped, stopped_in, at_end_too}
 use Rattle.mmdb_filter.proofs.pass.pass_chunks.Goals.{then-eq-via-then-eq, then-eq-via-else-eq+then-len-lt-CHUNK}
 use Rattle.mmdb_filter.proofs.pass.pass_chunks.Goals as goal
 
@@ -14,22 +14,15 @@ returns-then-eq-clause-whole g c = λ ready.
       | then-eq-via-then-eq w ↦ λ not. absurd (not (search rules))
       | then-eq-via-else-eq+then-len-lt-CHUNK w ↦ λ not. c.loop.invariant.ready ready not (search rules)
     ] in
-    on_ok c.put_row.result
-    (λ put. passed c.args.rows c.args.position.now c.loop.now c.args.chunk.now.items c.loop.chunk.items c.args.added.now c.args.behind (g.R.Read.remaining c.args.input.now) (g.W.Write.contents c.args.out.now) (g.R.Read.remaining c.loop.input) (g.W.Write.contents c.loop.out) (g.W.Write.contents c.put_row.new.out) ending
-    (subst (λ r. Appends (g.W.Write.contents c.loop.out) (g.W.Write.contents c.put_row.new.out) (row_with r c.args.added.now c.args.behind)) c.as_slice.ensures.value put) c.loop.invariant.way)
-    c.put_row.ensures.whole
+    let last : c.append_row.new.ready.items ≡ row_with c.loop.chunk.items c.args.added.now c.args.behind =
+    c.in_ok-append_row.ensures.whole ∙ ap (λ r. r ++ row_with c.as_slice.result.now c.args.added.now c.args.behind) c.loop.invariant.empty ∙ ap (λ r. row_with r c.args.added.now c.args.behind) c.as_slice.ensures.value in
+    passed c.args.rows c.args.position.now c.loop.now c.args.chunk.now.items c.loop.chunk.items c.args.added.now c.args.behind (g.R.Read.remaining c.args.input.now) (g.W.Write.contents c.args.out.now) (g.R.Read.remaining c.loop.input) (g.W.Write.contents c.loop.out) ending
+    c.append_row.new.ready.items last c.loop.invariant.way
 
-pub returns-then-eq-clause-begun : goal.returns-then-eq-clause-begun
-returns-then-eq-clause-begun g c = λ ready.
-    let ending : c.loop.now ≢ spec_position.Ended → OnSome (g.R.Read.remaining c.args.input.now) (IsAtEnd (g.R.Read.remaining c.loop.input)) =
-    elim c.then-eq.branch [
-      | then-eq-via-then-eq w ↦ λ not. absurd (not (search rules))
-      | then-eq-via-else-eq+then-len-lt-CHUNK w ↦ λ not. c.loop.invariant.ready ready not (search rules)
-    ] in
-    on_err c.put_row.result
-    (λ put. passed_in c.args.rows c.args.position.now c.loop.now c.args.chunk.now.items c.loop.chunk.items c.args.added.now c.args.behind (g.R.Read.remaining c.args.input.now) (g.W.Write.contents c.args.out.now) (g.R.Read.remaining c.loop.input) (g.W.Write.contents c.loop.out) (g.W.Write.contents c.put_row.new.out) ending
-    (subst (λ r. AppendsFront (g.W.Write.contents c.loop.out) (g.W.Write.contents c.put_row.new.out) (row_with r c.args.added.now c.args.behind)) c.as_slice.ensures.value put) c.loop.invariant.way)
-    c.put_row.ensures.begun
+pub returns-in_err-append_row-clause-begun : goal.returns-in_err-append_row-clause-begun
+returns-in_err-append_row-clause-begun g c = λ ready.
+    on_any_err c.from_residual.result
+    (stopped c.args.rows c.args.position.now c.loop.now c.args.chunk.now.items c.loop.chunk.items c.args.added.now c.args.behind (g.R.Read.remaining c.args.input.now) (g.W.Write.contents c.args.out.now) (g.R.Read.remaining c.loop.input) (g.W.Write.contents c.loop.out) c.loop.invariant.way)
 
 pub returns-in_err-put_front-clause-begun : goal.returns-in_err-put_front-clause-begun
 returns-in_err-put_front-clause-begun g c = λ ready.
@@ -39,7 +32,7 @@ returns-in_err-put_front-clause-begun g c = λ ready.
     let split : chunk ≡ front ++ kept = sym (take-append-drop (length chunk - 2) chunk) in
     let none : c.args.behind ≡ 0 = c.loop.invariant.none (search rules) in
     let two : 2 ≤ length kept = omega (arith, length-drop (length chunk - 2) chunk) in
-    on_any_err c.from_residual.result
+    on_any_err c.from_residual-in_err-put_front.result
     (stopped_in c.args.rows c.args.position.now c.loop.now c.args.chunk.now.items chunk c.args.added.now front kept c.args.behind (g.R.Read.remaining c.args.input.now) (g.W.Write.contents c.args.out.now) (g.R.Read.remaining c.loop.input) (g.W.Write.contents c.loop.out) (g.W.Write.contents c.put_front.new.out) split two none c.in_err-put_front.ensures.begun c.loop.invariant.way)
 
 pub returns-in_err-now-clause-begun : goal.returns-in_err-now-clause-begun
