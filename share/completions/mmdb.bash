@@ -1,5 +1,43 @@
-# shellcheck shell=bash
-# Completions of the program mmdb for bash. scripts/check_completions compares them with the program's help texts.
+# shellcheck shell=bash disable=SC2034
+# Completions of the program mmdb for bash.
+
+# The commands; the options of a command, those that have a value, and how many of its arguments are files; and the values
+# of its option $2.
+_mmdb_table() {
+# Made by scripts/completions.
+  commands='show info enrich export diff verify install build help'
+  case $1 in
+    show) options='--path --lines --help -h' valued='--path' files=1 ;;
+    info) options='--json --fields --help -h' valued='' files=9 ;;
+    enrich) options='--column --delimiter --field --header --json --into --nulls --hop --anywhere --exact --no-quotes --strict --quiet --help -h' valued='--column --delimiter --field --json --into --hop' files=9 ;;
+    export) options='--field --format --where --where-not --where-contains --where-has --also --except --ipv4 --ipv6 --name --table --family --jump --value --allow-empty --allow-missing --help -h' valued='--field --format --where --where-not --where-contains --where-has --also --except --name --table --family --jump --value' files=1 ;;
+    diff) options='--field --format --where --where-not --where-contains --where-has --also --except --ipv4 --ipv6 --name --table --family --allow-empty --allow-missing --exit-code --help -h' valued='--field --format --where --where-not --where-contains --where-has --also --except --name --table --family' files=2 ;;
+    verify) options='--whole --database-type --newer-than --max-age --json --quiet --help -h' valued='--database-type --newer-than --max-age' files=9 ;;
+    install) options='--max-change --dry-run --help -h' valued='--max-change' files=2 ;;
+    build) options='--from --format --network-column --range-columns --type --types-like --equal --database-type --description --language --build-epoch --ip-version --record-size --reserved --skip-bad --check --help -h' valued='--from --format --network-column --range-columns --type --types-like --equal --database-type --description --language --build-epoch --ip-version --record-size --reserved' files=1 ;;
+    help) options='' valued='' files=0 ;;
+  esac
+  case $1$2 in
+    enrich--hop) values='first last' ;;
+    export--format) values='jsonl csv cidr nft ipset iptables nginx haproxy pf' ;;
+    export--also) values='FILES' ;;
+    export--except) values='FILES' ;;
+    export--family) values='inet ip ip6 bridge netdev' ;;
+    diff--format) values='jsonl csv cidr nft ipset' ;;
+    diff--also) values='FILES' ;;
+    diff--except) values='FILES' ;;
+    diff--family) values='inet ip ip6 bridge netdev' ;;
+    verify--newer-than) values='FILES' ;;
+    build--from) values='FILES' ;;
+    build--format) values='jsonl csv tsv' ;;
+    build--types-like) values='FILES' ;;
+    build--equal) values='last error' ;;
+    build--ip-version) values='6 4' ;;
+    build--record-size) values='24 28 32' ;;
+    build--reserved) values='keep skip error' ;;
+  esac
+# Made so far.
+}
 
 # Files complete as the shell itself completes them.
 _mmdb_files() {
@@ -13,37 +51,23 @@ _mmdb_offer() {
 
 _mmdb() {
   local typed=${COMP_WORDS[COMP_CWORD]} before=${COMP_WORDS[COMP_CWORD - 1]} command=${COMP_WORDS[1]-}
-  local options='' commands='show enrich export diff build info install verify help' word at arguments=0 ended=''
+  local commands options='' valued files values='' word at arguments=0 ended=''
   COMPREPLY=()
   # A redirection is followed by a file.
   if [[ $before == *[\<\>] || $typed == *[\<\>] ]]; then
     _mmdb_files
     return
   fi
+  _mmdb_table "$command" ''
   if [ "$COMP_CWORD" -eq 1 ]; then
     _mmdb_offer "$commands --help --version -h -V"
     return
   fi
-  case $command in
-    show) options='--path --lines' ;;
-    enrich)
-      options='--column --delimiter --field --header --json --into --nulls --hop --anywhere --exact --no-quotes --strict --quiet'
-      ;;
-    export | diff)
-      options='--field --format --where --where-not --where-contains --where-has --also --except --ipv4 --ipv6 --name --table'
-      options+=' --family --allow-empty --allow-missing'
-      if [ "$command" = diff ]; then options+=' --exit-code'; else options+=' --jump --value'; fi
-      ;;
-    build)
-      options='--from --format --network-column --range-columns --type --types-like --equal --database-type --description'
-      options+=' --language --build-epoch --ip-version --record-size --reserved --skip-bad --check'
-      ;;
-    info) options='--json --fields' ;;
-    install) options='--max-change --dry-run' ;;
-    verify) options='--whole --database-type --newer-than --max-age --json --quiet' ;;
-    help) [ "$COMP_CWORD" -ne 2 ] || _mmdb_offer "$commands"; return ;;
-    *) return ;;
-  esac
+  if [ "$command" = help ]; then
+    [ "$COMP_CWORD" -ne 2 ] || _mmdb_offer "$commands"
+    return
+  fi
+  [ -n "$options" ] || return
   # How many arguments stand before what is typed. An option's value is none, nor is the file of a redirection. Bash
   # splits --path=VALUE in three words.
   for ((at = 2; at < COMP_CWORD; at++)); do
@@ -51,49 +75,26 @@ _mmdb() {
     case $ended$word in
       --) ended=ended ;;
       *[\<\>]) at=$((at + 1)) ;;
-      --path | --column | --delimiter | --field | --format | --where | --where-not | --where-contains | --where-has | \
-        --also | --except | --name | --table | --family | --jump | --value | --into | --json | --hop | \
-        --from | --network-column | --range-columns | --type | --types-like | --equal | --database-type | --description | \
-        --language | --build-epoch | --ip-version | --record-size | --reserved | --max-change | --newer-than | --max-age)
-        case $word$command in --jsoninfo | --jsonverify) continue ;; esac
-        at=$((at + 1))
-        [ "${COMP_WORDS[at]-}" != = ] || at=$((at + 1))
+      -*)
+        if [[ " $valued " == *" $word "* ]]; then
+          at=$((at + 1))
+          [ "${COMP_WORDS[at]-}" != = ] || at=$((at + 1))
+        fi
         ;;
-      -*) ;;
       *) arguments=$((arguments + 1)) ;;
     esac
   done
   # The value of an option.
   [ "$before" != = ] || before=${COMP_WORDS[COMP_CWORD - 2]}
   if [ "$typed" = = ]; then typed=''; fi
-  case $ended$before in
-    --format)
-      case $command in
-        diff) _mmdb_offer 'jsonl csv cidr nft ipset' ;;
-        build) _mmdb_offer 'jsonl csv tsv' ;;
-        *) _mmdb_offer 'jsonl csv cidr nft ipset iptables nginx haproxy pf' ;;
-      esac
-      return
-      ;;
-    --equal) _mmdb_offer 'last error'; return ;;
-    --family) _mmdb_offer 'inet ip ip6 bridge netdev'; return ;;
-    --hop) _mmdb_offer 'first last'; return ;;
-    --ip-version) _mmdb_offer '6 4'; return ;;
-    --record-size) _mmdb_offer '24 28 32'; return ;;
-    --reserved) _mmdb_offer 'keep skip error'; return ;;
-    --network-column | --range-columns | --type | --database-type | --description | --language | --build-epoch | --max-change | --max-age) return ;;
-    --from | --types-like | --newer-than | --also | --except) _mmdb_files; return ;;
-    --path | --column | --delimiter | --field | --where | --where-not | --where-contains | --where-has) return ;;
-    --name | --table | --jump | --value | --into) return ;;
-    --json) if [ "$command" = enrich ]; then return; fi ;;
-  esac
+  if [[ -z $ended && " $valued " == *" $before "* ]]; then
+    _mmdb_table "$command" "$before"
+    if [ "$values" = FILES ]; then _mmdb_files; else _mmdb_offer "$values"; fi
+    return
+  fi
   case $ended$typed in
-    -*) _mmdb_offer "$options --help -h" ;;
-    *)
-      if [ "$arguments" -eq 0 ] || [ "$command" = verify ] || [ "$command" = info ] || [ "$command$arguments" = diff1 ] || [ "$command$arguments" = install1 ]; then
-        _mmdb_files
-      fi
-      ;;
+    -*) _mmdb_offer "$options" ;;
+    *) [ "$arguments" -ge "$files" ] || _mmdb_files ;;
   esac
 }
 
