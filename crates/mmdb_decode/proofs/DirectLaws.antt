@@ -1,4 +1,4 @@
--- Headers that are read directly or behind one pointer, and the trees that unfold there.
+-- Headers that are read directly or through one pointer, and the trees that unfold there.
 use Rattle.std.specs.Option.{IfSome}
 use Rattle.std.proofs.Common.{◌≡◌, ◌⊎◌, ℕ, ◌+◌, ◌<◌, List, Option, Some, None, true, false, nat_eq, nat_lt, refl, sym, ◌∙◌, arith, inl, inr}
 use Rattle.std.proofs.lemmas.Bool.Decides.{nat_tests}
@@ -20,7 +20,7 @@ pub record StandsHere (s : List ℕ) (p d : ℕ) (at : Direct) : Type 0 where
   pub after : at.after ≡ None
   pub levels : at.levels ≡ d
 
--- or behind one pointer
+-- or through one pointer
 pub record StandsBehind (s : List ℕ) (p d : ℕ) (at : Direct) : Type 0 where
   pub first : Header
   pub to : Pointer

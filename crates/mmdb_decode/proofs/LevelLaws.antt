@@ -34,7 +34,7 @@ pub parts_in : (σ : State) (header : Header) (n : ℕ) (left : Option Charges) 
 unfolding entered_parts
 parts_in σ header n left h k = let yes : nat_lt σ.levels 512 ≡ true = grind (arith, nat_tests) in rw (yes, k) refl
 
--- what stands behind a header
+-- what follows a header
 pub content_none : (header : Header) (σ : State) → content_at σ.section header ≡ None → content_of header σ.section σ.offset σ.levels ≡ None
 unfolding content_of
 content_none header σ h = rw h refl

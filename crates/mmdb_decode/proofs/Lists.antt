@@ -93,7 +93,7 @@ given_up_in_list σ τ ρ items h k = record { section = k.section ∙ h.section
 pub given_up_list : (σ τ ρ π : State) (items : Items) (levels : ℕ) → Enters σ τ items → GivenUp τ ρ → π ≡ record ρ { levels = levels } → GivenUp σ π
 given_up_list σ τ ρ π items levels h k e = rw e (record { section = k.section ∙ h.section; charges = back_trans σ.budget τ.budget ρ.budget h.charges k.charges })
 
--- a list of at most so many elements
+-- a list of at most `most` elements
 few_by : {A : Type 0} (most : ℕ) (read : Meaning A) (σ : State) (at : Entered) → array_at σ.section σ.offset σ.levels ≡ Some at → nat_le at.count most ≡ true → decoded true (few_at most read) σ ≡ decoded true (list_at read) σ
 unfolding decoded few_at
 few_by most read σ at h k = rw (h, k) refl

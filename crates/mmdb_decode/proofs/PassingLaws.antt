@@ -14,7 +14,7 @@ use Rattle.mmdb_decode.proofs.Options.{if_bind, if_cond, if_is}
 abbrev at : ℕ → ℕ → Reading (Unit {0})
 at q values = record { value = tt; next = q; values = values; bytes = 0 }
 
--- a value that was passed, and so many of them
+-- a value that was passed, and a number of them
 pub record IsPassed (s : List ℕ) (p most : ℕ) (r : Reading (Unit {0})) : Type 0 where
   pub nested : ℕ
   pub skips : Skips s p nested r.values r.next

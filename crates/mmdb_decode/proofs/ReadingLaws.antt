@@ -155,7 +155,7 @@ checked_missing starts f read σ τ p h k = decoded-checked starts f read σ ∙
 pub checked_none : {P R : Type 0} (starts : Bool) (f : P → Option R) (read : Meaning P) (σ : State) → decoded starts read σ ≡ None → decoded starts (checked f read) σ ≡ None
 checked_none starts f read σ h = decoded-checked starts f read σ ∙ rw h refl
 
--- a value that another stands for
+-- a value that another represents
 pub mapped_ok : {P R : Type 0} (starts : Bool) (f : P → R) (read : Meaning P) (σ τ : State) (v : P) → decoded starts read σ ≡ Some (v, τ) → decoded starts (mapped f read) σ ≡ Some (f v, τ)
 mapped_ok starts f read σ τ v h = decoded-mapped starts f read σ ∙ ap (seen f) h
 

@@ -14,7 +14,7 @@ use Rattle.mmdb_decode.proofs.SkipLaws.{scalar_skipped, pass_goes_on}
 abbrev alone : ℕ → ℕ → ℕ → Header
 alone kind size p = record { kind = kind; size = size; body = p + 1 }
 
--- the values that end so many bytes behind their control byte, whatever container they are in
+-- the values that end this many bytes after their control byte, whatever container they are in
 abbrev pub PassesBy : List ℕ → ℕ → ℕ → Type 0
 PassesBy s p len = (nested levels : ℕ) → skip_within nested s p levels ≡ Some (free_of_charge (tt, p + 1 + len))
 

@@ -19,7 +19,7 @@ container_at kind s p d =
 abbrev pub array_at : List ℕ → ℕ → ℕ → Option Entered
 array_at = container_at 11
 
--- so many elements, one after the other
+-- this many elements, one after the other
 abbrev pub elements : {A : Type 0} → Meaning A → ℕ → Meaning (List A)
 elements read zero = given []
 elements read (suc n) = followed read (λ v. mapped (λ vs. v ∷ vs) (elements read n))
@@ -34,12 +34,12 @@ unfoldable pub list_at : {A : Type 0} → Meaning A → Meaning (List A)
 list_at read s p d =
     array_at s p d >>= λ at. elements read at.count s at.body at.levels >>= λ r. Some (whole_array at r)
 
--- a list of at most so many elements
+-- a list of at most this many elements
 unfoldable pub few_at : {A : Type 0} → ℕ → Meaning A → Meaning (List A)
 few_at most read s p d = array_at s p d >>= λ at. if nat_le at.count most then list_at read s p d else None
 
--- what contracts see of an array that is being read: how many elements are left, the same with so many
--- left, and the levels before it
+-- what contracts see of an array that is being read: how many elements are left, the same with this many left, and the
+-- levels before it
 abbrev pub items_left : Items → ℕ
 items_left items = items.remaining
 
@@ -67,6 +67,6 @@ if_sized len x = if nat_eq x.0.remaining len then Some x else None
 abbrev pub entered_array_of : ℕ → State → Option (Items × State)
 entered_array_of len σ = entered_array σ >>= if_sized len
 
--- the decoder behind an array
+-- the decoder after an array
 abbrev pub left_array : Items → State → State
 left_array items σ = record { section = σ.section; offset = unwrap_or items.after σ.offset; levels = items.levels; budget = σ.budget }

@@ -1,4 +1,4 @@
--- What a read says: exactly what a meaning gives, or that nothing readable stands there.
+-- What a read says: exactly what a meaning gives, or that nothing readable is there.
 use Rattle.std.specs.Prelude.{◌≡◌, ℕ, List, option_map, Option, Some, None, Bool, true, false, Result, Ok, Err}
 use Rattle.mmdb_decode.specs.State.{State, GivenUp, NoneBack, decoded}
 use Rattle.mmdb_decode.specs.Reading.{Meaning}
@@ -13,7 +13,7 @@ pub record Kept (old new : State) : Type 0 where
   pub levels : new.levels ≡ old.levels
   pub charges : NoneBack old.budget new.budget
 
--- nothing readable stands there; or memory ran out, unless a success takes none (the flag)
+-- nothing readable is there; or memory ran out, unless a success takes none (the flag)
 abbrev pub Fails : {A : Type 0} → Bool → MaxMindDbError → Option A → Type 0
 Fails true e read = read ≡ None
 Fails false Memory read = Unit {0}
@@ -41,17 +41,16 @@ abbrev pub Tries : {X A : Type 0} → (X → A) → Bool → Option (A × State)
 Tries view free read old new (Ok x) = read ≡ Some (view x, new)
 Tries view free read old new (Err e) = GivenUp old new × Declines free e read
 
--- A meaning gives this value where a decoder stands, and the decoder behind it. The flag says whether the
--- reading begins a budget where none has begun.
+-- A meaning gives this value where a decoder is, and the decoder after it. The flag says whether the reading begins a
+-- budget where none has begun.
 abbrev pub IsRead : {A : Type 0} → Bool → Meaning A → State → A → State → Type 0
 IsRead starts read old v new = decoded starts read old ≡ Some (v, new)
 
--- no value can be read where a decoder stands; or memory ran out, unless a success takes none
+-- no value can be read where a decoder is; or memory ran out, unless a success takes none
 abbrev pub FailsToRead : {A : Type 0} → Bool → MaxMindDbError → Bool → Meaning A → State → Type 0
 FailsToRead free e starts read old = Fails free e (decoded starts read old)
 
--- One step took the value that stands where a decoder stands, or none can be read there. It begins no
--- budget.
+-- One step took the value where a decoder is, or none can be read there. It begins no budget.
 abbrev pub TakesValue : {X A E : Type 0} → (X → A) → Meaning A → State → State → Result X E → Type 0
 TakesValue view read old new r = Takes view (decoded false read old) old new r
 
@@ -60,7 +59,7 @@ abbrev pub TakesUnderBudget : {X A E : Type 0} → (X → A) → Meaning A → S
     Result X E → Type 0
 TakesUnderBudget view read old new r = Takes view (decoded true read old) old new r
 
--- A typed read gave the value that stands where a decoder stands, or an error. It begins no budget.
+-- A typed read gave the value where a decoder is, or an error. It begins no budget.
 abbrev pub ReadsValue : {X A : Type 0} → (X → A) → Bool → Meaning A → State → State →
     Result X MaxMindDbError → Type 0
 ReadsValue view free read old new r = Reads view free (decoded false read old) old new r
@@ -74,7 +73,7 @@ abbrev pub ReadsUnderBudget : {X A : Type 0} → (X → A) → Bool → Meaning 
     Result X MaxMindDbError → Type 0
 ReadsUnderBudget view free read old new r = Reads view free (decoded true read old) old new r
 
--- What is read at an offset of a section from the start: the value that stands there below no level, if
--- it is within the limits.
+-- What is read at an offset of a section from the start: the value that is there below no level, if it is within the
+-- limits.
 unfoldable pub answer : {A : Type 0} → Bool → Meaning A → List ℕ → ℕ → Option A
 answer starts read s p = option_map (λ x. x.0) (decoded starts read (record { section = s; offset = p; levels = 0; budget = None }))

@@ -23,7 +23,7 @@ entered_parts σ header count =
     Some (record { section = σ.section; offset = header.body; levels = σ.levels + 1; budget = left }))
     else None
 
--- what stands behind a header that was read
+-- what follows a header that was read
 unfoldable pub content_of : Header → Meaning Scalar
 content_of header s p d =
     content_at s header >>= λ c.

@@ -42,21 +42,21 @@ map_at = container_at 7
 abbrev pub whole_map : {A : Type 0} → Entered → Reading A → Reading A
 whole_map at r = record { value = r.value; next = unwrap_or at.after r.next; values = 2 * at.count + r.values; bytes = r.bytes }
 
--- a map of so many pairs, which are read one after the other
+-- a map of a number of pairs, which are read one after the other
 unfoldable pub in_map : {A : Type 0} → (ℕ → Meaning A) → Meaning A
 in_map pairs s p d = map_at s p d >>= λ at. pairs at.count s at.body at.levels >>= λ r. Some (whole_map at r)
 
--- what a key, with the value behind it, makes of what was read so far
+-- what a key, with the value after it, makes of what was read so far
 abbrev pub Fields : Type 0 → Type 0
 Fields P = P → List ℕ → Meaning P
 
--- so many pairs, one after the other
+-- this many pairs, one after the other
 abbrev pub pairs_from : {P : Type 0} → Meaning (List ℕ) → Fields P → P → ℕ → Meaning P
 pairs_from key fields p zero = given p
 pairs_from key fields p (suc n) = followed key (λ name. followed (fields p name) (λ q. pairs_from key fields q n))
 
--- what contracts see of a map that is being read: how many pairs are left, the same with so many left,
--- and the levels before it
+-- what contracts see of a map that is being read: how many pairs are left, the same with this many left, and the levels
+-- before it
 abbrev pub pairs_left : Entries → ℕ
 pairs_left entries = entries.remaining
 
@@ -73,11 +73,11 @@ entered_map σ =
     spent_of (begun true σ.budget) (2 * at.count) 0 >>= λ left.
     Some (record { remaining = at.count; after = at.after; levels = σ.levels }, record { section = σ.section; offset = at.body; levels = at.levels; budget = left })
 
--- the decoder behind a map
+-- the decoder after a map
 abbrev pub left_map : Entries → State → State
 left_map entries σ = record { section = σ.section; offset = unwrap_or entries.after σ.offset; levels = entries.levels; budget = σ.budget }
 
--- what the step to the next key did: it read the key, nothing was left, or no key stands there
+-- what the step to the next key did: it read the key, nothing was left, or no key is there
 pub record KeyRead (read : Meaning (List ℕ)) (old new : State) (before after : Entries) (key : List ℕ) : Type 0 where
   pub step : decoded false read old ≡ Some (key, new)
   pub one : pairs_left before ≡ pairs_left after + 1

@@ -1,4 +1,4 @@
--- What a header says of a value, directly or behind one pointer, without reading the value.
+-- What a header says of a value, directly or through one pointer, without reading the value.
 use Rattle.std.specs.Prelude.{ℕ, List, Option, Some, Bool, ◌&&◌, ◌||◌, nat_eq}
 use Rattle.mmdb_format.specs.declared.header.Header.{Header}
 use Rattle.mmdb_format.specs.declared.kind.Kind.{Kind}

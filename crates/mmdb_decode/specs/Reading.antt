@@ -8,7 +8,7 @@ pub record Reading (A : Type 0) : Type 0 where
   pub values : ℕ
   pub bytes : ℕ
 
--- what stands in a section at an offset, below a number of levels
+-- what is in a section at an offset, below a number of levels
 abbrev pub Meaning : Type 0 → Type 0
 Meaning A = List ℕ → ℕ → ℕ → Option (Reading A)
 

@@ -9,7 +9,7 @@ ChargedAgain None last old new = ⊥
 ChargedAgain (Some first) None old new = ⊥
 ChargedAgain (Some first) (Some last) old new = spent_of old (last.values - first.values) (last.bytes - first.bytes) ≡ Some new
 
--- A decoder goes from where one stood to where one stands that read on from there.
+-- A decoder goes from where one was to where one is that read on from there.
 pub record Repeats (before behind old new : State) : Type 0 where
   pub offset : old.offset ≡ before.offset
   pub levels : old.levels ≡ before.levels

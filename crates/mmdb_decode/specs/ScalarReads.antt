@@ -6,18 +6,18 @@ use Rattle.mmdb_format.specs.Unfolding.{Tree, scalar, pointer, Unfolds, levels_w
 use Rattle.mmdb_decode.specs.Reading.{Meaning}
 use Rattle.mmdb_decode.specs.SmallNumbers.{whole_number, small_at}
 
--- a scalar stands at p and ends before q: directly, or behind one pointer, for which a level is left
+-- a scalar is at p and ends before q: directly, or through one pointer, for which a level is left
 abbrev pub ScalarStands : List ℕ → ℕ → ℕ → Scalar → ℕ → Type 0
 ScalarStands s p d c q = Unfolds s p (scalar c) q ⊎ ((a : ℕ) × Unfolds s p (pointer a (scalar c)) q × (d < most_levels))
 
--- what is read is the scalar that stands there, a text only if it is UTF-8; it costs no value after the
--- first, and the bytes of a text or a byte string
+-- what is read is the scalar that is there, a text only if it is UTF-8; it costs no value after the first, and the
+-- bytes of a text or a byte string
 abbrev pub ReadsScalars : {A : Type 0} → Meaning A → (A → Scalar) → Type 0
 ReadsScalars {A = A} read says =
     (s : List ℕ) (p d : ℕ) (v : A) (q c b : ℕ) →
     (read s p d ≡ Some (record { value = v; next = q; values = c; bytes = b })) ↔ (ScalarStands s p d (says v) q × (scalar_is_text (says v) ≡ true) × (c ≡ 0) × (b ≡ scalar_payload (says v)))
 
--- an integer of one of the four types stands at p and ends before q: behind any number of pointers,
+-- an integer of one of the four types is at p and ends before q: through any number of pointers,
 -- for each of which a level is left
 abbrev pub WholeNumberStands : List ℕ → ℕ → ℕ → ℤ → ℕ → Type 0
 WholeNumberStands s p d z q =

@@ -1,5 +1,5 @@
--- Values of one type that hold no others ("Data Field Format"): each stands directly or behind one
--- pointer, and costs no value after the first.
+-- Values of one type that hold no others ("Data Field Format"): each is read directly or through
+-- one pointer, and costs no value after the first.
 use Rattle.std.specs.Prelude.{ℕ, ◌+◌, ℤ, List, length, Option, Some, None, Bool, nat_eq, if◌then◌else◌}
 use Rattle.std.specs.Int.{cast_signed, w32}
 use Rattle.std.specs.Str.{is_utf8}
@@ -9,7 +9,7 @@ use Rattle.mmdb_format.specs.Pointer.{direct_at}
 use Rattle.mmdb_format.specs.Contents.{bytes_of_content, variable_width_integer, fixed_width_integer, truth_of, end_of}
 use Rattle.mmdb_decode.specs.Reading.{Reading, Meaning, mapped, checked}
 
--- a header of one type, directly or behind one pointer
+-- a header of one type, directly or through one pointer
 unfoldable pub direct_of : ℕ → List ℕ → ℕ → ℕ → Option Direct
 direct_of kind s p d = direct_at s p d >>= λ at. if nat_eq at.header.kind kind then Some at else None
 
@@ -20,7 +20,7 @@ free_of_charge x = record { value = x.0; next = x.1; values = 0; bytes = 0 }
 abbrev pub costs_its_length : List ℕ × ℕ → Reading (List ℕ)
 costs_its_length x = record { value = x.0; next = x.1; values = 0; bytes = length x.0 }
 
--- an integer of one type, of at most so many bytes
+-- an integer of one type, of at most this many bytes
 unfoldable pub number_of : ℕ → ℕ → Meaning ℕ
 number_of kind most s p d =
     direct_of kind s p d >>= λ at.
@@ -43,7 +43,7 @@ u128_at = number_of 10 16
 abbrev pub i32_at : Meaning ℤ
 i32_at = mapped (cast_signed w32) (number_of 8 4)
 
--- the bits of a number of double or single precision: exactly so many bytes
+-- the bits of a number of double or single precision: exactly this many bytes
 unfoldable pub bits_of : ℕ → ℕ → Meaning ℕ
 bits_of kind size s p d =
     direct_of kind s p d >>= λ at.

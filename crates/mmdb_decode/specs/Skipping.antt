@@ -1,4 +1,4 @@
--- Skipping one inline value: containers nest at most so many deep, their parts are charged, and
+-- Skipping one inline value: containers nest at most this many deep, their parts are charged, and
 -- pointers are not followed.
 use Rattle.std.specs.Prelude.{◌≡◌, ◌↔◌, ℕ, zero, suc, ◌+◌, ◌*◌, ◌≤◌, max, List, Option, Some, None, nat_eq, if◌then◌else◌}
 use Rattle.mmdb_format.specs.declared.header.Header.{Header}
@@ -19,7 +19,7 @@ parts_of header =
     else (if nat_eq header.kind 11 then Some header.size
     else None)
 
--- so many values passed, one after the other
+-- this many values passed, one after the other
 abbrev pub passes : Meaning (Unit {0}) → ℕ → Meaning (Unit {0})
 passes read zero = given tt
 passes read (suc n) = followed read (λ _. passes read n)
@@ -39,7 +39,7 @@ abbrev pub skip_nested : Meaning (Unit {0}) → List ℕ → ℕ → Header → 
 skip_nested inner s d header (Some parts) = passes inner parts s header.body d >>= λ r. Some (counted parts r)
 skip_nested inner s d header None = skip_scalar s header
 
--- one inline value, whose containers nest at most so many deep
+-- one inline value, whose containers nest at most this many deep
 unfoldable pub skip_within : ℕ → Meaning (Unit {0})
 skip_within zero s p d = header_at s p >>= λ header. skip_flat s header (parts_of header)
 skip_within (suc n) s p d = header_at s p >>= λ header. skip_nested (skip_within n) s d header (parts_of header)

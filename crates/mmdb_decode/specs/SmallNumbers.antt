@@ -1,4 +1,4 @@
--- Small numbers: an integer that fits, of whatever type, behind any number of pointers.
+-- Small numbers: an integer that fits, of whatever type, through any number of pointers.
 use Rattle.std.specs.Prelude.{ℕ, zero, suc, ◌-◌, ℤ, pos, int_le, List, Option, Some, None, ◌&&◌, nat_eq, if◌then◌else◌}
 use Rattle.mmdb_format.specs.declared.header.Header.{Header}
 use Rattle.mmdb_format.specs.Header.{◌>>=◌, header_at}
@@ -15,11 +15,11 @@ whole_number (number32 n) = Some (pos n)
 whole_number (number64 n) = Some (pos n)
 whole_number _ = None
 
--- the number behind a header, and the offset after it
+-- the number after a header, and the offset after it
 unfoldable pub whole_here : List ℕ → Header → Option (ℤ × ℕ)
 whole_here s header = content_at s header >>= λ c. whole_number c >>= λ z. Some (z, content_end header)
 
--- the number behind at most so many pointers, and the offset after it, or after the first pointer
+-- the number through at most this many pointers, and the offset after it, or after the first pointer
 unfoldable pub whole_within : ℕ → List ℕ → ℕ → Option (ℤ × ℕ)
 whole_within zero s p = header_at s p >>= λ header. whole_here s header
 whole_within (suc n) s p =

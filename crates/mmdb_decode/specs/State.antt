@@ -47,8 +47,8 @@ settled σ r (Some left) = Some (r.value, record { section = σ.section; offset 
 abbrev pub after : {A : Type 0} → State → Option Charges → Reading A → Option (A × State)
 after σ budget r = settled σ r (spent_of budget r.values r.bytes)
 
--- What a decoder that reads by a meaning gives, and the decoder then; None where nothing stands there
--- within the limits. The flag says whether the reading begins a budget where none has begun.
+-- What a decoder that reads by a meaning gives, and the decoder then; None where nothing is there within the limits.
+-- The flag says whether the reading begins a budget where none has begun.
 unfoldable pub decoded : {A : Type 0} → Bool → Meaning A → State → Option (A × State)
 decoded starts read σ = read σ.section σ.offset σ.levels >>= after σ (begun starts σ.budget)
 

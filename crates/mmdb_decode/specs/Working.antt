@@ -7,7 +7,7 @@ use Rattle.mmdb_decode.specs.State.{State, spent_of, decoded}
 use Rattle.mmdb_decode.specs.Skipping.{passes, skip_within}
 use Rattle.mmdb_decode.specs.Errors.{Kept}
 
--- the decoder behind a scalar, and at the first part of a container
+-- the decoder after a scalar, and at the first part of a container
 unfoldable pub scalar_passed : State → Header → Option (Unit {0} × State)
 scalar_passed σ header =
     passed_end σ.section header >>= λ next.
@@ -18,7 +18,7 @@ entered_inline σ header parts =
     spent_of σ.budget parts 0 >>= λ left.
     Some (tt, record { section = σ.section; offset = header.body; levels = σ.levels; budget = left })
 
--- Of so many values all were passed but some, which are next: so to pass all of them is to pass those, however deep
+-- Of `count` values all were passed but `left`, which are next: so to pass all of them is to pass those, however deep
 -- containers may nest.
 pub record PassesTo (count left : ℕ) (σ τ : State) : Type 0 where
   pub kept : Kept σ τ

@@ -47,7 +47,7 @@ pub(crate) fn spent(
     }))
 }
 
-/// The budget with so many more bytes charged.
+/// The budget with `bytes` more bytes charged.
 #[inline(always)]
 pub(crate) fn spent_bytes(
     budget: Option<Charges>,

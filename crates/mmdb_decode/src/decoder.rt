@@ -33,8 +33,8 @@ pub struct Decoder<'de> {
     offset: usize,
     levels: u16,
     budget: Option<Charges>,
-    // What was to be read where a reading failed, and the name of a field that stood a second time. No contract
-    // sees them.
+    // What was to be read where a reading failed, and the name of a field that came a second time. No contract sees
+    // them.
     step: Step,
     repeated: &'de [u8],
 }
@@ -86,7 +86,7 @@ impl<'de> Decoder<'de> {
         let _ = &self.offset;
     }
 
-    /// The type of the value at the offset, or behind one pointer there. The offset stays.
+    /// The type of the value at the offset, or through one pointer there. The offset stays.
     pub fn peek_kind(&mut self, alloc: Global) -> DecodeResult<Kind>
         ensures kind { result_ok result ≡ kind_at self.old.section self.old.offset }
         ensures same { self.new ≡ self.old }
@@ -97,7 +97,7 @@ impl<'de> Decoder<'de> {
         }
     }
 
-    /// The type of the value at the offset, or behind one pointer there, as `peek_kind` reads it. No error is made.
+    /// The type of the value at the offset, or through one pointer there, as `peek_kind` reads it. No error is made.
     #[inline(always)]
     pub fn try_kind(&self) -> Option<Kind>
         ensures { result ≡ kind_at self.now.section self.now.offset }

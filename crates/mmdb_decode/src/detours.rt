@@ -14,7 +14,7 @@ pub fn again<'de>(d: &Decoder<'de>) -> Decoder<'de>
     d.again()
 }
 
-/// Goes to where another decoder of the section stands.
+/// Goes to where another decoder of the section is.
 #[inline(always)]
 pub fn go_to<'de>(d: &mut Decoder<'de>, there: &Decoder<'de>)
     requires { there.now.section ≡ d.old.section }
@@ -23,7 +23,7 @@ pub fn go_to<'de>(d: &mut Decoder<'de>, there: &Decoder<'de>)
     d.go_to(there);
 }
 
-/// Leaves no pair to be read: the decoder stands behind all of them.
+/// Leaves no pair to be read: the decoder is after all of them.
 #[inline(always)]
 pub fn spend(entries: &mut Entries)
     ensures { entries.new ≡ with_pairs_left 0 entries.old }

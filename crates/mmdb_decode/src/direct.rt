@@ -1,4 +1,4 @@
-//! Values of one type, which stand directly or behind one pointer.
+//! Values of one type, which are read directly or through one pointer.
 ghost use Rattle.std.specs.Prelude.{◌≡◌, ◌<◌, ◌≤◌, ◌^◌, length, IfOk, option_map};
 ghost use Rattle.std.specs.Result.{result_ok};
 ghost use Rattle.mmdb_decode.specs.Scalars.{direct_of as spec_direct_of, number_of, bits_of, bool_at as spec_bool_at, bytes_of, if_text, free_of_charge, costs_its_length};
@@ -38,7 +38,7 @@ fn direct_of(
     Ok(at)
 }
 
-/// An integer of one type, of at most so many bytes, and the offset after it.
+/// An integer of one type, of at most `most` bytes, and the offset after it.
 #[inline(always)]
 #[tactic(auto, unfolding(crate::specs::Scalars::number_of))]
 pub(crate) fn number_at(
@@ -58,7 +58,7 @@ pub(crate) fn number_at(
     Ok((n, at.after.unwrap_or(at.header.body + at.header.size)))
 }
 
-/// The bits of a number of exactly so many bytes, and the offset after it.
+/// The bits of a number of exactly `size` bytes, and the offset after it.
 #[inline(always)]
 #[tactic(auto, unfolding(crate::specs::Scalars::bits_of))]
 pub(crate) fn bits_at(

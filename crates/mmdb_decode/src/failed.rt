@@ -3,12 +3,12 @@ ghost use Rattle.std.specs.Prelude.{◌≡◌};
 
 use std::alloc::AllocFailed;
 
-/// A reading failed. The decoder stands where it was.
+/// A reading failed. The decoder is where it was.
 #[derive(Clone, Copy)]
 pub enum Failed {
     /// There was no memory.
     OutOfMemory,
-    /// What stands there cannot be read.
+    /// What is there cannot be read.
     Unreadable,
 }
 
@@ -41,13 +41,13 @@ pub(crate) enum Step {
     Encoding,
     /// A value that is passed, in which too many containers nest.
     Nested,
-    /// The value of a field that stands a second time.
+    /// The value of a field that comes a second time.
     Repeated,
     /// A list, which has more elements than are allowed.
     List,
     /// The key of a map of any type.
     Key,
-    /// The header of a value of any type, or what stands behind it.
+    /// The header of a value of any type, or what follows it.
     Value,
     /// The parts of a container, which are too many.
     Parts,

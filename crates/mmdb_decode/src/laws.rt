@@ -21,7 +21,7 @@ pub fn values_bounded(d: &Decoder<'_>)
     d.stays_within();
 }
 
-/// What is read as a scalar, a text or a byte string is what unfolds there, directly or behind one pointer.
+/// What is read as a scalar, a text or a byte string is what unfolds there, directly or through one pointer.
 pub fn scalar_is_what_stands()
     ensures u16 { ReadsScalars u16_at number16 }
     ensures u32 { ReadsScalars u32_at number32 }
@@ -35,7 +35,7 @@ pub fn scalar_is_what_stands()
     ensures bytes { ReadsScalars byte_string_at bytes }
 {}
 
-/// What is read as a small number is the integer that unfolds there, behind any number of pointers
+/// What is read as a small number is the integer that unfolds there, through any number of pointers
 /// within the levels.
 pub fn small_number_is_what_stands()
     ensures { ReadsSmallNumbers }

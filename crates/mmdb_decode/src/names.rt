@@ -51,7 +51,7 @@ pub fn missing_field(alloc: Global, name: &str, offset: usize) -> MaxMindDbError
     of_field(missing_text(alloc, name), offset)
 }
 
-/// The error of a record in which a field stands twice.
+/// The error of a record in which a field comes twice.
 #[inline(always)]
 pub fn duplicate_field(alloc: Global, name: &str, offset: usize) -> MaxMindDbError
     ensures { IsOfOrMemory OfDecoding result }

@@ -10,7 +10,7 @@ use mmdb_format::header::direct_at;
 use mmdb_format::kind::{ARRAY, Kind, MAP};
 use mmdb_format::message::{Message, Text};
 
-/// The type of the value at an offset, or behind one pointer there.
+/// The type of the value at an offset, or through one pointer there.
 #[inline(always)]
 #[tactic(auto, unfolding(crate::specs::Peeking::kind_at))]
 pub(crate) fn kind_of_value(section: &[u8], offset: usize) -> Result<Kind, DecodeErrorKind>
@@ -20,7 +20,7 @@ pub(crate) fn kind_of_value(section: &[u8], offset: usize) -> Result<Kind, Decod
     Ok(Kind::of_number(at.header.kind))
 }
 
-/// Whether the value at an offset, or behind one pointer there, is a map or an array of size 0.
+/// Whether the value at an offset, or through one pointer there, is a map or an array of size 0.
 ///
 /// It fails exactly where no header that is no pointer can be read so. It takes no memory.
 #[tactic(auto, unfolding(crate::specs::Peeking::empty_at))]

@@ -8,7 +8,7 @@ use mmdb_format::decode_error_kind::DecodeErrorKind;
 use mmdb_format::header::{Header, MAX_LEVELS, header_at, pointer_at};
 use mmdb_format::kind::POINTER;
 
-/// The number behind a header, and the offset after it.
+/// The number after a header, and the offset after it.
 #[tactic(auto, unfolding(crate::specs::SmallNumbers::whole_here))]
 fn whole_here(section: &[u8], header: Header) -> Result<(i128, usize), DecodeErrorKind>
     ensures { result_ok result ≡ spec_whole_here section.now header }
@@ -27,7 +27,7 @@ fn whole_here(section: &[u8], header: Header) -> Result<(i128, usize), DecodeErr
     Ok((number, content_end(header)))
 }
 
-/// The number behind any number of pointers, each of which is a level, and the offset after it, or
+/// The number through any number of pointers, each of which is a level, and the offset after it, or
 /// after the first pointer.
 pub(crate) fn whole_at(
     section: &[u8],

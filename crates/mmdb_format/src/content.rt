@@ -61,7 +61,7 @@ pub fn content_bytes(section: &[u8], header: Header) -> Result<&[u8], DecodeErro
     }
 }
 
-/// A number of at most so many bytes.
+/// A number of at most `most` bytes.
 #[inline(always)]
 pub fn variable_width_integer(
     section: &[u8],
@@ -82,7 +82,7 @@ pub fn variable_width_integer(
     }
 }
 
-/// A number of exactly so many bytes.
+/// A number of exactly `size` bytes.
 #[inline(always)]
 pub fn fixed_width_integer(
     section: &[u8],
@@ -103,7 +103,7 @@ pub fn fixed_width_integer(
     }
 }
 
-/// What stands behind the header of a value that holds no others.
+/// What follows the header of a value that holds no others.
 #[inline(always)]
 #[tactic(auto, unfolding(crate::specs::Contents::content_at))]
 pub fn content_at(section: &[u8], header: Header) -> Result<Content<'_>, DecodeErrorKind>
@@ -160,8 +160,8 @@ impl Content<'_> {
     }
 }
 
-// The bytes of a key that is a text behind a pointer, as nearly all keys are, and the offset after it. Nothing is known
-// of others.
+// The bytes of a key that is a text to which a pointer leads, as nearly all keys are, and the offset after it.
+// Nothing is known of others.
 #[inline(always)]
 #[tactic(auto, unfolding(crate::specs::Contents::key_bytes_at, crate::specs::Pointer::direct_at, crate::specs::Pointer::behind))]
 fn shared_key_at(section: &[u8], offset: usize) -> Option<(&[u8], usize)>
@@ -178,7 +178,7 @@ fn shared_key_at(section: &[u8], offset: usize) -> Option<(&[u8], usize)>
     Some((bytes, pointer.next))
 }
 
-/// The bytes of a map's key and the offset after it: a text, directly or behind one pointer.
+/// The bytes of a map's key and the offset after it: a text, directly or through one pointer.
 #[inline(always)]
 #[tactic(auto, unfolding(crate::specs::Contents::key_bytes_at))]
 pub fn key_bytes_at(section: &[u8], offset: usize) -> Result<(&[u8], usize), DecodeErrorKind>

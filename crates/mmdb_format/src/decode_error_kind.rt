@@ -15,7 +15,7 @@ pub enum DecodeErrorKind {
     EndOfBuffer,
     /// The size is not one of the type's, or runs past the section.
     SizeOf(Kind, usize),
-    /// The bytes of a pointer that is passed, so many after its control byte, run past the section.
+    /// The bytes of a pointer that is passed, this many after its control byte, run past the section.
     PointerSize(usize),
     /// A key runs past the section.
     KeyTooLong,

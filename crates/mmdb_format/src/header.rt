@@ -8,7 +8,7 @@ ghost use Rattle.mmdb_format.specs.Pointer.{pointer_at as spec_pointer_at, direc
 use crate::decode_error_kind::DecodeErrorKind;
 use crate::kind::POINTER;
 
-/// At most so many containers and pointers lie on the way to a value.
+/// At most this many containers and pointers lie on the way to a value.
 pub const MAX_LEVELS: u16 = 512;
 
 /// The type number of a value, its size, and where its content begins.
@@ -26,7 +26,7 @@ pub struct Pointer {
     pub next: usize,
 }
 
-/// A header that is no pointer, directly or behind one pointer.
+/// A header that is no pointer, directly or through one pointer.
 #[derive(Clone, Copy)]
 pub struct Direct {
     pub header: Header,
@@ -74,7 +74,7 @@ pub fn big_endian(bytes: &[u8]) -> u128
     }
 }
 
-/// So many bytes from an offset on.
+/// `len` bytes from an offset on.
 #[inline(always)]
 #[tactic(auto, unfolding(crate::specs::Header::bytes_at))]
 pub fn bytes_at(section: &[u8], offset: usize, len: usize) -> Option<&[u8]>
@@ -269,7 +269,7 @@ fn behind(section: &[u8], levels: u16, pointer: Pointer) -> Result<Direct, Decod
     })
 }
 
-/// The header that is no pointer at an offset, directly or behind one pointer.
+/// The header that is no pointer at an offset, directly or through one pointer.
 #[inline(always)]
 #[tactic(auto, unfolding(crate::specs::Pointer::direct_at))]
 pub fn direct_at(section: &[u8], offset: usize, levels: u16) -> Result<Direct, DecodeErrorKind>

@@ -1,4 +1,4 @@
--- Where a `/` may stand: in no address and in no digits, so that a text of a network has at most one, and is divided there.
+-- Where a `/` may be: in no address and in no digits, so that a text of a network has at most one, and is divided there.
 use Rattle.std.proofs.Common.{◌≡◌, ◌≢◌, ℕ, zero, suc, ◌<◌, ◌≤◌, Bool, true, false, List, [], ◌∷◌, ◌++◌, length, refl, sym, ap, ◌∙◌, subst, arith, inl, inr, append_assoc, Bor, true≢false}
 use Rattle.std.specs.Prelude.{codes, decimal, Option, Some, None, MatchOption, Result, Ok, Err, IsOk, IfOk, MatchResult, IsErrAnd}
 use Rattle.std.specs.List.{AllByRecursion}
@@ -108,7 +108,7 @@ slashes_spell_none text ip prefix (front, back, spelled, lacks, has) (address, i
     let parts = one_split address digits front back (address_has_none address ip is_address) (no_slash front lacks) (sym (divided text address digits other) ∙ divided text front back spelled) in
     has (subst LacksSlash parts.1 (lacks_slash digits (digits_have_none 10 digits (omega arith) written.0.0.1)))
 
--- what a text of a network has before its first `/` and behind it
+-- what a text of a network has before its first `/` and after it
 pub parts_of : (text front : List ℕ) (back : Option (Bor (List ℕ))) (ip : IpAddr) (prefix : ℕ) → MatchOption back (text ≡ front) (λ digits. text ≡ front ++ codes "/" ++ digits.now) → LacksSlash front → IsNetworkText text ip prefix
     → IsIpText front ip × MatchOption back (prefix ≡ address_width ip) (λ digits. IsPrefixText digits.now prefix)
 parts_of text front None ip prefix parts lacks (address, is_address, inl (same, whole)) = (subst (λ t. IsIpText t ip) (sym same ∙ parts) is_address, whole)

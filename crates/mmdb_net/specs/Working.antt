@@ -7,11 +7,11 @@ use Rattle.mmdb_net.specs.NetworkText.{IsPrefixText}
 abbrev pub masked_bits : ℕ → ℕ → ℕ → ℕ
 masked_bits width prefix bits = bits / 2 ^ (width - prefix) * 2 ^ (width - prefix)
 
--- no `/` stands in a text
+-- a text has no `/`
 abbrev pub LacksSlash : List ℕ → Type 0
 LacksSlash text = (i : ℕ) → i < length text → slice_index text i ≢ 47
 
--- more than one `/` stands in a text
+-- a text has more than one `/`
 abbrev pub HasSlashes : List ℕ → Type 0
 HasSlashes text = (front back : List ℕ) × (text ≡ front ++ codes "/" ++ back) × LacksSlash front × ¬ LacksSlash back
 

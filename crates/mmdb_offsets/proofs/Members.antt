@@ -51,7 +51,7 @@ next-marked set i l h = rw (add-one, drop-cons set i false l, h) refl
 next-unmarked : (set : List Bool) (i : ℕ) → i < length set → get_or set i false ≡ false → offsets_from i (drop i set) ≡ offsets_from (i + 1) (drop (i + 1) set)
 next-unmarked set i l h = rw (add-one, drop-cons set i false l, h) refl
 
--- none stand between
+-- none are between
 past-unmarked : (set : List Bool) (i n : ℕ) → i + n ≤ length set → ((q : ℕ) → i ≤ q → q < i + n → holds set q ≡ false) → offsets_from i (drop i set) ≡ offsets_from (i + n) (drop (i + n) set)
 past-unmarked set i zero l none = ap (λ j. offsets_from j (drop j set)) (omega arith)
 past-unmarked set i (suc n) l none =

@@ -7,7 +7,7 @@ use Rattle.std.specs.List.{range_with_len}
 abbrev pub holds : List Bool → ℕ → Bool
 holds set q = slice_index_or set q false
 
--- those of a set of which so many offsets are known not to come
+-- those of a set of which this many offsets are known not to come
 abbrev pub offsets_from : ℕ → List Bool → List ℕ
 offsets_from first [] = []
 offsets_from first (x ∷ set) = (if x then first ∷ [] else []) ++ offsets_from (suc first) set

@@ -37,7 +37,7 @@ fn lowest_bit(word: u64, from: usize) -> Option<usize>
 }
 
 impl OffsetSet {
-    /// None of the offsets of a section with so many bytes, unless out of memory.
+    /// None of the offsets of a section of `len` bytes, unless out of memory.
     pub fn new(alloc: Global, len: usize) -> Result<OffsetSet, AllocError>
         ensures length { IfOk result (λ offsets. length offsets ≡ len) }
         ensures none { IfOk result (λ offsets. (q : ℕ) → holds offsets q ≡ false) }

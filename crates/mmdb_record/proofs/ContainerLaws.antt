@@ -1,4 +1,4 @@
--- Containers that stand directly or behind one pointer.
+-- Containers that are read directly or through one pointer.
 use Rattle.std.specs.Option.{IfSome}
 use Rattle.std.proofs.Common.{◌≡◌, ℕ, ◌+◌, ◌/◌, ◌%◌, ◌<◌, List, Option, Some, None, true, false, nat_eq, nat_lt, refl, arith, subst, inl, inr, slice_get}
 use Rattle.std.proofs.lemmas.Bool.Decides.{nat_tests}

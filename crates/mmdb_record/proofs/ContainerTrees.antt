@@ -20,12 +20,12 @@ use Rattle.mmdb_decode.proofs.ScalarLaws.{end_not_bool}
 use Rattle.mmdb_record.proofs.ListLaws.{reads_lists}
 use Rattle.mmdb_record.proofs.TextMapLaws.{reads_text_maps}
 
--- a container directly or behind one pointer, by what unfolds at its body
+-- a container directly or through one pointer, by what unfolds at its body
 pub container_unfolds : (kind : ℕ) (s : List ℕ) (p d last : ℕ) (at : Entered) (u : Tree) → ((p : ℕ) → HasHeader s p kind at.count at.body → Unfolds s p u last) → ContainerStands kind s p d at → (w : Tree) × Unfolds s p w (unwrap_or at.after last) × (without_pointers w ≡ without_pointers u)
 container_unfolds kind s p d last at u here (inl h) = (u, rw h.1 (here p h.0), refl)
 container_unfolds kind s p d last at u here (inr h) = (pointer h.0 u, rw h.4 (pointer_here h.2.header refl h.2.bytes (here h.0 h.3)), refl)
 
--- a scalar directly or behind one pointer
+-- a scalar directly or through one pointer
 pub scalar_tree : (s : List ℕ) (p d : ℕ) (c : Scalar) (q : ℕ) → ScalarStands s p d c q → (u : Tree) × Unfolds s p u q × (without_pointers u ≡ scalar c)
 scalar_tree s p d c q (inl h) = (scalar c, h, refl)
 scalar_tree s p d c q (inr h) = (pointer h.0 (scalar c), h.1, refl)

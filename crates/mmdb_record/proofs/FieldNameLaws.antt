@@ -1,4 +1,4 @@
--- The name of each field of a table stands at most once in a record: the table knows it.
+-- The name of each field of a table comes at most once in a record: the table knows it.
 use Rattle.std.proofs.Common.{◌≡◌, ℕ, List, Option, Some, None, Bool, true, false, if◌then◌else◌, refl, sym, ap, is_some}
 use Rattle.std.proofs.lemmas.Slice.Eq.{bytes_eq-Decides}
 use Rattle.mmdb_format.specs.Header.{◌>>=◌}
@@ -18,13 +18,13 @@ has_row end n = false
 has_row (optional name shape get rest) n = if named n name then true else has_row rest n
 has_row (part name shape none is_absent get rest) n = if named n name then true else has_row rest n
 
--- whether the field of this name has stood
+-- whether the field of this name was met
 abbrev has_stood : {R : Type 0} → (t : Table R) → List ℕ → Parts t → Bool
 has_stood end n p = false
 has_stood (optional name shape get rest) n p = if named n name then is_some p.0 else has_stood rest n p.1
 has_stood (part name shape none is_absent get rest) n p = if named n name then p.0.0 else has_stood rest n p.1
 
--- a part that stands at most once is filled by its own name and an error then
+-- a part that comes at most once is filled by its own name and an error then
 part_fills : {P A : Type 0} (set : Bool × A → P) (read : Meaning A) (slot : Bool × A) (s : List ℕ) (p d : ℕ) (y : Reading P) → part_field set read slot s p d ≡ Some y → (v : A) × (y.value ≡ set (true, v))
 unfolding part_field
 part_fills set read (true, v) s p d y h = absurd (cc)
@@ -80,7 +80,7 @@ module _ {R P : Type 0} (s : List ℕ) (i d : ℕ) where
           let f = more k in
           ((p.0, f.0), f.1, λ m. other_kept (named m name) p.0.0 (has_stood rest m p.1) (has_stood rest m f.0) (f.2 m), f.3)
 
-  -- and where its field has stood nothing is read behind it
+  -- and where its field was met nothing is read after it
   into_failed : (t : Table R) (put : Parts t → P) (p : Parts t) (n : List ℕ) → has_stood t n p ≡ true → fields_into t put p n s i d ≡ None
   into_failed end put p n h = absurd (cc)
   into_failed (optional name shape get rest) put p n h = by_name (named n name) (into_failed rest (λ q. put (p.0, q)) p.1 n) h

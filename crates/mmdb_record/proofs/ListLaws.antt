@@ -1,4 +1,4 @@
--- What is read as a list is the array that stands there.
+-- What is read as a list is the array that is there.
 use Rattle.std.specs.Option.{IfSome}
 use Rattle.std.proofs.Common.{◌≡◌, ℕ, zero, suc, List, ◌∷◌, length, Option, Some, None, refl, ap}
 use Rattle.mmdb_format.specs.Header.{◌>>=◌}

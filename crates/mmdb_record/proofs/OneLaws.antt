@@ -1,4 +1,4 @@
--- At most one value stands at an offset.
+-- At most one value is at an offset.
 use Rattle.std.proofs.Common.{◌≡◌, ◌↔◌, ℕ, ℤ, List, Option, Some, sym, ap, ◌∙◌, inl, inr}
 use Rattle.mmdb_format.specs.Contents.{Scalar, scalar_payload}
 use Rattle.mmdb_format.specs.Unfolding.{scalar, pointer, without_pointers}

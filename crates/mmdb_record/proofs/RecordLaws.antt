@@ -13,7 +13,7 @@ use Rattle.mmdb_decode.proofs.StepLaws.{kept_decoded, kept_trans, given_up_trans
 use Rattle.mmdb_decode.proofs.ReadingLaws.{mapped_none, decoded-mapped, seen, checked_ok, checked_missing, checked_none}
 use Rattle.mmdb_decode.proofs.MapLaws.{some_left_to_read, pairs_done, pairs_go_on, pairs_stop, pairs_nameless}
 
--- a field that stands at most once
+-- a field that comes at most once
 pub once_read : {A : Type 0} (starts : Bool) (read : Meaning A) (σ τ : State) (v : A) → IsSome σ.budget → decoded starts read σ ≡ Some (v, τ) → decoded false (once read None) σ ≡ Some (Some v, τ)
 once_read starts read σ τ v s h = decoded-mapped false Some read σ ∙ ap (seen Some) (sym (decoded_begun starts read σ s) ∙ h)
 

@@ -1,4 +1,4 @@
--- What is read as a record is the map that stands there, and known names stand once in it.
+-- What is read as a record is the map that is there, and known names come once in it.
 use Rattle.std.specs.Option.{IfSome}
 use Rattle.std.specs.Str.{bytes_eq}
 use Rattle.std.specs.List.{count_by}
@@ -105,8 +105,7 @@ module _ {P : Type 0} (fields : Fields P) (name : List ℕ) (has_stood : P → B
 pub known_names_stand_once : {P : Type 0} (fields : Fields P) (none : P) → KnownNamesStandOnce fields none
 known_names_stand_once fields none name has_stood s p d names x q c b k h = at_most_once fields name has_stood k h.follow
 
--- a field that stands at most once is filled by its own name and an error then, and an unknown one changes
--- nothing
+-- a field that comes at most once is filled by its own name and an error then, and an unknown one changes nothing
 pub field_fills : {P A : Type 0} (set : Option A → P) (read : Meaning A) (slot : Option A) (s : List ℕ) (p d : ℕ) (y : Reading P) → field set read slot s p d ≡ Some y → (v : A) × (y.value ≡ set (Some v))
 unfolding field
 field_fills set read (Some v) s p d y h = absurd (cc)

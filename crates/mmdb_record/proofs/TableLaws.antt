@@ -55,7 +55,7 @@ pub record_declined : {R : Type 0} (free : Bool) (r : Failed) (t : Table R) (σ 
 unfolding record_of
 record_declined free r t σ h = declines_more free r (decoded true (record_at (fields_of t) (no_parts t)) σ) (decoded true (finished (whole_of t) (record_at (fields_of t) (no_parts t))) σ) (checked_none true (whole_of t) (record_at (fields_of t) (no_parts t)) σ) h
 
--- a part that stands at most once
+-- a part that comes at most once
 pub part_taken : {A : Type 0} (read : Meaning A) (met : Bool) (v : A) (σ : State) → met ≡ true → decoded false (part_once read (met, v)) σ ≡ None
 unfolding decoded
 part_taken read true v σ h = refl

@@ -1,4 +1,4 @@
--- What is read as a map with keys of text is the map that stands there.
+-- What is read as a map with keys of text is the map that is there.
 use Rattle.std.specs.Option.{IfSome}
 use Rattle.std.specs.Map.{lookup}
 use Rattle.std.specs.Str.{bytes_eq}

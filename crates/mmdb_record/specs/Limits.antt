@@ -5,7 +5,7 @@ use Rattle.mmdb_decode.specs.State.{most_values, most_bytes}
 use Rattle.mmdb_decode.specs.Errors.{answer}
 
 -- a reading that begins a budget visits the first value and those that it costs, a pointer and its
--- target being one, and takes so many bytes of texts and byte strings
+-- target being one, and takes `r.bytes` bytes of texts and byte strings
 abbrev pub IsWithinLimits : {A : Type 0} → Reading A → Type 0
 IsWithinLimits r = (1 + r.values ≤ most_values) × (r.bytes ≤ most_bytes)
 

@@ -1,4 +1,4 @@
--- A part that was read, kept with where its pairs stand, so that it need not be read again there.
+-- A part that was read, kept with where its pairs are, so that it need not be read again there.
 use Rattle.std.specs.Prelude.{◌≡◌, ℕ, List, Bool, Option, Some, None, false}
 use Rattle.mmdb_record.specs.declared.memo.Place.{Place}
 use Rattle.mmdb_record.specs.declared.fields.FieldsSeen.{FieldsSeen}
@@ -7,7 +7,7 @@ use Rattle.mmdb_decode.specs.State.{decoded}
 use Rattle.mmdb_record.specs.Tables.{Table, fields_of, no_parts, parts_met}
 
 -- A record was read of the pairs at a place of this section: from the decoder before them, up to the one
--- behind them.
+-- after them.
 abbrev pub IsPlaceOf : {R : Type 0} → Table R → Option Place → R → List ℕ → Type 0
 IsPlaceOf t None v section = Unit {0}
 IsPlaceOf t (Some m) v section =

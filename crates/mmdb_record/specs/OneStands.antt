@@ -1,4 +1,4 @@
--- That at most one value stands at an offset, in the words of the format.
+-- That at most one value is at an offset, in the words of the format.
 use Rattle.std.specs.Prelude.{◌≡◌, ℕ, List}
 use Rattle.mmdb_format.specs.Contents.{scalar_payload}
 use Rattle.mmdb_decode.specs.Maps.{Fields}
@@ -6,8 +6,8 @@ use Rattle.mmdb_decode.specs.Reading.{Meaning}
 use Rattle.mmdb_decode.specs.ScalarReads.{ScalarStands, WholeNumberStands}
 use Rattle.mmdb_record.specs.TypedReads.{ListStands, TextMapStands, RecordStands}
 
--- By a relation (which value stands at p below d levels, before which offset it ends, and what it costs) at
--- most one value stands there, with one end and one cost.
+-- By a relation (which value is at p below d levels, before which offset it ends, and what it costs) at most one value
+-- is there, with one end and one cost.
 abbrev pub OneStands : {A : Type 0} → (List ℕ → ℕ → ℕ → A → ℕ → ℕ → ℕ → Type 0) → Type 0
 OneStands {A = A} Stands =
     (s : List ℕ) (p d : ℕ) (v w : A) (q r c e b f : ℕ) → Stands s p d v q c b → Stands s p d w r e f →

@@ -14,11 +14,11 @@ use Rattle.mmdb_decode.specs.Skipping.{skip_at}
 abbrev pub record_at : {P : Type 0} → Fields P → P → Meaning P
 record_at fields none = in_map (λ n. pairs_from name_at fields none n)
 
--- a record whose required fields all stand, which makes it whole
+-- a record whose required fields are all there, which makes it whole
 abbrev pub finished : {P R : Type 0} → (P → Option R) → Meaning P → Meaning R
 finished = checked
 
--- a field that stands at most once
+-- a field that comes at most once
 abbrev pub once : {A : Type 0} → Meaning A → Option A → Meaning (Option A)
 once read None = mapped Some read
 once read (Some v) = λ s p d. None

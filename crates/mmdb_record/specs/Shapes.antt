@@ -3,8 +3,8 @@ use Rattle.std.specs.Prelude.{◌≡◌, Bool, true, false}
 use Rattle.mmdb_decode.specs.Reading.{Meaning}
 use Rattle.mmdb_record.specs.declared.decode.Decode.{Ghosts}
 
--- What a type says of itself: what its values say, what stands where it is read, whether this meaning is
--- exact, whether a reading at the start begins a budget, and whether a success takes no memory.
+-- What a type says of itself: what its values say, what is where it is read, whether this meaning is exact, whether a
+-- reading at the start begins a budget, and whether a success takes no memory.
 pub record Decoding (X A : Type 0) : Type 0 where
   pub datum : X → A
   pub meaning : Meaning A

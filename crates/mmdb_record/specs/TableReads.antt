@@ -12,7 +12,7 @@ use Rattle.mmdb_record.specs.Tables.{Table, Parts, part_once, parts_met, no_part
 abbrev pub fields_left : {R : Type 0} → (t : Table R) → Parts t → Entries → Meaning (Parts t)
 fields_left t p entries = pairs_from name_at (fields_of t) p (pairs_left entries)
 
--- What stood behind one name was read: what was read of the record before, and then.
+-- What follows one name was read: what was read of the record before, and then.
 abbrev pub TakesField : {R : Type 0} → Bool → (t : Table R) → List ℕ → Parts t → Parts t → State →
     State → Result (Unit {0}) Failed → Type 0
 TakesField free t name before after old new r =
@@ -30,7 +30,7 @@ abbrev pub TakesRecord : {R : Type 0} → Bool → Table R → R → State → S
     Result (Unit {0}) Failed → Type 0
 TakesRecord free t v old new r = FieldTaken free (decoded true (record_of t) old) (data_of t v) old new r
 
--- a field that stands at most once was read into its slot: what the slot says before, and then
+-- a field that comes at most once was read into its slot: what the slot says before, and then
 abbrev pub TakesOnce : {A : Type 0} → Bool → Meaning A → Option A → Option A → State → State →
     Result (Unit {0}) Failed → Type 0
 TakesOnce free read before after old new r = FieldTaken free (decoded false (once read before) old) after old new r

@@ -27,7 +27,7 @@ data_of end v = tt
 data_of (optional name shape get rest) v = (option_map shape.datum (get v), data_of rest v)
 data_of (part name shape none is_absent get rest) v = (shape.datum (get v), data_of rest v)
 
--- what a record says of which no field stands
+-- what a record says none of whose fields is there
 abbrev pub no_data : {R : Type 0} → (t : Table R) → Data t
 no_data end = tt
 no_data (optional name shape get rest) = (None, no_data rest)
@@ -74,7 +74,7 @@ all_parts end p = tt
 all_parts (optional name shape get rest) p = (p.0, all_parts rest p.1)
 all_parts (part name shape none is_absent get rest) p = (p.0.1, all_parts rest p.1)
 
--- a part that stands at most once
+-- a part that comes at most once
 abbrev pub part_once : {A : Type 0} → Meaning A → Bool × A → Meaning (Bool × A)
 part_once read (false, v) = mapped (λ x. (true, x)) read
 part_once read (true, v) = λ s p d. None

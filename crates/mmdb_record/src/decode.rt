@@ -15,8 +15,8 @@ use mmdb_format::decode_error_kind::DecodeErrorKind;
 use mmdb_format::error::{DecodeResult, MaxMindDbError};
 use std::alloc::Global;
 
-/// A type that can be decoded. A type of one's own says by its ghost items what stands there, and is read by the
-/// types that it is made of:
+/// A type that can be decoded. A type of one's own says by its ghost items what is there, and is read by the types that
+/// it is made of:
 ///
 ///     impl<'de> Decode<'de> for SystemNumber {
 ///         ghost Datum = { ℕ };
@@ -39,7 +39,7 @@ pub trait Decode<'de>: Sized + Drop {
 
     ghost datum: { Self → Datum };
 
-    /// What stands in a section at an offset, below so many levels.
+    /// What is in a section at an offset, below this many levels.
     ghost meaning: { Meaning Datum };
 
     /// Whether a reading at the start begins a budget.

@@ -13,7 +13,7 @@ use mmdb_decode::items::Entries;
 use mmdb_format::error::DecodeResult;
 use std::alloc::Global;
 
-/// Which parts of a record were met, and where the one stood that may be reused.
+/// Which parts of a record were met, and where the one was that may be reused.
 #[derive(Drop)]
 pub struct FieldsSeen<'de>(
     pub bool,
@@ -91,7 +91,7 @@ fn read_each<'de, R: Fields<'de>>(
     Ok(())
 }
 
-// Reads a map into a record of which no field was met, and may note where its pairs stand.
+// Reads a map into a record of which no field was met, and may note where its pairs are.
 #[inline(always)]
 fn read_map_into<'de, R: Fields<'de>, const NOTES: bool>(
     alloc: Global,
@@ -171,7 +171,7 @@ impl<'de, R: Fields<'de>> Decode<'de> for R {
     }
 }
 
-// Reads a part that stands at most once, and may note where its pairs stand.
+// Reads a part that comes at most once, and may note where its pairs are.
 #[inline(always)]
 pub(crate) fn read_part_into<'de, R: Fields<'de>, const NOTES: bool>(
     alloc: Global,
@@ -196,7 +196,7 @@ pub(crate) fn read_part_into<'de, R: Fields<'de>, const NOTES: bool>(
     Ok(())
 }
 
-/// Reads a part that stands at most once. One that stands again is rejected before its value is read.
+/// Reads a part that comes at most once. One that comes again is rejected before its value is read.
 #[inline(always)]
 pub fn read_part<'de, R: Fields<'de>>(
     alloc: Global,

@@ -29,14 +29,14 @@ pub fn answer_is_within_limits<'de, T: Decode<'de>>()
     ensures { AnswerIsWithinLimits T.Datum }
 {}
 
-/// At one offset of a section at most one value of a type stands, with one end and one cost: equal offsets
-/// are read as equal data, or both fail.
+/// At one offset of a section there is at most one value of a type, with one end and one cost: equal offsets are read
+/// as equal data, or both fail.
 pub fn same_offset_same_result<'de, T: Decode<'de>>()
     ensures { OneReading T.meaning }
 {}
 
-/// In the words of the format too: at one offset at most one scalar stands, and at most one integer of any
-/// type, with one end and one cost.
+/// In the words of the format too: at one offset there is at most one scalar, and at most one integer of any type, with
+/// one end and one cost.
 pub fn one_scalar_stands()
     ensures scalars { OneScalarStands }
     ensures integers { OneIntegerStands }
@@ -104,17 +104,17 @@ pub fn scalars_unfold<'de, T: Decode<'de>>()
     ensures { ScalarsUnfold T.meaning }
 {}
 
-/// What is read as a list is the array that stands there, directly or behind one pointer: its elements in
-/// turn. At most one stands at an offset, with one end and one cost.
+/// What is read as a list is the array that is there, directly or through one pointer: its elements in turn. At most
+/// one is at an offset, with one end and one cost.
 pub fn list_is_what_stands<'de, T: Decode<'de>>()
     ensures read { ReadsLists T.meaning }
     ensures one { OneListStands T.meaning }
     ensures unfolds { ListsUnfold T.meaning }
 {}
 
-/// What is read as a map with keys of text is the map that stands there, directly or behind one pointer:
-/// its pairs in turn, of which the last one with a key gives its value. Its keys ascend. At most one stands at
-/// an offset, with one end and one cost.
+/// What is read as a map with keys of text is the map that is there, directly or through one pointer: its pairs in
+/// turn, of which the last one with a key gives its value. Its keys ascend. At most one is at an offset, with one end
+/// and one cost.
 pub fn text_map_is_what_stands<'de, T: Decode<'de>>()
     ensures read { ReadsTextMaps T.meaning }
     ensures one { OneTextMapStands T.meaning }
@@ -123,9 +123,9 @@ pub fn text_map_is_what_stands<'de, T: Decode<'de>>()
     ensures ascend { KeysAscend T.Datum }
 {}
 
-/// What is read as a record is the map that stands there, directly or behind one pointer: its fields in
-/// turn. A name of which the record says whether it has stood, and that is an error then, stands at most
-/// once. At most one record stands at an offset, with one end and one cost.
+/// What is read as a record is the map that is there, directly or through one pointer: its fields in turn. A name of
+/// which the record says whether it was met, and that is an error then, comes at most once. At most one record is at an
+/// offset, with one end and one cost.
 pub fn record_is_what_stands<'de, R: Record<'de>>()
     ensures read { ReadsRecords R.fields R.none }
     ensures one { OneRecordStands R.fields R.none }
@@ -133,9 +133,9 @@ pub fn record_is_what_stands<'de, R: Record<'de>>()
     ensures known_names { KnownNamesStandOnce R.fields R.none }
 {}
 
-/// What is read as a record that a table describes is the map that stands there, directly or behind one
-/// pointer: its fields in turn, by the rows of the table. The name of each row stands at most once. At most
-/// one such record stands at an offset, with one end and one cost.
+/// What is read as a record that a table describes is the map that is there, directly or through one pointer: its
+/// fields in turn, by the rows of the table. The name of each row comes at most once. At most one such record is at an
+/// offset, with one end and one cost.
 pub fn table_is_what_stands<'de, R: Fields<'de>>()
     ensures read { ReadsTables R.table }
     ensures one { OneRecordStands (fields_of R.table) (no_parts R.table) }

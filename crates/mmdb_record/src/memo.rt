@@ -1,5 +1,5 @@
-//! Parts of a record that stand at one offset: such a part is read once. Writers of files keep equal maps once, so
-//! that the country of an address and the country that its network is registered in are mostly one map.
+//! Parts of a record that are at one offset: such a part is read once. Writers of files keep equal maps once, so that
+//! the country of an address and the country that its network is registered in are mostly one map.
 ghost use Rattle.std.specs.Prelude.{◌≡◌, true, false, Some, OnOk, IsSome};
 ghost use Rattle.mmdb_decode.specs.State.{decoded};
 ghost use Rattle.mmdb_record.specs.Memos.{IsPlaceOf};
@@ -12,7 +12,7 @@ use mmdb_decode::detours::{again, forget_map, go_to, spend};
 use mmdb_decode::failed::Failed;
 use std::alloc::Global;
 
-/// Where the pairs of a record stand, of which there are so many: the decoders before them and behind them.
+/// Where the pairs of a record are, `count` of them: the decoders before them and after them.
 #[derive(Drop)]
 pub struct Place<'de> {
     pub(crate) before: Decoder<'de>,
@@ -20,7 +20,7 @@ pub struct Place<'de> {
     pub(crate) behind: Decoder<'de>,
 }
 
-/// Reads a part as `read_part` does, and notes where its pairs stand.
+/// Reads a part as `read_part` does, and notes where its pairs are.
 #[inline(never)]
 pub fn read_part_noting<'de, R: Fields<'de>>(
     alloc: Global,
@@ -38,7 +38,7 @@ pub fn read_part_noting<'de, R: Fields<'de>>(
     read_part_into::<R, true>(alloc, d, name, met, part, place)
 }
 
-// Goes behind a map whose pairs stand where those of a known record do, and says whether it did.
+// Goes past a map whose pairs are where those of a known record do, and says whether it did.
 #[inline(always)]
 fn reuse<'de, R: Fields<'de>>(d: &mut Decoder<'de>, known: &R, place: &Option<Place<'de>>) -> bool
     requires { IsPlaceOf R.table place.now known.now d.old.section }

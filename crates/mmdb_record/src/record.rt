@@ -61,7 +61,7 @@ pub trait Record<'de>: Sized + Drop {
         ensures err { IfErr result (λ e. Fails free e (whole (datum self))) };
 }
 
-/// Reads a field that stands at most once. One that stands again is rejected before its value is read.
+/// Reads a field that comes at most once. One that comes again is rejected before its value is read.
 #[inline(always)]
 pub fn read_once<'de, T: Decode<'de>>(
     alloc: Global,

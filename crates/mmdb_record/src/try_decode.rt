@@ -95,7 +95,7 @@ pub fn try_items<'de, T: TryDecode<'de>>(
     Ok(out)
 }
 
-/// Reads a field that stands at most once. One that stands again is rejected before its value is read.
+/// Reads a field that comes at most once. One that comes again is rejected before its value is read.
 #[inline(always)]
 pub fn try_once<'de, T: TryDecode<'de>>(
     alloc: Global,

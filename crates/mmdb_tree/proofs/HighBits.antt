@@ -14,7 +14,7 @@ number-below zero (x ∷ s) = pow_pos 0
 number-below (suc rest) (true ∷ s) = let h = number-below rest s in omega (arith, h, two-pow-succ rest)
 number-below (suc rest) (false ∷ s) = let h = number-below rest s in omega (arith, h, two-pow-succ rest)
 
--- one of the bits is 1 that stand for 2^32 or more
+-- one of the bits is 1 whose weight is 2^32 or more
 abbrev high_bits : ℕ → List Bool → Bool
 high_bits rest [] = false
 high_bits zero (x ∷ s) = false

@@ -55,7 +55,7 @@ bits_of-odd width i =
 
 -- ---- a level that is made from its end back
 
--- The entries that are left are those of the level before. Behind their halves stand those of strings of one bit more.
+-- The entries that are left are those of the level before. After their halves come those of strings of one bit more.
 pub record IsSpread (tree : SearchTree) (width left : ℕ) (old_numbers old_depths numbers depths : List ℕ) : Type 0 where
   pub numbers_size : length numbers ≡ length old_numbers
   pub depths_size : length depths ≡ length old_depths
@@ -72,7 +72,7 @@ IsSpread-none tree width left numbers depths all = record {
   behind = λ start i is low high. absurd (omega (arith, all, low, high));
 }
 
--- a string of the first two, or one behind them
+-- a string of the first two, or one after them
 data Place (left i : ℕ) : Type 0 where
   Even : i ≡ 2 * left → Place left i
   Odd : i ≡ 2 * left + 1 → Place left i
@@ -120,7 +120,7 @@ module _ (tree : SearchTree) (width left : ℕ) (old_numbers old_depths numbers 
       let same_depth : get_or old_depths left 0 ≡ entry.taken = sym (depth ∙ spread.depths_ahead left (omega arith)) in
       subst Q same_number (subst P same_depth (is left few))
 
-  -- what is behind in both lists
+  -- what is after them in both lists
   behind_of : (start i : ℕ) → HasLevel tree start width old_numbers old_depths → i < 2 * 2 ^ width → Place left i → Descends tree start (bits_of (width + 1) i) (get_or next_depths i 0) (get_or next_numbers i 0)
   behind_of start i is within (Behind h) =
       let even : i ≢ 2 * left = λ e. absurd (omega (arith, e, h)) in

@@ -131,7 +131,7 @@ after-first : List Stop → List Stop
 after-first [] = []
 after-first (m ∷ ms) = ms
 
--- a faulty leaf stands last in a list whose first one is faulty and alone
+-- a faulty leaf is last in a list whose first one is faulty and alone
 fault-alone : (m : Stop) (before after : List Stop) (x : Stop) → m ∷ [] ≡ before ++ x ∷ after → after ≡ []
 unfolding after-first
 fault-alone m [] after x e = sym (ap after-first e)

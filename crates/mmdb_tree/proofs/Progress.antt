@@ -113,7 +113,7 @@ all_visits walked = visits_below walked walked.width 0 false
 abbrev most : WalkedTree → ℕ
 most walked = suc (most_stops_of walked)
 
--- after so many steps the walk has passed some visits, and taken positions on the way to the next
+-- after `steps` steps the walk has passed some visits, and taken positions on the way to the next
 pub record IsProgress (walked : WalkedTree) (stack : List Point) (steps counted : ℕ) (has : ℕ → Bool) : Type 0 where
   pub passed : List Visit
   pub lead : ℕ

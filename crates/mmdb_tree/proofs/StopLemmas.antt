@@ -8,7 +8,7 @@ use Rattle.mmdb_tree.specs.declared.record.TreeRecord.{TreeRecord}
 use Rattle.mmdb_tree.specs.Stops.{WalkedTree, Stop, stop, end_at, goes_on, stops_below}
 use Rattle.mmdb_tree.proofs.Visits.{stops-node, stops-end}
 
--- The bits `s` behind `bits` are where a walk stops that goes on from `bits`.
+-- The bits `s` after `bits` are where a walk stops that goes on from `bits`.
 pub record EndsBelow (walked : WalkedTree) (left : ℕ) (bits s : List Bool) (end : TreeRecord) : Type 0 where
   pub inner : (c : List Bool) (x : Bool) (d : List Bool) → s ≡ c ++ x ∷ d → goes_on walked (bits ++ c) ≡ true
   pub short : length s ≤ left
@@ -68,7 +68,7 @@ module _ (walked : WalkedTree) where
   off_here : (left : ℕ) (bits : List Bool) (end : TreeRecord) → EndsBelow walked (suc left) bits [] end → goes_on walked bits ≡ false
   off_here left bits end h = elim h.ended [ inl off ↦ sym (ap (goes_on walked) (append-nil bits)) ∙ off | inr full ↦ absurd (omega (arith, full)) ]
 
-  -- what stands in the list
+  -- what is in the list
   abbrev Stands : ℕ → List Bool → Stop → Type 0
   Stands left bits m = (s : List Bool) × (m.bits ≡ bits ++ s) × EndsBelow walked left bits s m.end
 

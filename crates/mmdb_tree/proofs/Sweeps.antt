@@ -66,7 +66,7 @@ among-append q vs ws = ap (list_any (λ o. o == q)) (offsets-append vs ws) ∙ a
 
 -- ---- what is left
 
--- The visits that are left, with those that were met, are all: in number, in faults and in offsets. So many nodes, less
+-- The visits that are left, with those that were met, are all: in number, in faults and in offsets. `nodes` nodes, less
 -- one, were passed.
 pub record IsSwept (walked : WalkedTree) (points : List Point) (nodes : ℕ) (has : ℕ → Bool) : Type 0 where
   pub count : length (all_visits walked) + length points ≡ length (visits_of_stack walked points) + nodes

@@ -17,7 +17,7 @@ pub record Visit : Type 0 where
 abbrev pub visit : ℕ → TreeRecord → Visit
 visit gap end = record { gap = gap; end = end }
 
--- so many more positions are taken first
+-- this many more positions are taken first
 unfoldable pub with_lead : ℕ → List Visit → List Visit
 with_lead lead [] = []
 with_lead lead (v ∷ vs) = visit (lead + v.gap) v.end ∷ vs

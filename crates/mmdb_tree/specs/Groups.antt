@@ -18,6 +18,6 @@ AllEnd tree addresses old new =
     → Walks tree start (bits_of_address (slice_index_or addresses i a)) (slice_index_or old i d).taken (slice_index_or old i d).number
     → HasEnded tree start (bits_of_address (slice_index_or addresses i a)) (slice_index_or new i d)
 
--- so many bytes of nodes are taken to lie in a core's share of the caches
+-- this many bytes of nodes are taken to lie in a core's share of the caches
 abbrev pub most_cached : ℕ
 most_cached = 16777216

@@ -31,7 +31,7 @@ half_of walked p right = record {
 abbrev pub HoldsOffsetsOf : WalkedTree → List Bool → Type 0
 HoldsOffsetsOf walked set = (q : ℕ) → holds set q ≡ list_any (λ o. o == q) (offsets (stops_of walked))
 
--- what a walk says that took so many positions
+-- what a walk says that took this many positions
 abbrev pub IsVerdict : WalkedTree → List Bool → ℕ → WalkEnd → Type 0
 IsVerdict walked set taken Whole = IsClean walked × (HoldsOffsetsOf walked set × (taken + 1 ≡ 2 * length (stops_of walked)))
 IsVerdict walked set taken (AtFault number) = ¬ IsClean walked

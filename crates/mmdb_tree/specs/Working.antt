@@ -14,12 +14,12 @@ use Rattle.mmdb_tree.specs.declared.record.TreeRecord.{TreeRecord}
 use Rattle.mmdb_tree.specs.declared.walked.Point.{Point}
 use Rattle.mmdb_tree.specs.Stops.{WalkedTree, record_in, is_ipv4_start, offset_of, at_stop, is_fault}
 
--- Of a walk that had come to the old entry along so many bits, the new one has where it comes by one bit more.
+-- Of a walk that had come to the old entry along this many bits, the new one has where it comes by one bit more.
 abbrev pub Follows : SearchTree → ℕ → Bool → Entry → Entry → Type 0
 Follows tree width bit old new = (start : ℕ) (bits : List Bool) → length bits ≡ width → Descends tree start bits old.taken old.number → Descends tree start (bits ++ (bit ∷ [])) new.taken new.number
 
--- The first entries are one for each string of so many bits, in the order of the numbers that they give: where the walk
--- from `start` along it ends, and after how many bits.
+-- The first entries are one for each string of this many bits, in the order of the numbers that they give: where the
+-- walk from `start` along it ends, and after how many bits.
 abbrev pub HasLevel : SearchTree → ℕ → ℕ → List ℕ → List ℕ → Type 0
 HasLevel tree start width numbers depths =
     (i : ℕ) → i < 2 ^ width → Descends tree start (bits_of width i) (slice_index depths i) (slice_index numbers i)

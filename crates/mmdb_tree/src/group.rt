@@ -10,7 +10,7 @@ use std::net::IpAddr;
 // others costs: Country files have 8 to 9 MB of nodes, City files 40 MB and more.
 const CACHED: usize = 16 << 20;
 
-/// Where the walk of an address stands: at a number of the tree, after how many bits of the address.
+/// Where the walk of an address is: at a number of the tree, after how many bits of the address.
 #[derive(Clone, Copy, Default)]
 pub struct FoundLeaf {
     pub number: u32,
@@ -18,7 +18,7 @@ pub struct FoundLeaf {
 }
 
 impl FoundLeaf {
-    /// Where the walk of an address stands by a table, in which its first sixteen bits are the index.
+    /// Where the walk of an address is, by a table in which its first sixteen bits are the index.
     #[inline(always)]
     pub fn entered(numbers: &[u32], depths: &[u8], index: usize) -> FoundLeaf
         requires numbers { index < length numbers.now }
@@ -95,7 +95,7 @@ impl Nodes<'_> {
     ghost use Rattle.mmdb_tree.specs.Tree.{node_bytes};
     ghost use Rattle.mmdb_tree.specs.Working.{AllWalkOn, AlongWords, WalksOn, WalksToEnd, IsBitsOf};
 
-    // One bit more of a walk that has taken so many and is on a node; any other stays.
+    // One bit more of a walk that has taken `taken` bits and is on a node; any other stays.
     #[inline(always)]
     fn step_word(&self, leaf: FoundLeaf, word: u32, taken: u32) -> FoundLeaf
         requires { taken < 32 }

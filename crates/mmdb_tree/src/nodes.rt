@@ -52,7 +52,7 @@ fn word_at(bytes: &[u8], at: usize) -> u32
 }
 
 // The highest four bits of a record of 28 bits, in the middle byte of a node. Without a branch, since a bit of an
-// address is hard to foresee.
+// address is hard to predict.
 #[inline(always)]
 fn high_bits(middle: u8, right: bool) -> u32
     ensures right { right ≡ true → result ≡ middle % 16 }

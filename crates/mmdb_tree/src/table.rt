@@ -7,9 +7,9 @@ use std::alloc::{AllocError, Global};
 /// How many bits of an address a table is for.
 const TABLE_BITS: u8 = 16;
 
-/// Where the walks of addresses stand after their first sixteen bits, or where they left the nodes before: for each string
-/// of sixteen bits, in the order of the numbers that they give, a number of the tree, and after how many bits it is
-/// reached. The two stand apart, since only walks that have left the nodes ask for the second.
+/// Where the walks of addresses are after their first sixteen bits, or where they left the nodes before: for each string of
+/// sixteen bits, in the order of the numbers that they give, a number of the tree, and after how many bits it is reached. The
+/// two are kept apart, since only walks that have left the nodes ask for the second.
 #[derive(Drop)]
 pub struct Table {
     pub numbers: Vec<u32>,
@@ -69,8 +69,8 @@ impl Nodes<'_> {
         (lower, upper)
     }
 
-    // Has the first entries for strings of one bit more, from the last back: both halves of an entry stand where no
-    // entry is that is still to be read. No read waits for another.
+    // Has the first entries for strings of one bit more, from the last back: both halves of an entry go where no entry
+    // is that is still to be read. No read waits for another.
     #[inline(always)]
     fn spread_level(&self, numbers: &mut [u32], depths: &mut [u8], taken: u8)
         requires taken { taken < 16 }
@@ -112,8 +112,8 @@ impl Nodes<'_> {
     }
 
     /// Fills a table of the walks that begin at a node: for each string of sixteen bits, in the order of the numbers that
-    /// they give, where the walk stands and after how many bits. It is made in place, a level of the tree at a time, by
-    /// code for each size of records.
+    /// they give, where the walk is and after how many bits. It is made in place, a level of the tree at a time, by code for
+    /// each size of records.
     pub fn fill_table(&self, numbers: &mut [u32], depths: &mut [u8], start: usize)
         requires numbers { length numbers.old ≡ 65536 }
         requires depths { length depths.old ≡ 65536 }

@@ -125,7 +125,7 @@ impl Walker<'_> {
     }
 
     /// Walks the whole tree, from the root. `stack` keeps the upper halves that are still to come, and `set` the
-    /// offsets that were found. It goes behind no alias, and ends at the first faulty leaf, or after three stops for
+    /// offsets that were found. It goes below no alias, and ends at the first faulty leaf, or after three stops for
     /// each node and one more.
     #[inline(never)]
     pub fn walk(&self, stack: &mut Vec<Point>, set: &mut OffsetSet) -> Walked

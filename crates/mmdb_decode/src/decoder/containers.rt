@@ -42,7 +42,7 @@ impl<'de> Decoder<'de> {
         }
     }
 
-    /// Enters an array of so many elements, and charges them.
+    /// Enters an array of `len` elements, and charges them.
     pub fn begin_array_of(&mut self, alloc: Global, len: usize) -> DecodeResult<Items>
         ensures { Reads (λ items. items) true (entered_array_of len self.old)
             self.old self.new result }

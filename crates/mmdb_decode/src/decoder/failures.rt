@@ -27,7 +27,7 @@ impl<'de> Decoder<'de> {
         Failed::Unreadable
     }
 
-    /// Fails at the value of a field that stands a second time.
+    /// Fails at the value of a field that comes a second time.
     #[inline(always)]
     pub fn fail_repeated(&mut self, name: &'de [u8]) -> Failed
         ensures unreadable { result ≡ Unreadable }

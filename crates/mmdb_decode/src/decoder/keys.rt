@@ -12,7 +12,7 @@ use mmdb_format::decode_error_kind::DecodeErrorKind;
 use mmdb_format::error::DecodeResult;
 use std::alloc::Global;
 
-/// So many bytes of a field's name are free.
+/// This many bytes of a field's name are free.
 pub(super) const FREE_NAME: usize = 32;
 
 impl<'de> Decoder<'de> {

@@ -15,7 +15,7 @@ use mmdb_format::kind::{BYTES, DOUBLE, FLOAT, I32, TEXT, U16, U32, U64, U128};
 use std::alloc::Global;
 
 impl<'de> Decoder<'de> {
-    // An integer of one type, of at most so many bytes.
+    // An integer of one type, of at most `most` bytes.
     #[inline(always)]
     pub(super) fn take_number(&mut self, wanted: u16, most: usize) -> Result<u128, DecodeErrorKind>
         requires { most ≤ 16 }
@@ -36,7 +36,7 @@ impl<'de> Decoder<'de> {
         Ok((n as u32).cast_signed())
     }
 
-    // The bits of a number of exactly so many bytes.
+    // The bits of a number of exactly `size` bytes.
     #[inline(always)]
     pub(super) fn take_bits(&mut self, wanted: u16, size: usize) -> Result<u128, DecodeErrorKind>
         requires { size ≤ 16 }
@@ -58,7 +58,7 @@ impl<'de> Decoder<'de> {
         Ok(b)
     }
 
-    // An integer of whatever type, behind any number of pointers.
+    // An integer of whatever type, through any number of pointers.
     pub(super) fn take_whole(&mut self) -> Result<i128, DecodeErrorKind>
         ensures { TakesUnderBudget (λ z. z) spec_whole_at self.old self.new result }
     {
@@ -142,7 +142,7 @@ impl<'de> Decoder<'de> {
         }
     }
 
-    /// Reads an integer of whatever type: an i32, u16, u32 or u64, behind any number of pointers
+    /// Reads an integer of whatever type: an i32, u16, u32 or u64, through any number of pointers
     /// within the levels. At the start it begins a budget.
     pub fn read_small(&mut self, alloc: Global) -> DecodeResult<i128>
         ensures { ReadsUnderBudget (λ z. z) true spec_whole_at self.old self.new result }

@@ -15,7 +15,7 @@ impl<'de> Decoder<'de> {
     /// level, and says whether there is one. Takes no memory.
     ///
     /// The map's keys and values are charged, and the bytes of each key up to that one; the values before
-    /// it are skipped. Fails where no map stands there, directly or behind one pointer.
+    /// it are skipped. Fails where no map is there, directly or through one pointer.
     #[inline(always)]
     pub fn go_to_key(&mut self, key: &str) -> Result<bool, DecodeErrorKind>
         ensures { TakesUnderBudget (λ b. b) (at_key key.now) self.old self.new result }
@@ -30,7 +30,7 @@ impl<'de> Decoder<'de> {
     /// whether there is one. Takes no memory.
     ///
     /// The array's elements are charged; those before that one are skipped, where it is there. Rejected
-    /// where no array stands there, directly or behind one pointer.
+    /// where no array is there, directly or through one pointer.
     #[inline(always)]
     pub fn go_to_index(&mut self, index: usize) -> Result<bool, DecodeErrorKind>
         ensures { TakesUnderBudget (λ b. b) (at_element (from_front index))
@@ -72,7 +72,7 @@ impl<'de> Decoder<'de> {
         Ok(false)
     }
 
-    // Goes to the element before which so many stand.
+    // Goes to the element before which `before` others come.
     #[inline(always)]
     fn to_element(&mut self, before: Option<usize>) -> Result<bool, DecodeErrorKind>
         ensures { TakesValue (λ b. b) (spec_to_element before) self.old self.new result }
@@ -85,7 +85,7 @@ impl<'de> Decoder<'de> {
         Ok(true)
     }
 
-    // Passes so many values.
+    // Passes `count` values.
     fn pass_all(&mut self, count: usize) -> Result<(), DecodeErrorKind>
         ensures { TakesValue (λ x. tt) (passes skip_at count) self.old self.new result }
     {
@@ -97,7 +97,7 @@ impl<'de> Decoder<'de> {
     }
 }
 
-// How many of the elements stand before the one that is counted from the front.
+// How many of the elements come before the one that is counted from the front.
 #[inline(always)]
 fn front_place(index: usize, count: usize) -> Option<usize>
     ensures { result ≡ from_front index count }
@@ -105,7 +105,7 @@ fn front_place(index: usize, count: usize) -> Option<usize>
     if index < count { Some(index) } else { None }
 }
 
-// How many of the elements stand before the one that is counted from the end.
+// How many of the elements come before the one that is counted from the end.
 #[inline(always)]
 fn end_place(index: usize, count: usize) -> Option<usize>
     ensures { result ≡ from_end index count }

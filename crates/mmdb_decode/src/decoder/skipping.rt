@@ -14,7 +14,7 @@ use mmdb_format::header::Header;
 use mmdb_format::kind::{ARRAY, MAP};
 use std::alloc::Global;
 
-/// At most so many containers nest in a value that is skipped.
+/// At most this many containers nest in a value that is skipped.
 pub(super) const MAX_NESTED: u16 = 128;
 
 impl<'de> Decoder<'de> {
@@ -64,7 +64,7 @@ impl<'de> Decoder<'de> {
         }
     }
 
-    // Passes short inline values, at most so many, and says how many are left: none, or the next one is not short.
+    // Passes short inline values, at most `count`, and says how many are left: none, or the next one is not short.
     #[inline(always)]
     fn pass_short(&mut self, count: usize) -> usize
         ensures passed { PassesTo count result self.old self.new }

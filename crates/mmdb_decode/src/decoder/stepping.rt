@@ -15,7 +15,7 @@ use mmdb_format::decode_error_kind::DecodeErrorKind;
 use mmdb_format::header::{Header, MAX_LEVELS, pointer_at};
 
 impl<'de> Decoder<'de> {
-    // What stands behind the header at the offset.
+    // What follows the header at the offset.
     #[inline(always)]
     pub(super) fn take_content(&mut self, header: Header) -> Result<Content<'de>, DecodeErrorKind>
         requires { header.size < 2 ^ 25 }
@@ -59,8 +59,8 @@ impl<'de> Decoder<'de> {
         Ok(())
     }
 
-    /// What stands behind the header at the offset, which is that of a value that holds no others. A text is not tested
-    /// for UTF-8.
+    /// What follows the header at the offset, which is that of a value that holds no others. A text is not tested for
+    /// UTF-8.
     #[inline(always)]
     pub fn try_content(&mut self, header: Header) -> Result<Content<'de>, Failed>
         requires { header.size < 2 ^ 25 }

@@ -35,7 +35,7 @@ impl<'de> Decoder<'de> {
         }
     }
 
-    // Goes to where another decoder of the section stands.
+    // Goes to where another decoder of the section is.
     #[inline(always)]
     pub(crate) fn go_to(&mut self, there: &Decoder<'de>)
         requires { there.now.section ≡ self.old.section }
@@ -47,7 +47,7 @@ impl<'de> Decoder<'de> {
         self.budget = there.budget;
     }
 
-    /// Goes from where a decoder of the section stood to where it stands that read on from there, and charges what was
+    /// Goes from where a decoder of the section was to where it is that read on from there, and charges what was
     /// charged between. It says whether it did; else it stays.
     #[inline(always)]
     pub fn repeat(&mut self, before: &Decoder<'de>, behind: &Decoder<'de>) -> bool
@@ -226,7 +226,7 @@ impl<'de> Decoder<'de> {
     }
 }
 
-// The step that fails for a fault: one that is found behind the offset where the step began is reported by itself.
+// The step that fails for a fault: one that is found after the offset where the step began is reported by itself.
 pub(super) fn step_of(step: Step, fault: DecodeErrorKind) -> Step {
     match fault {
         DecodeErrorKind::InvalidUtf8 => Step::Encoding,

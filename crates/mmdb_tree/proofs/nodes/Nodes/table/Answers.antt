@@ -4,7 +4,7 @@ use Rattle.mmdb_tree.specs.Nodes.{tree_in}
 use Rattle.mmdb_tree.specs.Table.{IsFull}
 use Rattle.mmdb_tree.proofs.nodes.Nodes.table.Goals as goal
 
--- what a vector of so many elements holds, once all of them were written over
+-- what a vector of this many elements holds, once all of them were written over
 abbrev over : ℕ → List ℕ → List ℕ → List ℕ
 over len items old = take len (items ++ drop (length items) old)
 
