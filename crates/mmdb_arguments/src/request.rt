@@ -1,5 +1,5 @@
 //! What a command line asks for.
-use crate::commands::{Options, command};
+use crate::commands::{MadeOptions, command};
 use crate::rejected::NoRequest;
 use clap::ArgMatches;
 use std::alloc::{AllocError, Global};
@@ -545,7 +545,7 @@ fn of_command<'a>(
 fn matches_of<'a>(
     alloc: Global,
     arguments: &'a [String],
-    options: Options,
+    options: MadeOptions,
 ) -> Result<ArgMatches<'a>, NoRequest> {
     match command(alloc, arguments, options)?.try_get_matches_from(arguments) {
         Ok(matches) => Ok(matches),
@@ -555,10 +555,10 @@ fn matches_of<'a>(
 
 /// What a command line asks for, the program's name first.
 pub fn request_of<'a>(alloc: Global, arguments: &'a [String]) -> Result<Request<'a>, NoRequest> {
-    let matches = match matches_of(alloc, arguments, Options::Given) {
+    let matches = match matches_of(alloc, arguments, MadeOptions::Given) {
         Ok(matches) => matches,
         // help names all options, and an error those that are alike
-        Err(_) => matches_of(alloc, arguments, Options::All)?,
+        Err(_) => matches_of(alloc, arguments, MadeOptions::All)?,
     };
     match matches.subcommand() {
         Some((name, matches)) => of_command(alloc, name, matches),

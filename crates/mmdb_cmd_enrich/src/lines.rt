@@ -2,7 +2,7 @@
 use crate::enrichment::Enrichment;
 use crate::fields::wanted_fields;
 use crate::header::column_of;
-use crate::input::{Counted, Kind, copy_mark, kind_of_input};
+use crate::input::{Counted, InputKind, copy_mark, kind_of_input};
 use crate::json_enrichment::{JsonEnrichment, JsonMemory};
 use crate::output::Output;
 use crate::row_memory::RowMemory;
@@ -69,7 +69,7 @@ fn text_of_members(
 // What rows pass through, and what is said of them.
 #[derive(Drop)]
 struct Passage<'n, 'a> {
-    kind: Kind,
+    kind: InputKind,
     /// How many bytes of the input passed.
     bytes: u64,
     notes: &'n mut Warnings<'a>,

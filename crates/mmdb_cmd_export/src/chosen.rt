@@ -1,5 +1,5 @@
 //! The chosen networks of a range, with what their records have or as the fewest blocks.
-use crate::gathering::Gathering;
+use crate::gathering::AddressGathering;
 use crate::networks::Gathered;
 use crate::sink::{NetworkSink, kind_of};
 use mmdb_blocks::Kinds;
@@ -256,7 +256,7 @@ impl<'a, 'r, W: NetworkSink> Export<'a, 'r, W> {
     }
 }
 
-impl Export<'_, '_, Gathering> {
+impl Export<'_, '_, AddressGathering> {
     /// What was gathered.
     pub(crate) fn into_gathered(self) -> Gathered {
         Gathered {

@@ -8,23 +8,23 @@ const THIS_PROCESS: &str = "/proc/self";
 
 /// A file by the folder that it is in and its name there.
 #[derive(Clone, Copy)]
-pub(crate) struct Named<'a> {
+pub(crate) struct NamedFile<'a> {
     folder: &'a str,
     pub(crate) name: &'a str,
 }
 
 /// A path as a folder and a name.
-pub(crate) fn split_path(path: &str) -> Named<'_> {
+pub(crate) fn split_path(path: &str) -> NamedFile<'_> {
     match path.rsplit_once('/') {
-        Some((folder, name)) => Named { folder, name },
-        None => Named {
+        Some((folder, name)) => NamedFile { folder, name },
+        None => NamedFile {
             folder: ".",
             name: path,
         },
     }
 }
 
-impl Named<'_> {
+impl NamedFile<'_> {
     /// The path of the folder, with a slash behind it.
     pub(crate) fn folder_path(&self, alloc: Global) -> Result<String, AllocError> {
         let folder = self.folder;

@@ -1,5 +1,5 @@
 //! What the program does with its arguments.
-use mmdb_arguments::{Message, NoRequest, Request, request_of};
+use mmdb_arguments::{ArgumentMessage, NoRequest, Request, request_of};
 use mmdb_cmd_build::build;
 use mmdb_cmd_diff::diff;
 use mmdb_cmd_enrich::enrich;
@@ -17,7 +17,10 @@ use std::rt::Files;
 use std::time::Clock;
 
 // Writes a message in the place of a request, and answers the status.
-fn put_message<O: Write, E: Write>(message: &Message, console: &mut Console<'_, O, E>) -> u8 {
+fn put_message<O: Write, E: Write>(
+    message: &ArgumentMessage,
+    console: &mut Console<'_, O, E>,
+) -> u8 {
     let text = message.text.as_bytes();
     if message.is_error {
         let _ = console.errors.write_all(text);
