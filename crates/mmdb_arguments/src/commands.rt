@@ -662,8 +662,8 @@ fn is_among(words: &[String], name: &str) -> bool {
     words.iter().any(|word| word.as_str() == name)
 }
 
-// A program with more commands. A command has its own arguments only where its name stands in the command line: else nobody
-// asks for it or its help.
+// A program with more commands. A command has its own arguments only where its name is in the command line: else nobody asks
+// for it or its help.
 fn with_commands<'a>(
     alloc: Global,
     program: Command<'a>,

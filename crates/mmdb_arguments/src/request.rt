@@ -35,9 +35,9 @@ pub enum Hop {
 #[derive(Drop)]
 pub struct EnrichArguments<'a> {
     pub file: &'a str,
-    /// What else stands where the file does.
+    /// What else is in the place of the file.
     pub others: Vec<&'a str>,
-    /// A text that should be what stands between columns.
+    /// A text that should be what separates columns.
     pub delimiter: Option<&'a str>,
     /// A text that should be the number of a column, or with a header its name.
     pub column: &'a str,
@@ -51,7 +51,7 @@ pub struct EnrichArguments<'a> {
     /// Whether objects without a record get the member too.
     pub nulls: bool,
     pub hop: Hop,
-    /// Whether the address may stand anywhere in a row.
+    /// Whether the address may be anywhere in a row.
     pub anywhere: bool,
     /// Whether a cell holds an address and nothing else.
     pub exact: bool,
@@ -234,7 +234,7 @@ pub enum Request<'a> {
     Show(ShowArguments<'a>),
     /// What a database says of itself.
     Info(InfoArguments<'a>),
-    /// Fields behind lines.
+    /// Fields after lines.
     Enrich(EnrichArguments<'a>),
     /// Every network with its record.
     Export(ExportArguments<'a>),
