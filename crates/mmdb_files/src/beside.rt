@@ -25,7 +25,7 @@ pub(crate) fn split_path(path: &str) -> NamedFile<'_> {
 }
 
 impl NamedFile<'_> {
-    /// The path of the folder, with a slash behind it.
+    /// The path of the folder, with a slash at its end.
     pub(crate) fn folder_path(&self, alloc: Global) -> Result<String, AllocError> {
         let folder = self.folder;
         format!(in alloc; "{folder}/")
@@ -77,7 +77,7 @@ fn has_ended<R: Files>(rt: &R, alloc: Global, process: u64, this: u64) -> bool {
     }
 }
 
-// The names of a folder, each with a byte 0 behind it.
+// The names of a folder, each with a byte 0 after it.
 fn names_in<R: Files>(rt: &R, alloc: Global, folder: &str) -> io::Result<Vec<u8>> {
     let mut opened = rt.open_dir(folder)?;
     let mut names = Vec::new(alloc);

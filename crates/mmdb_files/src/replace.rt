@@ -17,7 +17,7 @@ const MODE_BITS: u32 = 0o777;
 #[derive(Drop)]
 pub struct MadeFile {
     path: String,
-    // The folder that both are in, with a slash behind it.
+    // The folder that both are in, with a slash at its end.
     folder: String,
     // Whose place it takes.
     target: String,
