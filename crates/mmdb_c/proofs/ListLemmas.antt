@@ -51,7 +51,7 @@ twice : (o : Option (List ListPart × ℕ)) (ps qs : List ListPart) → joined p
 twice None ps qs = refl
 twice (Some r) ps qs = ap (λ xs. Some (xs, r.1)) (sym (append_assoc ps qs r.0))
 
--- a value, and so many after it
+-- a value, and a number of them after it
 abbrev follows : (ℕ → Option (List ListPart × ℕ)) → ℕ → Option (List ListPart × ℕ) → Option (List ListPart × ℕ)
 follows read n o = o >>= λ first. joined first.0 (in_series read n first.1)
 

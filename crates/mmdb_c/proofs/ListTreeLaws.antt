@@ -138,7 +138,7 @@ module _ (s : List ℕ) where
         subst (λ m. IfSome (in_series read m p) (FoundPairs n (suc count) p)) (sym twice)
         (if_bind (read p) _ (FoundPairs n (suc count) p) (λ x e. value_more count p x (read x.1) (if_is (read p) (Found n p) x (each p) e) refl (pairs_sound count)))
 
-  -- a value that is no pointer, and its parts, behind a pointer or none
+  -- a value that is no pointer, and its parts, through a pointer or none
   own_found : (n p q : ℕ) (place : EntryPlace) (t : Tree) (parts : List ListPart) → Placed p place → Unfolds s place.offset t q → is_value t ≡ true → is_unchained t ≡ true → depth t ≤ n → ArePartsOf s (preorder t) parts → Found n p (parts, end_of place q)
   own_found n p q place t parts l u v w d a = (
     led_to l.0 t,

@@ -9,9 +9,9 @@ use Rattle.mmdb_c.specs.Items.{low_of, high_of}
 use Rattle.mmdb_c.specs.declared.list.ListPart.{ListPart}
 use Rattle.mmdb_c.specs.declared.list.EntryPlace.{EntryPlace}
 
--- The value that an offset stands for: the one there, or, where a pointer stands there, the one that it leads to,
--- with the offset after the pointer. A pointer that leads to a pointer is an error ("pointer - 1" of the MaxMind DB
--- File Format Specification 2.0).
+-- The value that an offset stands for: the one there, or, where a pointer is there, the one that it leads to, with
+-- the offset after the pointer. A pointer that leads to a pointer is an error ("pointer - 1" of the MaxMind DB File
+-- Format Specification 2.0).
 unfoldable pub place_at : List ℕ → ℕ → Option EntryPlace
 place_at s p =
     header_at s p >>= λ header.
@@ -59,12 +59,12 @@ abbrev pub joined : List ListPart → Option (List ListPart × ℕ) → Option (
 joined before None = None
 joined before (Some rest) = Some (before ++ rest.0, rest.1)
 
--- the parts of so many values, one after the other, and the offset after them
+-- the parts of a number of values, one after the other, and the offset after them
 abbrev pub in_series : (ℕ → Option (List ListPart × ℕ)) → ℕ → ℕ → Option (List ListPart × ℕ)
 in_series read zero p = Some ([], p)
 in_series read (suc n) p = read p >>= λ first. joined first.0 (in_series read n first.1)
 
--- a map or an array stands before its parts
+-- a map or an array comes before its parts
 abbrev pub container_parts : EntryPlace → List ListPart × ℕ → List ListPart × ℕ
 container_parts place r = (container_part place (end_of place r.1) ∷ r.0, end_of place r.1)
 
@@ -80,9 +80,9 @@ parts_of read s place =
     then (in_series read (count_of place.header) place.header.body >>= λ r. Some (container_parts place r))
     else scalar_parts_at s place
 
--- The list of the value at an offset, of at most so many levels, and the offset after the value: the value, then all
--- that it holds, in the order of the section, pointers followed ("Data Field Format"). None where a value on the way
--- is damaged, or more levels are needed.
+-- The list of the value at an offset, of at most a number of levels, and the offset after the value: the value, then
+-- all that it holds, in the order of the section, pointers followed ("Data Field Format"). None where a value on the
+-- way is damaged, or more levels are needed.
 unfoldable pub listed : ℕ → List ℕ → ℕ → Option (List ListPart × ℕ)
 listed zero s p = None
 listed (suc n) s p = place_at s p >>= parts_of (listed n s) s
@@ -95,7 +95,7 @@ Passes found first room = (parts : List ListPart) (next : ℕ) → found ≡ Som
 abbrev pub list_at : List ℕ → ℕ → Option (List ListPart × ℕ)
 list_at s p = listed 512 s p
 
--- the first so many parts in memory are the list, and those beyond are as they were
+-- the first `count` parts in memory are the list, and those beyond are as they were
 pub record HasList (section : List ℕ) (offset count : ℕ) (old new : List ListPart) : Type 0 where
   pub next : ℕ
   pub listed : list_at section offset ≡ Some (take count new, next)

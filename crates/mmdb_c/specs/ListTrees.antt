@@ -58,7 +58,7 @@ abbrev mutual
   pairs_unchained no_pairs = true
   pairs_unchained (pair k v ps) = is_unchained k && (is_unchained v && pairs_unchained ps)
 
--- the part of a value whose header stands at a place, before an offset
+-- the part of a value whose header is at a place, before an offset
 abbrev pub part_of : EntryPlace → ℕ → Tree → ListPart
 part_of place next (scalar c) = scalar_part place next c
 part_of place next t = container_part place next
@@ -71,15 +71,15 @@ pub record IsPartOf (s : List ℕ) (t : Tree) (x : ListPart) : Type 0 where
   pub unfolds : Unfolds s place.offset t end
   pub part : x ≡ part_of place (end_of place end) t
 
--- so many parts are those of these values, in their order
+-- these parts are those of as many values, in their order
 abbrev pub ArePartsOf : List ℕ → List Tree → List ListPart → Type 0
 ArePartsOf s [] [] = Unit {0}
 ArePartsOf s [] (x ∷ xs) = ⊥
 ArePartsOf s (t ∷ ts) [] = ⊥
 ArePartsOf s (t ∷ ts) (x ∷ xs) = IsPartOf s t x × ArePartsOf s ts xs
 
--- a tree unfolds at an offset and ends before another; no pointer of it leads to a pointer, and it has at most so many
--- values on a way down
+-- a tree unfolds at an offset and ends before another; no pointer of it leads to a pointer, and it has at most
+-- `levels` values on a way down
 pub record CanList (levels : ℕ) (s : List ℕ) (p : ℕ) (t : Tree) (q : ℕ) : Type 0 where
   pub unfolds : Unfolds s p t q
   pub unchained : is_unchained t ≡ true

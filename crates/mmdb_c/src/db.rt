@@ -106,7 +106,7 @@ impl Db<'_> {
         }
     }
 
-    // How many zero bits stand before an IPv4 address.
+    // How many zero bits come before an IPv4 address.
     #[inline(always)]
     pub(crate) fn before_ipv4(&self) -> u32
         ensures value { result ≡ (if self.now.facts.ip_version == 6 then 96 else 0) }

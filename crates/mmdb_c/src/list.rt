@@ -57,7 +57,7 @@ pub struct EntryPlace {
     pub after: Option<usize>,
 }
 
-// The value that an offset stands for, behind one pointer or none.
+// The value that an offset stands for, through one pointer or none.
 #[inline(always)]
 #[tactic(auto, unfolding(crate::specs::List::place_at))]
 fn place_at(section: &[u8], offset: usize) -> Result<EntryPlace, ListStop>
