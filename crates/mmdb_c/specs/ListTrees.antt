@@ -71,7 +71,7 @@ pub record IsPartOf (s : List ℕ) (t : Tree) (x : ListPart) : Type 0 where
   pub unfolds : Unfolds s place.offset t end
   pub part : x ≡ part_of place (end_of place end) t
 
--- these parts are those of as many values, in their order
+-- the parts are those of these values, one of each, in their order
 abbrev pub ArePartsOf : List ℕ → List Tree → List ListPart → Type 0
 ArePartsOf s [] [] = Unit {0}
 ArePartsOf s [] (x ∷ xs) = ⊥
