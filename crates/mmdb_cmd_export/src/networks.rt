@@ -42,7 +42,7 @@ fn report_unread<W: NetworkSink, O: Write, E: Pace>(
     reported
 }
 
-// Writes the chosen networks, and what stands behind them.
+// Writes the chosen networks, and what comes after them.
 fn export_all<'r, W: NetworkSink, O: Write, E: Pace>(
     networks: Networks<'r>,
     export: &mut Export<'_, 'r, W>,
