@@ -307,7 +307,7 @@ pub fn info(alloc: Global, bytes: &[u8], json: bool) -> Result<Vec<u8>, ProgramE
     Ok(text?)
 }
 
-// Says what is wrong with the fields, behind what was written of them, and answers the status.
+// Says what is wrong with the fields, after what was written of them, and answers the status.
 fn note_fields<O: Write, E: Write>(
     file: &str,
     fields: &FieldPaths<'_>,

@@ -79,7 +79,7 @@ fn most_age_of<R: Clock>(rt: &R, alloc: Global, text: &str) -> Result<MostAge, P
     })
 }
 
-// The pattern of a text. An `Err` where a `*` stands inside.
+// The pattern of a text. An `Err` where a `*` is inside.
 fn pattern_of<'a>(alloc: Global, text: &'a str) -> Result<TypePattern<'a>, NoRequest> {
     let pattern = TypePattern {
         text,
