@@ -20,7 +20,7 @@ use std::rt::Files;
 /// How many stretches are compared together.
 const MOST_WAITING: usize = 64;
 
-/// Each time that those were compared this many times it is shown how many were.
+/// After this many times of comparing them it is shown how many were.
 const STEP: u64 = 1_024;
 
 // What `diff` is asked for.

@@ -12,7 +12,7 @@ use std::io::Write;
 /// How many networks are looked at together.
 const MOST_WAITING: usize = 64;
 
-/// Each time that those were written this many times it is shown how many networks passed.
+/// After this many times that those were written it is shown how many networks passed.
 const STEP: u64 = 1_024;
 
 /// An export of the chosen networks.
