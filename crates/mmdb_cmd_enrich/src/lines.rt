@@ -1,4 +1,4 @@
-//! Rows with fields behind them.
+//! Rows with fields after them.
 use crate::enrichment::Enrichment;
 use crate::fields::wanted_fields;
 use crate::header::column_of;
@@ -159,7 +159,7 @@ where
     Ok(counts)
 }
 
-// Copies rows with fields behind each, and reports how they fared.
+// Copies rows with fields after each, and reports how they fared.
 fn enrich_rows<I: Live, O: Write, E: Pace>(
     enrichment: &Enrichment<'_, '_, Vec<u8>>,
     input: &mut I,
@@ -185,7 +185,7 @@ fn enrich_rows<I: Live, O: Write, E: Pace>(
     Ok(passage.notes.end(counts, unasked, text, console))
 }
 
-// Copies rows with fields behind each, and reports how they fared.
+// Copies rows with fields after each, and reports how they fared.
 fn enrich_columns<I: Live, O: Write, E: Pace>(
     database: &Database,
     task: RowsTask<'_>,
