@@ -57,7 +57,7 @@ fn against(standing: Standing, may_be_missing: bool) -> Option<&'static str> {
     }
 }
 
-// What stands at a path, where that is no reason against it, which is reported.
+// What is at a path, where that is no reason against it, which is reported.
 fn standing_at<R: Files, O: Write, E: Write>(
     rt: &R,
     path: &str,
