@@ -121,7 +121,7 @@ none_put nulls wanted name fields line outcome addition old new is puts = subst 
 pub rejected_put : (db : Database) (nulls : Bool) (name : List ℕ) (fields : List NamedField) (line : Line) (address : IpAddr) (addition : Added) (old : List ℕ) → HasUnreadMember db fields address → addition.outcome ≡ Failed → PutsMemberFor db nulls name fields line (Some address) addition old old
 rejected_put db nulls name fields line address addition old rejected o = ([], inl (refl, o, rejected), sym (append-nil old))
 
--- as many bytes after it as after the brace, or none
+-- as many bytes after the member as after the brace, or none
 pub behind_put : (line : Line) (text : List ℕ) (outcome : Outcome) (addition : Added) (old new : List ℕ) → (outcome ≡ Found) ⊎ (outcome ≡ Failed) → PutsMember line text outcome addition old new → addition.behind ≤ line.behind
 behind_put line text outcome addition old new (inl here) puts =
     let (o, b, put) = subst (λ x. PutsMember line text x addition old new) here puts in omega (arith, b)

@@ -20,8 +20,7 @@ unfoldable pub cell_length : Rows → Position → List ℕ → ℕ
 cell_length rows position [] = 0
 cell_length rows position (x ∷ xs) = if x == delimiter_of rows && not (is_quoted position) then 0 else suc (cell_length rows (position_after rows position x) xs)
 
--- the cell after a number of delimiters; none where the text ends before, or goes on where the cell does not
--- end
+-- the cell after a number of delimiters; none where the text ends before, or goes on where the cell does not end
 abbrev pub column_of : Rows → Bool → ℕ → List ℕ → Option (List ℕ)
 column_of rows goes_on zero xs =
     if nat_lt (cell_length rows Cell xs) (length xs) then Some (take (cell_length rows Cell xs) xs) else (if goes_on then None else Some (take (cell_length rows Cell xs) xs))

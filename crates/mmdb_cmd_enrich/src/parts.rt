@@ -25,7 +25,7 @@ fn front_of(delimiter: u8, line: &[u8]) -> Option<&[u8]>
     Some(&line[..end])
 }
 
-// A line itself, where its first word is that of its first cell: tabs are between its cells, and no blank comes first.
+// A line itself, where its first word is that of its first cell: tabs separate its cells, and no blank comes first.
 #[inline(always)]
 fn line_of(delimiter: u8, line: &[u8]) -> Option<&[u8]>
     ensures { IfSome result (λ whole. first_word whole.now

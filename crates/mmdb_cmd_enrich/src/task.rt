@@ -68,7 +68,7 @@ fn column_of<'a>(alloc: Global, text: &'a str, header: bool) -> Result<Column<'a
 /// Lines with tabs between the cells.
 pub(crate) const LINES: Rows = Rows::Lines { delimiter: b'\t' };
 
-// What rows are, by what separates their cells: between those of a line tabs, or what is asked for where quotes mean nothing;
+// What rows are, by what separates their cells: those of a line tabs, or what is asked for where quotes mean nothing;
 // else they are CSV.
 fn rows_of(alloc: Global, delimiter: Option<&str>, no_quotes: bool) -> Result<Rows, NoRequest> {
     let Some(text) = delimiter else {
