@@ -380,8 +380,8 @@ fn verify_all<R: Files, O: Write, E: Pace>(
     Ok(status)
 }
 
-/// Writes of each file what is wrong with it, if something is, and answers the status: whether it is whole and, unless only that
-/// is asked, all its records can be read, and whether it is of the type and the time that are asked for. An `Err` where an
+/// Writes of each file what is wrong with it, if something is, and answers the status: whether it is whole and, unless only
+/// that is asked, all its records can be read, and whether it is of the type and the time that are asked for. An `Err` where an
 /// argument is not what is wanted in its place, standard output can't be written, or out of memory.
 pub fn verify<R: Files + Clock, O: Write, E: Pace>(
     rt: &R,

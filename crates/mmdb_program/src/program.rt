@@ -115,8 +115,8 @@ fn run_request<R: Files + Env + Clock, I: Live, O: Write, E: Pace>(
 
 /// What the program does with its arguments, its own name first, and the status that it ends with.
 ///
-/// 0: done. 1: an error, which is reported on `errors` with the file, the stream or the argument. 2: a usage error; no file was opened,
-/// unless for a column that the first line has not. 6: an address has no record, or a path leads nowhere in it. 7: two
+/// 0: done. 1: an error, which is reported on `errors` with the file, the stream or the argument. 2: a usage error; no file was
+/// opened, unless for a column that the first line has not. 6: an address has no record, or a path leads nowhere in it. 7: two
 /// files differ, where that was asked. Faults of `errors` change no status.
 pub fn run<R: Files + Env + Clock, I: Live, O: Write, E: Write>(
     rt: &R,
