@@ -173,7 +173,7 @@ impl Argument {
 
 /// Which options of a command are made. Each start pays for what is made.
 #[derive(Clone, Copy, PartialEq, Eq)]
-pub(crate) enum Options {
+pub(crate) enum MadeOptions {
     /// Those that the words of the command line give, and those that have a value else: all that is looked for.
     Given,
     /// All: what help and errors may name.
@@ -632,9 +632,9 @@ fn is_given(words: &[String], name: &str) -> bool {
 }
 
 // Whether an argument is made.
-fn is_made(argument: Argument, words: &[String], options: Options) -> bool {
+fn is_made(argument: Argument, words: &[String], options: MadeOptions) -> bool {
     match argument.optional_name() {
-        Some(name) => options == Options::All || is_given(words, name),
+        Some(name) => options == MadeOptions::All || is_given(words, name),
         None => true,
     }
 }
@@ -644,7 +644,7 @@ fn command_of<'a>(
     alloc: Global,
     usage: &Usage,
     words: &[String],
-    options: Options,
+    options: MadeOptions,
 ) -> Result<Command<'a>, AllocError> {
     let mut command = Command::new(alloc, usage.name)
         .about(usage.about)
@@ -662,13 +662,13 @@ fn is_among(words: &[String], name: &str) -> bool {
     words.iter().any(|word| word.as_str() == name)
 }
 
-// A program with more commands. A command has its own arguments only where its name stands in the command line: else nobody
-// asks for it or its help.
+// A program with more commands. A command has its own arguments only where its name is in the command line: else nobody asks
+// for it or its help.
 fn with_commands<'a>(
     alloc: Global,
     program: Command<'a>,
     words: &[String],
-    options: Options,
+    options: MadeOptions,
     usages: &[Usage],
 ) -> Result<Command<'a>, AllocError> {
     let mut program = program;
@@ -687,7 +687,7 @@ fn with_reading<'a>(
     alloc: Global,
     program: Command<'a>,
     words: &[String],
-    options: Options,
+    options: MadeOptions,
 ) -> Result<Command<'a>, AllocError> {
     with_commands(alloc, program, words, options, READING)
 }
@@ -696,7 +696,7 @@ fn with_exporting<'a>(
     alloc: Global,
     program: Command<'a>,
     words: &[String],
-    options: Options,
+    options: MadeOptions,
 ) -> Result<Command<'a>, AllocError> {
     with_commands(alloc, program, words, options, EXPORTING)
 }
@@ -705,7 +705,7 @@ fn with_comparing<'a>(
     alloc: Global,
     program: Command<'a>,
     words: &[String],
-    options: Options,
+    options: MadeOptions,
 ) -> Result<Command<'a>, AllocError> {
     with_commands(alloc, program, words, options, COMPARING)
 }
@@ -714,7 +714,7 @@ fn with_checking<'a>(
     alloc: Global,
     program: Command<'a>,
     words: &[String],
-    options: Options,
+    options: MadeOptions,
 ) -> Result<Command<'a>, AllocError> {
     with_commands(alloc, program, words, options, CHECKING)
 }
@@ -723,7 +723,7 @@ fn with_making<'a>(
     alloc: Global,
     program: Command<'a>,
     words: &[String],
-    options: Options,
+    options: MadeOptions,
 ) -> Result<Command<'a>, AllocError> {
     with_commands(alloc, program, words, options, MAKING)
 }
@@ -732,7 +732,7 @@ fn with_making<'a>(
 pub(crate) fn command<'a>(
     alloc: Global,
     words: &[String],
-    options: Options,
+    options: MadeOptions,
 ) -> Result<Command<'a>, AllocError> {
     let program = Command::new(alloc, "mmdb")
         .version("0.1.0")

@@ -6,7 +6,7 @@ mod rejected;
 mod request;
 mod shown;
 
-pub use rejected::{Message, NoRequest};
+pub use rejected::{ArgumentMessage, NoRequest};
 pub use request::{
     BuildArguments, ConditionTexts, DiffArguments, EnrichArguments, ExportArguments, Format, Hop,
     InfoArguments, InstallArguments, ListArguments, ListDiffArguments, Request, Reserved,

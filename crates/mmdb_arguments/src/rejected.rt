@@ -6,7 +6,7 @@ use std::alloc::{AllocError, AllocFailed, Global};
 
 /// A text in the place of a request: help, or what is wrong with the arguments.
 #[derive(Drop)]
-pub struct Message {
+pub struct ArgumentMessage {
     pub text: String,
     pub is_error: bool,
 }
@@ -15,7 +15,7 @@ pub struct Message {
 #[derive(Drop)]
 pub enum NoRequest {
     /// There is something to say in its place.
-    Message(Message),
+    Message(ArgumentMessage),
     /// Out of memory.
     Memory,
 }
@@ -35,7 +35,7 @@ impl<T: Drop> From<AllocFailed<T>> for NoRequest {
 // A message of this text, if there was memory for it.
 fn with_text(text: Result<String, AllocError>, is_error: bool) -> NoRequest {
     match text {
-        Ok(text) => NoRequest::Message(Message { text, is_error }),
+        Ok(text) => NoRequest::Message(ArgumentMessage { text, is_error }),
         Err(_) => NoRequest::Memory,
     }
 }

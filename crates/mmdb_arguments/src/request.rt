@@ -1,5 +1,5 @@
 //! What a command line asks for.
-use crate::commands::{Options, command};
+use crate::commands::{MadeOptions, command};
 use crate::rejected::NoRequest;
 use clap::ArgMatches;
 use std::alloc::{AllocError, Global};
@@ -35,9 +35,9 @@ pub enum Hop {
 #[derive(Drop)]
 pub struct EnrichArguments<'a> {
     pub file: &'a str,
-    /// What else stands where the file does.
+    /// What else is in the place of the file.
     pub others: Vec<&'a str>,
-    /// A text that should be what stands between columns.
+    /// A text that should be what separates columns.
     pub delimiter: Option<&'a str>,
     /// A text that should be the number of a column, or with a header its name.
     pub column: &'a str,
@@ -51,7 +51,7 @@ pub struct EnrichArguments<'a> {
     /// Whether objects without a record get the member too.
     pub nulls: bool,
     pub hop: Hop,
-    /// Whether the address may stand anywhere in a row.
+    /// Whether the address may be anywhere in a row.
     pub anywhere: bool,
     /// Whether a cell holds an address and nothing else.
     pub exact: bool,
@@ -234,7 +234,7 @@ pub enum Request<'a> {
     Show(ShowArguments<'a>),
     /// What a database says of itself.
     Info(InfoArguments<'a>),
-    /// Fields behind lines.
+    /// Fields after lines.
     Enrich(EnrichArguments<'a>),
     /// Every network with its record.
     Export(ExportArguments<'a>),
@@ -545,7 +545,7 @@ fn of_command<'a>(
 fn matches_of<'a>(
     alloc: Global,
     arguments: &'a [String],
-    options: Options,
+    options: MadeOptions,
 ) -> Result<ArgMatches<'a>, NoRequest> {
     match command(alloc, arguments, options)?.try_get_matches_from(arguments) {
         Ok(matches) => Ok(matches),
@@ -555,10 +555,10 @@ fn matches_of<'a>(
 
 /// What a command line asks for, the program's name first.
 pub fn request_of<'a>(alloc: Global, arguments: &'a [String]) -> Result<Request<'a>, NoRequest> {
-    let matches = match matches_of(alloc, arguments, Options::Given) {
+    let matches = match matches_of(alloc, arguments, MadeOptions::Given) {
         Ok(matches) => matches,
         // help names all options, and an error those that are alike
-        Err(_) => matches_of(alloc, arguments, Options::All)?,
+        Err(_) => matches_of(alloc, arguments, MadeOptions::All)?,
     };
     match matches.subcommand() {
         Some((name, matches)) => of_command(alloc, name, matches),

@@ -9,8 +9,8 @@ use Rattle.mmdb_format.specs.Unfolding.{Tree, scalar, array, table, pointer, Tre
 use Rattle.mmdb_format.specs.declared.header.Header.{Header}
 use Rattle.mmdb_format.specs.declared.header.Pointer.{Pointer}
 use Rattle.mmdb_format.proofs.UnfoldingLaws.{no_content_of_pointer, no_content_of_table, no_content_of_array}
-use Rattle.mmdb_c.specs.declared.list.Part.{Part}
-use Rattle.mmdb_c.specs.declared.list.Place.{Place}
+use Rattle.mmdb_c.specs.declared.list.ListPart.{ListPart}
+use Rattle.mmdb_c.specs.declared.list.EntryPlace.{EntryPlace}
 use Rattle.mmdb_c.specs.List.{in_series, joined, listed, place_at, parts_of, scalar_part, scalar_parts, scalar_parts_at, container_part, container_parts, is_container, count_of, end_of}
 use Rattle.mmdb_c.specs.ListTrees.{preorder, preorder_of_trees, preorder_of_pairs, depth, depth_of_trees, depth_of_pairs, is_value, is_unchained, are_unchained, pairs_unchained, ArePartsOf, CanList, ListsWhatUnfolds, EachTreeIsListed}
 
@@ -39,7 +39,7 @@ second_of_both : (a b : Bool) → a && b ≡ true → b ≡ true
 second_of_both true b h = h
 second_of_both false b h = absurd (cc)
 
-parts_joined : (s : List ℕ) (ts us : List Tree) (xs ys : List Part) → ArePartsOf s ts xs → ArePartsOf s us ys → ArePartsOf s (ts ++ us) (xs ++ ys)
+parts_joined : (s : List ℕ) (ts us : List Tree) (xs ys : List ListPart) → ArePartsOf s ts xs → ArePartsOf s us ys → ArePartsOf s (ts ++ us) (xs ++ ys)
 parts_joined s [] us [] ys h k = k
 parts_joined s [] us (x ∷ xs) ys h k = absurd h
 parts_joined s (t ∷ ts) us [] ys h k = absurd h
@@ -64,7 +64,7 @@ led_unchained (Some a) t h k = both (is_value t) (is_unchained t) h k
 
 module _ (s : List ℕ) where
   -- what is listed unfolds
-  abbrev Placed : ℕ → Place → Type 0
+  abbrev Placed : ℕ → EntryPlace → Type 0
   Placed p place = (to : Option ℕ) × (header_at s place.offset ≡ Some place.header) × ((t : Tree) (q : ℕ) → Unfolds s place.offset t q → Unfolds s p (led_to to t) (end_of place q))
 
   placed : (p : ℕ) → IfSome (place_at s p) (Placed p)
@@ -79,35 +79,35 @@ module _ (s : List ℕ) where
       (λ n. (Some to.target, b, λ t q u. let one : header.kind ≡ 1 = grind (arith, nat_tests) in pointer_here h one a u)))))
       (λ k. (None, h, λ t q u. u)))
 
-  abbrev Found : ℕ → ℕ → List Part × ℕ → Type 0
+  abbrev Found : ℕ → ℕ → List ListPart × ℕ → Type 0
   Found n p r = (t : Tree) × CanList n s p t r.1 × ArePartsOf s (preorder t) r.0
 
-  pub record AreFound (n count p : ℕ) (ts : Trees) (r : List Part × ℕ) : Type 0 where
+  pub record AreFound (n count p : ℕ) (ts : Trees) (r : List ListPart × ℕ) : Type 0 where
     pub unfolds : AllUnfold s p count ts r.1
     pub unchained : are_unchained ts ≡ true
     pub within : depth_of_trees ts ≤ n
     pub parts : ArePartsOf s (preorder_of_trees ts) r.0
 
-  pub record PairsFound (n count p : ℕ) (ps : Pairs) (r : List Part × ℕ) : Type 0 where
+  pub record PairsFound (n count p : ℕ) (ps : Pairs) (r : List ListPart × ℕ) : Type 0 where
     pub unfolds : PairsUnfold s p count ps r.1
     pub unchained : pairs_unchained ps ≡ true
     pub within : depth_of_pairs ps ≤ n
     pub parts : ArePartsOf s (preorder_of_pairs ps) r.0
 
-  abbrev FoundTrees : ℕ → ℕ → ℕ → List Part × ℕ → Type 0
+  abbrev FoundTrees : ℕ → ℕ → ℕ → List ListPart × ℕ → Type 0
   FoundTrees n count p r = (ts : Trees) × AreFound n count p ts r
 
-  abbrev FoundPairs : ℕ → ℕ → ℕ → List Part × ℕ → Type 0
+  abbrev FoundPairs : ℕ → ℕ → ℕ → List ListPart × ℕ → Type 0
   FoundPairs n count p r = (ps : Pairs) × PairsFound n count p ps r
 
-  tree_more : (n count p : ℕ) (x : List Part × ℕ) (o : Option (List Part × ℕ)) → Found n p x → IfSome o (FoundTrees n count x.1) → IfSome (joined x.0 o) (FoundTrees n (suc count) p)
+  tree_more : (n count p : ℕ) (x : List ListPart × ℕ) (o : Option (List ListPart × ℕ)) → Found n p x → IfSome o (FoundTrees n count x.1) → IfSome (joined x.0 o) (FoundTrees n (suc count) p)
   tree_more n count p x None h k = tt
   tree_more n count p x (Some r) h k =
       let f = h.1 in
       let g = k.1 in
       (tree h.0 k.0, record { unfolds = one_more f.unfolds g.unfolds; unchained = both (is_unchained h.0) (are_unchained k.0) f.unchained g.unchained; within = omega (arith, f.within, g.within); parts = parts_joined s (preorder h.0) (preorder_of_trees k.0) x.0 r.0 h.2 g.parts })
 
-  pair_more : (n count p : ℕ) (x y : List Part × ℕ) (o : Option (List Part × ℕ)) → Found n p x → Found n x.1 y → IfSome o (FoundPairs n count y.1) → IfSome (joined x.0 (joined y.0 o)) (FoundPairs n (suc count) p)
+  pair_more : (n count p : ℕ) (x y : List ListPart × ℕ) (o : Option (List ListPart × ℕ)) → Found n p x → Found n x.1 y → IfSome o (FoundPairs n count y.1) → IfSome (joined x.0 (joined y.0 o)) (FoundPairs n (suc count) p)
   pair_more n count p x y None h i k = tt
   pair_more n count p x y (Some r) h i k =
       let f = h.1 in
@@ -122,12 +122,12 @@ module _ (s : List ℕ) where
         },
       )
 
-  module _ (read : ℕ → Option (List Part × ℕ)) (n : ℕ) (each : (p : ℕ) → IfSome (read p) (Found n p)) where
+  module _ (read : ℕ → Option (List ListPart × ℕ)) (n : ℕ) (each : (p : ℕ) → IfSome (read p) (Found n p)) where
     trees_sound : (count p : ℕ) → IfSome (in_series read count p) (FoundTrees n count p)
     trees_sound zero p = (no_trees, record { unfolds = none_left; unchained = refl; within = omega arith; parts = tt })
     trees_sound (suc count) p = if_bind (read p) _ (FoundTrees n (suc count) p) (λ x e. tree_more n count p x (in_series read count x.1) (if_is (read p) (Found n p) x (each p) e) (trees_sound count x.1))
 
-    value_more : (count p : ℕ) (x : List Part × ℕ) (o : Option (List Part × ℕ)) → Found n p x → read x.1 ≡ o → ((q : ℕ) → IfSome (in_series read (2 * count) q) (FoundPairs n count q)) → IfSome (joined x.0 (o >>= λ y. joined y.0 (in_series read (2 * count) y.1))) (FoundPairs n (suc count) p)
+    value_more : (count p : ℕ) (x : List ListPart × ℕ) (o : Option (List ListPart × ℕ)) → Found n p x → read x.1 ≡ o → ((q : ℕ) → IfSome (in_series read (2 * count) q) (FoundPairs n count q)) → IfSome (joined x.0 (o >>= λ y. joined y.0 (in_series read (2 * count) y.1))) (FoundPairs n (suc count) p)
     value_more count p x None h e k = tt
     value_more count p x (Some y) h e k = pair_more n count p x y (in_series read (2 * count) y.1) h (if_is (read x.1) (Found n x.1) y (each x.1) e) (k y.1)
 
@@ -138,36 +138,36 @@ module _ (s : List ℕ) where
         subst (λ m. IfSome (in_series read m p) (FoundPairs n (suc count) p)) (sym twice)
         (if_bind (read p) _ (FoundPairs n (suc count) p) (λ x e. value_more count p x (read x.1) (if_is (read p) (Found n p) x (each p) e) refl (pairs_sound count)))
 
-  -- a value that is no pointer, and its parts, behind a pointer or none
-  own_found : (n p q : ℕ) (place : Place) (t : Tree) (parts : List Part) → Placed p place → Unfolds s place.offset t q → is_value t ≡ true → is_unchained t ≡ true → depth t ≤ n → ArePartsOf s (preorder t) parts → Found n p (parts, end_of place q)
+  -- a value that is no pointer, and its parts, through a pointer or none
+  own_found : (n p q : ℕ) (place : EntryPlace) (t : Tree) (parts : List ListPart) → Placed p place → Unfolds s place.offset t q → is_value t ≡ true → is_unchained t ≡ true → depth t ≤ n → ArePartsOf s (preorder t) parts → Found n p (parts, end_of place q)
   own_found n p q place t parts l u v w d a = (
     led_to l.0 t,
     record { unfolds = l.2 t q u; unchained = led_unchained l.0 t v w; within = subst (λ m. m ≤ n) (sym (led_depth l.0 t)) d },
     subst (λ ts. ArePartsOf s ts parts) (sym (led_parts l.0 t)) a,
   )
 
-  module _ (n p : ℕ) (place : Place) (l : Placed p place) where
+  module _ (n p : ℕ) (place : EntryPlace) (l : Placed p place) where
     scalar_done : (o : Option Scalar) → content_at s place.header ≡ o → IfSome (o >>= λ c. Some (scalar_parts place c)) (Found (suc n) p)
     scalar_done None e = tt
     scalar_done (Some c) e =
         let u : Unfolds s place.offset (scalar c) (content_end place.header) = scalar_here l.1 e in
         own_found (suc n) p (content_end place.header) place (scalar c) (scalar_part place (end_of place (content_end place.header)) c ∷ []) l u refl refl (omega arith) (record { place = place; end = content_end place.header; header = l.1; unfolds = u; part = refl }, tt)
 
-    array_done : (o : Option (List Part × ℕ)) → place.header.kind ≡ 11 → IfSome o (FoundTrees n place.header.size place.header.body) → IfSome (o >>= λ r. Some (container_parts place r)) (Found (suc n) p)
+    array_done : (o : Option (List ListPart × ℕ)) → place.header.kind ≡ 11 → IfSome o (FoundTrees n place.header.size place.header.body) → IfSome (o >>= λ r. Some (container_parts place r)) (Found (suc n) p)
     array_done None k h = tt
     array_done (Some r) k h =
         let g = h.1 in
         let u : Unfolds s place.offset (array h.0) r.1 = array_here l.1 k g.unfolds in
         own_found (suc n) p r.1 place (array h.0) (container_part place (end_of place r.1) ∷ r.0) l u refl g.unchained (omega (arith, g.within)) (record { place = place; end = r.1; header = l.1; unfolds = u; part = refl }, g.parts)
 
-    table_done : (o : Option (List Part × ℕ)) → place.header.kind ≡ 7 → IfSome o (FoundPairs n place.header.size place.header.body) → IfSome (o >>= λ r. Some (container_parts place r)) (Found (suc n) p)
+    table_done : (o : Option (List ListPart × ℕ)) → place.header.kind ≡ 7 → IfSome o (FoundPairs n place.header.size place.header.body) → IfSome (o >>= λ r. Some (container_parts place r)) (Found (suc n) p)
     table_done None k h = tt
     table_done (Some r) k h =
         let g = h.1 in
         let u : Unfolds s place.offset (table h.0) r.1 = table_here l.1 k g.unfolds in
         own_found (suc n) p r.1 place (table h.0) (container_part place (end_of place r.1) ∷ r.0) l u refl g.unchained (omega (arith, g.within)) (record { place = place; end = r.1; header = l.1; unfolds = u; part = refl }, g.parts)
 
-    module _ (read : ℕ → Option (List Part × ℕ)) (each : (p : ℕ) → IfSome (read p) (Found n p)) where
+    module _ (read : ℕ → Option (List ListPart × ℕ)) (each : (p : ℕ) → IfSome (read p) (Found n p)) where
       container_done : (seven eleven : Bool) → nat_eq place.header.kind 7 ≡ seven → nat_eq place.header.kind 11 ≡ eleven → seven || eleven ≡ true → IfSome (in_series read (cond seven (2 * place.header.size) place.header.size) place.header.body >>= λ r. Some (container_parts place r)) (Found (suc n) p)
       container_done true eleven a b h = let seven : place.header.kind ≡ 7 = grind (arith, nat_tests) in table_done (in_series read (2 * place.header.size) place.header.body) seven (pairs_sound read n each place.header.size place.header.body)
       container_done false true a b h = let eleven : place.header.kind ≡ 11 = grind (arith, nat_tests) in array_done (in_series read place.header.size place.header.body) eleven (trees_sound read n each place.header.size place.header.body)
@@ -221,30 +221,30 @@ no_depth (table ps) d = absurd (omega (arith, d))
 no_depth (pointer a t) d = no_depth t d
 
 abbrev Listed : ℕ → List ℕ → ℕ → ℕ → Type 0
-Listed n s p q = (parts : List Part) × (listed n s p ≡ Some (parts, q))
+Listed n s p q = (parts : List ListPart) × (listed n s p ≡ Some (parts, q))
 
 module _ (s : List ℕ) (n : ℕ) where
   -- the parts of a value that is no pointer
-  abbrev OwnListed : Place → ℕ → Type 0
-  OwnListed place q = (parts : List Part) × (parts_of (listed n s) s place ≡ Some (parts, q))
+  abbrev OwnListed : EntryPlace → ℕ → Type 0
+  OwnListed place q = (parts : List ListPart) × (parts_of (listed n s) s place ≡ Some (parts, q))
 
-  container_listed : (place : Place) (parts : List Part) (q : ℕ) → is_container place.header ≡ true → in_series (listed n s) (count_of place.header) place.header.body ≡ Some (parts, q) → OwnListed place (end_of place q)
+  container_listed : (place : EntryPlace) (parts : List ListPart) (q : ℕ) → is_container place.header ≡ true → in_series (listed n s) (count_of place.header) place.header.body ≡ Some (parts, q) → OwnListed place (end_of place q)
   container_listed place parts q h e = (container_part place (end_of place q) ∷ parts, ap (λ b. cond b (in_series (listed n s) (count_of place.header) place.header.body >>= λ r. Some (container_parts place r)) (scalar_parts_at s place)) h ∙ ap (λ o. o >>= λ r. Some (container_parts place r)) e)
 
-  scalar_listed : (place : Place) (c : Scalar) → content_at s place.header ≡ Some c → OwnListed place (end_of place (content_end place.header))
+  scalar_listed : (place : EntryPlace) (c : Scalar) → content_at s place.header ≡ Some c → OwnListed place (end_of place (content_end place.header))
   scalar_listed place c e = (scalar_part place (end_of place (content_end place.header)) c ∷ [], ap (λ b. cond b (in_series (listed n s) (count_of place.header) place.header.body >>= λ r. Some (container_parts place r)) (scalar_parts_at s place)) (not_container s place.header c e) ∙ ap (λ o. o >>= λ c. Some (scalar_parts place c)) e)
 
-  at_place : (p q : ℕ) (place : Place) → place_at s p ≡ Some place → OwnListed place q → Listed (suc n) s p q
+  at_place : (p q : ℕ) (place : EntryPlace) → place_at s p ≡ Some place → OwnListed place q → Listed (suc n) s p q
   unfolding listed
   at_place p q place e h = (h.0, ap (λ o. o >>= parts_of (listed n s) s) e ∙ h.1)
 
-  series_more : (count p q r : ℕ) → Listed n s p q → (parts : List Part) × (in_series (listed n s) count q ≡ Some (parts, r)) → (parts : List Part) × (in_series (listed n s) (suc count) p ≡ Some (parts, r))
+  series_more : (count p q r : ℕ) → Listed n s p q → (parts : List ListPart) × (in_series (listed n s) count q ≡ Some (parts, r)) → (parts : List ListPart) × (in_series (listed n s) (suc count) p ≡ Some (parts, r))
   series_more count p q r h k = (h.0 ++ k.0, ap (λ o. o >>= λ first. joined first.0 (in_series (listed n s) count first.1)) h.1 ∙ ap (λ o. joined h.0 o) k.1)
 
 abbrev SeriesListed : ℕ → List ℕ → ℕ → ℕ → ℕ → Type 0
-SeriesListed n s count p q = (parts : List Part) × (in_series (listed n s) count p ≡ Some (parts, q))
+SeriesListed n s count p q = (parts : List ListPart) × (in_series (listed n s) count p ≡ Some (parts, q))
 
-module _ (s : List ℕ) (n q : ℕ) (place : Place) where
+module _ (s : List ℕ) (n q : ℕ) (place : EntryPlace) where
   array_listed : place.header.kind ≡ 11 → SeriesListed n s place.header.size place.header.body q → OwnListed s n place (end_of place q)
   array_listed k all =
       let holds : is_container place.header ≡ true = rw k refl in
@@ -257,10 +257,10 @@ module _ (s : List ℕ) (n q : ℕ) (place : Place) where
       let count : count_of place.header ≡ 2 * place.header.size = rw k refl in
       container_listed s n place all.0 q holds (ap (λ m. in_series (listed n s) m place.header.body) count ∙ all.1)
 
-abbrev here : ℕ → Header → Place
+abbrev here : ℕ → Header → EntryPlace
 here p x = record { offset = p; header = x; after = None }
 
-abbrev there : Pointer → Header → Place
+abbrev there : Pointer → Header → EntryPlace
 there to x = record { offset = to.target; header = x; after = Some to.next }
 
 mutual

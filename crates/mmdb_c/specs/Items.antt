@@ -1,4 +1,4 @@
--- What stands at an offset of a section, as C is given it.
+-- What is at an offset of a section, as C is given it.
 use Rattle.std.specs.Prelude.{ℕ, ◌+◌, ◌/◌, ◌%◌, ◌^◌, List, Option, Some, None, Bool, true, false, nat_eq, ◌||◌, if◌then◌else◌}
 use Rattle.std.specs.Int.{cast_unsigned, w32, from_bool}
 use Rattle.mmdb_format.specs.declared.header.Header.{Header}

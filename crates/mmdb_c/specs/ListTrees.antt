@@ -3,8 +3,8 @@ use Rattle.std.specs.Prelude.{◌≡◌, ◌≤◌, ℕ, suc, max, ◌++◌, Lis
 use Rattle.mmdb_format.specs.Header.{header_at}
 use Rattle.mmdb_format.specs.Unfolding.{Tree, scalar, array, table, pointer, Trees, no_trees, tree, Pairs, no_pairs, pair, Unfolds}
 use Rattle.mmdb_c.specs.List.{scalar_part, container_part, end_of, listed}
-use Rattle.mmdb_c.specs.declared.list.Part.{Part}
-use Rattle.mmdb_c.specs.declared.list.Place.{Place}
+use Rattle.mmdb_c.specs.declared.list.ListPart.{ListPart}
+use Rattle.mmdb_c.specs.declared.list.EntryPlace.{EntryPlace}
 
 -- the values of a tree, each map and array before those that it holds, without pointers
 abbrev mutual
@@ -58,28 +58,28 @@ abbrev mutual
   pairs_unchained no_pairs = true
   pairs_unchained (pair k v ps) = is_unchained k && (is_unchained v && pairs_unchained ps)
 
--- the part of a value whose header stands at a place, before an offset
-abbrev pub part_of : Place → ℕ → Tree → Part
+-- the part of a value whose header is at a place, before an offset
+abbrev pub part_of : EntryPlace → ℕ → Tree → ListPart
 part_of place next (scalar c) = scalar_part place next c
 part_of place next t = container_part place next
 
 -- a part is that of a value: its offset, its type and its size are those of the value, or of the number the number
-pub record IsPartOf (s : List ℕ) (t : Tree) (x : Part) : Type 0 where
-  pub place : Place
+pub record IsPartOf (s : List ℕ) (t : Tree) (x : ListPart) : Type 0 where
+  pub place : EntryPlace
   pub end : ℕ
   pub header : header_at s place.offset ≡ Some place.header
   pub unfolds : Unfolds s place.offset t end
   pub part : x ≡ part_of place (end_of place end) t
 
--- so many parts are those of these values, in their order
-abbrev pub ArePartsOf : List ℕ → List Tree → List Part → Type 0
+-- the parts are those of these values, one of each, in their order
+abbrev pub ArePartsOf : List ℕ → List Tree → List ListPart → Type 0
 ArePartsOf s [] [] = Unit {0}
 ArePartsOf s [] (x ∷ xs) = ⊥
 ArePartsOf s (t ∷ ts) [] = ⊥
 ArePartsOf s (t ∷ ts) (x ∷ xs) = IsPartOf s t x × ArePartsOf s ts xs
 
--- a tree unfolds at an offset and ends before another; no pointer of it leads to a pointer, and it has at most so many
--- values on a way down
+-- a tree unfolds at an offset and ends before another; no pointer of it leads to a pointer, and it has at most
+-- `levels` values on a way down
 pub record CanList (levels : ℕ) (s : List ℕ) (p : ℕ) (t : Tree) (q : ℕ) : Type 0 where
   pub unfolds : Unfolds s p t q
   pub unchained : is_unchained t ≡ true
@@ -88,11 +88,11 @@ pub record CanList (levels : ℕ) (s : List ℕ) (p : ℕ) (t : Tree) (q : ℕ) 
 -- what is listed is such a tree, in preorder, and the list ends where the tree does
 abbrev pub ListsWhatUnfolds : Type 0
 ListsWhatUnfolds =
-    (levels : ℕ) (s : List ℕ) (p q : ℕ) (parts : List Part) → listed levels s p ≡ Some (parts, q) →
+    (levels : ℕ) (s : List ℕ) (p q : ℕ) (parts : List ListPart) → listed levels s p ≡ Some (parts, q) →
     (t : Tree) × CanList levels s p t q × ArePartsOf s (preorder t) parts
 
 -- each such tree is listed
 abbrev pub EachTreeIsListed : Type 0
 EachTreeIsListed =
     (levels : ℕ) (s : List ℕ) (p q : ℕ) (t : Tree) → CanList levels s p t q →
-    (parts : List Part) × (listed levels s p ≡ Some (parts, q))
+    (parts : List ListPart) × (listed levels s p ≡ Some (parts, q))

@@ -39,8 +39,8 @@ pub record IsReadableFile (file : List ℕ) : Type 0 where
 abbrev pub tree : List ℕ → Facts → SearchTree
 tree file facts = search_tree file facts.node_count facts.record_size
 
--- The numbers are those of the database: of its metadata ("Database Metadata"), where its marker stands and
--- its data section begins, and where IPv4 begins in its tree, after how many bits.
+-- The numbers are those of the database: of its metadata ("Database Metadata"), where its marker is and its data
+-- section begins, and where IPv4 begins in its tree, after how many bits.
 pub record IsOf (db : Database) (facts : Facts) : Type 0 where
   pub nodes : facts.node_count ≡ db.metadata.node_count
   pub record_size : facts.record_size ≡ db.metadata.record_size

@@ -1,6 +1,6 @@
 -- What contracts of private functions and proofs name.
 use Rattle.std.specs.Prelude.{◌≡◌, ◌<◌, ◌≤◌, ℕ, ◌+◌, ◌++◌, List, length, take, drop, Option, Some, true, false, slice_index_or}
-use Rattle.mmdb_c.specs.declared.list.Part.{Part}
+use Rattle.mmdb_c.specs.declared.list.ListPart.{ListPart}
 use Rattle.std.specs.declared.net.ip_addr.IpAddr.{IpAddr}
 use Rattle.std.specs.declared.net.ip_addr.IpAddr.TheVariants.{V4, V6}
 use Rattle.std.specs.Net.Addr.{ipv4_bits, ipv6_bits}
@@ -13,7 +13,7 @@ use Rattle.mmdb_c.specs.Opened.{tree}
 use Rattle.mmdb_c.specs.Many.{ipv4_given, ipv6_given}
 
 -- From one place to another the memory has these parts; it is as it was before them and beyond them.
-pub record Written (parts : List Part) (first after : ℕ) (old new : List Part) : Type 0 where
+pub record Written (parts : List ListPart) (first after : ℕ) (old new : List ListPart) : Type 0 where
   pub count : after ≡ first + length parts
   pub room : after ≤ length old
   pub len : length new ≡ length old
@@ -21,8 +21,8 @@ pub record Written (parts : List Part) (first after : ℕ) (old new : List Part)
   pub beyond : drop after new ≡ drop after old
 
 -- the list is there, and it is written
-pub record IsListed (found : Option (List Part × ℕ)) (first after next : ℕ) (old new : List Part) : Type 0 where
-  pub parts : List Part
+pub record IsListed (found : Option (List ListPart × ℕ)) (first after next : ℕ) (old new : List ListPart) : Type 0 where
+  pub parts : List ListPart
   pub found_is : found ≡ Some (parts, next)
   pub written : Written parts first after old new
 

@@ -55,7 +55,7 @@ pub struct Found {
 
 // Where a walk along an address ended, and after how many bits.
 #[derive(Clone, Copy)]
-struct Leaf {
+struct ReachedLeaf {
     number: usize,
     taken: usize,
 }
@@ -75,7 +75,7 @@ impl Db<'_> {
 
     // Where an IPv4 address leads, where IPv4 begins on a node.
     #[inline(always)]
-    fn leaf_ipv4(&self, bits: u32) -> Leaf
+    fn leaf_ipv4(&self, bits: u32) -> ReachedLeaf
         requires { self.now.facts.ipv4_start < self.now.facts.node_count }
         ensures reached { let facts = self.now.facts in
             Descends (tree self.now.file.now facts) facts.ipv4_start (bits_of 32 bits)
@@ -84,14 +84,14 @@ impl Db<'_> {
     {
         let nodes = self.nodes();
         let descent = nodes.descend_ipv4(self.ipv4_numbers, self.ipv4_depths, bits);
-        Leaf {
+        ReachedLeaf {
             number: descent.number,
             taken: descent.taken,
         }
     }
 
     #[inline(always)]
-    fn leaf_ipv6(&self, bits: u128) -> Leaf
+    fn leaf_ipv6(&self, bits: u128) -> ReachedLeaf
         requires { self.now.facts.ip_version ≡ 6 }
         ensures reached { let facts = self.now.facts in
             Descends (tree self.now.file.now facts) 0 (bits_of 128 bits)
@@ -100,13 +100,13 @@ impl Db<'_> {
     {
         let nodes = self.nodes();
         let descent = nodes.descend_ipv6(self.ipv6_numbers, self.ipv6_depths, bits);
-        Leaf {
+        ReachedLeaf {
             number: descent.number,
             taken: descent.taken,
         }
     }
 
-    // How many zero bits stand before an IPv4 address.
+    // How many zero bits come before an IPv4 address.
     #[inline(always)]
     pub(crate) fn before_ipv4(&self) -> u32
         ensures value { result ≡ (if self.now.facts.ip_version == 6 then 96 else 0) }

@@ -88,7 +88,7 @@ fn item_at(section: &[u8], offset: usize) -> Result<Item, DecodeErrorKind>
     }
 }
 
-/// The value at an offset of a section, or false where no value stands there. A pointer is not followed.
+/// The value at an offset of a section, or false where no value is there. A pointer is not followed.
 #[unsafe(no_mangle)]
 pub extern "C" fn mmdb_c_value(section: &[u8], offset: usize, item: &mut Item) -> bool
     ensures value { result ≡ true → spec_item_at section.now offset ≡ Some item.new }

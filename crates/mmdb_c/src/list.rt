@@ -15,7 +15,7 @@ use mmdb_format::kind::{ARRAY, MAP, POINTER};
 /// the offset of their first byte; C puts the address there, and links the parts.
 #[repr(C)]
 #[derive(Clone, Copy)]
-pub struct Part {
+pub struct ListPart {
     pub has_data: u64,
     pub unused: u64,
     pub low: u64,
@@ -30,7 +30,7 @@ pub struct Part {
 
 // Why a list stopped.
 #[derive(Clone, Copy)]
-enum Stop {
+enum ListStop {
     Damaged,
     Full,
 }
@@ -51,40 +51,40 @@ fn short(n: usize) -> u32
 
 /// A value that is no pointer: its offset, its header, and the offset after the pointer that led to it.
 #[derive(Clone, Copy)]
-pub struct Place {
+pub struct EntryPlace {
     pub offset: usize,
     pub header: Header,
     pub after: Option<usize>,
 }
 
-// The value that an offset stands for, behind one pointer or none.
+// The value that an offset stands for, through one pointer or none.
 #[inline(always)]
 #[tactic(auto, unfolding(crate::specs::List::place_at))]
-fn place_at(section: &[u8], offset: usize) -> Result<Place, Stop>
+fn place_at(section: &[u8], offset: usize) -> Result<EntryPlace, ListStop>
     ensures value { result_ok result ≡ spec_place_at section.now offset }
     ensures bound { IfOk result (λ place. place.header.size < 2 ^ 25) }
-    ensures damaged { IfErr result (λ stop. stop ≡ Stop.Damaged) }
+    ensures damaged { IfErr result (λ stop. stop ≡ ListStop.Damaged) }
 {
     let Ok(own) = header_at(section, offset) else {
-        return Err(Stop::Damaged);
+        return Err(ListStop::Damaged);
     };
     if own.kind != POINTER {
-        return Ok(Place {
+        return Ok(EntryPlace {
             offset,
             header: own,
             after: None,
         });
     }
     let Ok(pointer) = pointer_at(section, own.body, own.size as u8) else {
-        return Err(Stop::Damaged);
+        return Err(ListStop::Damaged);
     };
     let Ok(header) = header_at(section, pointer.target) else {
-        return Err(Stop::Damaged);
+        return Err(ListStop::Damaged);
     };
     if header.kind == POINTER {
-        return Err(Stop::Damaged);
+        return Err(ListStop::Damaged);
     }
-    Ok(Place {
+    Ok(EntryPlace {
         offset: pointer.target,
         header,
         after: Some(pointer.next),
@@ -92,10 +92,10 @@ fn place_at(section: &[u8], offset: usize) -> Result<Place, Stop>
 }
 
 #[inline(always)]
-fn make_part(place: Place, next: usize, size: usize, low: u64, high: u64) -> Part
+fn make_part(place: EntryPlace, next: usize, size: usize, low: u64, high: u64) -> ListPart
     ensures { result ≡ part place next size low high }
 {
-    Part {
+    ListPart {
         has_data: 1,
         unused: 0,
         low,
@@ -151,13 +151,13 @@ fn count_of(header: Header) -> usize
 
 // The part of a value that holds no others, and the offset after it.
 #[inline(always)]
-fn scalar_part(section: &[u8], place: Place) -> Result<(Part, usize), Stop>
+fn scalar_part(section: &[u8], place: EntryPlace) -> Result<(ListPart, usize), ListStop>
     ensures value { option_map (λ x. (x.0 ∷ [], x.1)) (result_ok result) ≡
         scalar_parts_at section.now place }
-    ensures damaged { IfErr result (λ stop. stop ≡ Stop.Damaged) }
+    ensures damaged { IfErr result (λ stop. stop ≡ ListStop.Damaged) }
 {
     let Ok(content) = content_at(section, place.header) else {
-        return Err(Stop::Damaged);
+        return Err(ListStop::Damaged);
     };
     let next = place.after.unwrap_or(content_end(place.header));
     let (low, high, size) = number_of(place.header, content);
@@ -168,22 +168,22 @@ fn scalar_part(section: &[u8], place: Place) -> Result<(Part, usize), Stop>
 fn put(
     section: &[u8],
     offset: usize,
-    out: &mut [Part],
+    out: &mut [ListPart],
     parts: usize,
     levels: u16,
-) -> Result<Filled, Stop>
+) -> Result<Filled, ListStop>
     ensures listed { IfOk result (λ r.
         IsListed (listed levels section.now offset) parts r.parts r.next out.old out.new) }
-    ensures damaged { result ≡ Err Stop.Damaged → listed levels section.now offset ≡ None }
-    ensures full { result ≡ Err Stop.Full →
+    ensures damaged { result ≡ Err ListStop.Damaged → listed levels section.now offset ≡ None }
+    ensures full { result ≡ Err ListStop.Full →
         Passes (listed levels section.now offset) parts out.old }
     ensures room { length out.new ≡ length out.old }
 {
     if levels == 0 {
-        return Err(Stop::Damaged);
+        return Err(ListStop::Damaged);
     }
     if parts >= out.len() {
-        return Err(Stop::Full);
+        return Err(ListStop::Full);
     }
     let place = place_at(section, offset)?;
     if !holds_parts(place.header) {
@@ -218,7 +218,7 @@ fn put(
 pub extern "C" fn mmdb_c_list(
     section: &[u8],
     offset: usize,
-    out: &mut [Part],
+    out: &mut [ListPart],
     count: &mut usize,
 ) -> u32
     ensures statuses { IsTrue (nat_eq result 0 || nat_eq result 5 || nat_eq result 7) }
@@ -233,7 +233,7 @@ pub extern "C" fn mmdb_c_list(
             *count = filled.parts;
             0
         }
-        Err(Stop::Damaged) => 7,
-        Err(Stop::Full) => 5,
+        Err(ListStop::Damaged) => 7,
+        Err(ListStop::Full) => 5,
     }
 }

@@ -8,7 +8,7 @@ use mmdb_decode::decoder::Decoder;
 use mmdb_decode::direct::text_of;
 
 /// Goes from the map at an offset to the value of its first pair with this key: 0 where there is one, 9 where
-/// there is none, 7 where no map stands there or an error is met before the pair, 8 where the key is not UTF-8.
+/// there is none, 7 where no map is there or an error is met before the pair, 8 where the key is not UTF-8.
 #[unsafe(no_mangle)]
 pub extern "C" fn mmdb_c_to_key(section: &[u8], offset: usize, key: &[u8], to: &mut usize) -> u32
     ensures statuses { IsTrue (is_step_status result || nat_eq result 8) }

@@ -10,7 +10,7 @@ use mmdb_reader::{MaxMindDbError, Metadata};
 use mmdb_record::fuzzing;
 use std::alloc::Global;
 
-/// What stands before the metadata.
+/// What comes before the metadata.
 const MARKER: &[u8] = b"\xAB\xCD\xEFMaxMind.com";
 
 /// `MMDB_SUCCESS`.
@@ -134,7 +134,7 @@ impl Cause {
     }
 }
 
-// The metadata behind the last marker of a file.
+// The metadata after the last marker of a file.
 fn metadata_of(alloc: Global, file: &[u8]) -> DecodeResult<Metadata> {
     let at = memmem::rfind(file, MARKER).unwrap_or(file.len());
     let section = file.get(at..).unwrap_or(&[]).get(MARKER.len()..);

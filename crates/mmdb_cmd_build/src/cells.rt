@@ -323,7 +323,7 @@ impl<'t> Cells<'t> {
         })
     }
 
-    // The network that a row begins with, and what stands behind its cell.
+    // The network that a row begins with, and what comes after its cell.
     fn split<'l>(&self, row: &'l [u8]) -> Option<(&'l [u8], &'l [u8])> {
         let PlaceColumns::Network(PlaceColumn { cell: 0, .. }) = self.place else {
             return None;

@@ -22,7 +22,7 @@ struct FileNetworks<'r> {
     networks: Networks<'r>,
     /// What the records at offsets are.
     prints: HashMap<usize, Print>,
-    /// The network that is at hand, none behind the last.
+    /// The network that is at hand, none after the last.
     here: Option<FileNetwork>,
 }
 
@@ -65,7 +65,7 @@ fn answer_of(
 }
 
 impl FileNetworks<'_> {
-    // Goes on to the next network, or behind the last.
+    // Goes on to the next network, or past the last.
     fn step(&mut self, alloc: Global) -> Result<(), MaxMindDbError> {
         self.here = match self.networks.next() {
             Some(Ok(found)) => answer_of(alloc, &found, &mut self.prints)?,

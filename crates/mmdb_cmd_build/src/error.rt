@@ -105,7 +105,7 @@ pub struct BadRow {
     pub reason: Reason,
 }
 
-// A key, and what stands below it.
+// A key, and what is below it.
 fn joined(alloc: Global, key: &str, at: Option<&str>) -> Result<String, AllocError> {
     match at {
         Some(at) => format!(in alloc; "{key}.{at}"),

@@ -11,7 +11,7 @@ use mmdb_console::{Pace, Passed, ProgramError, ProgressLine};
 use std::alloc::Global;
 use std::io::{BufRead, Write};
 
-/// After so many rows it is shown how many passed.
+/// After this many rows it is shown how many passed.
 const STEP: u64 = 65_536;
 
 /// Rows that are gathered.

@@ -13,7 +13,7 @@ pub enum RowRead {
     Whole,
     /// A row of more bytes than one may have, of which the first ones are at hand. The others were passed over.
     TooLong,
-    /// What is behind a quote that nothing closes, up to the end of the input.
+    /// What comes after a quote that nothing closes, up to the end of the input.
     Unclosed,
     /// Nothing: the input is at its end.
     End,

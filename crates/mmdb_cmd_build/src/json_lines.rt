@@ -22,7 +22,7 @@ pub const RANGE: &str = "range";
 /// The member that has the whole record.
 pub const RECORD: &str = "record";
 
-// What stands before the network in a line that begins with it, where its member's name needs no escapes.
+// What comes before the network in a line that begins with it, where its member's name needs no escapes.
 fn front_of(alloc: Global, columns: Columns<'_>) -> Result<Option<Vec<u8>>, AllocError> {
     let Columns::Network(name) = columns else {
         return Ok(None);
@@ -211,7 +211,7 @@ fn add_members<'a, V: Values>(
     add_assembled(alloc, plan, parts, values)
 }
 
-// Adds a record that stands as a whole.
+// Adds a record that is given as a whole.
 fn add_record<'a, V: Values>(
     alloc: Global,
     shown: &json::Value<'a>,
@@ -281,7 +281,7 @@ impl<'t> JsonLines<'t> {
         })
     }
 
-    // The text of the network that a line begins with, and what stands behind it.
+    // The text of the network that a line begins with, and what comes after it.
     fn split<'l>(&self, line: &'l [u8]) -> Option<(&'l [u8], &'l [u8])> {
         let Some(front) = &self.front else {
             return None;

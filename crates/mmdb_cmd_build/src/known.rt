@@ -16,7 +16,7 @@ struct KnownText {
     value: Option<usize>,
 }
 
-/// Texts with the indexes of their values, up to so many bytes. Where there would be more, all are forgotten. Of two texts
+/// Texts with the indexes of their values, up to `MOST_KEPT` bytes. Where there would be more, all are forgotten. Of two texts
 /// with one hash the later is kept.
 #[derive(Drop)]
 pub(crate) struct KnownTexts {

@@ -23,7 +23,7 @@ fn lone(address: IpAddr) -> Result<IpNetwork, Reason> {
     }
 }
 
-/// The network that a text spells: an address and a prefix behind a slash, or one address alone. Bits behind the prefix are 0.
+/// The network that a text spells: an address and a prefix after a slash, or one address alone. Bits past the prefix are 0.
 pub fn network_of(text: &str) -> Result<IpNetwork, Reason> {
     if let Ok(network) = text.parse::<IpNetwork>() {
         return if network.ip() == network.network() {

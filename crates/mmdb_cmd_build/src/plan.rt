@@ -10,7 +10,7 @@ use std::collections::BTreeMap;
 /// How many columns there may be.
 pub(crate) const MOST_COLUMNS: usize = 1000;
 
-/// How many steps a path may have, as many as containers may stand in one another.
+/// How many steps a path may have, as many as containers may be in one another.
 const MOST_STEPS: usize = 64;
 
 /// How a record is put together: of which column a value is, and which values are in a map or an array.
@@ -93,7 +93,7 @@ fn members_of<'p, 'a>(
     Ok(members)
 }
 
-// The items of an array, of which those behind the last may have no parts.
+// The items of an array, of which those after the last may have no parts.
 fn items_of<'p, 'a>(
     alloc: Global,
     parts: &[PathPart<'p, 'a>],
@@ -150,7 +150,7 @@ fn plan_of_array<'p, 'a>(
     Ok(Plan::Array(plans))
 }
 
-// The plan of parts of which there is at least one, whose paths may have so many steps.
+// The plan of parts of which there is at least one, whose paths may have `steps` steps.
 #[cycle(plans)]
 fn plan_of_parts<'p, 'a>(
     alloc: Global,

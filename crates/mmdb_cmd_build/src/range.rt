@@ -48,7 +48,7 @@ pub struct RangeNetworks {
     left: Option<AddressRange>,
 }
 
-// A number whose last bits are 1, so many of them.
+// A number whose last `count` bits are 1.
 fn low_bits(count: u32) -> u128 {
     if count == 0 {
         0
@@ -74,7 +74,7 @@ fn free_bits(first: u128, last: u128) -> u32 {
 }
 
 impl RangeNetworks {
-    /// The next network, none behind the last.
+    /// The next network, none after the last.
     pub fn next_network(&mut self) -> Option<IpNetwork> {
         let range = self.left?;
         let free = free_bits(range.first, range.last).min(128);

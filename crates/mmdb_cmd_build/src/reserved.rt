@@ -2,8 +2,8 @@
 use mmdb_blocks::Block;
 use mmdb_net::IpNetwork;
 
-/// The reserved networks, as MaxMind's writers leave them out: the number of the first address, and the prefix, ascending. Those
-/// of IPv4 stand behind 96 zeros.
+/// The reserved networks, as MaxMind's writers leave them out: the number of the first address, and the prefix, ascending.
+/// Those of IPv4 come after 96 zeros.
 const RESERVED: &[(u128, u8)] = &[
     // 0.0.0.0/8, 10.0.0.0/8, 100.64.0.0/10, 127.0.0.0/8, 169.254.0.0/16, 172.16.0.0/12, 192.0.0.0/29, 192.0.2.0/24
     (0x0000_0000, 104),

@@ -48,7 +48,7 @@ impl<'t> RowReader<'t> {
         matches!(self, RowReader::Header)
     }
 
-    // Takes a header. It stands apart from `entry`, which else would clear as many bytes as a reader has for each row.
+    // Takes a header. It is apart from `entry`, which else would clear as many bytes as a reader has for each row.
     #[inline(never)]
     fn take_header(
         &mut self,

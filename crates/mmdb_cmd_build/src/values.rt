@@ -7,7 +7,7 @@ use mmdb_format::kind::Kind;
 use mmdb_value::Value;
 use std::alloc::Global;
 
-// Whether a container may stand where values have these types.
+// Whether a container may be where values have these types.
 fn check_container(kinds: &[Kind], kind: Kind) -> Result<(), Reason> {
     match kinds {
         [other, ..] if !kinds.contains(&kind) => Err(Reason::NotOf(*other)),

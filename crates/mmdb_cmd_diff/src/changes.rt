@@ -32,7 +32,7 @@ impl<'r> ShownRun<'r> {
         }
     }
 
-    // Whether a stretch begins right behind it, and is of the same kind of addresses.
+    // Whether a stretch begins right after it, and is of the same kind of addresses.
     fn is_before(&self, stretch: Stretch) -> bool {
         let first = stretch.block.first;
         self.is_ipv4 == stretch.is_ipv4 && first > 0 && first - 1 == self.last
@@ -47,7 +47,7 @@ pub(crate) struct Changes<'a, 'r> {
     joiner: Joiner,
     run: Option<ShownRun<'r>>,
     /// What the first address of each block that waits in the joiner has, by how many zero bits that address ends
-    /// with. It is another number for each: they stand side by side, and each is smaller than the one before.
+    /// with. It is another number for each: they are side by side, and each is smaller than the one before.
     presences: [Presence; ENDINGS],
     /// What the beginning of a line is put together in.
     line: Vec<u8>,
@@ -245,7 +245,7 @@ impl<'a, 'r> Changes<'a, 'r> {
         Ok(())
     }
 
-    /// Takes a stretch whose values differ, behind those that were taken.
+    /// Takes a stretch whose values differ, after those that were taken.
     #[inline(never)]
     pub(crate) fn push<O: Write>(
         &mut self,

@@ -20,7 +20,7 @@ use std::rt::Files;
 /// How many stretches are compared together.
 const MOST_WAITING: usize = 64;
 
-/// After so many times of comparing them it is shown how many were.
+/// After this many times of comparing them it is shown how many were.
 const STEP: u64 = 1_024;
 
 // What `diff` is asked for.
@@ -132,7 +132,7 @@ fn file_of<'a>(task: &DiffTask<'a>, side: Side) -> &'a str {
     }
 }
 
-// Reports an error at a place of one of the files, behind what was written.
+// Reports an error at a place of one of the files, after what was written.
 fn report_at<O: Write, E: Pace>(
     file: &str,
     place: Where,
@@ -161,7 +161,7 @@ fn report_in<O: Write, E: Pace>(
     }
 }
 
-// Reports a leaf that can't be read, behind what waits.
+// Reports a leaf that can't be read, after what waits.
 #[inline(never)]
 fn report_leaf<O: Write, E: Pace>(
     file: &str,
@@ -177,7 +177,7 @@ fn report_leaf<O: Write, E: Pace>(
     report_in(file, place, &leaf.error, so_far, console)
 }
 
-// Reports a value that can't be read, unless memory is out, behind what waits.
+// Reports a value that can't be read, unless memory is out, after what waits.
 #[inline(never)]
 fn report_value<O: Write, E: Pace>(
     task: &DiffTask<'_>,
@@ -252,7 +252,7 @@ fn known_of(so_far: &SoFar<'_, '_>) -> [bool; MOST_WAITING] {
     known
 }
 
-// Shows on a terminal how many stretches were compared, after each so many times.
+// Shows on a terminal how many stretches were compared, after each `STEP` times.
 fn show_compared<O: Write, E: Pace>(so_far: &mut SoFar<'_, '_>, console: &mut Console<'_, O, E>) {
     so_far.times = so_far.times.saturating_add(1);
     if so_far.times % STEP == 0 {
@@ -304,7 +304,7 @@ fn take_stretch<'r, O: Write, E: Pace>(
     Ok(())
 }
 
-// Reports why the next part of a database can't be read, behind those before it.
+// Reports why the next part of a database can't be read, after those before it.
 #[inline(never)]
 fn take_unread<'r, O: Write, E: Pace>(
     task: &DiffTask<'_>,
@@ -348,7 +348,7 @@ fn compare_all<'r, O: Write, E: Pace>(
     so_far.changes.finish(pairs, console.out)
 }
 
-// Reports what was counted behind what was written, and answers the status.
+// Reports what was counted, after what was written, and answers the status.
 fn report_counts<O: Write, E: Pace>(
     counts: ChangeCounts,
     faults: u64,

@@ -6,7 +6,7 @@ use mmdb_value::Value;
 use std::alloc::{AllocError, Global};
 
 // The records of a range that were met. Of each the fields that are shown are read where it is met first; whole records
-// are read behind that, one behind another as they stand in the file.
+// are read after that, one after another as they are in the file.
 #[derive(Drop)]
 struct RecordsMet<'a> {
     alloc: Global,

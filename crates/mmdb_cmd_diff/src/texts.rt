@@ -60,7 +60,7 @@ fn text_of<'r>(
     }
 }
 
-// Lets go of a record that was laid out in vain, if it is one.
+// Lets go of a record that was laid out needlessly, if it is one.
 fn leave<'r>(laid_out: Option<RecordText<'r>>, texts: &mut RecordTexts<'r>)
     ensures { texts.new ≡ texts.old }
 {
@@ -78,7 +78,7 @@ fn is_suspected(offset: Option<usize>, texts: &RecordTexts<'_>) -> bool {
 }
 
 impl<'r> BothTexts<'r> {
-    /// Of the records of two data sections, of which none was met yet. At most so many bytes are kept of each.
+    /// Of the records of two data sections, of which none was met yet. At most `most` bytes are kept of each.
     pub(crate) fn new(alloc: Global, old: &'r [u8], new: &'r [u8], most: usize) -> BothTexts<'r> {
         BothTexts {
             old: RecordTexts::new(alloc, old, most),

@@ -28,7 +28,7 @@ pub read_added : (db asked : Database) (rows : Rows) (paths : List (List PathEle
 read_added db asked rows paths offset shown cells read outcome same put are r addition =
     subst (λ d. AddsAt d rows paths (Some offset) shown outcome) same (subst (λ x. AreCells rows paths (data_section asked) offset x) (sym put) are, addition ∙ ap (λ b. if b then Found else Failed) r)
 
--- what stands behind what was there
+-- what comes after what was there
 pub behind : (old new added : List ℕ) (n : ℕ) → n ≡ length old → new ≡ old ++ added → drop n new ≡ added
 behind old new added n e put = ap (λ k. drop k new) e ∙ ap (λ l. drop (length old) l) put ∙ drop-append_seam old added
 

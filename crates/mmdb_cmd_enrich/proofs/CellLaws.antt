@@ -20,7 +20,7 @@ pub read_as : (path : List PathElement) (s : List ℕ) (found : Option ℕ) (off
 read_as path s found offset (Ok value) at ok err = subst (λ f. SelectsTo value_tree (answer_along path true (value_at true) s) f value) at (ok refl)
 read_as path s found offset (Err e) at ok err = subst (λ f. FailsToDecode false e (answer_along path true (value_at true) s) f) at (err refl)
 
--- a cell behind what was added before it
+-- a cell after what was added before it
 pub behind_both : (old here cell pushed new : List ℕ) → pushed ≡ old ++ here → new ≡ pushed ++ cell → new ≡ old ++ (here ++ cell)
 behind_both old here cell pushed new first second = second ∙ (ap (λ t. t ++ cell) first ∙ append_assoc old here cell)
 

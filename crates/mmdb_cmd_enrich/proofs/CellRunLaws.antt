@@ -23,14 +23,14 @@ one_of : (b : Bool) → not (b || b) ≡ false → b ≡ true
 one_of true e = refl
 one_of false e = absurd (cc)
 
--- behind a line feed a cell ends where it would behind any other byte
+-- after a line feed a cell ends where it would after any other byte
 as_plain : (d : ℕ) (b : Bool) (xs : List ℕ) → cell_length (Csv d) (if b then Ended else Plain) xs ≡ cell_length (Csv d) Plain xs
 unfolding cell_length position_after
 as_plain d true [] = refl
 as_plain d true (x ∷ xs) = refl
 as_plain d false xs = refl
 
--- behind a quote that closes it ends where a new one would
+-- after a quote that closes it ends where a new one would
 pub as_cell : (d : ℕ) (xs : List ℕ) → cell_length (Csv d) Closing xs ≡ cell_length (Csv d) Cell xs
 unfolding cell_length position_after
 as_cell d [] = refl
@@ -42,7 +42,7 @@ on_to_plain d x b xs end none =
     ap (λ e. cell_length (Csv d) (if x == 10 then Ended else (if e then Cell else (if b then Quoted else Plain))) xs) end
     ∙ ap (λ q. cell_length (Csv d) (if x == 10 then Ended else (if q then Quoted else Plain)) xs) none ∙ as_plain d (x == 10) xs
 
--- where no quotes stand around it, it ends at the first delimiter
+-- where no quotes are around it, it ends at the first delimiter
 plain_length : (d : ℕ) (xs : List ℕ) → cell_length (Csv d) Plain xs ≡ prefix_len (is_neither d d) xs
 unfolding cell_length position_after
 plain_length d [] = refl
@@ -103,7 +103,7 @@ quoted_run d at (suc n) m text is l run =
     let next = quoted_run d (at + 1) n m text (omega arith) l rest in
     omega (arith, here, next)
 
--- from a quote that opens to what stands behind the text between quotes
+-- from a quote that opens to what comes after the text between quotes
 pub opened : (d at m : ℕ) (text : List ℕ) → at < length text → get_or text at 0 ≡ 34 → (34 == d) ≡ false → m ≤ length text → m ≡ (at + 1) + prefix_len (is_neither 34 34) (drop (at + 1) text)
     → cell_length (Csv d) Cell (drop at text) + at ≡ m + cell_length (Csv d) Quoted (drop m text)
 opened d at m text below quote other l is =
@@ -115,7 +115,7 @@ opened d at m text below quote other l is =
     let on = quoted_run d (at + 1) n m text is l run in
     omega (arith, first, on, is)
 
--- and on behind the quote that closes
+-- and on after the quote that closes
 pub closed : (d at m : ℕ) (text : List ℕ) → m < length text → m ≡ at + prefix_len (is_neither 34 34) (drop at text) → cell_length (Csv d) Quoted (drop m text) ≡ 1 + cell_length (Csv d) Cell (drop (m + 1) text)
 closed d at m text below is =
     let stop : is_neither 34 34 (get_or (drop at text) (prefix_len (is_neither 34 34) (drop at text)) 0) ≡ false = prefix_len_stops (is_neither 34 34) (drop at text) 0 (omega (arith, is, length-drop at text)) in

@@ -25,7 +25,7 @@ use Rattle.mmdb_cmd_enrich.specs.Wanted.{MemberAt}
 use Rattle.mmdb_cmd_enrich.specs.declared.members.NamedField.{NamedField}
 use Rattle.mmdb_objects.specs.declared.objects.Line.{Line}
 
--- tokens that grew by what stands along a path
+-- tokens that grew by what is along a path
 pub grew_by_value : (path : List PathElement) (s : List ℕ) (offset : ℕ) (is_found : Bool) (old new : List Token) → WritesAlong path s (Some offset) is_found old new → (value : List Token) × AreValue path s offset value × (new ≡ old ++ value)
 grew_by_value path s offset false old new w = (_, (false, (w.0, refl)), w.1)
 grew_by_value path s offset true old new w =
@@ -121,7 +121,7 @@ none_put nulls wanted name fields line outcome addition old new is puts = subst 
 pub rejected_put : (db : Database) (nulls : Bool) (name : List ℕ) (fields : List NamedField) (line : Line) (address : IpAddr) (addition : Added) (old : List ℕ) → HasUnreadMember db fields address → addition.outcome ≡ Failed → PutsMemberFor db nulls name fields line (Some address) addition old old
 rejected_put db nulls name fields line address addition old rejected o = ([], inl (refl, o, rejected), sym (append-nil old))
 
--- as many bytes behind as behind the brace, or none
+-- as many bytes after the member as after the brace, or none
 pub behind_put : (line : Line) (text : List ℕ) (outcome : Outcome) (addition : Added) (old new : List ℕ) → (outcome ≡ Found) ⊎ (outcome ≡ Failed) → PutsMember line text outcome addition old new → addition.behind ≤ line.behind
 behind_put line text outcome addition old new (inl here) puts =
     let (o, b, put) = subst (λ x. PutsMember line text x addition old new) here puts in omega (arith, b)

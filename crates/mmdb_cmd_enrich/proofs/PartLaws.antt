@@ -23,13 +23,13 @@ use Rattle.mmdb_cmd_enrich.proofs.ColumnLaws.{whole_column}
 abbrev pub in_word : ℕ → Bool
 in_word x = not (ends_word x)
 
--- the word at the head of a part of a text, of which a blank does not stand first
+-- the word at the head of a part of a text, of which a blank does not come first
 word_of_part : (text : List ℕ) (n : ℕ) → 0 < n → n ≤ length text → is_blank (get_or text 0 0) ≡ false → first_word (take n text) ≡ take (prefix_len in_word (take n text)) (take n text)
 word_of_part text n some room plain =
     let none : prefix_len is_blank (take n text) ≡ 0 = prefix_len_is is_blank (take n text) 0 0 (omega arith) (λ k l. absurd (omega arith)) (λ l. ap is_blank (get_or-take n text 0 0 some) ∙ plain) in
     ap (λ k. take_while in_word (drop k (take n text))) none
 
--- how long that word is, in a longer part, where a byte that ends words stands behind the shorter one
+-- how long that word is, in a longer part, where a byte that ends words follows the shorter one
 word_length : (text : List ℕ) (n c : ℕ) → n < c → c ≤ length text → in_word (get_or text n 0) ≡ false → prefix_len in_word (take c text) ≡ prefix_len in_word (take n text)
 word_length text n c l room space =
     let m = prefix_len in_word (take n text) in
@@ -55,7 +55,7 @@ same_word text n c some order room plain space =
     (λ (same : c ≤ n). let here : n ≡ c = omega (arith, same, order) in ap (λ k. first_word (take k text)) here)
     (cases_lt n c)
 
--- a line whose cells stand between tabs, of which no blank stands first, has the first word of its first cell
+-- a line with tabs between its cells, of which no blank comes first, has the first word of its first cell
 pub line_word : (text : List ℕ) (k : ℕ) → k ≡ prefix_len (is_neither 9 9) text → 0 < length text → is_blank (get_or text 0 0) ≡ false → first_word text ≡ first_word (take k text)
 line_word text k is some plain =
     let room : k ≤ length text = omega (arith, is, prefix_len-le-length (is_neither 9 9) text) in

@@ -6,7 +6,7 @@ use Rattle.mmdb_filter.specs.declared.rows.Rows.TheVariants.{Lines, Csv}
 use Rattle.mmdb_filter.specs.declared.rows.Position.{Position}
 use Rattle.mmdb_filter.specs.declared.rows.Position.TheVariants.{Cell, Quoted}
 
--- what stands between cells
+-- what separates cells
 abbrev pub delimiter_of : Rows → ℕ
 delimiter_of (Lines delimiter) = delimiter
 delimiter_of (Csv delimiter) = delimiter
@@ -15,12 +15,12 @@ abbrev pub is_quoted : Position → Bool
 is_quoted Quoted = true
 is_quoted _ = false
 
--- how many bytes stand before the first delimiter that is not between quotes, or all
+-- how many bytes come before the first delimiter that is not between quotes, or all
 unfoldable pub cell_length : Rows → Position → List ℕ → ℕ
 cell_length rows position [] = 0
 cell_length rows position (x ∷ xs) = if x == delimiter_of rows && not (is_quoted position) then 0 else suc (cell_length rows (position_after rows position x) xs)
 
--- the cell behind so many delimiters; none where the text ends before, or goes on where the cell does not end
+-- the cell after a number of delimiters; none where the text ends before, or goes on where the cell does not end
 abbrev pub column_of : Rows → Bool → ℕ → List ℕ → Option (List ℕ)
 column_of rows goes_on zero xs =
     if nat_lt (cell_length rows Cell xs) (length xs) then Some (take (cell_length rows Cell xs) xs) else (if goes_on then None else Some (take (cell_length rows Cell xs) xs))

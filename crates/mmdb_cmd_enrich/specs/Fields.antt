@@ -9,7 +9,7 @@ use Rattle.mmdb_found.specs.Found.{WritesAlong}
 use Rattle.mmdb_cmd_enrich.specs.Cells.{read_at}
 use Rattle.mmdb_cmd_enrich.specs.declared.members.NamedField.{NamedField}
 
--- the tokens of what stands along a path in a record, or `null` where nothing does
+-- the tokens of what is along a path in a record, or `null` where nothing is
 abbrev pub AreValue : List PathElement → List ℕ → ℕ → List Token → Type 0
 AreValue path s offset tokens = (is_found : Bool) × WritesAlong path s (Some offset) is_found [] tokens
 

@@ -31,8 +31,8 @@ AreFew cells = length (bytes_of cells) ≤ 512
 abbrev pub AreFewAt : Bucket → Type 0
 AreFewAt bucket = AreFew bucket.newer.cells × AreFew bucket.older.cells
 
--- There are 65,536 buckets, the cells of each record that is kept have at most 512 bytes, and those that do not stand in
--- their bucket take what is not left of 8 MiB of the heap.
+-- There are 65,536 buckets, the cells of each record that is kept have at most 512 bytes, and those that are not in their
+-- bucket take what is not left of 8 MiB of the heap.
 pub record IsBounded (buckets : List Bucket) (heap_left : ℕ) : Type 0 where
   pub count : length buckets ≡ 65536
   pub few : All AreFewAt buckets

@@ -7,7 +7,7 @@ abbrev pub bytes_of : KeptCells → List ℕ
 bytes_of (Few few) = take few.length few.bytes
 bytes_of (Many cells) = cells.items
 
--- how many of them stand on the heap
+-- how many of them are on the heap
 abbrev pub heap_of : KeptCells → ℕ
 heap_of (Few few) = 0
 heap_of (Many cells) = length cells.items

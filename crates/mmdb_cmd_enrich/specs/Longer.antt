@@ -18,7 +18,7 @@ use Rattle.mmdb_objects.specs.declared.step.Step.{Step}
 use Rattle.mmdb_objects.specs.Objects.{LeadsToAddress, has_member, is_empty}
 use Rattle.mmdb_cmd_enrich.specs.declared.members.NamedField.{NamedField}
 
--- for each field a member of its name: JSON that shows what stands along its path, or `null` where nothing does
+-- for each field a member of its name: JSON that shows what is along its path, or `null` where nothing is
 abbrev pub AreShown : List NamedField → List ℕ → ℕ → Members → Type 0
 AreShown [] s offset shown = shown ≡ no_members
 AreShown (field ∷ fields) s offset shown =
@@ -26,7 +26,7 @@ AreShown (field ∷ fields) s offset shown =
     × AreShown fields s offset rest
 
 -- A line is an object, in which the path leads to an address. What is added is the text of a member, whose value is
--- an object of the fields of that address's record. The longer line is the object with that member behind its own,
+-- an object of the fields of that address's record. The longer line is the object with that member after its own,
 -- where the value nests less deep than a reader goes.
 pub record GainsMember (db : Database) (reading : Reading) (path : List Step) (name : List ℕ) (fields : List NamedField)
     (line extra longer : List ℕ) : Type 0 where

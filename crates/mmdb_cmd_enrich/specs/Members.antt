@@ -53,11 +53,11 @@ AddsMember db reading path nulls name fields text goes_on extra behind outcome =
     ⊎ ((members : Members) × (at : ℕ) × IsObject text goes_on members at
     × AddsToObject db reading path nulls name fields members at extra behind outcome)
 
--- Bytes grow by the text of a member, as the first or behind a comma.
+-- Bytes grow by the text of a member, as the first or after a comma.
 abbrev pub PutsText : Line → List ℕ → Outcome → Added → List ℕ → List ℕ → Type 0
 PutsText line text outcome addition old new = (addition.outcome ≡ outcome) × (addition.behind ≡ line.behind) × (new ≡ old ++ (comma_behind line.is_empty ++ text))
 
--- Bytes grow by a member, as the first or behind a comma; by nothing where a field can't be read.
+-- Bytes grow by a member, as the first or after a comma; by nothing where a field can't be read.
 abbrev pub PutsMember : Line → List ℕ → Outcome → Added → List ℕ → List ℕ → Type 0
 PutsMember line text Found addition old new = PutsText line text Found addition old new
 PutsMember line text outcome addition old new = (addition.outcome ≡ outcome) × (addition.behind ≡ 0) × (new ≡ old)

@@ -1,4 +1,4 @@
--- What is wanted of records: cells behind a row, or a member of an object.
+-- What is wanted of records: cells after a row, or a member of an object.
 use Rattle.std.specs.Prelude.{◌≡◌, ◌⊎◌, ℕ, List, [], Some}
 use Rattle.mmdb_reader.specs.File.{Database, data_section}
 use Rattle.mmdb_reader.specs.declared.path.PathElement.{PathElement}

@@ -31,7 +31,7 @@ pub struct Ahead {
     leaves: [FoundLeaf; MOST],
     /// How many there are.
     count: usize,
-    /// How many of them are behind.
+    /// How many of them were passed.
     next: usize,
 }
 
@@ -62,7 +62,7 @@ impl Ahead {
         }
     }
 
-    // Notes an address behind so many, if the text has one, and says how many there are.
+    // Notes an address after `count` others, if the text has one, and says how many there are.
     #[inline(always)]
     fn note(&mut self, count: usize, reading: Reading, text: &[u8]) -> usize
         requires few { count < 64 }
@@ -81,7 +81,7 @@ impl Ahead {
         count + 1
     }
 
-    // Notes the address of a row behind so many, if it has one, and says how many there are.
+    // Notes the address of a row after `count` others, if it has one, and says how many there are.
     #[inline(always)]
     fn note_row(
         &mut self,
@@ -152,7 +152,7 @@ impl Ahead {
         self.next < self.count
     }
 
-    // Where the walk of the next address ends, if this is its text; then it is behind.
+    // Where the walk of the next address ends, if this is its text; then it is passed.
     #[inline(always)]
     fn next(&mut self, reading: Reading, text: &[u8]) -> Option<Asked>
         requires few { self.old.count ≤ 64 }

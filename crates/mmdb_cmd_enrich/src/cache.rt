@@ -22,7 +22,7 @@ const MOST_HEAP: usize = 8 << 20;
 /// The cells of a record.
 #[derive(Drop)]
 pub(crate) struct Slot {
-    /// Where the record stands, if one is kept here.
+    /// Where the record is, if one is kept here.
     offset: Option<usize>,
     outcome: Outcome,
     cells: KeptCells,
@@ -43,7 +43,7 @@ pub(crate) struct KeptRecord<'c> {
 }
 
 /// What was added for the last records, each at the bucket that its offset gives. At most 512 bytes of a record are
-/// kept, and those that do not stand in their bucket take at most 8 MiB.
+/// kept, and those that are not in their bucket take at most 8 MiB.
 #[derive(Drop)]
 pub struct AddedCache {
     alloc: Global,

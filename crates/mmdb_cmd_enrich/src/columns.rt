@@ -6,7 +6,7 @@ ghost use Rattle.mmdb_cmd_enrich.specs.Columns.{delimiter_of as spec_delimiter_o
 
 use mmdb_filter::{Rows, either_from, here_or_from};
 
-/// What stands between cells.
+/// What separates cells.
 #[inline(always)]
 pub fn delimiter_of(rows: Rows) -> u8
     ensures { result ≡ spec_delimiter_of rows }
@@ -16,8 +16,8 @@ pub fn delimiter_of(rows: Rows) -> u8
     }
 }
 
-// How many bytes stand before the first delimiter that is not between quotes, or all. It goes to the quote that closes, and
-// on where another one stands behind it, since the bytes before these are passed many at a time.
+// How many bytes come before the first delimiter that is not between quotes, or all. It goes to the quote that closes, and on
+// where another one follows it, since the bytes before these are passed many at a time.
 fn quoted_cell_length(delimiter: u8, text: &[u8]) -> usize
     ensures length { result ≡ spec_cell_length (Csv delimiter) Cell text.now }
     ensures within { result ≤ length text.now }
@@ -41,7 +41,7 @@ fn begins_with_quote(text: &[u8]) -> bool
     !text.is_empty() && text[0] == b'"'
 }
 
-// How many bytes stand before the first delimiter of a cell, or all.
+// How many bytes come before the first delimiter of a cell, or all.
 #[inline(always)]
 fn cell_length(rows: Rows, text: &[u8]) -> usize
     ensures length { result ≡ spec_cell_length rows Cell text.now }
@@ -54,7 +54,7 @@ fn cell_length(rows: Rows, text: &[u8]) -> usize
     }
 }
 
-// The cell behind so many delimiters. A cell that the text's end cuts off is none.
+// The cell after `column` delimiters. A cell that the text's end cuts off is none.
 #[inline(never)]
 fn far_column_of(rows: Rows, text: &[u8], goes_on: bool, column: usize) -> Option<&[u8]>
     ensures { option_map (λ s. s.now) result ≡ spec_column_of rows goes_on column text.now }
@@ -89,7 +89,7 @@ fn column_of(rows: Rows, text: &[u8], goes_on: bool, column: usize) -> Option<&[
     Some(&text[..len])
 }
 
-// What a cell holds: in CSV what stands between its quotes, where it has them.
+// What a cell holds: in CSV what is between its quotes, where it has them.
 #[inline(always)]
 fn value_of(rows: Rows, cell: &[u8]) -> &[u8]
     ensures { result.now ≡ spec_value_of rows cell.now }

@@ -25,7 +25,7 @@ use std::alloc::{AllocError, Global};
 use std::convert::AsSlice;
 use std::net::IpAddr;
 
-/// Fields of the record of the address in a column, as columns behind each row.
+/// Fields of the record of the address in a column, as columns after each row.
 #[derive(Drop)]
 pub struct Enrichment<'a, 'f, S: AsSlice<u8> + Drop> {
     pub alloc: Global,

@@ -30,7 +30,7 @@ fn split_end(row: &[u8]) -> (&[u8], &'static [u8]) {
     }
 }
 
-// Adds a name behind a delimiter.
+// Adds a name after a delimiter.
 fn put_name(rows: Rows, name: &str, row: &mut Vec<u8>) -> Result<(), AllocError> {
     row.push(delimiter_of(rows))?;
     match rows {
@@ -97,7 +97,7 @@ fn place_in(
     }
 }
 
-// Adds the name of a column behind others.
+// Adds the name of a column after others.
 fn push_column(alloc: Global, cell: &[u8], names: &mut String) -> Result<(), AllocError> {
     if !names.is_empty() {
         names.push_str(", ")?;

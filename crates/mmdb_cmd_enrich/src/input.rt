@@ -38,7 +38,7 @@ pub(crate) fn copy_mark<I: BufRead, O: Write>(
 
 /// What is known of standard input.
 #[derive(Clone, Copy)]
-pub(crate) struct Kind {
+pub(crate) struct InputKind {
     /// Whether its next bytes may be long in coming, as those of a pipe or a terminal and not of a file.
     pub(crate) is_live: bool,
     /// How many bytes it has, where it is a file.
@@ -46,13 +46,13 @@ pub(crate) struct Kind {
 }
 
 /// What standard input is.
-pub(crate) fn kind_of_input<R: Files>(rt: &R) -> Kind {
+pub(crate) fn kind_of_input<R: Files>(rt: &R) -> InputKind {
     match rt.metadata("/dev/stdin") {
-        Ok(metadata) if metadata.is_file() => Kind {
+        Ok(metadata) if metadata.is_file() => InputKind {
             is_live: false,
             size: Some(metadata.len()),
         },
-        _ => Kind {
+        _ => InputKind {
             is_live: true,
             size: None,
         },

@@ -83,7 +83,7 @@ fn kept_of(member: &Option<Vec<u8>>) -> KeptRecord<'_>
     }
 }
 
-// Adds the text of a member to an object: as the first, or behind a comma.
+// Adds the text of a member to an object: as the first, or after a comma.
 #[inline(always)]
 fn put_text(
     line: &Line,

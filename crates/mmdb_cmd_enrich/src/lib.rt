@@ -1,4 +1,4 @@
-//! The command `enrich`: rows with fields of records behind them, or in them.
+//! The command `enrich`: rows with fields of records after them, or in them.
 #![tactic(auto)]
 
 mod ahead;

@@ -1,8 +1,8 @@
-//! Rows with fields behind them.
+//! Rows with fields after them.
 use crate::enrichment::Enrichment;
 use crate::fields::wanted_fields;
 use crate::header::column_of;
-use crate::input::{Counted, Kind, copy_mark, kind_of_input};
+use crate::input::{Counted, InputKind, copy_mark, kind_of_input};
 use crate::json_enrichment::{JsonEnrichment, JsonMemory};
 use crate::output::Output;
 use crate::row_memory::RowMemory;
@@ -69,7 +69,7 @@ fn text_of_members(
 // What rows pass through, and what is said of them.
 #[derive(Drop)]
 struct Passage<'n, 'a> {
-    kind: Kind,
+    kind: InputKind,
     /// How many bytes of the input passed.
     bytes: u64,
     notes: &'n mut Warnings<'a>,
@@ -159,7 +159,7 @@ where
     Ok(counts)
 }
 
-// Copies rows with fields behind each, and reports how they fared.
+// Copies rows with fields after each, and reports how they fared.
 fn enrich_rows<I: Live, O: Write, E: Pace>(
     enrichment: &Enrichment<'_, '_, Vec<u8>>,
     input: &mut I,
@@ -185,7 +185,7 @@ fn enrich_rows<I: Live, O: Write, E: Pace>(
     Ok(passage.notes.end(counts, unasked, text, console))
 }
 
-// Copies rows with fields behind each, and reports how they fared.
+// Copies rows with fields after each, and reports how they fared.
 fn enrich_columns<I: Live, O: Write, E: Pace>(
     database: &Database,
     task: RowsTask<'_>,

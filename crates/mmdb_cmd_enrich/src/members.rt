@@ -15,7 +15,7 @@ use std::convert::AsSlice;
 #[derive(Drop)]
 pub struct NamedField<'f> {
     pub name: &'f str,
-    /// Where in the record it stands.
+    /// Where in the record it is.
     pub path: Vec<PathElement<'f>>,
 }
 

@@ -11,7 +11,7 @@ use crate::columns::cell_of;
 use mmdb_addresses::Reading;
 use mmdb_filter::{Rows, either_from};
 
-// The front of a line that has the first word of its first cell, up to a space or the delimiter. None where a blank stands
+// The front of a line that has the first word of its first cell, up to a space or the delimiter. None where a blank comes
 // first.
 #[inline(always)]
 fn front_of(delimiter: u8, line: &[u8]) -> Option<&[u8]>
@@ -25,7 +25,7 @@ fn front_of(delimiter: u8, line: &[u8]) -> Option<&[u8]>
     Some(&line[..end])
 }
 
-// A line itself, where its first word is that of its first cell: cells stand between tabs, and no blank comes first.
+// A line itself, where its first word is that of its first cell: tabs separate its cells, and no blank comes first.
 #[inline(always)]
 fn line_of(delimiter: u8, line: &[u8]) -> Option<&[u8]>
     ensures { IfSome result (λ whole. first_word whole.now

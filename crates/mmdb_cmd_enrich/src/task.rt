@@ -19,7 +19,7 @@ pub(crate) enum Column<'a> {
     Name(&'a str),
 }
 
-/// What `enrich` is asked for of rows: fields behind them.
+/// What `enrich` is asked for of rows: fields after them.
 #[derive(Drop)]
 pub(crate) struct RowsTask<'a> {
     pub(crate) rows: Rows,
@@ -65,11 +65,11 @@ fn column_of<'a>(alloc: Global, text: &'a str, header: bool) -> Result<Column<'a
     }
 }
 
-/// Lines of which tabs stand between the cells.
+/// Lines with tabs between the cells.
 pub(crate) const LINES: Rows = Rows::Lines { delimiter: b'\t' };
 
-// What rows are, by what stands between their cells: between those of a line tabs, or what is asked for where quotes mean
-// nothing; else they are CSV.
+// What rows are, by what separates their cells: those of a line tabs, or what is asked for where quotes mean nothing;
+// else they are CSV.
 fn rows_of(alloc: Global, delimiter: Option<&str>, no_quotes: bool) -> Result<Rows, NoRequest> {
     let Some(text) = delimiter else {
         return Ok(LINES);
@@ -98,7 +98,7 @@ fn reading_of(arguments: &EnrichArguments<'_>) -> Reading {
     }
 }
 
-// That an option stands where it does nothing: where an address is looked for anywhere it is no cell's, nor one of a list.
+// That an option is given where it does nothing: where an address is looked for anywhere it is no cell's, nor one of a list.
 fn tested_reading(alloc: Global, arguments: &EnrichArguments<'_>) -> Result<Reading, NoRequest> {
     let idle = match arguments.hop {
         _ if !arguments.anywhere => None,
@@ -112,12 +112,12 @@ fn tested_reading(alloc: Global, arguments: &EnrichArguments<'_>) -> Result<Read
     }
 }
 
-// The error of a delimiter that can stand between no cells.
+// The error of a delimiter that can separate no cells.
 fn bad_delimiter(alloc: Global) -> NoRequest {
     NoRequest::bad_argument(alloc, "--delimiter", "neither a quote nor a line break")
 }
 
-// The last step of a path, as it is written. In quotes it is what stands between them.
+// The last step of a path, as it is written. In quotes it is what is between them.
 fn last_step(path: &str) -> &str {
     if let Some(text) = path.strip_suffix('"') {
         return match text.rsplit_once('"') {

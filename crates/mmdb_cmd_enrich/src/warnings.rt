@@ -10,7 +10,7 @@ use mmdb_layout::{Database, absent_text};
 use std::alloc::{AllocError, Global};
 use std::io::Write;
 
-/// Of so many fields it is said that no record has them.
+/// Of this many fields it is said that no record has them.
 const MOST_SAID: usize = 10;
 
 /// Where the address of a row is looked for.
@@ -63,7 +63,7 @@ pub(crate) struct Warnings<'a> {
     pub(crate) occupied: Option<u64>,
 }
 
-// What stands between cells, in words.
+// What separates cells, in words.
 fn separators(alloc: Global, rows: Rows) -> Result<String, AllocError> {
     let (Rows::Lines { delimiter } | Rows::Csv { delimiter }) = rows;
     match delimiter {
@@ -101,7 +101,7 @@ fn is_met(records: &Records, field: usize) -> bool {
 }
 
 impl<'a> Warnings<'a> {
-    /// Nothing is said yet of rows behind so many others.
+    /// Nothing is said yet of rows after `before` others.
     pub(crate) fn new(
         place: AddressPlace<'a>,
         fields: Vec<AskedField<'a>>,
@@ -128,7 +128,7 @@ impl<'a> Warnings<'a> {
         self.is_quiet
     }
 
-    /// So many rows stay in quotes, and this one is the first that has already what would be added.
+    /// `quoted` rows stay in quotes, and this one is the first that has already what would be added.
     pub(crate) fn add(&mut self, quoted: u64, occupied: Option<u64>) {
         self.has_warned |= quoted > 0;
         self.occupied = self.occupied.or(occupied);
@@ -236,7 +236,7 @@ impl<'a> Warnings<'a> {
             || self.has_missing(counts, records);
     }
 
-    /// Says how the rows fared, and answers the status: so many of those with an error have an address that the database
+    /// Says how the rows fared, and answers the status: `unasked` of those with an error have an address that the database
     /// can't be asked for.
     pub(crate) fn end<O: Write, E: Write>(
         &self,

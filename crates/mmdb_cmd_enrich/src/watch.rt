@@ -5,7 +5,7 @@ use std::alloc::Global;
 use std::cell::Cell;
 use std::io::Write;
 
-/// Of so many rows it is said that they stay in quotes.
+/// Of this many rows it is said that they stay in quotes.
 const MOST_SAID: u64 = 10;
 
 /// How many rows passed is shown on a terminal. Rows that stay in quotes are warned of.
@@ -50,7 +50,7 @@ impl<'e, E: Pace> Watch<'e, E> {
         }
     }
 
-    // The number of the row behind so many.
+    // The number of the row after `rows` others.
     fn number(&self, rows: u64) -> u64 {
         rows.saturating_add(self.before).saturating_add(1)
     }

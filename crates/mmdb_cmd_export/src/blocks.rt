@@ -28,7 +28,7 @@ pub(crate) fn of_list(done: Result<(), ListError>) -> Result<(), ProgramError> {
     }
 }
 
-/// Writes what is left of a list, and what comes behind it. Without networks it is an error, unless it may be empty.
+/// Writes what is left of a list, and what comes after it. Without networks it is an error, unless it may be empty.
 pub(crate) fn end_list<O: Write>(
     list: &mut List<'_>,
     may_be_empty: bool,

@@ -1,5 +1,5 @@
 //! The chosen networks of a range, with what their records have or as the fewest blocks.
-use crate::gathering::Gathering;
+use crate::gathering::AddressGathering;
 use crate::networks::Gathered;
 use crate::sink::{NetworkSink, kind_of};
 use mmdb_blocks::Kinds;
@@ -12,7 +12,7 @@ use std::io::Write;
 /// How many networks are looked at together.
 const MOST_WAITING: usize = 64;
 
-/// After so many times that those were written it is shown how many networks passed.
+/// After this many times that those were written it is shown how many networks passed.
 const STEP: u64 = 1_024;
 
 /// An export of the chosen networks.
@@ -60,8 +60,8 @@ impl<'a, 'r, W: NetworkSink> Export<'a, 'r, W> {
         }
     }
 
-    // Reports why a network can't be written, behind what was written. Where there is no memory, all that is kept is let go,
-    // and it is tried once more: nothing was reported.
+    // Reports why a network can't be written, after what was written. Where there is no memory, all that is kept is let go, and
+    // it is tried once more: nothing was reported.
     fn report<O: Write, E: Write>(
         &mut self,
         place: Where,
@@ -235,7 +235,7 @@ impl<'a, 'r, W: NetworkSink> Export<'a, 'r, W> {
         self.write_waiting(console)
     }
 
-    /// Reports a network that can't be read, behind those that wait.
+    /// Reports a network that can't be read, after those that wait.
     #[inline(never)]
     pub(crate) fn write_unread<O: Write, E: Pace>(
         &mut self,
@@ -246,7 +246,7 @@ impl<'a, 'r, W: NetworkSink> Export<'a, 'r, W> {
         self.report_next(error, console)
     }
 
-    /// Writes what waits, and what stands behind the last network.
+    /// Writes what waits, and what comes after the last network.
     pub(crate) fn finish<O: Write, E: Pace>(
         &mut self,
         console: &mut Console<'_, O, E>,
@@ -256,7 +256,7 @@ impl<'a, 'r, W: NetworkSink> Export<'a, 'r, W> {
     }
 }
 
-impl Export<'_, '_, Gathering> {
+impl Export<'_, '_, AddressGathering> {
     /// What was gathered.
     pub(crate) fn into_gathered(self) -> Gathered {
         Gathered {

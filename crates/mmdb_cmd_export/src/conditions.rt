@@ -46,7 +46,7 @@ fn condition_of<'a>(
     })
 }
 
-// Adds the condition that one of some values stands at the end of a path.
+// Adds the condition that one of some values is at the end of a path.
 fn put_condition<'a>(
     alloc: Global,
     path: Vec<PathElement<'a>>,
@@ -139,7 +139,7 @@ pub(crate) struct NamedValue<'a> {
     /// The condition as it is written.
     pub(crate) text: &'a str,
     pub(crate) value: &'a str,
-    /// That the value stands at the end of the path.
+    /// That the value is at the end of the path.
     pub(crate) condition: Condition<'a>,
     /// Whether other values of the path serve as well, so that not all of them need be met.
     pub(crate) is_alternative: bool,

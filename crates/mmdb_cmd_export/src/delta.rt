@@ -17,7 +17,7 @@ use std::rt::Files;
 
 /// What changes in a list, of one kind of addresses.
 #[derive(Drop)]
-struct Changes {
+struct BlockChanges {
     removed: Vec<Block>,
     added: Vec<Block>,
     /// Whether the new list has blocks.
@@ -27,12 +27,12 @@ struct Changes {
 /// What changes in a list.
 #[derive(Drop)]
 struct ListChanges {
-    ipv4: Changes,
-    ipv6: Changes,
+    ipv4: BlockChanges,
+    ipv6: BlockChanges,
 }
 
 impl ListChanges {
-    fn of(&self, kind: Kind) -> &Changes {
+    fn of(&self, kind: Kind) -> &BlockChanges {
         match kind {
             Kind::Ipv4 => &self.ipv4,
             Kind::Ipv6 => &self.ipv6,
@@ -50,7 +50,7 @@ impl ListChanges {
     }
 }
 
-impl Changes {
+impl BlockChanges {
     fn is_none(&self) -> bool {
         self.removed.is_empty() && self.added.is_empty()
     }
@@ -70,12 +70,12 @@ fn changes_of(
     newer: &Gathered,
     adjustment: &Adjustment,
     kind: Kind,
-) -> Result<Changes, RangesError> {
+) -> Result<BlockChanges, RangesError> {
     let old = adjustment.blocks_of(alloc, &old.gathering.chosen, kind)?;
     let newer = adjustment.blocks_of(alloc, &newer.gathering.chosen, kind)?;
     let removed = blocks_without(alloc, &old, &newer)?;
     let added = blocks_without(alloc, &newer, &old)?;
-    Ok(Changes {
+    Ok(BlockChanges {
         removed,
         added,
         has_new: !newer.is_empty(),

@@ -90,22 +90,22 @@ impl Adjustment {
 
 /// Gathers the addresses of networks.
 #[derive(Drop)]
-pub(crate) struct Gathering {
+pub(crate) struct AddressGathering {
     pub(crate) chosen: Addresses,
     clip: Clip,
 }
 
-impl Gathering {
+impl AddressGathering {
     /// Of no networks yet, and of no address outside a range.
-    pub(crate) fn new(alloc: Global, range: Option<IpNetwork>) -> Gathering {
-        Gathering {
+    pub(crate) fn new(alloc: Global, range: Option<IpNetwork>) -> AddressGathering {
+        AddressGathering {
             chosen: Addresses::new(alloc),
             clip: Clip::to(range),
         }
     }
 }
 
-impl NetworkSink for Gathering {
+impl NetworkSink for AddressGathering {
     fn take<O: Write>(&mut self, found: &Found<'_>, _out: &mut O) -> Result<bool, ProgramError> {
         let (kind, block) = self.clip.part_of(found);
         self.chosen.add_block(kind, block)?;

@@ -21,7 +21,7 @@ pub(crate) enum Named<'a> {
     File(&'a str),
 }
 
-/// What a value of a condition names: behind `@` a file, and behind `@@` a value that begins with one.
+/// What a value of a condition names: after `@` a file, and after `@@` a value that begins with one.
 pub(crate) fn named_by(value: &str) -> Named<'_> {
     match value.strip_prefix('@') {
         Some(rest) if rest.starts_with('@') => Named::Value(rest),

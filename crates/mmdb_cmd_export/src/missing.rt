@@ -114,7 +114,7 @@ impl<'t, 'a> Search<'t, 'a> {
         } else if self.is_without_alternative(value) {
             (!task.allow_empty).then_some("; --allow-empty writes an empty list")
         } else if task.is_of_part() {
-            // it may stand elsewhere in the database
+            // it may be elsewhere in the database
             None
         } else {
             (!task.allow_missing).then_some("; --allow-missing goes on without it")
@@ -122,7 +122,7 @@ impl<'t, 'a> Search<'t, 'a> {
     }
 }
 
-// Offers the value that a record has at a path: a text as it stands, and any other as JSON. One that can't be read is passed.
+// Offers the value that a record has at a path: a text as it is, and any other as JSON. One that can't be read is passed.
 fn offer_value(
     alloc: Global,
     found: &Found<'_>,

@@ -2,7 +2,7 @@
 use crate::adjusted::write_adjusted;
 use crate::blocks::Blocks;
 use crate::chosen::Export;
-use crate::gathering::{Adjustment, Gathering};
+use crate::gathering::{AddressGathering, Adjustment};
 use crate::inputs::{ValueFile, check_inputs, read_adjustment, read_value_files};
 use crate::missing::are_values_met;
 use crate::rows::ExportRows;
@@ -42,7 +42,7 @@ fn report_unread<W: NetworkSink, O: Write, E: Pace>(
     reported
 }
 
-// Writes the chosen networks, and what stands behind them.
+// Writes the chosen networks, and what comes after them.
 fn export_all<'r, W: NetworkSink, O: Write, E: Pace>(
     networks: Networks<'r>,
     export: &mut Export<'_, 'r, W>,
@@ -150,7 +150,7 @@ fn export_chosen<'a, 'r, O: Write, E: Pace>(
 /// The addresses of the chosen networks, and how many networks could not be read.
 #[derive(Drop)]
 pub(crate) struct Gathered {
-    pub(crate) gathering: Gathering,
+    pub(crate) gathering: AddressGathering,
     pub(crate) faults: u64,
 }
 
@@ -162,7 +162,7 @@ pub(crate) fn gather<'a, O: Write, E: Pace>(
     console: &mut Console<'_, O, E>,
 ) -> Result<Gathered, ProgramError> {
     let networks = networks_in(console.alloc, database, task.range)?;
-    let sink = Gathering::new(console.alloc, task.range);
+    let sink = AddressGathering::new(console.alloc, task.range);
     let mut export = Export::new(console.alloc, choice, task.kinds, sink)?;
     export_all(networks, &mut export, console)?;
     Ok(export.into_gathered())

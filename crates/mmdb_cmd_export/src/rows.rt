@@ -33,7 +33,7 @@ pub(crate) struct ExportRows<'a, 'r> {
     texts: Option<RecordTexts<'r>>,
     /// Rows with an empty network, by the offsets of their records.
     kept: Cache<Vec<u8>>,
-    /// The last row that was made, with an empty network, and where its record stands, if it is of one.
+    /// The last row that was made, with an empty network, and where its record is, if it is of one.
     last: Vec<u8>,
     last_offset: Option<usize>,
     /// What a row is put together in. Its room is enough, so that no row takes memory.

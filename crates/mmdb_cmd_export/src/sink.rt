@@ -18,7 +18,7 @@ pub(crate) trait NetworkSink: Drop {
     /// Which fields the records have, where fields are written.
     fn fields_met(&mut self) -> Option<&mut FieldsMet>;
 
-    /// Writes what stands behind the last network.
+    /// Writes what comes after the last network.
     fn finish<O: Write>(&mut self, out: &mut O) -> Result<(), ProgramError>;
 }
 

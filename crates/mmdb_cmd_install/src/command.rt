@@ -57,7 +57,7 @@ fn against(standing: Standing, may_be_missing: bool) -> Option<&'static str> {
     }
 }
 
-// What stands at a path, where that is no reason against it, which is reported.
+// What is at a path, where that is no reason against it, which is reported.
 fn standing_at<R: Files, O: Write, E: Write>(
     rt: &R,
     path: &str,
@@ -257,10 +257,10 @@ fn install_bytes<R: Files + Clock, O: Write, E: Write>(
     }
 }
 
-/// Puts a MaxMind DB file in the place of another one, or where there is none, says so, and answers the status. Before that it is
-/// verified, all its records are read, and it is compared with what is there: it has the same type and kind of addresses, is not older, and not more addresses
-/// of IPv4 changed than may. Why it is not done is reported, and then what is there stays. An `Err` where an argument is not
-/// what is wanted in its place, before any file is opened, or out of memory.
+/// Puts a MaxMind DB file in the place of another one, or where there is none, says so, and answers the status. Before that it
+/// is verified, all its records are read, and it is compared with what is there: it has the same type and kind of addresses, is
+/// not older, and not more addresses of IPv4 changed than may. Why it is not done is reported, and then what is there stays. An
+/// `Err` where an argument is not what is wanted in its place, before any file is opened, or out of memory.
 pub fn install<R: Files + Clock, O: Write, E: Write>(
     rt: &R,
     arguments: &InstallArguments<'_>,

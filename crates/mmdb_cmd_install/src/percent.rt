@@ -2,7 +2,7 @@
 use mmdb_arguments::NoRequest;
 use std::alloc::Global;
 
-/// How many digits may stand behind the point.
+/// How many digits may come after the point.
 const MOST_DIGITS: usize = 3;
 
 /// A share, in thousandths of a hundredth.
@@ -19,7 +19,7 @@ fn is_digits(text: &str) -> bool {
     !text.is_empty() && text.as_bytes().iter().all(|byte| byte.is_ascii_digit())
 }
 
-// The thousandths that digits behind a point spell.
+// The thousandths that digits after a point spell.
 fn thousandths_behind(digits: &str) -> Option<u64> {
     let mut number = digits.parse::<u64>().ok()?;
     for _ in digits.len()..MOST_DIGITS {
@@ -28,7 +28,7 @@ fn thousandths_behind(digits: &str) -> Option<u64> {
     Some(number)
 }
 
-// The thousandths that a number spells, with digits behind a point or without.
+// The thousandths that a number spells, with digits after a point or without.
 fn thousandths_of(text: &str) -> Option<u64> {
     let (whole, behind) = text.split_once('.').unwrap_or((text, "0"));
     if !is_digits(whole) || !is_digits(behind) || behind.len() > MOST_DIGITS {

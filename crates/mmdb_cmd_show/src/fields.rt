@@ -40,7 +40,7 @@ pub(crate) struct Field<'f> {
 
 /// What is known of the values of the records that were met.
 #[derive(Drop)]
-pub(crate) struct Fields<'a> {
+pub(crate) struct FieldPaths<'a> {
     alloc: Global,
     /// The first is that of whole records.
     nodes: Vec<PathNode<'a>>,
@@ -106,11 +106,11 @@ impl<'a> PathNode<'a> {
     }
 }
 
-impl<'a> Fields<'a> {
-    fn new(alloc: Global) -> Result<Fields<'a>, AllocError> {
+impl<'a> FieldPaths<'a> {
+    fn new(alloc: Global) -> Result<FieldPaths<'a>, AllocError> {
         let mut nodes = Vec::new(alloc);
         nodes.push(PathNode::new(alloc, String::new(alloc)))?;
-        Ok(Fields {
+        Ok(FieldPaths {
             alloc,
             nodes,
             met: HashSet::new(alloc),
@@ -267,8 +267,11 @@ impl<'a> Fields<'a> {
 }
 
 /// The fields of a database's records, each distinct one counted once. An `Err` is of memory.
-pub(crate) fn fields_of(alloc: Global, database: &Database) -> Result<Fields<'_>, MaxMindDbError> {
-    let mut fields = Fields::new(alloc)?;
+pub(crate) fn fields_of(
+    alloc: Global,
+    database: &Database,
+) -> Result<FieldPaths<'_>, MaxMindDbError> {
+    let mut fields = FieldPaths::new(alloc)?;
     for item in networks_in(alloc, database, None)? {
         match item {
             Ok(found) => fields.meet(&found)?,

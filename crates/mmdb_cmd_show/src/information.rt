@@ -1,5 +1,5 @@
 //! What a database says of itself, and which fields its records have.
-use crate::fields::{Field, Fields, fields_of};
+use crate::fields::{Field, FieldPaths, fields_of};
 use jiff::Timestamp;
 use json::{Pretty, Token};
 use mmdb_arguments::{InfoArguments, shown_text};
@@ -108,7 +108,7 @@ fn add_numbers(alloc: Global, metadata: &Metadata, sections: &Sections, lines: &
 }
 
 // Adds how many distinct records there are, and the fields: how many of them have a value there, its type, and the path.
-fn add_fields(alloc: Global, fields: &Fields<'_>, lines: &mut Lines) -> Result<(), AllocError> {
+fn add_fields(alloc: Global, fields: &FieldPaths<'_>, lines: &mut Lines) -> Result<(), AllocError> {
     let records = fields.records;
     lines.add(format!(in alloc; "records:     {records}\n"));
     for Field {
@@ -128,7 +128,7 @@ fn text_of(
     path: Option<&str>,
     metadata: &Metadata,
     sections: &Sections,
-    fields: Option<&Fields<'_>>,
+    fields: Option<&FieldPaths<'_>>,
 ) -> Result<String, AllocError> {
     let mut lines = Lines::new(alloc);
     if let Some(path) = path {
@@ -230,7 +230,7 @@ fn put_field(alloc: Global, out: &mut Pretty, field: Field<'_>) -> Result<(), Al
 }
 
 // How many distinct records there are, and the fields, as an array.
-fn put_fields(alloc: Global, out: &mut Pretty, fields: &Fields<'_>) -> Result<(), AllocError> {
+fn put_fields(alloc: Global, out: &mut Pretty, fields: &FieldPaths<'_>) -> Result<(), AllocError> {
     put_number(alloc, out, "records", fields.records)?;
     put_number(alloc, out, "unreadable_records", fields.unreadable)?;
     out.token(Token::Key("fields"))?;
@@ -250,7 +250,7 @@ fn put_object(
     path: Option<&str>,
     metadata: &Metadata,
     sections: &Sections,
-    fields: Option<&Fields<'_>>,
+    fields: Option<&FieldPaths<'_>>,
 ) -> Result<(), AllocError> {
     out.token(Token::BeginObject)?;
     if let Some(path) = path {
@@ -270,7 +270,7 @@ fn json_of(
     path: Option<&str>,
     metadata: &Metadata,
     sections: &Sections,
-    fields: Option<&Fields<'_>>,
+    fields: Option<&FieldPaths<'_>>,
 ) -> Result<Vec<u8>, AllocError> {
     let mut out = Pretty::new(alloc);
     put_object(alloc, &mut out, path, metadata, sections, fields)?;
@@ -286,7 +286,7 @@ fn info_text(
     path: Option<&str>,
     metadata: &Metadata,
     sections: &Sections,
-    fields: Option<&Fields<'_>>,
+    fields: Option<&FieldPaths<'_>>,
     json: bool,
 ) -> Result<Vec<u8>, AllocError> {
     if json {
@@ -307,10 +307,10 @@ pub fn info(alloc: Global, bytes: &[u8], json: bool) -> Result<Vec<u8>, ProgramE
     Ok(text?)
 }
 
-// Says what is wrong with the fields, behind what was written of them, and answers the status.
+// Says what is wrong with the fields, after what was written of them, and answers the status.
 fn note_fields<O: Write, E: Write>(
     file: &str,
-    fields: &Fields<'_>,
+    fields: &FieldPaths<'_>,
     console: &mut Console<'_, O, E>,
 ) -> Result<u8, ProgramError> {
     let alloc = console.alloc;
@@ -335,7 +335,7 @@ fn note_fields<O: Write, E: Write>(
 fn put_described<O: Write, E: Write>(
     database: &Database,
     path: Option<&str>,
-    fields: Option<&Fields<'_>>,
+    fields: Option<&FieldPaths<'_>>,
     json: bool,
     console: &mut Console<'_, O, E>,
 ) -> Result<(), ProgramError> {

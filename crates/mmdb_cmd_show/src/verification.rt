@@ -79,7 +79,7 @@ fn most_age_of<R: Clock>(rt: &R, alloc: Global, text: &str) -> Result<MostAge, P
     })
 }
 
-// The pattern of a text. An `Err` where a `*` stands inside.
+// The pattern of a text. An `Err` where a `*` is inside.
 fn pattern_of<'a>(alloc: Global, text: &'a str) -> Result<TypePattern<'a>, NoRequest> {
     let pattern = TypePattern {
         text,
@@ -380,8 +380,8 @@ fn verify_all<R: Files, O: Write, E: Pace>(
     Ok(status)
 }
 
-/// Writes of each file what is wrong with it, if something is, and answers the status: whether it is whole and, unless only that
-/// is asked, all its records can be read, and whether it is of the type and the time that are asked for. An `Err` where an
+/// Writes of each file what is wrong with it, if something is, and answers the status: whether it is whole and, unless only
+/// that is asked, all its records can be read, and whether it is of the type and the time that are asked for. An `Err` where an
 /// argument is not what is wanted in its place, standard output can't be written, or out of memory.
 pub fn verify<R: Files + Clock, O: Write, E: Pace>(
     rt: &R,

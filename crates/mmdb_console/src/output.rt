@@ -97,7 +97,7 @@ impl<'c, O: Write, E: Write> Console<'c, O, E> {
         put(text, self.out)
     }
 
-    /// Writes out what is buffered, so that what is reported next comes behind it. An `Err` is `Write`.
+    /// Writes out what is buffered, so that what is reported next comes after it. An `Err` is `Write`.
     pub fn flush(&mut self) -> Result<(), ProgramError> {
         match self.out.flush() {
             Ok(()) => Ok(()),
@@ -124,7 +124,7 @@ impl<'c, O: Write, E: Write> Console<'c, O, E> {
         let _ = self.errors.write_all(text.as_bytes());
     }
 
-    /// Reports what went wrong behind what was written so far, if there was memory for the name of what it is of. An `Err` is
+    /// Reports what went wrong, after what was written so far, if there was memory for the name of what it is of. An `Err` is
     /// `Write` or `Memory`.
     pub fn report_behind<D: Display>(
         &mut self,

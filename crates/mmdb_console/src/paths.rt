@@ -3,7 +3,7 @@ use mmdb_arguments::NoRequest;
 use mmdb_reader::PathElement;
 use std::alloc::{AllocError, Global};
 
-// Whether a part is digits, behind a sign or none.
+// Whether a part is digits, after a sign or none.
 fn is_integer(part: &str) -> bool {
     let digits = part.strip_prefix('-').or(part.strip_prefix('+'));
     let digits = digits.unwrap_or(part).as_bytes();
@@ -121,7 +121,7 @@ fn is_plain(key: &str) -> bool {
     !has_sign && !is_integer(key)
 }
 
-// Whether a key can stand in quotes.
+// Whether a key can be written in quotes.
 fn is_quotable(key: &str) -> bool {
     !key.as_bytes().iter().any(|byte| *byte == b'"')
 }

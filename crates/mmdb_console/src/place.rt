@@ -7,7 +7,7 @@ use std::alloc::{AllocError, Global};
 pub enum Where {
     /// At this network.
     At(IpNetwork),
-    /// At one that comes somewhere behind this network in the list.
+    /// At one that comes somewhere after this network in the list.
     Behind(IpNetwork),
     /// At one that comes before any other of the list.
     First,

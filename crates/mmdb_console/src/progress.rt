@@ -4,7 +4,7 @@ use std::alloc::{AllocError, Global};
 use std::io::{self, Write};
 use std::time::{Clock, Duration};
 
-/// Back to the head of the line, and nothing behind it.
+/// Back to the head of the line, and nothing after it.
 const CLEARED: &[u8] = b"\r\x1b[K";
 
 const KILOBYTE: u64 = 1_000;
@@ -23,7 +23,7 @@ pub struct Passed {
 }
 
 impl Passed {
-    /// So many, of which no bytes are counted.
+    /// This many rows or networks, of which no bytes are counted.
     pub fn of(count: u64) -> Passed {
         Passed {
             count,
@@ -77,8 +77,8 @@ fn put_rest(
     text.push_str(part.as_str())
 }
 
-/// What passed in so many milliseconds, in words: how many, how many bytes, how many in a second once that is told from a second
-/// or more, and of an input whose size is known the part that passed and the time that is left.
+/// What passed in `millis` milliseconds, in words: how many, how many bytes, from one second on how many in a second, and of an
+/// input whose size is known the part that passed and the time that is left.
 pub fn text_of_progress(
     alloc: Global,
     unit: &str,

@@ -8,24 +8,24 @@ const THIS_PROCESS: &str = "/proc/self";
 
 /// A file by the folder that it is in and its name there.
 #[derive(Clone, Copy)]
-pub(crate) struct Named<'a> {
+pub(crate) struct NamedFile<'a> {
     folder: &'a str,
     pub(crate) name: &'a str,
 }
 
 /// A path as a folder and a name.
-pub(crate) fn split_path(path: &str) -> Named<'_> {
+pub(crate) fn split_path(path: &str) -> NamedFile<'_> {
     match path.rsplit_once('/') {
-        Some((folder, name)) => Named { folder, name },
-        None => Named {
+        Some((folder, name)) => NamedFile { folder, name },
+        None => NamedFile {
             folder: ".",
             name: path,
         },
     }
 }
 
-impl Named<'_> {
-    /// The path of the folder, with a slash behind it.
+impl NamedFile<'_> {
+    /// The path of the folder, with a slash at its end.
     pub(crate) fn folder_path(&self, alloc: Global) -> Result<String, AllocError> {
         let folder = self.folder;
         format!(in alloc; "{folder}/")
@@ -77,7 +77,7 @@ fn has_ended<R: Files>(rt: &R, alloc: Global, process: u64, this: u64) -> bool {
     }
 }
 
-// The names of a folder, each with a byte 0 behind it.
+// The names of a folder, each with a byte 0 after it.
 fn names_in<R: Files>(rt: &R, alloc: Global, folder: &str) -> io::Result<Vec<u8>> {
     let mut opened = rt.open_dir(folder)?;
     let mut names = Vec::new(alloc);

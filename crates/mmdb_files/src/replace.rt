@@ -17,7 +17,7 @@ const MODE_BITS: u32 = 0o777;
 #[derive(Drop)]
 pub struct MadeFile {
     path: String,
-    // The folder that both are in, with a slash behind it.
+    // The folder that both are in, with a slash at its end.
     folder: String,
     // Whose place it takes.
     target: String,
@@ -144,9 +144,9 @@ fn make_beside<R: Files>(
     Err(io::Error::from(ErrorKind::AlreadyExists))
 }
 
-/// Makes a file of bytes beside the one at a path, `.NAME.tmp-PROCESS-TIME`, that can take its place: who may read, write and run it
-/// may do so with the new one. Of a link it is the file that it leads to. What calls for this path left that were killed is
-/// removed first: files whose process has ended.
+/// Makes a file of bytes beside the one at a path, `.NAME.tmp-PROCESS-TIME`, that can take its place: who may read, write and
+/// run it may do so with the new one. Of a link it is the file that it leads to. What calls for this path left that were killed
+/// is removed first: files whose process has ended.
 pub fn make_file<R: Files + Clock>(
     rt: &R,
     alloc: Global,

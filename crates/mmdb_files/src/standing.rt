@@ -1,17 +1,17 @@
-//! What stands at a path that is to be written.
+//! What is at a path that is to be written.
 use memchr::memmem;
 use std::alloc::Global;
 use std::fs::File;
 use std::io::{self, ErrorKind, Read, Seek, SeekFrom};
 use std::rt::Files;
 
-/// What stands before the metadata of a MaxMind DB file ("Database Metadata" of the MaxMind DB File Format Specification 2.0).
+/// What comes before the metadata of a MaxMind DB file ("Database Metadata" of the MaxMind DB File Format Specification 2.0).
 const MARKER: &[u8] = b"\xAB\xCD\xEFMaxMind.com";
 
-/// In how many bytes at the end of a file the marker is looked for: in those in which the format lets it stand.
+/// In how many bytes at the end of a file the marker is looked for: in those in which the format lets it be.
 const MOST_BEHIND: u64 = 131_072;
 
-/// What stands at a path.
+/// What is at a path.
 #[derive(Clone, Copy, Debug, PartialEq, Eq)]
 pub enum Standing {
     /// Nothing.
@@ -40,7 +40,7 @@ fn is_missing(error: &io::Error) -> bool {
     error.kind() == ErrorKind::NotFound
 }
 
-// What stands at a path that leads to nothing.
+// What is at a path that leads to nothing.
 fn nothing_at<R: Files>(rt: &R, path: &str) -> io::Result<Standing> {
     match rt.symlink_metadata(path) {
         Ok(_) => Ok(Standing::DeadLink),
@@ -60,7 +60,7 @@ fn kind_of_file<R: Files>(rt: &R, alloc: Global, path: &str) -> io::Result<Stand
     }
 }
 
-/// What stands at a path. Of a file no more than the last 131,072 bytes are read, and what is no file is not opened.
+/// What is at a path. Of a file no more than the last 131,072 bytes are read, and what is no file is not opened.
 pub fn standing_of<R: Files>(rt: &R, alloc: Global, path: &str) -> io::Result<Standing> {
     if path.is_empty() || path.ends_with('/') {
         return Ok(Standing::NoFile);

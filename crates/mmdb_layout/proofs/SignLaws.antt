@@ -1,4 +1,4 @@
--- Where an equals sign stands outside quotes.
+-- Where an equals sign is outside quotes.
 use Rattle.std.proofs.Common.{◌≡◌, ℕ, zero, suc, ◌+◌, ◌%◌, ◌<◌, ◌⊎◌, Bool, true, false, not, nat_eq, if◌then◌else◌, List, [], ◌∷◌, ◌++◌, length, get_or, take, drop, take-append-drop, true≢false, refl, sym, ap, ◌∙◌, arith, inl, inr, add-one}
 use Rattle.std.proofs.lemmas.Bool.{cases_lt}
 use Rattle.std.proofs.lemmas.List.{length-take-le}
@@ -23,21 +23,21 @@ toggled n false = elim (parity n) [
   | inr odd ↦ let next : (n + 0) % 2 ≡ 1 = omega (arith, odd) in rw (odd, next) refl
 ]
 
--- what is quoted behind one byte more
+-- what is quoted after one byte more
 pub quoted_more : (bytes : List ℕ) (k : ℕ) (quoted : Bool) → k < length bytes → quoted ≡ nat_eq (quotes (take k bytes) % 2) 1
     → not (beq quoted (nat_eq (get_or bytes k 0) 34)) ≡ nat_eq (quotes (take (k + 1) bytes) % 2) 1
 quoted_more bytes k quoted within is =
     let more : quotes (take (k + 1) bytes) ≡ quotes (take k bytes) + (if nat_eq (get_or bytes k 0) 34 then 1 else 0) = ap (λ n. quotes (take n bytes)) (add-one k) ∙ one_more bytes k within in
     ap (λ q. not (beq q (nat_eq (get_or bytes k 0) 34))) is ∙ toggled (quotes (take k bytes)) (nat_eq (get_or bytes k 0) 34) ∙ ap (λ n. nat_eq (n % 2) 1) (sym more)
 
--- no sign stands inside quotes
+-- no sign is inside quotes
 pub inside : (bytes : List ℕ) (k : ℕ) (quoted : Bool) → quoted ≡ nat_eq (quotes (take k bytes) % 2) 1 → quoted ≡ true → IsSign bytes k → ⊥
 inside bytes k quoted is on sign =
     let even : quotes (take k bytes) % 2 ≡ 0 = sign.outside in
     let no : quoted ≡ false = is ∙ ap (λ n. nat_eq n 1) even in
     true≢false (sym on ∙ no)
 
--- a text is what stands before a place, the byte there and what stands behind it
+-- a text is what comes before a place, the byte there and what comes after it
 pub around : (bytes : List ℕ) (k : ℕ) → k < length bytes → bytes ≡ take k bytes ++ (get_or bytes k 0 ∷ []) ++ drop (k + 1) bytes
 around bytes k within = sym (take-append-drop (k + 1) bytes) ∙ ap (λ front. front ++ drop (k + 1) bytes) (ap (λ n. take n bytes) (add-one k) ∙ front bytes k within)
   where

@@ -13,7 +13,7 @@ none_more f xs i d text within other none here =
     let more : map f (take (i + 1) xs) ≡ map f (take i xs) ++ (f (get_or xs i d) ∷ []) = ap (map f) (take_more xs i d within) ∙ map-append f (take i xs) (get_or xs i d ∷ []) in
     elim (Contains-push_cases (map f (take i xs)) (f (get_or xs i d)) text (subst (λ l. Contains l text) more here)) [ inl c ↦ none c | inr e ↦ other e ]
 
--- ---- a text in which others stand
+-- ---- a text that has others in it
 
 part_cases : (own : List ℕ) (xs : List (List ℕ)) (part : List ℕ) → HasAnyPart own (xs ++ part ∷ []) → HasAnyPart own xs ⊎ HasPart own part
 part_cases own [] part (inl h) = inr h

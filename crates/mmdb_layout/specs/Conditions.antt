@@ -25,8 +25,8 @@ abbrev pub SaysOneOf : List ℕ → List (List ℕ) → Bool → Type 0
 SaysOneOf own texts true = IsOneOf own texts
 SaysOneOf own texts false = ¬ IsOneOf own texts
 
--- A Bool says whether a value is one of the texts: a text as it stands, and any other scalar by its JSON. An array or a
--- map is none of them.
+-- A Bool says whether a value is one of the texts: a text as it is, and any other scalar by its JSON. An array or a map is none
+-- of them.
 abbrev pub SaysAmong : Tree → List (List ℕ) → Bool → Type 0
 SaysAmong (scalar (text own)) texts b = SaysOneOf own texts b
 SaysAmong (array _) texts b = b ≡ false
@@ -38,11 +38,11 @@ abbrev pub text_of : Tree → Option (List ℕ)
 text_of (scalar (text own)) = Some own
 text_of _ = None
 
--- a text stands somewhere in another one
+-- a text is somewhere in another one
 abbrev pub HasPart : List ℕ → List ℕ → Type 0
 HasPart own part = (place : ℕ) × OccursAt own part place
 
--- one of the texts does
+-- one of the texts is
 abbrev pub HasAnyPart : List ℕ → List (List ℕ) → Type 0
 HasAnyPart own [] = ⊥
 HasAnyPart own (part ∷ parts) = HasPart own part ⊎ HasAnyPart own parts
@@ -51,7 +51,7 @@ abbrev pub SaysAnyPart : List ℕ → List (List ℕ) → Bool → Type 0
 SaysAnyPart own texts true = HasAnyPart own texts
 SaysAnyPart own texts false = ¬ HasAnyPart own texts
 
--- a Bool says whether there is a text, in which one of the texts stands
+-- a Bool says whether there is a text that has one of the texts in it
 abbrev pub SaysPartOf : Option (List ℕ) → List (List ℕ) → Bool → Type 0
 SaysPartOf None texts b = b ≡ false
 SaysPartOf (Some own) texts b = SaysAnyPart own texts b
@@ -60,8 +60,7 @@ SaysPartOf (Some own) texts b = SaysAnyPart own texts b
 abbrev pub SaysPart : Tree → List (List ℕ) → Bool → Type 0
 SaysPart v texts b = SaysPartOf (text_of v) texts b
 
--- A Bool says whether a value is what is asked for: one of the texts, wanted or not; a text in which one of them stands;
--- or any.
+-- A Bool says whether a value is what is asked for: one of the texts, wanted or not; a text that has one of them in it; or any.
 abbrev pub SaysFits : Requirement → Tree → List (List ℕ) → Bool → Type 0
 SaysFits OneOf v texts b = SaysAmong v texts b
 SaysFits NoneOf v texts b = SaysAmong v texts b
@@ -93,13 +92,13 @@ abbrev pub quotes : List ℕ → ℕ
 quotes [] = 0
 quotes (byte ∷ bytes) = (if nat_eq byte 34 then 1 else 0) + quotes bytes
 
--- an equals sign stands at a place outside quotes, which is behind an even number of them
+-- an equals sign is at a place outside quotes, which is after an even number of them
 pub record IsSign (bytes : List ℕ) (place : ℕ) : Type 0 where
   pub within : place < length bytes
   pub sign : slice_index bytes place ≡ 61
   pub outside : quotes (take place bytes) % 2 ≡ 0
 
--- what stands before and behind the first such sign; none where there is none
+-- what comes before and after the first such sign; none where there is none
 abbrev pub SplitsAtSign : List ℕ → Option (Bor (List ℕ) × Bor (List ℕ)) → Type 0
 SplitsAtSign bytes None = (place : ℕ) → ¬ IsSign bytes place
 SplitsAtSign bytes (Some parts) =

@@ -19,13 +19,13 @@ pub enum Requirement {
     OneOf,
     /// That it is none of them, or that there is no value.
     NoneOf,
-    /// That it is a text in which one of the texts stands.
+    /// That it is a text that has one of the texts in it.
     Part,
     /// That there is one.
     Present,
 }
 
-/// A condition on the value at a path: a text is compared as it stands, any other scalar by its JSON, and a map or an
+/// A condition on the value at a path: a text is compared as it is, any other scalar by its JSON, and a map or an
 /// array is none of the texts. Only a text has others in it.
 #[derive(Drop)]
 pub struct Condition<'a> {
@@ -80,7 +80,7 @@ fn is_among(alloc: Global, value: &Value<'_>, texts: &[&str]) -> Result<bool, Al
     Ok(is_one_of(json.as_slice(), texts))
 }
 
-// Whether a text stands somewhere in another one.
+// Whether a text is somewhere in another one.
 fn has_part(own: &[u8], part: &[u8]) -> bool
     ensures { IsTrue result ↔ HasPart own.now part.now }
 {
@@ -90,7 +90,7 @@ fn has_part(own: &[u8], part: &[u8]) -> bool
     }
 }
 
-// Whether one of the texts stands in a text.
+// Whether one of the texts is in a text.
 fn has_any_part(own: &[u8], texts: &[&str]) -> bool
     ensures { SaysAnyPart own.now (map (λ t. t.now) texts.now) result }
 {
@@ -102,7 +102,7 @@ fn has_any_part(own: &[u8], texts: &[&str]) -> bool
     false
 }
 
-// Whether a value is a text in which one of the texts stands.
+// Whether a value is a text that has one of the texts in it.
 fn has_part_among(value: &Value<'_>, texts: &[&str]) -> bool
     ensures { SaysPart (value_tree value.now) (map (λ t. t.now) texts.now) result }
 {
@@ -167,7 +167,7 @@ impl Condition<'_> {
     }
 }
 
-// Where the first equals sign stands that is not in quotes.
+// The place of the first equals sign that is not in quotes.
 fn place_of_equals(text: &[u8]) -> Option<usize>
     ensures { MatchOption result ((place : ℕ) → ¬ IsSign text.now place)
         (λ place. IsSign text.now place × ((i : ℕ) → i < place → ¬ IsSign text.now i)) }
@@ -183,7 +183,7 @@ fn place_of_equals(text: &[u8]) -> Option<usize>
     None
 }
 
-/// The path and the value of a text `PATH=VALUE`: what stands before and behind its first equals sign that is not in
+/// The path and the value of a text `PATH=VALUE`: what comes before and after its first equals sign that is not in
 /// quotes. None where there is no such sign.
 pub fn split_condition(text: &str) -> Option<(&str, &str)>
     ensures { SplitsAtSign text.now result }

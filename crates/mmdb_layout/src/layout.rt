@@ -13,7 +13,7 @@ use std::alloc::{AllocError, Global};
 /// The name of a row's network.
 const NETWORK: &str = "network";
 
-/// What stands before the network in a line of JSON.
+/// What comes before the network in a line of JSON.
 const BEFORE_NETWORK: &str = "{\"network\":\"";
 
 /// Some values of a record, each by a path and under the path's text.
@@ -57,13 +57,13 @@ pub fn layout_of<'a>(
     }
 }
 
-// Adds a cell behind a comma.
+// Adds a cell after a comma.
 fn put_cell(cell: &[u8], row: &mut Vec<u8>) -> Result<(), AllocError> {
     row.push(b',')?;
     put_csv_cell(b',', cell, row)
 }
 
-// Adds the cell of a value: a text as it stands, any other value as JSON, and empty where there is none.
+// Adds the cell of a value: a text as it is, any other value as JSON, and empty where there is none.
 fn put_value(
     alloc: Global,
     value: Option<&Value<'_>>,
@@ -308,7 +308,7 @@ impl Layout<'_> {
         }
     }
 
-    /// Where the network stands in a row.
+    /// Where the network is in a row.
     pub fn place_of_network(&self) -> usize {
         match self {
             Layout::Cells(_) => 0,

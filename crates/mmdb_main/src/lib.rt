@@ -17,9 +17,9 @@ pub const BAD_ARGUMENTS: u8 = 2;
 /// How a program says why it could not begin, or end.
 #[derive(Clone, Copy)]
 pub struct Messages<'a> {
-    /// What stands before an error.
+    /// What comes before an error.
     pub error: &'a str,
-    /// What stands before an error of standard output.
+    /// What comes before an error of standard output.
     pub output: &'a str,
     /// What is said where an argument is not UTF-8.
     pub not_utf8: &'a str,

@@ -1,5 +1,5 @@
 //! What the program does with its arguments.
-use mmdb_arguments::{Message, NoRequest, Request, request_of};
+use mmdb_arguments::{ArgumentMessage, NoRequest, Request, request_of};
 use mmdb_cmd_build::build;
 use mmdb_cmd_diff::diff;
 use mmdb_cmd_enrich::enrich;
@@ -17,7 +17,10 @@ use std::rt::Files;
 use std::time::Clock;
 
 // Writes a message in the place of a request, and answers the status.
-fn put_message<O: Write, E: Write>(message: &Message, console: &mut Console<'_, O, E>) -> u8 {
+fn put_message<O: Write, E: Write>(
+    message: &ArgumentMessage,
+    console: &mut Console<'_, O, E>,
+) -> u8 {
     let text = message.text.as_bytes();
     if message.is_error {
         let _ = console.errors.write_all(text);
@@ -112,8 +115,8 @@ fn run_request<R: Files + Env + Clock, I: Live, O: Write, E: Pace>(
 
 /// What the program does with its arguments, its own name first, and the status that it ends with.
 ///
-/// 0: done. 1: an error, which is reported on `errors` with the file, the stream or the argument. 2: a usage error; no file was opened,
-/// unless for a column that the first line has not. 6: an address has no record, or a path leads nowhere in it. 7: two
+/// 0: done. 1: an error, which is reported on `errors` with the file, the stream or the argument. 2: a usage error; no file was
+/// opened, unless for a column that the first line has not. 6: an address has no record, or a path leads nowhere in it. 7: two
 /// files differ, where that was asked. Faults of `errors` change no status.
 pub fn run<R: Files + Env + Clock, I: Live, O: Write, E: Write>(
     rt: &R,

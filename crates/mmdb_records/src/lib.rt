@@ -112,8 +112,8 @@ fn counted<S: AsSlice<u8> + Drop>(
 }
 
 /// The records of a whole database that can't be read as values within a reader's limits, if there are some: with a key of
-/// another type, say, or with a key behind two pointers. An `Err` is that of `Reader::verify` where the database is not
-/// whole.
+/// another type, say, or with a key that a pointer to a pointer leads to. An `Err` is that of `Reader::verify` where the
+/// database is not whole.
 pub fn unreadable_records<S: AsSlice<u8> + Drop>(
     alloc: Global,
     database: &Reader<S>,

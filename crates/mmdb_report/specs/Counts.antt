@@ -10,13 +10,13 @@ use Rattle.mmdb_reader.specs.Items.{Item, Failure, Network}
 use Rattle.mmdb_reader.specs.Shown.{IsShownBy}
 use Rattle.mmdb_report.specs.declared.report.Report.{Report}
 
--- The item is shown as an IPv4 network of this prefix: its leaf has so many bits after the zeros before
--- IPv4.
+-- The item is shown as an IPv4 network of this prefix: its leaf has `prefix` bits after the zeros
+-- before IPv4.
 unfoldable pub is_ipv4_of : Database → ℕ → Item → Bool
 is_ipv4_of db prefix (Failure kind) = false
 is_ipv4_of db prefix (Network leaf offset as_ipv4) = as_ipv4 && (length leaf == length (before_ipv4 db) + prefix)
 
--- The item is shown as an IPv6 network of this prefix: its leaf has so many bits.
+-- The item is shown as an IPv6 network of this prefix: its leaf has `prefix` bits.
 unfoldable pub is_ipv6_of : ℕ → Item → Bool
 is_ipv6_of prefix (Failure kind) = false
 is_ipv6_of prefix (Network leaf offset as_ipv4) = not as_ipv4 && (length leaf == prefix)

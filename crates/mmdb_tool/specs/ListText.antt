@@ -27,7 +27,7 @@ pub record BeginsList (db : Database) (options : WithinOptions) (range : IpNetwo
   pub is_listing : IsListing db options (block_in db range) list
   pub written : AppendsFront old new (lines_of db (items_of db list))
 
--- The lines are put in chunks of at least so many bytes, but the last.
+-- The lines are put in chunks of at least this many bytes, but the last.
 abbrev pub chunk_bytes : ℕ
 chunk_bytes = 65472
 

@@ -89,7 +89,7 @@ fn options_of(words: &[String]) -> Option<WithinOptions> {
     Some(options)
 }
 
-// The range and the options of a command. An option stands after the range: in the place of FILE it is a
+// The range and the options of a command. An option comes after the range: in the place of FILE it is a
 // word too many before it.
 fn range_of(file: &str, range: &str, words: &[String]) -> Option<(IpNetwork, WithinOptions)> {
     if is_option(file) {

@@ -13,7 +13,7 @@ use std::alloc::{AllocError, Global};
 use std::convert::AsSlice;
 use std::net::IpAddr;
 
-/// What stands in the place of a faulty leaf's line.
+/// What is in the place of a faulty leaf's line.
 const FAULT: &str = "fault\n";
 
 // The line of a network.

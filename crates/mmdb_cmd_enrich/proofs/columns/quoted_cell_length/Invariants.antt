@@ -4,7 +4,7 @@ use Rattle.mmdb_filter.specs.declared.rows.Rows.TheVariants.{Csv}
 use Rattle.mmdb_cmd_enrich.specs.Columns.{cell_length}
 use Rattle.mmdb_cmd_enrich.proofs.columns.quoted_cell_length.Given as goal
 
--- behind quotes that close, a cell goes on as at its beginning
+-- after quotes that close, a cell goes on as at its beginning
 abbrev pub invariant-loop-at : goal.invariant-loop-at
 invariant-loop-at l = record {
   rest : cell_length (Csv l.delimiter) Cell l.fn.text ≡ l.at + cell_length (Csv l.delimiter) Cell (drop l.at l.fn.text);
