@@ -35,7 +35,7 @@ OneValueStands =
     (tested : Bool) (s : List ℕ) (p d : ℕ) (v w : Tree) (q r c e b f : ℕ) → d ≤ most_levels →
     ValueStands tested s p d v q c b → ValueStands tested s p d w r e f → (v ≡ w) × (q ≡ r) × (c ≡ e) × (b ≡ f)
 
--- a whole reading from the start succeeds exactly where such a value is within the limits
+-- a whole reading from the start succeeds exactly where there is such a value within the limits
 abbrev pub AnswerIsWholeValue : Type 0
 AnswerIsWholeValue =
     (tested : Bool) (s : List ℕ) (p : ℕ) (v : Tree) →

@@ -24,7 +24,7 @@ pub fn value_is_what_stands()
     ensures { ValueIsWhatStands }
 {}
 
-/// A whole reading succeeds exactly where a value is within the limits.
+/// A whole reading succeeds exactly where there is a value within the limits.
 pub fn answer_is_whole_value()
     ensures { AnswerIsWholeValue }
 {}
