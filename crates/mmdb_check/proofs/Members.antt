@@ -1,4 +1,4 @@
--- Whether values can be added depends on their offsets alone, and not on their order or how often they stand.
+-- Whether values can be added depends on their offsets alone, and not on their order or how often they occur.
 use Rattle.std.proofs.Common.{◌≡◌, ℕ, zero, suc, ◌+◌, ◌<◌, ◌≤◌, List, [], ◌∷◌, length, drop, set, Bool, true, ◌||◌, ◌==◌, ◌↔◌, refl, sym, ◌∙◌, ap, subst, inl, inr, arith}
 use Rattle.std.specs.List.{Contains, list_any}
 use Rattle.std.proofs.lemmas.Bool.{or_cases, or_left, or_right}

@@ -4,8 +4,8 @@ use Rattle.mmdb_check.specs.declared.inline.Inline.TheVariants.{Scalar, Parts, P
 use Rattle.mmdb_check.specs.Inline.{inline_at}
 use Rattle.mmdb_check.specs.Checking.{Costs}
 
--- Of n values that stand one after the other from p, a part was passed in the order of the file: up to the offset q,
--- where so many values are still to come. It costs one for each value and pointer, and one for each byte of a text.
+-- Of n values that come one after the other from p, a part was passed in the order of the file: up to the offset q,
+-- where `left` values are still to come. It costs one for each value and pointer, and one for each byte of a text.
 pub data Passes : List ℕ → ℕ → ℕ → ℕ → ℕ → ℕ → Type 0 where
   none_passed : {s : List ℕ} {p n : ℕ} → Passes s p n p n 0
   scalar_passed : {s : List ℕ} {p n q left cost size end : ℕ} {valid : Bool} → Passes s p n q (suc left) cost → inline_at s q ≡ Some (Scalar size valid end) → Passes s p n end left (cost + suc size)
@@ -29,7 +29,7 @@ abbrev pub is_under : List Part → ℕ → Bool
 is_under [] q = false
 is_under (x ∷ parts) q = (q == x.offset) || is_under parts q
 
--- each stands once
+-- each is there once
 abbrev pub Once : List Part → Type 0
 Once [] = Unit {0}
 Once (x ∷ parts) = (is_under parts x.offset ≡ false) × Once parts

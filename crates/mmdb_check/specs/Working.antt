@@ -7,7 +7,7 @@ use Rattle.mmdb_check.specs.Halting.{CostOfPart, Part, is_under, Once, GoesOn, I
 use Rattle.mmdb_check.specs.declared.work.Work.{Work}
 use Rattle.mmdb_check.specs.declared.work.Extent.{Extent}
 
--- the nodes that stand under no pointer, and the bytes of the texts among them
+-- the nodes that are under no pointer, and the bytes of the texts among them
 abbrev pub own : Values → ℕ
 own End = 0
 own (ScalarThen n v rest) = suc (n + own rest)
@@ -24,8 +24,8 @@ pub record Grown (m m' : List ℕ) (reached : ℕ → Bool) : Type 0 where
   pub kept : (q : ℕ) → 1 ≤ mark m q → mark m' q ≡ mark m q
   pub under : (q : ℕ) → mark m' q ≡ 1 → mark m q ≡ 1
 
--- n values below d nesting stand from p to e and have h nesting; the memory grew by what they reach,
--- and the work left went down by theirs and that of the offsets that became good
+-- n values below d nesting reach from p to e and have h nesting; the memory grew by what they reach, and the work left
+-- went down by theirs and that of the offsets that became good
 pub record Passed (s m : List ℕ) (l n p d : ℕ) (m' : List ℕ) (l' e h : ℕ) : Type 0 where
   pub f : Values
   pub many : count f ≡ n
@@ -37,7 +37,7 @@ pub record Passed (s m : List ℕ) (l n p d : ℕ) (m' : List ℕ) (l' e h : ℕ
   pub sound : Sound s m'
   pub spent : l' + own f + work_of s (is_good m') ≡ l + work_of s (is_good m)
 
--- n values below d nesting stand at p that are to be passed
+-- n values below d nesting are at p that are to be passed
 pub record Accepts (s m : List ℕ) (l n p d : ℕ) : Type 0 where
   pub f : Values
   pub e : ℕ
@@ -101,7 +101,7 @@ abbrev pub PassedValues : Work → Work → ℕ → ℕ → ℕ → Extent → T
 PassedValues old new n p d v =
     Passed old.section.now old.marks.items old.left n p d new.marks.items new.left v.end v.height
 
--- n values stand from p, below d levels, that are to be passed
+-- n values begin at p, below d levels, that are to be passed
 abbrev pub AcceptsValues : Work → ℕ → ℕ → ℕ → Type 0
 AcceptsValues old n p d = Accepts old.section.now old.marks.items old.left n p d
 

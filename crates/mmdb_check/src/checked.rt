@@ -18,8 +18,8 @@ use std::marker::Model;
 ///
 /// An offset is good whose value is a finite tree of valid texts, at most 128 containers and pointers deep, and
 /// whose pointers lead to good offsets alone. Each good offset costs its own values: one for each value and
-/// pointer that stands there under no pointer, and one for each byte of a text among them. Together they may
-/// cost eight times the section's length.
+/// pointer that is there under no pointer, and one for each byte of a text among them. Together they may cost eight
+/// times the section's length.
 #[derive(Drop)]
 pub struct Checked<'s> {
     work: Work<'s>,

@@ -7,7 +7,7 @@ pub fn no_place_is_met_again()
     ensures { NoPlaceIsMetAgain }
 {}
 
-/// Whether values can be added to the good offsets depends neither on their order nor on how often they stand.
+/// Whether values can be added to the good offsets depends neither on their order nor on how often they occur.
 pub fn order_is_free()
     ensures { OrderIsFree }
 {}

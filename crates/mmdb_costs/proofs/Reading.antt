@@ -12,7 +12,7 @@ use Rattle.mmdb_decode.proofs.StepLaws.{state, answer_ok, answer_none}
 use Rattle.mmdb_value.specs.AnyValue.{value_at}
 use Rattle.mmdb_value.proofs.StandingLaws.{answer_is_whole_value}
 use Rattle.mmdb_offsets.specs.OffsetSet.{holds, HasNoneFrom, IsNext}
-use Rattle.mmdb_costs.specs.declared.cost.Part.{Part}
+use Rattle.mmdb_costs.specs.declared.cost.PartCost.{PartCost}
 use Rattle.mmdb_costs.specs.Readable.{Fits, IsReadable, AreReadable, IsGoodAt}
 use Rattle.mmdb_costs.specs.Working.{HasCost}
 
@@ -41,7 +41,7 @@ mutual
 
 -- ---- one value
 
-pub cost_fits : (s : List ℕ) (p : ℕ) (part : Part) → HasCost s p part → Fits s p
+pub cost_fits : (s : List ℕ) (p : ℕ) (part : PartCost) → HasCost s p part → Fits s p
 cost_fits s p part has =
     let v = has.values in
     let b = has.bytes in

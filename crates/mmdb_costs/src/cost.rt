@@ -14,7 +14,7 @@ pub(crate) struct Cost {
 }
 
 impl Cost {
-    /// So many values and bytes, if they are within the limits of a reading.
+    /// The given numbers of values and bytes, if they are within the limits of a reading.
     #[inline(always)]
     pub(crate) fn of(values: usize, bytes: usize) -> Result<Cost, Failed>
         ensures cost { IfOk result (λ cost. cost ≡ record { values = values; bytes = bytes }) }
@@ -30,20 +30,20 @@ impl Cost {
     }
 }
 
-/// What stands one after the other from an offset on: where it ends, and what it costs together.
+/// What comes one after the other from an offset on: where it ends, and what it costs together.
 #[derive(Clone, Copy)]
-pub(crate) struct Part {
+pub(crate) struct PartCost {
     pub(crate) end: usize,
     pub(crate) cost: Cost,
 }
 
-impl Part {
+impl PartCost {
     /// Nothing, at an offset.
     #[inline(always)]
-    pub(crate) fn nothing(offset: usize) -> Part
+    pub(crate) fn nothing(offset: usize) -> PartCost
         ensures { result ≡ record { end = offset; cost = record { values = 0; bytes = 0 } } }
     {
-        Part {
+        PartCost {
             end: offset,
             cost: Cost {
                 values: 0,
@@ -52,9 +52,9 @@ impl Part {
         }
     }
 
-    /// This, and what stands behind it, if both together are within the limits.
+    /// This, and what comes after it, if both together are within the limits.
     #[inline(always)]
-    pub(crate) fn and(self, behind: Part) -> Result<Part, Failed>
+    pub(crate) fn and(self, behind: PartCost) -> Result<PartCost, Failed>
         ensures end { IfOk result (λ both. both.end ≡ behind.end) }
         ensures values { IfOk result
             (λ both. both.cost.values ≡ self.cost.values + behind.cost.values) }
@@ -64,7 +64,7 @@ impl Part {
     {
         let values = self.cost.values as usize + behind.cost.values as usize;
         let bytes = self.cost.bytes as usize + behind.cost.bytes as usize;
-        Ok(Part {
+        Ok(PartCost {
             end: behind.end,
             cost: Cost::of(values, bytes)?,
         })
@@ -72,13 +72,13 @@ impl Part {
 
     /// The container whose parts this is, if it is within the limits.
     #[inline(always)]
-    pub(crate) fn contained(self) -> Result<Part, Failed>
+    pub(crate) fn contained(self) -> Result<PartCost, Failed>
         ensures end { IfOk result (λ whole. whole.end ≡ self.end) }
         ensures values { IfOk result (λ whole. whole.cost.values ≡ self.cost.values + 1) }
         ensures bytes { IfOk result (λ whole. whole.cost.bytes ≡ self.cost.bytes) }
         ensures within { IfOk result (λ whole. IsWithin whole.cost) }
     {
-        Ok(Part {
+        Ok(PartCost {
             end: self.end,
             cost: Cost::of(self.cost.values as usize + 1, self.cost.bytes as usize)?,
         })

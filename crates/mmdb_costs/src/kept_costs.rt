@@ -4,7 +4,7 @@ ghost use Rattle.mmdb_format.specs.Header.{header_at as spec_header_at};
 ghost use Rattle.mmdb_costs.specs.Readable.{Fits};
 ghost use Rattle.mmdb_costs.specs.Working.{HasCost, HasCostBehind, HasKeyCost, ElementsHaveCost, PairsHaveCost, HasSomeCost, IsKnown};
 
-use crate::cost::{Cost, Part};
+use crate::cost::{Cost, PartCost};
 use mmdb_decode::failed::Failed;
 use mmdb_format::content::{content_at, content_end, key_bytes_at};
 use mmdb_format::header::{Header, MAX_LEVELS, header_at, pointer_at};
@@ -16,7 +16,7 @@ use std::marker::Model;
 
 /// What is known of an offset that a pointer led to.
 #[derive(Clone, Copy)]
-pub(crate) enum Known {
+pub(crate) enum KnownCost {
     /// What the value there costs.
     Costs(Cost),
     /// No value that a reading can take is there.
@@ -31,7 +31,7 @@ pub struct KeptCosts<'s> {
     // Where pointers led to.
     met: OffsetSet,
     // Ordered, since whoever makes a file chooses its offsets, and could choose ones whose hashes collide.
-    known: BTreeMap<usize, Known>,
+    known: BTreeMap<usize, KnownCost>,
 }
 
 impl<'s> Model for KeptCosts<'s> {
@@ -61,15 +61,15 @@ fn header_here(section: &[u8], offset: usize) -> Result<Header, Failed>
     }
 }
 
-// What a value behind a header costs that holds no others.
+// What a value after a header costs that holds no others.
 #[inline(always)]
-fn scalar_part(section: &[u8], header: Header) -> Result<Part, Failed>
+fn scalar_part(section: &[u8], header: Header) -> Result<PartCost, Failed>
     ensures { IfOk result (HasCostBehind section.now header) }
 {
     let Ok(content) = content_at(section, header) else {
         return Err(Failed::Unreadable);
     };
-    Ok(Part {
+    Ok(PartCost {
         end: content_end(header),
         cost: Cost::of(1, content.payload())?,
     })
@@ -77,19 +77,19 @@ fn scalar_part(section: &[u8], header: Header) -> Result<Part, Failed>
 
 // What a map's key costs.
 #[inline(always)]
-fn key_part(section: &[u8], offset: usize) -> Result<Part, Failed>
+fn key_part(section: &[u8], offset: usize) -> Result<PartCost, Failed>
     ensures { IfOk result (HasKeyCost section.now offset) }
 {
     let Ok((key, end)) = key_bytes_at(section, offset) else {
         return Err(Failed::Unreadable);
     };
-    Ok(Part {
+    Ok(PartCost {
         end,
         cost: Cost::of(1, key.len())?,
     })
 }
 
-// Whether a value behind a header holds others, or leads to another.
+// Whether a value after a header holds others, or leads to another.
 #[inline(always)]
 fn has_parts(header: Header) -> bool {
     header.kind == MAP || header.kind == ARRAY || header.kind == POINTER
@@ -122,14 +122,14 @@ impl<'s> KeptCosts<'s> {
 
     // What is known of an offset.
     #[inline(always)]
-    fn known_at(&self, offset: usize) -> Option<Known>
+    fn known_at(&self, offset: usize) -> Option<KnownCost>
         ensures { IfSome result (IsKnown self.now offset) }
     {
         self.known.get(&offset).copied()
     }
 
     // Keeps what is known of an offset.
-    fn keep(&mut self, offset: usize, known: Known) -> Result<(), Failed>
+    fn keep(&mut self, offset: usize, known: KnownCost) -> Result<(), Failed>
         requires { IsKnown self.old offset known }
         ensures { self.new ≡ self.old }
     {
@@ -137,9 +137,9 @@ impl<'s> KeptCosts<'s> {
         Ok(())
     }
 
-    // What a value behind a header costs, below which so many levels are left.
+    // What a value after a header costs, below which `levels` levels are left.
     #[cycle(cost)]
-    fn part_behind(&mut self, header: Header, levels: usize) -> Result<Part, Failed>
+    fn part_behind(&mut self, header: Header, levels: usize) -> Result<PartCost, Failed>
         requires size { (header.size < 2 ^ 25) × (header.kind ≡ 1 → header.size < 32) }
         ensures cost { IfOk result (HasCostBehind self.old header) }
         ensures same { self.new ≡ self.old }
@@ -153,7 +153,7 @@ impl<'s> KeptCosts<'s> {
     }
 
     #[cycle(cost)]
-    fn part_of_pointer(&mut self, header: Header, levels: usize) -> Result<Part, Failed>
+    fn part_of_pointer(&mut self, header: Header, levels: usize) -> Result<PartCost, Failed>
         requires kind { header.kind ≡ 1 }
         requires size { header.size < 32 }
         ensures cost { IfOk result (HasCostBehind self.old header) }
@@ -165,14 +165,14 @@ impl<'s> KeptCosts<'s> {
         let Ok(pointer) = pointer_at(self.section, header.body, header.size as u8) else {
             return Err(Failed::Unreadable);
         };
-        Ok(Part {
+        Ok(PartCost {
             end: pointer.next,
             cost: self.cost_at(pointer.target, levels - 1)?,
         })
     }
 
     #[cycle(cost)]
-    fn part_of_map(&mut self, header: Header, levels: usize) -> Result<Part, Failed>
+    fn part_of_map(&mut self, header: Header, levels: usize) -> Result<PartCost, Failed>
         requires { header.kind ≡ 7 }
         ensures cost { IfOk result (HasCostBehind self.old header) }
         ensures same { self.new ≡ self.old }
@@ -185,7 +185,7 @@ impl<'s> KeptCosts<'s> {
     }
 
     #[cycle(cost)]
-    fn part_of_array(&mut self, header: Header, levels: usize) -> Result<Part, Failed>
+    fn part_of_array(&mut self, header: Header, levels: usize) -> Result<PartCost, Failed>
         requires { header.kind ≡ 11 }
         ensures cost { IfOk result (HasCostBehind self.old header) }
         ensures same { self.new ≡ self.old }
@@ -197,26 +197,26 @@ impl<'s> KeptCosts<'s> {
             .contained()
     }
 
-    // What so many elements of an array cost.
+    // What `count` elements of an array cost.
     #[cycle(cost)]
-    fn elements(&mut self, count: usize, start: usize, levels: usize) -> Result<Part, Failed>
+    fn elements(&mut self, count: usize, start: usize, levels: usize) -> Result<PartCost, Failed>
         ensures cost { IfOk result (ElementsHaveCost self.old start count) }
         ensures same { self.new ≡ self.old }
     {
-        let mut all = Part::nothing(start);
+        let mut all = PartCost::nothing(start);
         for _i in 0..count {
             all = all.and(self.part_at(all.end, levels)?)?;
         }
         Ok(all)
     }
 
-    // What so many pairs of a map cost.
+    // What `count` pairs of a map cost.
     #[cycle(cost)]
-    fn pairs(&mut self, count: usize, start: usize, levels: usize) -> Result<Part, Failed>
+    fn pairs(&mut self, count: usize, start: usize, levels: usize) -> Result<PartCost, Failed>
         ensures cost { IfOk result (PairsHaveCost self.old start count) }
         ensures same { self.new ≡ self.old }
     {
-        let mut all = Part::nothing(start);
+        let mut all = PartCost::nothing(start);
         for _i in 0..count {
             let key = key_part(self.section, all.end)?;
             let value = self.part_at(key.end, levels)?;
@@ -227,7 +227,7 @@ impl<'s> KeptCosts<'s> {
 
     // What the value at an offset costs.
     #[cycle(cost)]
-    fn part_at(&mut self, offset: usize, levels: usize) -> Result<Part, Failed>
+    fn part_at(&mut self, offset: usize, levels: usize) -> Result<PartCost, Failed>
         ensures cost { IfOk result (HasCost self.old offset) }
         ensures same { self.new ≡ self.old }
     {
@@ -250,17 +250,17 @@ impl<'s> KeptCosts<'s> {
             return Ok(self.part_behind(header, levels)?.cost);
         }
         match self.known_at(offset) {
-            Some(Known::Costs(cost)) => return Ok(cost),
-            Some(Known::Unreadable) => return Err(Failed::Unreadable),
+            Some(KnownCost::Costs(cost)) => return Ok(cost),
+            Some(KnownCost::Unreadable) => return Err(Failed::Unreadable),
             None => {}
         }
         match self.part_behind(header, levels) {
             Ok(part) => {
-                self.keep(offset, Known::Costs(part.cost))?;
+                self.keep(offset, KnownCost::Costs(part.cost))?;
                 Ok(part.cost)
             }
             Err(Failed::Unreadable) => {
-                self.keep(offset, Known::Unreadable)?;
+                self.keep(offset, KnownCost::Unreadable)?;
                 Err(Failed::Unreadable)
             }
             Err(Failed::OutOfMemory) => Err(Failed::OutOfMemory),

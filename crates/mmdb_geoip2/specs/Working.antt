@@ -5,7 +5,7 @@ use Rattle.mmdb_decode.specs.Arrays.{entered_array, items_left}
 use Rattle.mmdb_decode.specs.State.{State}
 
 -- Where more elements than the most are declared and more bytes than that are left, the list is rejected,
--- and the decoder stands where its first element begins: none was read.
+-- and the decoder is where its first element begins: none was read.
 abbrev pub FailsEarly : {T E : Type 0} → ℕ → State → State → Result T E → Type 0
 FailsEarly most old new r =
     (x : Items × State) → entered_array old ≡ Some x → most < min (items_left x.0) (length x.1.section - x.1.offset) → IsErr r × (new.offset ≡ x.1.offset)

@@ -58,7 +58,7 @@ fn read_few<'de, T: TryDecode<'de>>(alloc: Global, d: &mut Decoder<'de>) -> Resu
     }
 }
 
-/// Reads a list of at most 32 that stands at most once.
+/// Reads a list of at most 32 that comes at most once.
 pub fn read_few_once<'de, T: TryDecode<'de>>(
     alloc: Global,
     d: &mut Decoder<'de>,

@@ -189,7 +189,7 @@ impl<'de> Fields<'de> for Enterprise<'de> {
 }
 
 impl<'de> City<'de> {
-    /// A record of which no field stands, in place of a default. It takes no memory.
+    /// A record none of whose fields is there, in place of a default. It takes no memory.
     pub fn empty(alloc: Global) -> City<'de>
         ensures none { data_of top_city_table result ≡ no_data top_city_table }
         ensures no_memory { vec_capacity result.subdivisions ≡ 0 }
@@ -209,7 +209,7 @@ impl<'de> City<'de> {
 }
 
 impl<'de> Enterprise<'de> {
-    /// A record of which no field stands, in place of a default. It takes no memory.
+    /// A record none of whose fields is there, in place of a default. It takes no memory.
     pub fn empty(alloc: Global) -> Enterprise<'de>
         ensures none { data_of top_enterprise_table result ≡ no_data top_enterprise_table }
         ensures no_memory { vec_capacity result.subdivisions ≡ 0 }

@@ -1,4 +1,4 @@
--- Lookups in a tree none of whose walked leaves is faulty, behind aliases too.
+-- Lookups in a tree none of whose walked leaves is faulty, below aliases too.
 use Rattle.std.proofs.Common.{◌≡◌, ℕ, ◌+◌, ◌-◌, ◌^◌, ◌<◌, ◌≤◌, ◌⊎◌, zero, suc, Bool, true, false, List, [], ◌∷◌, ◌++◌, take, drop, length, replicate, arith, sym, ap, ◌∙◌, refl, subst, inl, inr, length-append, append_assoc, zero-add}
 use Rattle.std.proofs.lemmas.Bool.{cases_lt}
 use Rattle.std.proofs.lemmas.List.{length-replicate, length-take-le, take-append-drop}

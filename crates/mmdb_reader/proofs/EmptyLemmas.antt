@@ -1,4 +1,4 @@
--- What stands at an offset or behind one pointer there, as a function and as the format says it.
+-- What is at an offset or through one pointer there, as a function and as the format says it.
 use Rattle.std.specs.Option.{IfSome}
 use Rattle.std.proofs.Common.{◌≡◌, ◌≢◌, ℕ, List, Some, None, false, nat_eq, nat_lt, refl, arith, inl, inr, subst}
 use Rattle.std.proofs.lemmas.Bool.Decides.{nat_tests}

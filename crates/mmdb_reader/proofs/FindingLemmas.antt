@@ -191,7 +191,7 @@ module _ (db : Database) (options : WithinOptions) (leaf : List Bool) (finding :
         subst (IsListedWith db options leaf) same (v, (not_faulty db options leaf offset v (λ skips. absurd (both_ways _ keeps skips)), λ skips. absurd (both_ways _ keeps skips)))
   ]
 
-  -- a leaf that the list has stands there for one of the format's reasons
+  -- a leaf that the list has is there for one of the format's reasons
   pub finding-sound : finding_at db options (walk (tree_of db) leaf) ≡ Some finding → IsListedWith db options leaf finding
   finding-sound e = elim (kind_of_leaf db leaf) [
     | OnNode on ↦ fault_is (sym (finding-node db options (walk (tree_of db) leaf) on) ∙ e) (inr (inl on))
@@ -200,7 +200,7 @@ module _ (db : Database) (options : WithinOptions) (leaf : List Bool) (finding :
     | Value offset v ↦ sound_value offset v (sym (finding-value db options (walk (tree_of db) leaf) offset v.leads v.inside) ∙ e)
   ]
 
--- and each that has such a reason stands in the list
+-- and each that has such a reason is in the list
 pub finding-complete : (db : Database) (options : WithinOptions) (leaf : List Bool) (finding : TreeRecord) → IsListedWith db options leaf finding → finding_at db options (walk (tree_of db) leaf) ≡ Some finding
 finding-complete db options leaf (Node number) h = absurd h
 finding-complete db options leaf Invalid (inl n) = finding-nowhere db options (walk (tree_of db) leaf) n.past (λ offset leads inside. n.nowhere offset (record { leads = leads; inside = inside }))

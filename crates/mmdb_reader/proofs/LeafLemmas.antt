@@ -70,7 +70,7 @@ module _ (db : Database) (front bits : List Bool) (start taken number : ℕ) (e 
   pub IsPrefix-ends : IsPrefix (front ++ take taken bits) (front ++ bits)
   IsPrefix-ends = (drop taken bits, ap (λ (xs : List Bool). front ++ xs) (sym (take-append-drop taken bits)) ∙ sym (append_assoc front (take taken bits) (drop taken bits)))
 
--- a descent that has come to its end, behind a front that leads to its start
+-- a descent that has come to its end, after a front that leads to its start
 pub EndsOn-descends : (db : Database) (front bits : List Bool) (start taken number : ℕ) → start ≡ walk (tree_of db) front → ((k : ℕ) → k < length front → walk (tree_of db) (take k front) < db.metadata.node_count) → length front + length bits ≡ width db
     → Descends (tree_of db) start bits taken number → EndsOn db front bits start taken number
 EndsOn-descends db front bits start taken number begins on whole d =

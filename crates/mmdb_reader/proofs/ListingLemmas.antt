@@ -18,7 +18,7 @@ use Rattle.mmdb_reader.proofs.FindingLemmas.{finding-sound, finding-complete, so
 use Rattle.mmdb_reader.proofs.AliasLemmas.{shown-clear, clear-shown}
 use Rattle.mmdb_reader.proofs.PositionLemmas.{width-le}
 
--- The bits `s` behind `bits` make a leaf that is listed, as far as it lies behind `bits`.
+-- The bits `s` after `bits` make a leaf that is listed, as far as it lies after `bits`.
 pub record Below (db : Database) (options : WithinOptions) (left : ℕ) (bits s : List Bool) (finding : TreeRecord) : Type 0 where
   pub inner : (c : List Bool) (x : Bool) (d : List Bool) → s ≡ c ++ x ∷ d → walk (tree_of db) (bits ++ c) < db.metadata.node_count
   pub short : length s ≤ left
@@ -37,7 +37,7 @@ nil_front (y ∷ c) d e = cc
 no_listed : (m : Listed) → Contains [] m → ⊥
 no_listed m (k, below, is) = absurd (omega arith)
 
--- one bit more in front is one bit less behind
+-- one bit more in front is one bit less after it
 shifted : (bits : List Bool) (x : Bool) (c : List Bool) → (bits ++ x ∷ []) ++ c ≡ bits ++ x ∷ c
 shifted bits x c = append_assoc bits (x ∷ []) c
 
@@ -120,7 +120,7 @@ module _ (db : Database) (options : WithinOptions) where
   found_here : (left : ℕ) (bits : List Bool) (f : TreeRecord) → Below db options left bits [] f → finding_at db options (walk (tree_of db) bits) ≡ Some f
   found_here left bits f h = ap (λ (t : List Bool). finding_at db options (walk (tree_of db) t)) (sym (append-nil bits)) ∙ h.found
 
-  -- what stands in the list
+  -- what is in the list
   abbrev Stands : ℕ → List Bool → Listed → Type 0
   Stands left bits m = (s : List Bool) × (m.leaf ≡ bits ++ s) × Below db options left bits s m.finding
 
@@ -290,7 +290,7 @@ ascends-append (x ∷ xs) ys p q before = (
 )
 
 module _ (db : Database) (options : WithinOptions) where
-  -- what stands in the lower half comes before what stands in the upper one
+  -- what is in the lower half comes before what is in the upper one
   halves-before : (left : ℕ) (bits a b : List Bool) → Contains (leaves_of (listed_below db options left (bits ++ false ∷ []))) a → Contains (leaves_of (listed_below db options left (bits ++ true ∷ []))) b → ComesBefore a b
   halves-before left bits a b in_low in_high =
       let low = in_leaves _ a in_low in

@@ -7,7 +7,7 @@ use Rattle.mmdb_tree.specs.Tree.{walk}
 use Rattle.mmdb_reader.specs.Listing.{listed_below, listed_along, listed_at, is_hidden}
 
 module _ (db : Database) (options : WithinOptions) (bits : List Bool) where
-  -- behind an alias nothing is listed
+  -- below an alias nothing is listed
   pub below-hidden : (left : ℕ) → is_hidden db options bits ≡ true → listed_below db options left bits ≡ []
   unfolding listed_below
   below-hidden zero hidden = rw hidden refl

@@ -1,4 +1,4 @@
--- Each name of the metadata stands at most once: the fields that were met know it.
+-- Each name of the metadata comes at most once: the fields that were met know it.
 use Rattle.std.proofs.Common.{◌≡◌, ℕ, List, Some, Bool, true, false, if◌then◌else◌, refl, is_some, codes}
 use Rattle.mmdb_decode.specs.Arrays.{list_at}
 use Rattle.mmdb_decode.specs.Maps.{text_map_at}
@@ -10,7 +10,7 @@ use Rattle.mmdb_record.specs.TypedReads.{IsKnown}
 use Rattle.mmdb_record.proofs.RecordStandingLaws.{known_names_stand_once, field_fills, field_rejected, skipped_keeps}
 use Rattle.mmdb_reader.specs.MetadataShape.{MetadataFields, no_metadata_fields, metadata_fields, MetadataNamesStandOnce}
 
--- no field that has stood is emptied
+-- no field that was met is emptied
 record Keeps (x y : MetadataFields) : Type 0 where
   binary_format_major_version : is_some x.binary_format_major_version ≡ true → is_some y.binary_format_major_version ≡ true
   binary_format_minor_version : is_some x.binary_format_minor_version ≡ true → is_some y.binary_format_minor_version ≡ true

@@ -36,7 +36,7 @@ number-snoc (suc rest) (y ∷ s) x h =
     let below = number-snoc rest s x (omega arith) in
     omega (arith, size, below)
 
--- the lower bits of a number don't depend on what stands above them
+-- the lower bits of a number don't depend on what is above them
 bits_of-low : (count w b m : ℕ) → count ≤ w → bits_of count (b * 2 ^ w + m) ≡ bits_of count m
 unfolding bits_of
 bits_of-low zero w b m h = refl

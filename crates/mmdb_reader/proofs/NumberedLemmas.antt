@@ -34,7 +34,7 @@ same-front prefix width shift n sum =
     let back : n / 2 ^ shift * 2 ^ shift / 2 ^ shift ≡ n / 2 ^ shift = mul-div_cancel (n / 2 ^ shift) (pow_pos shift) in
     take-bits_of prefix width shift (n / 2 ^ shift * 2 ^ shift) sum ∙ (ap (bits_of prefix) back ∙ sym (take-bits_of prefix width shift n sum))
 
--- the block stays where the bits behind it are cleared
+-- the block stays where the bits after it are cleared
 pub cleared_block : (db : Database) (width bits prefix : ℕ) → (nat_eq width 32 ≡ false → width ≡ 128) → prefix ≤ width
     → numbered_block db width (bits / 2 ^ (width - prefix) * 2 ^ (width - prefix)) prefix ≡ numbered_block db width bits prefix
 cleared_block db width bits prefix long within = elim (cases_Bool (nat_eq width 32)) [

@@ -144,7 +144,7 @@ elements_lead none_left n d r l h = absurd (omega arith)
 elements_lead (one_more a b) zero d r l h = element_first _ _ d _ _ r a h
 elements_lead (one_more a b) (suc n) d r l h = element_next _ _ d _ n _ _ r a (λ y k. elements_lead b n d y (omega arith) k) h
 
--- what stands at an offset, directly or behind one pointer
+-- what is at an offset, directly or through one pointer
 record Behind (s : List ℕ) (at : Direct) (u : Tree) (q : ℕ) : Type 0 where
   pub offset : ℕ
   pub end : ℕ
@@ -215,7 +215,7 @@ array_behind (array_here h i a) header k e = array_there _ _ _ _ _ header h a k
 array_behind (table_here h i a) header k e = kinds_differ _ _ 7 11 _ header h k i e refl
 array_behind (pointer_here h i a u) header k e = kinds_differ _ _ 1 11 _ header h k i e refl
 
--- the header, directly or behind one pointer
+-- the header, directly or through one pointer
 data HasDirect (s : List ℕ) (p : ℕ) (at : Direct) : Type 0 where
   direct_here : header_at s p ≡ Some at.header → nat_eq at.header.kind 1 ≡ false → at.after ≡ None → HasDirect s p at
   direct_behind : (header : Header) (to : Pointer) → header_at s p ≡ Some header → header.kind ≡ 1 → pointer_at s header.body header.size ≡ Some to → header_at s to.target ≡ Some at.header → nat_eq at.header.kind 1 ≡ false → at.after ≡ Some to.next → HasDirect s p at

@@ -56,7 +56,7 @@ module _ (db : Database) (p : Position) (at : IsAt db p) (inner : p.prefix < wid
         filled = half_address x ∙ ap (number_of (width db)) (sym bits);
       }
 
--- so many bits are an address's
+-- an address of the database has at most 128 bits
 pub width-le : (db : Database) → width db ≤ 128
 width-le db = elim (cases_Bool (has_ipv6 db)) [ inl six ↦ rw six (omega arith) | inr four ↦ rw four (omega arith) ]
 

@@ -51,7 +51,7 @@ subtree_zeros : (a b c : Bool) → a ≡ true → (not a || b && c) ≡ true →
 subtree_zeros true b c e h = (and_parts b c h).1
 subtree_zeros false b c e h = cc
 
--- a leaf that is shown as IPv4 has an IPv4 address behind the bits before IPv4
+-- a leaf that is shown as IPv4 has an IPv4 address after the bits before IPv4
 pub shown-parts : (db : Database) (p : Position) → IsAt db p → is_leaf_shown_as_ipv4 db (bits_to db p) ≡ true → (p.address < 4294967296) × (width db - 32 ≤ p.prefix)
 shown-parts db p at shown = elim (cases_Bool (has_ipv6 db)) [
   | inl six ↦

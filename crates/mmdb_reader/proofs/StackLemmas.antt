@@ -151,7 +151,7 @@ module _ (db : Database) (options : WithinOptions) (capacity : ℕ) (old : List 
     pub top-placed : IsPlaced db capacity (length xs) p
     top-placed = IsStack-top db capacity xs p on.placed
 
-    -- behind an alias nothing is listed
+    -- below an alias nothing is listed
     pub goes_on-hidden : is_hidden db options (bits_to db p) ≡ true → IsNothing db options capacity old xs
     goes_on-hidden hidden = record {
       placed = IsStack-front db capacity xs p on.placed;

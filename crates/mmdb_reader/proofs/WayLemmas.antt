@@ -182,7 +182,7 @@ map_complete key s p d c b map to stands first =
     let f = first_complete s key first map.levels in
     (inside_map map f.0, rw (container_complete 7 s p d map refl stands, f.1) refl, f.2, ap (λ z. 2 * map.count + z) f.3, f.4)
 
--- the element before which so many stand, or none
+-- the element before which this many come, or none
 abbrev Element : List ℕ → Entered → Reading Bool → Option ℕ → Type 0
 Element s array r None = (led_to r ≡ None) × (r.values ≡ array.count) × (r.bytes ≡ 0)
 Element s array r (Some n) = (c : ℕ) × (q : ℕ) × ArePassed s array.body n c q × (led_to r ≡ Some q) × (r.values ≡ array.count + c) × (r.bytes ≡ 0)

@@ -7,7 +7,7 @@ use Rattle.mmdb_tree.specs.declared.record.TreeRecord.{TreeRecord}
 use Rattle.mmdb_reader.specs.Lookup.{Answers}
 use Rattle.mmdb_reader.specs.Shown.{ipv4_start}
 
--- How many of a leaf's bits stand after the sixteenth that follows the start of IPv4.
+-- How many of a leaf's bits come after the sixteenth that follows the start of IPv4.
 abbrev pub bits_after_table : Database → List Bool → ℕ
 bits_after_table db leaf = length leaf - length (before_ipv4 db) - 16
 

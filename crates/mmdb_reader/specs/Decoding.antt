@@ -10,7 +10,7 @@ DecodesTo datum read None (Some v) = ⊥
 DecodesTo datum read (Some offset) None = ⊥
 DecodesTo datum read (Some offset) (Some v) = read offset ≡ Some (datum v)
 
--- there is data, and nothing readable stands at the offset; or memory ran out, unless a success takes none
+-- there is data, and nothing readable is at the offset; or memory ran out, unless a success takes none
 abbrev pub FailsToDecode : {A : Type 0} → Bool → MaxMindDbError → (ℕ → Option A) → Option ℕ → Type 0
 FailsToDecode free e read None = ⊥
 FailsToDecode free e read (Some offset) = Fails free e (read offset)

@@ -9,17 +9,17 @@ use Rattle.mmdb_format.specs.declared.header.Header.{Header}
 abbrev pub HasValueHeader : List ℕ → ℕ → Header → Type 0
 HasValueHeader section offset header = (header_at section offset ≡ Some header) × (header.kind ≢ 1)
 
--- it can be read there, or behind one pointer that stands there
+-- it can be read there, or through one pointer that is there
 abbrev pub LeadsToHeader : List ℕ → ℕ → Header → Type 0
 LeadsToHeader section offset header =
     HasValueHeader section offset header
     ⊎ ((target next : ℕ) × PointsTo section offset target next × HasValueHeader section target header)
 
--- No header that is no pointer can be read at an offset, directly or behind one pointer.
+-- No header that is no pointer can be read at an offset, directly or through one pointer.
 abbrev pub IsUnreadable : List ℕ → ℕ → Type 0
 IsUnreadable section offset = (header : Header) → ¬ LeadsToHeader section offset header
 
--- An empty map or array stands at an offset, directly or behind one pointer.
+-- An empty map or array is at an offset, directly or through one pointer.
 pub record IsEmptyContainer (section : List ℕ) (offset : ℕ) : Type 0 where
   pub header : Header
   pub leads : LeadsToHeader section offset header

@@ -9,12 +9,12 @@ use Rattle.mmdb_tree.specs.Tree.{SearchTree, search_tree, node_bytes}
 abbrev pub marker_bytes : List ℕ
 marker_bytes = 171 ∷ 205 ∷ 239 ∷ 77 ∷ 97 ∷ 120 ∷ 77 ∷ 105 ∷ 110 ∷ 100 ∷ 46 ∷ 99 ∷ 111 ∷ 109 ∷ []
 
--- the marker's bytes stand in the file at this offset
+-- the marker's bytes are in the file at this offset
 pub record IsMarkerAt (file : List ℕ) (offset : ℕ) : Type 0 where
   pub fits : offset + length marker_bytes ≤ length file
   pub reads : (j : ℕ) → j < length marker_bytes → slice_index file (offset + j) ≡ slice_index marker_bytes j
 
--- They stand there, and nowhere after it: the last occurrence begins the metadata.
+-- They are there, and nowhere after it: the last occurrence begins the metadata.
 pub record IsLastMarker (file : List ℕ) (offset : ℕ) : Type 0 where
   pub stands : IsMarkerAt file offset
   pub last : (other : ℕ) → IsMarkerAt file other → other ≤ offset
@@ -40,7 +40,7 @@ tree_of db = search_tree db.bytes db.metadata.node_count db.metadata.record_size
 abbrev pub tree_len : Database → ℕ
 tree_len db = db.metadata.node_count * node_bytes db.metadata.record_size
 
--- how many bytes stand between the tree and the data ("Data Section Separator")
+-- how many bytes lie between the tree and the data ("Data Section Separator")
 abbrev pub separator : ℕ
 separator = 16
 

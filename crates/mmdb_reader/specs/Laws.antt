@@ -29,8 +29,8 @@ pub record IsOnlyLeafOn (db : Database) (bits leaf : List Bool) : Type 0 where
 abbrev pub EachAddressHasOneLeaf : Type 0
 EachAddressHasOneLeaf = (db : Database) (bits : List Bool) → length bits ≡ width db → (leaf : List Bool) × IsOnlyLeafOn db bits leaf
 
--- An address that the database may be asked for has an answer: what the number stands for to which the
--- walk of all its bits leads.
+-- An address that the database may be asked for has an answer: what the number means to which the walk of all its bits
+-- leads.
 abbrev pub EachAddressIsAnswered : Type 0
 EachAddressIsAnswered =
     (db : Database) (address : IpAddr) → CanAsk db address → (leaf : List Bool) × Answers db address leaf (outcome_of db (walk (tree_of db) (address_bits db address)))

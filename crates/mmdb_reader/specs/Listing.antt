@@ -25,8 +25,8 @@ listed_with leaf finding = record { leaf = leaf; finding = finding }
 
 -- ---- which leaves are listed, in the words of the format
 
--- The leaf's value stands at this offset of the data section: the leaf leads to the number that is the
--- offset more than the number of nodes and the separator's length.
+-- The leaf's value is at this offset of the data section: the leaf leads to the number that is the offset more than the
+-- number of nodes and the separator's length.
 pub record HasValueAt (db : Database) (leaf : List Bool) (offset : ℕ) : Type 0 where
   pub leads : walk (tree_of db) leaf ≡ db.metadata.node_count + separator + offset
   pub inside : offset < data_length db
@@ -46,8 +46,8 @@ pub record HasUnreadableValue (db : Database) (leaf : List Bool) : Type 0 where
   pub value : HasValueAt db leaf offset
   pub unreadable : IsUnreadable (data_section db) offset
 
--- A leaf is faulty that leads to no place of the data section, or stands on a node; and, where empty
--- values are left out, one whose value's header can't be read.
+-- A leaf is faulty that leads to no place of the data section, or is on a node; and, where empty values are left out,
+-- one whose value's header can't be read.
 abbrev pub IsFaulty : Database → WithinOptions → List Bool → Type 0
 IsFaulty db options leaf =
     LeadsNowhere db leaf ⊎ (StandsOnNode db leaf ⊎ ((skips_empty options ≡ true) × HasUnreadableValue db leaf))
@@ -69,7 +69,7 @@ abbrev pub IsClear : Database → List Bool → Type 0
 IsClear db leaf = (beginning : List Bool) → IsPrefix beginning leaf → ¬ IsAlias db beginning
 
 -- The leaf is listed for a range of bits, with that finding: it begins with the range's bits, or they
--- begin with it; and it is behind no alias, unless aliased networks are asked for.
+-- begin with it; and it is below no alias, unless aliased networks are asked for.
 pub record IsListed (db : Database) (options : WithinOptions) (range leaf : List Bool) (finding : TreeRecord) : Type 0 where
   pub is_leaf : IsLeaf db leaf
   pub in_range : IsPrefix range leaf ⊎ IsPrefix leaf range
@@ -84,7 +84,7 @@ pub record ComesBefore (a b : List Bool) : Type 0 where
   pub low : a ≡ shared ++ false ∷ rest_of_a
   pub high : b ≡ shared ++ true ∷ rest_of_b
 
--- each leaf comes before all that follow it, and so stands once
+-- each leaf comes before all that follow it, and so is there once
 abbrev pub Ascends : List (List Bool) → Type 0
 Ascends [] = Unit {0}
 Ascends (leaf ∷ leaves) = ((other : List Bool) → Contains leaves other → ComesBefore leaf other) × Ascends leaves
@@ -100,7 +100,7 @@ pub record IsListing (db : Database) (options : WithinOptions) (range : List Boo
 
 -- ---- the list as a function
 
--- the bits are an alias, behind which nothing is listed
+-- the bits are an alias, below which nothing is listed
 abbrev pub is_hidden : Database → WithinOptions → List Bool → Bool
 is_hidden db options bits = not (includes_aliased options) && is_alias db bits
 
@@ -129,7 +129,7 @@ list_if leaf (Some finding) = listed_with leaf finding ∷ []
 abbrev pub listed_at : Database → WithinOptions → List Bool → List Listed
 listed_at db options leaf = list_if leaf (finding_at db options (walk (tree_of db) leaf))
 
--- the leaves that begin with these bits, where so many bits are left to a full address
+-- the leaves that begin with these bits, where this many bits are left to a full address
 unfoldable pub listed_below : Database → WithinOptions → ℕ → List Bool → List Listed
 listed_below db options zero bits = if is_hidden db options bits then [] else listed_at db options bits
 listed_below db options (suc left) bits =

@@ -26,7 +26,7 @@ CanAsk db (V6 a) = db.metadata.ip_version ≡ 6
 abbrev pub record_at : Database → ℕ → TreeRecord
 record_at db number = record_of db.metadata.node_count (data_length db) number
 
--- A lookup finds no data where the walk of a full address still stands on a node.
+-- A lookup finds no data where the walk of a full address is still on a node.
 abbrev pub for_lookup : TreeRecord → TreeRecord
 for_lookup (Node number) = Empty
 for_lookup Empty = Empty
@@ -49,7 +49,7 @@ pub record Answers (db : Database) (address : IpAddr) (leaf : List Bool) (outcom
 abbrev pub IsInvalidAt : Database → IpAddr → Type 0
 IsInvalidAt db address = (leaf : List Bool) × Answers db address leaf Invalid
 
--- the outcome that an optional offset stands for
+-- the outcome that an optional offset means
 abbrev pub outcome_at : Option ℕ → TreeRecord
 outcome_at (Some offset) = Data offset
 outcome_at None = Empty

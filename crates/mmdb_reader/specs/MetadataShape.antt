@@ -1,5 +1,5 @@
 -- The shape of metadata ("Database Metadata" of the MaxMind DB File Format Specification 2.0): a map whose
--- keys name the nine fields, each of exactly its type, all of which must stand.
+-- keys name the nine fields, each of exactly its type, all of which must be there.
 use Rattle.std.specs.Prelude.{ℕ, List, Option, Some, None, if◌then◌else◌, codes}
 use Rattle.mmdb_format.specs.Header.{◌>>=◌}
 use Rattle.mmdb_decode.specs.Reading.{Meaning}
@@ -69,11 +69,11 @@ whole_metadata p =
       record_size = record_size;
     })
 
--- the metadata that stand at a place
+-- the metadata that are at a place
 abbrev pub metadata_at : Meaning MetadataDatum
 metadata_at = finished whole_metadata (record_at metadata_fields no_metadata_fields)
 
--- each of the nine names stands at most once among these
+-- each of the nine names comes at most once among these
 abbrev pub MetadataNamesOnce : List (List ℕ) → Type 0
 MetadataNamesOnce names =
     StandsOnce names (codes "binary_format_major_version")
@@ -86,7 +86,7 @@ MetadataNamesOnce names =
     × StandsOnce names (codes "node_count")
     × StandsOnce names (codes "record_size")
 
--- in metadata that stand, each of the nine names stands at most once: a map that repeats one is not read
+-- in metadata that are there, each of the nine names comes at most once: a map that repeats one is not read
 abbrev pub MetadataNamesStandOnce : Type 0
 MetadataNamesStandOnce =
     (s : List ℕ) (p d : ℕ) (names : List (List ℕ)) (x : MetadataFields) (q c b : ℕ) →

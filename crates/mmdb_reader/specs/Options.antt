@@ -2,7 +2,7 @@
 use Rattle.std.specs.Prelude.{Bool, true, false}
 use Rattle.mmdb_reader.specs.declared.options.WithinOptions.{WithinOptions}
 
--- networks behind aliases are listed
+-- networks below aliases are listed
 abbrev pub includes_aliased : WithinOptions → Bool
 includes_aliased options = options.aliased_networks
 

@@ -10,7 +10,7 @@ use Rattle.mmdb_reader.specs.Selecting.{selected}
 use Rattle.mmdb_reader.specs.declared.path.PathElement.{PathElement}
 use Rattle.mmdb_reader.specs.declared.path.PathElement.TheVariants.{Key, Index, IndexFromEnd}
 
--- past a pointer where one stands
+-- past a pointer where one is
 abbrev pub past_pointer : Tree → Tree
 past_pointer (pointer a t) = t
 past_pointer t = t
@@ -20,12 +20,12 @@ abbrev pub is_spelled : List ℕ → Tree → Bool
 is_spelled key (scalar (text x)) = named x key
 is_spelled key _ = false
 
--- the value of the first pair with the key, which is a text directly or behind one pointer
+-- the value of the first pair with the key, which is a text directly or through one pointer
 abbrev pub value_of : List ℕ → Pairs → Option Tree
 value_of key no_pairs = None
 value_of key (pair k v ps) = if is_spelled key (past_pointer k) then Some v else value_of key ps
 
--- the element before which so many stand
+-- the element before which this many come
 abbrev pub element_of : ℕ → Trees → Option Tree
 element_of n no_trees = None
 element_of zero (tree t ts) = Some t

@@ -44,7 +44,7 @@ abbrev pub is_high_at : Position → ℕ → Bool
 is_high_at p number = p.number == number && nat_le (2 ^ 32) p.address
 
 -- of the nodes that a walk meets exactly the one with this number, reached by such bits, is an alias that hides
--- what lies behind it
+-- what lies below it
 abbrev pub HidesAliases : Database → WithinOptions → ℕ → Type 0
 HidesAliases db options hidden =
     (p : Position) → p.number < db.metadata.node_count

@@ -7,21 +7,21 @@ use Rattle.mmdb_decode.specs.Selecting.{at_key, at_element, from_front, from_end
 use Rattle.mmdb_reader.specs.declared.path.PathElement.{PathElement}
 use Rattle.mmdb_reader.specs.declared.path.PathElement.TheVariants.{Key, Index, IndexFromEnd}
 
--- The step that an integer stands for: -1 is the last element, and the least `isize` stands for the
--- largest distance from the end.
+-- The step that an integer means: -1 is the last element, and the least `isize` means the largest
+-- distance from the end.
 abbrev pub element_at : ℤ → PathElement
 element_at (pos n) = Index n
 element_at (negsuc n) = if n == 2 ^ 63 - 1 then IndexFromEnd (2 ^ 64 - 1) else IndexFromEnd n
 
--- where one step leads: a key into a map, an index into an array, each directly or behind one pointer
+-- where one step leads: a key into a map, an index into an array, each directly or through one pointer
 abbrev pub at_step : PathElement → Meaning Bool
 at_step (Key key) = at_key key.now
 at_step (Index i) = at_element (from_front i)
 at_step (IndexFromEnd i) = at_element (from_end i)
 
 -- Where a path leads: to a place, where the reading ends (true); nowhere, as no key is equal or an index
--- is out of range (false); or there is no answer, since another value stands on the way or its bytes are
--- none. Its costs are those of all containers, keys and skipped values on the way.
+-- is out of range (false); or there is no answer, since another value is on the way or its bytes are none. Its costs
+-- are those of all containers, keys and skipped values on the way.
 abbrev pub selected : List PathElement → Meaning Bool
 selected [] = given true
 selected (e ∷ path) = followed (at_step e) (λ there. if there then selected path else given false)

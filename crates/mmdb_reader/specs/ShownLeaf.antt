@@ -4,7 +4,7 @@ use Rattle.std.specs.Prelude.{ℕ, zero, suc, Bool, true, false, not, ◌&&◌, 
 use Rattle.mmdb_reader.specs.File.{Database, has_ipv6}
 use Rattle.mmdb_reader.specs.Shown.{has_ipv4_subtree}
 
--- the bits begin with so many zeros
+-- the bits begin with this many zeros
 unfoldable pub begins_with_zeros : ℕ → List Bool → Bool
 begins_with_zeros zero bits = true
 begins_with_zeros (suc count) [] = false

@@ -10,14 +10,14 @@ use Rattle.mmdb_reader.specs.File.{Database, IsLastMarker, IsSupported, HasRoom,
 abbrev pub metadata_read : List ℕ → Option MetadataDatum
 metadata_read section = answer true metadata_at section 0
 
--- The metadata that stand in the section after a marker, within the limits of reading, are these, and a
--- reader supports them.
+-- The metadata that are in the section after a marker, within the limits of reading, are these, and a reader supports
+-- them.
 pub record IsValidMetadata (section : List ℕ) (metadata : MetadataDatum) : Type 0 where
   pub reads : metadata_read section ≡ Some metadata
   pub supported : IsSupported metadata
 
--- The file is this database: valid metadata stand after its last marker, and the tree and the separator
--- have room before it.
+-- The file is this database: valid metadata are after its last marker, and the tree and the separator have room before
+-- it.
 pub record IsDatabaseOf (file : List ℕ) (db : Database) : Type 0 where
   pub bytes : db.bytes ≡ file
   pub marker : IsLastMarker file db.marker

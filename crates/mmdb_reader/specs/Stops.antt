@@ -12,7 +12,7 @@ aliased_start db = if has_ipv4_subtree db && nat_lt 0 (ipv4_start db) then Some 
 abbrev pub walked_tree : Database → WalkedTree
 walked_tree db = record { tree = tree_of db; width = width db; ipv4_start = aliased_start db; data_length = data_length db }
 
--- All stops of a walk: the topmost aliases, and the leaves that are behind no alias.
+-- All stops of a walk: the topmost aliases, and the leaves that are below no alias.
 abbrev pub stops : Database → List Stop
 stops db = stops_of (walked_tree db)
 

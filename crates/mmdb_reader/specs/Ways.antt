@@ -1,5 +1,5 @@
--- Where a path leads, in the words of the format: which keys, values and elements stand on the way, and what
--- it costs. Nothing is said of what stands behind the offset that is reached: it may be no value.
+-- Where a path leads, in the words of the format: which keys, values and elements are on the way, and what it costs.
+-- Nothing is said of what is at the offset that is reached: it may be no value.
 use Rattle.std.specs.Prelude.{◌≡◌, ◌↔◌, ℕ, zero, suc, ◌+◌, ◌*◌, ◌<◌, ◌≤◌, List, [], ◌∷◌, length, Option, Some, None, Bool, true, if◌then◌else◌}
 use Rattle.std.specs.Borrow.{Bor}
 use Rattle.mmdb_format.specs.Contents.{text}
@@ -14,12 +14,12 @@ use Rattle.mmdb_reader.specs.Selecting.{selected, read_along}
 use Rattle.mmdb_reader.specs.declared.path.PathElement.{PathElement}
 use Rattle.mmdb_reader.specs.declared.path.PathElement.TheVariants.{Key, Index, IndexFromEnd}
 
--- a key stands at p and ends before q: a text of these bytes, directly or behind one pointer, on no level
+-- a key is at p and ends before q: a text of these bytes, directly or through one pointer, on no level
 abbrev pub KeyStands : List ℕ → ℕ → List ℕ → ℕ → Type 0
 KeyStands s p key q = ScalarStands s p 0 (text key) q
 
--- One value stands at p and ends before q, and its containers, which nest at most 128 deep, have c parts. It
--- is passed: its pointers are not followed.
+-- One value is at p and ends before q, and its containers, which nest at most 128 deep, have c parts. It is passed: its
+-- pointers are not followed.
 abbrev pub IsPassed : List ℕ → ℕ → ℕ → ℕ → Type 0
 IsPassed s p c q = (nested : ℕ) × Skips s p nested c q × (nested ≤ most_nested)
 
@@ -34,10 +34,9 @@ pub data FirstPair (s : List ℕ) (key : List ℕ) : ℕ → ℕ → Option ℕ 
   this_pair_has_it : {p q n : ℕ} → KeyStands s p key q → FirstPair s key p (suc n) (Some q) 0 (length key)
   a_later_pair : {p q r n m c b : ℕ} {other : List ℕ} {to : Option ℕ} → KeyStands s p other q → (other ≡ key → ⊥) → IsPassed s q m r → FirstPair s key r n to c b → FirstPair s key p (suc n) to (m + c) (length other + b)
 
--- One step of a path from p, below d levels: from the map that stands there to the value of the first pair with
--- the key, or from the array to the element with the index, counted from its front or its end; or to nothing,
--- where there is none. It costs c values, which are all parts of the map or array and those of what is
--- passed, and b bytes of keys.
+-- One step of a path from p, below d levels: from the map that is there to the value of the first pair with the key, or
+-- from the array to the element with the index, counted from its front or its end; or to nothing, where there is none.
+-- It costs c values, which are all parts of the map or array and those of what is passed, and b bytes of keys.
 pub data StepLeads (s : List ℕ) (p d : ℕ) : PathElement → Option ℕ → ℕ → ℕ → Type 0 where
   to_value : {key : Bor (List ℕ)} {map : Entered} {to : Option ℕ} {c b : ℕ} → ContainerStands 7 s p d map → FirstPair s key.now map.body map.count to c b → StepLeads s p d (Key key) to (2 * map.count + c) b
   to_element : {i q c : ℕ} {array : Entered} → ContainerStands 11 s p d array → i < array.count → ArePassed s array.body i c q → StepLeads s p d (Index i) (Some q) (array.count + c) 0

@@ -21,7 +21,7 @@ pub record IsTopmost (db : Database) (bits : List Bool) : Type 0 where
   pub alias : IsAlias db bits
   pub clear : (c : List Bool) (x : Bool) (d : List Bool) → bits ≡ c ++ x ∷ d → ¬ IsAlias db c
 
--- No walked leaf leads to no place of the data section, or stands on a node.
+-- No walked leaf leads to no place of the data section, or is on a node.
 abbrev pub HasNoFault : Database → Type 0
 HasNoFault db = (leaf : List Bool) → IsWalked db leaf → ¬ IsFaulty db default_options leaf
 

@@ -23,7 +23,7 @@ use Rattle.mmdb_reader.specs.Whole.{IsWalked, IsTopmost, HasNoFault, IsWhole, Ha
 abbrev pub inner_before : Database → ℕ → ℕ
 inner_before db n = cost (take (suc n) (stops db)) - suc n
 
--- With the root, and without the stops behind it, these are at most 129: the positions that still wait.
+-- With the root, and without the stops that are passed, these are at most 129: the positions that still wait.
 abbrev pub FewPositionsWait : Type 0
 FewPositionsWait = (db : Database) (n : ℕ) → n < length (stops db) → 1 + inner_before db n - n ≤ 129
 
@@ -56,7 +56,7 @@ abbrev pub OffsetsAreExact : Type 0
 OffsetsAreExact =
     (db : Database) (offset : ℕ) → Contains (offsets (stops db)) offset ↔ ((leaf : List Bool) × IsWalked db leaf × HasValueAt db leaf offset)
 
--- Where no walked leaf is faulty, no lookup fails, behind aliases either.
+-- Where no walked leaf is faulty, no lookup fails, below aliases either.
 abbrev pub LookupsSucceed : Type 0
 LookupsSucceed = (db : Database) → HasNoFault db → (address : IpAddr) → CanAsk db address → ¬ IsInvalidAt db address
 
@@ -79,13 +79,13 @@ abbrev pub RecordsAreDecoded : Type 0
 RecordsAreDecoded =
     (db : Database) → IsWhole db → HasReadableRecords db → (address : IpAddr) (leaf : List Bool) (offset : ℕ) → Answers db address leaf (Data offset) → (v : Tree) × (answer true (value_at true) (data_section db) offset ≡ Some v)
 
--- Behind an alias the walk goes on as where IPv4 begins.
+-- Below an alias the walk goes on as where IPv4 begins.
 abbrev pub GoesOnAsIpv4 : Type 0
 GoesOnAsIpv4 =
     (db : Database) (alias rest : List Bool) → IsAlias db alias → walk (tree_of db) (alias ++ rest) ≡ walk (tree_of db) (before_ipv4 db ++ rest)
 
--- the walk behind an alias ends after some of the rest, at most 32 bits, on a leaf that leads where a walked
--- leaf of IPv4 does
+-- the walk below an alias ends after some of the rest, at most 32 bits, on a leaf that leads where a walked leaf of
+-- IPv4 does
 pub record EndsAsIpv4 (db : Database) (alias rest : List Bool) : Type 0 where
   pub taken : List Bool
   pub left : List Bool
@@ -95,7 +95,7 @@ pub record EndsAsIpv4 (db : Database) (alias rest : List Bool) : Type 0 where
   pub walked : IsWalked db (before_ipv4 db ++ taken)
   pub same : walk (tree_of db) (alias ++ taken) ≡ walk (tree_of db) (before_ipv4 db ++ taken)
 
--- It does so behind an alias of at most 96 bits, where no walked leaf is faulty.
+-- It does so below an alias of at most 96 bits, where no walked leaf is faulty.
 abbrev pub AliasesEndAsIpv4 : Type 0
 AliasesEndAsIpv4 =
     (db : Database) (alias rest : List Bool) → HasNoFault db → IsAlias db alias → length alias ≤ 96 → length alias + length rest ≡ 128 → EndsAsIpv4 db alias rest

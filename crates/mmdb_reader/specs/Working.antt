@@ -36,7 +36,7 @@ pub record IsLeafAt (db : Database) (address : IpAddr) (leaf : List Bool) (numbe
 abbrev pub block_of : Database → Leaf → List Bool
 block_of db leaf = numbered_block db leaf.address.width leaf.address.bits leaf.prefix
 
--- no marker stands in the file
+-- no marker is in the file
 abbrev pub HasNoMarker : List ℕ → Type 0
 HasNoMarker file = (offset : ℕ) → ¬ IsMarkerAt file offset
 
@@ -76,7 +76,7 @@ pub record ListsSame (db : Database) (options : WithinOptions) (capacity : ℕ) 
   pub lists : listed_of_stack db options new ≡ listed_of_stack db options old
   pub left : positions_left (width db) new ≤ positions_left (width db) old
 
--- the last position is a leaf behind no alias
+-- the last position is a leaf below no alias
 pub record IsLowest (db : Database) (options : WithinOptions) (capacity : ℕ) (old stack : List Position) (leaf : Position) : Type 0 where
   pub on : ListsSame db options capacity old (stack ++ leaf ∷ [])
   pub shown : is_hidden db options (bits_to db leaf) ≡ false

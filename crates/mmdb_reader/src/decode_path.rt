@@ -70,10 +70,9 @@ fn decode_along<'de, T: Decode<'de>>(
 impl<'a, S: AsSlice<u8> + Drop> LookupResult<'a, S> {
     /// The value of the network, or none exactly where it has no data; only data can fail.
     ///
-    /// Fails, unless out of memory, exactly where no value of the type's shape stands at the offset within the
-    /// limits: `InvalidDatabase` where the bytes are no value, `Decoding` where the value is of another
-    /// shape, `ResourceLimit` over a limit. Of a type whose meaning is not exact its own relation is known,
-    /// and of Ok alone.
+    /// Fails, unless out of memory, exactly where no value of the type's shape is at the offset within the limits:
+    /// `InvalidDatabase` where the bytes are no value, `Decoding` where the value is of another shape, `ResourceLimit`
+    /// over a limit. Of a type whose meaning is not exact its own relation is known, and of Ok alone.
     pub fn decode<T: Decode<'a>>(&self, alloc: Global) -> Result<Option<T>, MaxMindDbError>
         ensures ok { IfOk result (λ value. T.exact ≡ true → DecodesTo T.datum
             (answer T.starts T.meaning (section_asked self.now)) (offset_found self.now) value) }
@@ -94,14 +93,14 @@ impl<'a, S: AsSlice<u8> + Drop> LookupResult<'a, S> {
         }
     }
 
-    /// The value at the end of a path into the network's value, without reading what stands beside the path;
-    /// none exactly where the network has no data, no key of a map on the way is equal, or an index is out of
-    /// range. The first of equal keys counts. An empty path is `decode`.
+    /// The value at the end of a path into the network's value, without reading what is beside the path; none exactly
+    /// where the network has no data, no key of a map on the way is equal, or an index is out of range. The first of
+    /// equal keys counts. An empty path is `decode`.
     ///
     /// Fails, unless out of memory, exactly where another value than a map for a key or an array for an index
-    /// stands on the way, where bytes on the way are no value, where no value of the type's shape stands at
-    /// the path's end, or where way and value together pass the limits. A `Decoding` or `ResourceLimit`
-    /// names the path up to the step at which it arose. The way itself takes no memory.
+    /// is on the way, where bytes on the way are no value, where no value of the type's shape is at the path's end, or
+    /// where way and value together pass the limits. A `Decoding` or `ResourceLimit` names the path up to the step at
+    /// which it arose. The way itself takes no memory.
     pub fn decode_path<T: Decode<'a>>(
         &self,
         alloc: Global,

@@ -1,4 +1,4 @@
-//! What opening a file finds: its metadata, and where its parts stand.
+//! What opening a file finds: its metadata, and where its parts are.
 ghost use Rattle.std.specs.Prelude.{◌≡◌, ◌+◌, ◌^◌, ◌<◌, ◌≤◌, false, Some, IfOk, IfErr, length};
 ghost use Rattle.mmdb_format.specs.Error.{OfDatabase, kind_of, MemoryApart};
 ghost use Rattle.mmdb_decode.specs.Errors.{Fails};
@@ -17,8 +17,8 @@ use mmdb_record::fuzzing;
 use mmdb_tree::{Nodes, SEPARATOR};
 use std::alloc::Global;
 
-/// What opening a file finds before it makes tables: the metadata, where the metadata's marker stands and the data
-/// section begins, and where IPv4 begins in the tree, after how many bits.
+/// What opening a file finds before it makes tables: the metadata, where the metadata's marker is and the data section
+/// begins, and where IPv4 begins in the tree, after how many bits.
 #[derive(Drop)]
 pub struct FileLayout {
     pub metadata: Metadata,
@@ -28,7 +28,7 @@ pub struct FileLayout {
     pub ipv4_depth: u8,
 }
 
-// What stands at the beginning of a metadata section, which begins at a place of its file.
+// What is at the beginning of a metadata section, which begins at a place of its file.
 fn read_metadata(alloc: Global, section: &[u8], start: usize) -> DecodeResult<Metadata>
     ensures ok { IfOk result (λ m. metadata_read section.now ≡ Some (metadata_datum m)) }
     ensures err { IfErr result (λ e. Fails false e (metadata_read section.now)) }
@@ -40,7 +40,7 @@ fn read_metadata(alloc: Global, section: &[u8], start: usize) -> DecodeResult<Me
 }
 
 impl FileLayout {
-    // Of a file whose marker stands at this place, and whose metadata are these.
+    // Of a file whose marker is at this place, and whose metadata are these.
     fn from_parts(
         alloc: Global,
         file: &[u8],

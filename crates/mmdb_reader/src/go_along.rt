@@ -98,7 +98,7 @@ fn mismatch(alloc: Global, step: &PathElement<'_>, found: u16, offset: usize) ->
 }
 
 impl RejectedStep {
-    /// The error of the step, with the path up to it. The decoder stands where it failed.
+    /// The error of the step, with the path up to it. The decoder is where it failed.
     pub(crate) fn to_error(
         self,
         alloc: Global,

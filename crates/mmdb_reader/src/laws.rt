@@ -78,13 +78,13 @@ pub fn metadata_equal_where_same()
     ensures metadata { IsEqualityOf ⟦<Metadata as PartialEq>⟧.eq metadata_datum }
 {}
 
-/// In the map that metadata are read of, each of the nine names stands at most once.
+/// In the map that metadata are read of, each of the nine names comes at most once.
 pub fn metadata_names_stand_once()
     ensures { MetadataNamesStandOnce }
 {}
 
-/// The stops of a walk over the whole tree are exactly the topmost aliases and the leaves behind no alias,
-/// ascending, each once, and their offsets are those of the values of these leaves.
+/// The stops of a walk over the whole tree are exactly the topmost aliases and the leaves below no alias, ascending,
+/// each once, and their offsets are those of the values of these leaves.
 pub fn walk_stops()
     ensures stops { StopsAreExact }
     ensures offsets { OffsetsAreExact }
@@ -97,8 +97,8 @@ pub fn few_positions_wait()
     ensures stops { FewStopsAreTaken }
 {}
 
-/// In a tree none of whose walked leaves is faulty every lookup succeeds, behind aliases too; and in a whole
-/// file a tree of valid texts unfolds at each offset that a lookup answers.
+/// In a tree none of whose walked leaves is faulty every lookup succeeds, below aliases too; and in a whole file a tree
+/// of valid texts unfolds at each offset that a lookup answers.
 pub fn whole_file_answers()
     ensures lookups { LookupsSucceed }
     ensures offsets { AnsweredOffsetsAreWalked }
@@ -111,8 +111,8 @@ pub fn records_are_decoded()
     ensures { RecordsAreDecoded }
 {}
 
-/// Behind an alias the walk goes on as where IPv4 begins; behind one of at most 96 bits it ends within 32
-/// bits on a leaf that leads where a walked leaf of IPv4 does.
+/// Below an alias the walk goes on as where IPv4 begins; below one of at most 96 bits it ends within 32 bits on a leaf
+/// that leads where a walked leaf of IPv4 does.
 pub fn aliases_lead_to_ipv4()
     ensures goes_on { GoesOnAsIpv4 }
     ensures ends { AliasesEndAsIpv4 }
@@ -126,7 +126,7 @@ pub fn path_selects()
 {}
 
 /// Where a path leads, in the words of the format, is where it is found to lead, with the same costs: to one
-/// offset, whatever stands behind it, or nowhere.
+/// offset, whatever is there, or nowhere.
 pub fn path_is_what_leads()
     ensures same { SelectingIsLeading }
     ensures one { OneWayLeads }

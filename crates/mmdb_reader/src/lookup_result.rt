@@ -58,7 +58,7 @@ impl NumberedAddress {
 }
 
 /// A network as numbers: its first address, how many bits an address has, 32 or 128, and how many of them all addresses of
-/// the network share. The bits behind those are 0.
+/// the network share. The bits after those are 0.
 #[derive(Clone, Copy)]
 pub struct NumberedNetwork {
     pub first: u128,

@@ -27,7 +27,7 @@ fn error_of(error: io::Error) -> MaxMindDbError
     MaxMindDbError::Io(error)
 }
 
-// Some bytes, and behind them those that are left in a file.
+// Some bytes, and after them those that are left in a file.
 fn read_behind<R: Read>(
     alloc: Global,
     file: &mut R,
@@ -138,10 +138,9 @@ fn expected_len<F: OpenFile>(file: &F) -> usize {
 impl<S: AsSlice<u8> + Drop> Reader<S> {
     /// A reader of the bytes of a file, which it owns or borrows.
     ///
-    /// The file is accepted exactly where, unless out of memory, valid metadata stand after its last marker,
-    /// and the search tree and its separator have room before the marker. All errors for the file are
-    /// `InvalidDatabase`, but those for what stands where the metadata should be, which are of the kind
-    /// that reading any value gives.
+    /// The file is accepted exactly where, unless out of memory, valid metadata are after its last marker, and the
+    /// search tree and its separator have room before the marker. All errors for the file are `InvalidDatabase`, but
+    /// those for what is where the metadata should be, which are of the kind that reading any value gives.
     pub fn from_source(alloc: Global, buf: S) -> Result<Reader<S>, MaxMindDbError>
         ensures accepted { IfOk result (λ reader. IsDatabaseOf (S.items buf) reader) }
         ensures rejected { IfErr result (λ e. MemoryApart e (IsNoDatabase (S.items buf))) }

@@ -32,7 +32,7 @@ impl Default for WithinOptions {
 impl WithinOptions {
     ghost use Rattle.mmdb_reader.specs.Options.{includes_aliased, includes_without_data, skips_empty, with_aliased, with_networks_without_data, with_empty_skipped};
 
-    /// Lists networks behind aliases too: other ways of an IPv6 tree to where its IPv4 addresses begin.
+    /// Lists networks below aliases too: other ways of an IPv6 tree to where its IPv4 addresses begin.
     pub fn include_aliased_networks(self) -> WithinOptions
         ensures { result ≡ with_aliased self }
     {
@@ -52,7 +52,7 @@ impl WithinOptions {
         }
     }
 
-    /// Leaves out networks whose value is an empty map or array, directly or behind one pointer.
+    /// Leaves out networks whose value is an empty map or array, directly or through one pointer.
     pub fn skip_empty_values(self) -> WithinOptions
         ensures { result ≡ with_empty_skipped self }
     {
@@ -62,7 +62,7 @@ impl WithinOptions {
         }
     }
 
-    // Whether networks behind aliases are listed.
+    // Whether networks below aliases are listed.
     pub(crate) fn includes_aliased(self) -> bool
         ensures { result ≡ includes_aliased self }
     {

@@ -11,7 +11,7 @@ ghost use Rattle.mmdb_reader.specs.WholeLaws.{AnswersAll};
 
 use crate::offsets::counted_from_start;
 use crate::reader::Reader;
-use crate::steps::Steps;
+use crate::steps::StepCounter;
 use crate::within::invalid;
 use mmdb_check::checked::{Checked, check_offsets};
 use mmdb_check::fuzzing;
@@ -120,7 +120,7 @@ impl<S: AsSlice<u8> + Drop> Reader<S> {
         &self,
         alloc: Global,
         node_count: usize,
-        steps: &mut Steps,
+        steps: &mut StepCounter,
     ) -> Result<OffsetSet, MaxMindDbError>
         requires count { node_count ≡ self.now.metadata.node_count }
         requires few { node_count < 2 ^ 32 }
@@ -173,12 +173,13 @@ impl<S: AsSlice<u8> + Drop> Reader<S> {
         }
     }
 
-    // The offsets of the tree's values, if the metadata, the tree of so many nodes, the separator and the values are whole.
+    // The offsets of the tree's values, if the metadata, the tree of `node_count` nodes, the separator and the values are
+    // whole.
     fn verify_whole<const SWEEPS: bool>(
         &self,
         alloc: Global,
         node_count: usize,
-        steps: &mut Steps,
+        steps: &mut StepCounter,
     ) -> Result<OffsetSet, MaxMindDbError>
         requires count { node_count ≡ self.now.metadata.node_count }
         requires few { node_count < 2 ^ 32 }
@@ -204,11 +205,15 @@ impl<S: AsSlice<u8> + Drop> Reader<S> {
 
     /// `verify`, which adds the positions of the tree that it takes to `steps`.
     ///
-    /// They are at most six for each node and 130 more: each node and each leaf on the way, and each alias, behind
-    /// which it does not go. Where the metadata are whole, or `verify` succeeds, they are exactly those up to the
-    /// last leaf or alias, or up to the one at which it fails. The tree is walked in order, once, and each position that
-    /// is looked at is counted. `verify` sweeps the tree, which is faster.
-    pub fn verify_counted(&self, alloc: Global, steps: &mut Steps) -> Result<(), MaxMindDbError>
+    /// They are at most six for each node and 130 more: each node and each leaf on the way, and each alias, below which
+    /// it does not go. Where the metadata are whole, or `verify` succeeds, they are exactly those up to the last leaf or
+    /// alias, or up to the one at which it fails. The tree is walked in order, once, and each position that is looked at
+    /// is counted. `verify` sweeps the tree, which is faster.
+    pub fn verify_counted(
+        &self,
+        alloc: Global,
+        steps: &mut StepCounter,
+    ) -> Result<(), MaxMindDbError>
         requires { steps.old + (6 * self.now.metadata.node_count + 130) < 2 ^ 64 }
         ensures whole { OnOk result (IsWhole self.now) }
         ensures answers { OnOk result (AnswersAll self.now) }
@@ -226,20 +231,20 @@ impl<S: AsSlice<u8> + Drop> Reader<S> {
     }
 
     /// Checks the whole database: its metadata, its tree, the separator after it, and the values of all leaves that
-    /// stand behind no alias, ascending by their offsets, each once.
+    /// are below no alias, ascending by their offsets, each once.
     ///
-    /// Accepted are, unless out of memory, exactly the whole files. Each lookup of an accepted one succeeds, behind aliases
-    /// too, and at each offset that it answers a finite tree of valid texts unfolds. Rejected are, as
-    /// `InvalidDatabase`, metadata without a database type or a description, a tree with a leaf that leads nowhere
-    /// or with more than three leaves and aliases for each node, a separator that is not zero, and the values that
-    /// `check_value` rejects so; as `ResourceLimit` values that cost more than `check_value` allows.
+    /// Accepted are, unless out of memory, exactly the whole files. Each lookup of an accepted one succeeds, below aliases
+    /// too, and at each offset that it answers a finite tree of valid texts unfolds. Rejected are, as `InvalidDatabase`,
+    /// metadata without a database type or a description, a tree with a leaf that leads nowhere or with more than three
+    /// leaves and aliases for each node, a separator that is not zero, and the values that `check_value` rejects so; as
+    /// `ResourceLimit` values that cost more than `check_value` allows.
     pub fn verify(&self, alloc: Global) -> Result<(), MaxMindDbError>
         ensures whole { OnOk result (IsWhole self.now) }
         ensures answers { OnOk result (AnswersAll self.now) }
         ensures rejected { IfErr result (λ e. MemoryApart e (¬ IsWhole self.now)) }
     {
         let node_count = self.nodes().node_count;
-        let _offsets = self.verify_whole::<true>(alloc, node_count, &mut Steps::new())?;
+        let _offsets = self.verify_whole::<true>(alloc, node_count, &mut StepCounter::new())?;
         Ok(())
     }
 
@@ -258,11 +263,11 @@ impl<S: AsSlice<u8> + Drop> Reader<S> {
 
     /// Checks the whole database as `verify` does, and that `decode::<Value>` of each record succeeds.
     ///
-    /// Accepted are, unless out of memory, exactly the whole files at each of whose data offsets a `Value` stands within
-    /// the limits of a reading. A whole file may have what a `Value` may not: keys that are no texts, or that are behind
-    /// two pointers, and records of more than 65,536 values or 2,097,152 bytes of texts and byte strings, what
-    /// pointers share counted each time. An error is that of `verify`, or of reading the first record, by its
-    /// offset, that can't be read. Containers that records share are passed once.
+    /// Accepted are, unless out of memory, exactly the whole files at each of whose data offsets there is a `Value`
+    /// within the limits of a reading. A whole file may have what a `Value` may not: keys that are no texts, or that are
+    /// reached through two pointers, and records of more than 65,536 values or 2,097,152 bytes of texts and byte
+    /// strings, what pointers share counted each time. An error is that of `verify`, or of reading the first record, by
+    /// its offset, that can't be read. Containers that records share are passed once.
     pub fn verify_records(&self, alloc: Global) -> Result<(), MaxMindDbError>
         ensures whole { OnOk result (IsWhole self.now) }
         ensures answers { OnOk result (AnswersAll self.now) }
@@ -271,7 +276,7 @@ impl<S: AsSlice<u8> + Drop> Reader<S> {
             (λ e. MemoryApart e (IsWhole self.now → ¬ HasReadableRecords self.now)) }
     {
         let node_count = self.nodes().node_count;
-        let set = self.verify_whole::<true>(alloc, node_count, &mut Steps::new())?;
+        let set = self.verify_whole::<true>(alloc, node_count, &mut StepCounter::new())?;
         self.verify_readable(alloc, &set)
     }
 }

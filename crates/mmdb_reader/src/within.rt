@@ -39,12 +39,12 @@ pub struct Within<'de, S: AsSlice<u8> + Drop> {
 
 // The first bits of a range in a database, with zeros before IPv4.
 #[derive(Clone, Copy)]
-struct Range {
+struct RangeBits {
     address: u128,
     prefix: u8,
 }
 
-impl Range {
+impl RangeBits {
     // Whether a bit of the address is set, counted from the lowest.
     fn has_bit(&self, place: usize) -> bool
         requires { place < 128 }
@@ -173,18 +173,18 @@ impl<S: AsSlice<u8> + Drop> Reader<S> {
     }
 
     // The first bits of a range, unless it is an IPv6 range and the database has no IPv6.
-    fn range_of(&self, network: IpNetwork) -> Option<Range>
+    fn range_of(&self, network: IpNetwork) -> Option<RangeBits>
         ensures { MatchOption result (¬ CanAsk self.now (ip_of network))
             (λ range. IsRangeOf self.now network range.address range.prefix) }
     {
         let prefix = network.prefix();
         match network.ip() {
-            IpAddr::V4(address) => Some(Range {
+            IpAddr::V4(address) => Some(RangeBits {
                 address: u128::from(address.to_bits()),
                 prefix: self.width() - 32 + prefix,
             }),
             IpAddr::V6(_) if self.width() == 32 => None,
-            IpAddr::V6(address) => Some(Range {
+            IpAddr::V6(address) => Some(RangeBits {
                 address: address.to_bits(),
                 prefix,
             }),
@@ -257,8 +257,8 @@ impl<S: AsSlice<u8> + Drop> DatabaseWalker<'_, S> {
     ghost use Rattle.mmdb_reader.specs.Listing.{listed};
     ghost use Rattle.mmdb_reader.specs.Working.{IsLowest, IsNothing, IsStart};
 
-    // The node behind which nothing is listed where bits that are high lead to it: the number of nodes,
-    // which is none of them, where there is no such node.
+    // The node below which nothing is listed where bits that are high lead to it: the number of nodes, which is none of
+    // them, where there is no such node.
     fn hidden_number(&self, options: WithinOptions) -> usize
         ensures { HidesAliases self.now.reader.now options result }
     {
@@ -273,7 +273,7 @@ impl<S: AsSlice<u8> + Drop> DatabaseWalker<'_, S> {
 
     // Where the walk of a range begins: at the range, or at the leaf that holds it. None where an
     // alias leads to it.
-    fn start(&self, range: Range, options: WithinOptions, hidden: usize) -> Option<Position>
+    fn start(&self, range: RangeBits, options: WithinOptions, hidden: usize) -> Option<Position>
         requires within { range.prefix ≤ width self.now.reader.now }
         requires hides { HidesAliases self.now.reader.now options hidden }
         ensures { let db = self.now.reader.now in
@@ -295,7 +295,7 @@ impl<S: AsSlice<u8> + Drop> DatabaseWalker<'_, S> {
     }
 
     // The lowest leaf below a position. The upper halves that are passed are put on the stack. None where an alias is
-    // met, behind which nothing is listed.
+    // met, below which nothing is listed.
     #[inline(always)]
     fn go_down(
         &self,

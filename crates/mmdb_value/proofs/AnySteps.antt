@@ -158,7 +158,7 @@ same_here σ = record { section = refl; charges = none_back σ.budget }
 pub step_kept : {A : Type 0} (read : Meaning A) (σ τ ρ : State) (v : A) → Kept σ τ → decoded false read τ ≡ Some (v, ρ) → Kept σ ρ
 step_kept read σ τ ρ v k h = kept_trans σ τ ρ k (kept_decoded false read τ ρ v h)
 
--- what stands behind the header of a text is one
+-- what follows the header of a text is one
 settled_text : (σ τ : State) (r : Reading Scalar) (left : Option (Option Charges)) (v : Scalar) → settled σ r left ≡ Some (v, τ) → v ≡ r.value
 settled_text σ τ r None v h = absurd (cc)
 settled_text σ τ r (Some left) v h =

@@ -1,4 +1,4 @@
--- The laws of what stands at an offset.
+-- The laws of what is at an offset.
 use Rattle.std.specs.Result.{IfOk, IfErr}
 use Rattle.mmdb_format.specs.Error.{MemoryApart}
 use Rattle.mmdb_format.specs.declared.error.MaxMindDbError.{MaxMindDbError}

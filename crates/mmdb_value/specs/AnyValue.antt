@@ -1,4 +1,4 @@
--- Any value: what is read at an offset within so many levels.
+-- Any value: what is read at an offset within a number of levels.
 use Rattle.std.specs.Prelude.{ℕ, zero, suc, ◌+◌, ◌-◌, ◌*◌, List, [], ◌∷◌, Option, Some, None, Bool, ◌||◌, not, nat_eq, if◌then◌else◌}
 use Rattle.std.specs.Str.{is_utf8}
 use Rattle.mmdb_format.specs.declared.header.Header.{Header}
@@ -37,7 +37,7 @@ if_scalar_text tested c = if not tested || scalar_is_text c then Some c else Non
 abbrev pub key_at : Bool → Meaning (List ℕ)
 key_at tested = checked (if_utf8 tested) raw_key_at
 
--- a value that holds no other, behind a header
+-- a value that holds no other, after a header
 abbrev pub scalar_of : Bool → Header → Meaning Tree
 scalar_of tested header = mapped scalar (checked (if_scalar_text tested) (content_of header))
 

@@ -1,4 +1,4 @@
--- Which value stands at an offset, in the words of the format: a tree that unfolds there, and its measures.
+-- Which value is at an offset, in the words of the format: a tree that unfolds there, and its measures.
 use Rattle.std.specs.Prelude.{◌≡◌, ◌↔◌, ℕ, suc, ◌+◌, ◌≤◌, List, Some, Bool, true}
 use Rattle.mmdb_format.specs.Pointer.{most_levels}
 use Rattle.mmdb_format.specs.Unfolding.{Tree, Unfolds, levels_without_key_pointers, value_count, payload, has_texts, is_keyed, without_pointers}
@@ -23,19 +23,19 @@ abbrev pub WholeValue : Bool → List ℕ → ℕ → Tree → Type 0
 WholeValue tested s p v =
     (u : Tree) × (q : ℕ) × Stands tested s p 0 u q × (v ≡ without_pointers u) × (value_count u ≤ most_values) × (payload u ≤ most_bytes)
 
--- the reading of any value is what stands there
+-- the reading of any value is what is there
 abbrev pub ValueIsWhatStands : Type 0
 ValueIsWhatStands =
     (tested : Bool) (s : List ℕ) (p d : ℕ) (v : Tree) (q c b : ℕ) → d ≤ most_levels →
     (value_at tested s p d ≡ Some (record { value = v; next = q; values = c; bytes = b })) ↔ ValueStands tested s p d v q c b
 
--- at most one value stands at an offset, with one end and one cost
+-- at most one value is at an offset, with one end and one cost
 abbrev pub OneValueStands : Type 0
 OneValueStands =
     (tested : Bool) (s : List ℕ) (p d : ℕ) (v w : Tree) (q r c e b f : ℕ) → d ≤ most_levels →
     ValueStands tested s p d v q c b → ValueStands tested s p d w r e f → (v ≡ w) × (q ≡ r) × (c ≡ e) × (b ≡ f)
 
--- a whole reading from the start succeeds exactly where such a value stands within the limits
+-- a whole reading from the start succeeds exactly where there is such a value within the limits
 abbrev pub AnswerIsWholeValue : Type 0
 AnswerIsWholeValue =
     (tested : Bool) (s : List ℕ) (p : ℕ) (v : Tree) →

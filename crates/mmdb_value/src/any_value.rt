@@ -73,7 +73,7 @@ fn key_at<'de>(d: &mut Decoder<'de>) -> Result<&'de str, Failed>
     }
 }
 
-// The text behind a header.
+// The text after a header.
 #[inline(always)]
 fn text_at<'de>(d: &mut Decoder<'de>, header: Header) -> Result<&'de str, Failed>
     requires size { header.size < 2 ^ 25 }

@@ -24,7 +24,7 @@ pub fn value_is_what_stands()
     ensures { ValueIsWhatStands }
 {}
 
-/// A whole reading succeeds exactly where a value stands within the limits.
+/// A whole reading succeeds exactly where there is a value within the limits.
 pub fn answer_is_whole_value()
     ensures { AnswerIsWholeValue }
 {}
@@ -34,7 +34,7 @@ pub fn one_value_stands()
     ensures { OneValueStands }
 {}
 
-/// Any value says its tree and is read as what stands there, exactly, under a budget, with memory.
+/// Any value says its tree and is read as what is there, exactly, under a budget, with memory.
 pub fn any_value_is_exact()
     ensures tested { IsContainerShape (decoding ⟦<Value<'static> as Decode<'static>>⟧)
         value_tree (value_at true) }

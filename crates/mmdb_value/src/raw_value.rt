@@ -62,7 +62,7 @@ fn key_at<'de>(d: &mut Decoder<'de>) -> Result<&'de [u8], Failed>
     Ok(bytes)
 }
 
-// The text behind a header.
+// The text after a header.
 fn text_at<'de>(d: &mut Decoder<'de>, header: Header) -> Result<&'de [u8], Failed>
     requires size { header.size < 2 ^ 25 }
     requires kind { header.kind ≡ 2 }

@@ -15,8 +15,8 @@ use mmdb_format::header::Header;
 use mmdb_format::kind::{ARRAY, MAP, POINTER, TEXT};
 use std::alloc::Global;
 
-/// A list or a map takes memory for so many parts at once, and for more of them as they are read: what a file says
-/// of its size is not believed before.
+/// A list or a map takes memory for this many parts at once, and for more of them as they are read: what a file says of
+/// its size is not believed before.
 const FEW: usize = 16;
 
 /// A decoder that takes texts in the way that `K` names.
@@ -37,14 +37,14 @@ pub(crate) trait Source<K>: Steps {
         ensures { TriesValue text_bytes false (key_at tested)
             (Self.state self.old) (Self.state self.new) result };
 
-    /// The text behind a header.
+    /// The text after a header.
     fn text(&mut self, header: Header) -> Result<Self::Text, Failed>
         requires size { header.size < 2 ^ 25 }
         requires kind { header.kind ≡ 2 }
         ensures { TriesValue (λ x. scalar (spec_text (text_bytes x))) false
             (scalar_of tested header) (Self.state self.old) (Self.state self.new) result };
 
-    /// The value behind a header, which holds no others.
+    /// The value after a header, which holds no others.
     fn scalar(&mut self, header: Header) -> Result<Self::Value, Failed>
         requires { header.size < 2 ^ 25 }
         ensures { TriesValue tree false (scalar_of tested header)

@@ -19,7 +19,7 @@ module _ (db : Database) (addresses : List IpAddr) (leaves group : List FoundLea
   stays i d less =
       get_or_append_left (take done leaves) (take count group ++ post_of done k leaves) d i (omega (arith, less, front)) ∙ get_or-take done leaves i d less
 
-  -- those behind it are the group's
+  -- those after it are the group's
   grows : (i : ℕ) (d : FoundLeaf) → i < count → get_or (put_mid done k leaves (take count group)) (done + i) d ≡ get_or group i d
   grows i d less =
       let taken = length-take-le count group few in
