@@ -2,7 +2,7 @@
 use json::Scratch;
 use mmdb_addresses::{AddressText, Reading, address_of, read_address};
 use mmdb_blocks::{Block, Kind, Kinds};
-use mmdb_cache::{Known, Table};
+use mmdb_cache::{CacheTable, Memo};
 use mmdb_objects::{Line, ReadLine, Step, read_line};
 use std::alloc::{AllocError, Global};
 use std::net::{IpAddr, Ipv4Addr, Ipv6Addr};
@@ -160,12 +160,12 @@ fn objects_with_addresses(rt: HostRuntime) {
 }
 
 // A table of two sets, in which as many keys were put, each with whether it is even.
-fn table_of(alloc: Global, count: u32) -> Result<Table<u32, bool, 2>, AllocError> {
-    let none = Known {
+fn table_of(alloc: Global, count: u32) -> Result<CacheTable<u32, bool, 2>, AllocError> {
+    let none = Memo {
         key: u32::MAX,
         value: false,
     };
-    let mut table = Table::new(alloc, none)?;
+    let mut table = CacheTable::new(alloc, none)?;
     for key in 0..count {
         table.put(key, key % 2 == 0);
     }
@@ -191,7 +191,7 @@ fn tables_keep_the_last(rt: HostRuntime) {
     assert!(rt; kept_of(rt.alloc(), 1) == Ok(Some(1)));
     let kept = kept_of(rt.alloc(), 100);
     assert!(rt; matches!(kept, Ok(Some(1..=8))), "{kept:?}");
-    let empty: Table<u32, bool, 2> = Table::without_memory(rt.alloc());
+    let empty: CacheTable<u32, bool, 2> = CacheTable::without_memory(rt.alloc());
     assert!(rt; empty.get(1).is_none() && !empty.has(1));
 }
 
