@@ -3,20 +3,20 @@ use Rattle.std.specs.Prelude.{ℕ, zero, suc, ◌+◌, ◌-◌, List, [], ◌∷
 use Rattle.mmdb_filter.specs.Rows.{position_after}
 use Rattle.mmdb_filter.specs.declared.rows.Rows.{Rows}
 use Rattle.mmdb_filter.specs.declared.rows.Rows.TheVariants.{Lines, Csv}
-use Rattle.mmdb_filter.specs.declared.rows.Position.{Position}
-use Rattle.mmdb_filter.specs.declared.rows.Position.TheVariants.{Cell, Quoted}
+use Rattle.mmdb_filter.specs.declared.rows.RowPosition.{RowPosition}
+use Rattle.mmdb_filter.specs.declared.rows.RowPosition.TheVariants.{Cell, Quoted}
 
 -- what stands between cells
 abbrev pub delimiter_of : Rows → ℕ
 delimiter_of (Lines delimiter) = delimiter
 delimiter_of (Csv delimiter) = delimiter
 
-abbrev pub is_quoted : Position → Bool
+abbrev pub is_quoted : RowPosition → Bool
 is_quoted Quoted = true
 is_quoted _ = false
 
 -- how many bytes stand before the first delimiter that is not between quotes, or all
-unfoldable pub cell_length : Rows → Position → List ℕ → ℕ
+unfoldable pub cell_length : Rows → RowPosition → List ℕ → ℕ
 cell_length rows position [] = 0
 cell_length rows position (x ∷ xs) = if x == delimiter_of rows && not (is_quoted position) then 0 else suc (cell_length rows (position_after rows position x) xs)
 
