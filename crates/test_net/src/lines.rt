@@ -3,7 +3,7 @@ use json::Scratch;
 use mmdb_addresses::{AddressText, Reading, address_of, read_address};
 use mmdb_blocks::{Block, Kind, Kinds};
 use mmdb_cache::{CacheTable, Memo};
-use mmdb_objects::{Line, ReadLine, Step, read_line};
+use mmdb_objects::{Line, PathStep, ReadLine, read_line};
 use std::alloc::{AllocError, Global};
 use std::net::{IpAddr, Ipv4Addr, Ipv6Addr};
 
@@ -134,7 +134,7 @@ fn text_of(line: &Line) -> &'static str {
 // What a line is, as a text.
 fn kind_of(alloc: Global, line: &str) -> Result<&'static str, AllocError> {
     let mut scratch = Scratch::new(alloc);
-    let path = [Step::Key("client"), Step::Key("ip")];
+    let path = [PathStep::Key("client"), PathStep::Key("ip")];
     Ok(
         match read_line(
             alloc,
