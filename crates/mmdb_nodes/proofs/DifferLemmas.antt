@@ -70,7 +70,7 @@ unfolding zeros
 length-zeros zero = refl
 length-zeros (suc n) = ap suc (length-zeros n)
 
--- Two ways on from these bits, of so many bits each, lead to leaves that are not the same.
+-- Two ways on from these bits, of `left` bits each, lead to leaves that are not the same.
 record IsApart (nodes : List SpecNode) (bits : List Bool) (left : ℕ) : Type 0 where
   a : List Bool
   b : List Bool
@@ -153,7 +153,7 @@ module _ (version : IpVersion) (es : List Entry) (data_len : ℕ) (nodes : List 
         differ = λ same. h.apart (sym a_has ∙ same ∙ b_has);
       }
 
-  -- where there is one node, only no bits stand on it
+  -- where there is one node, only no bits stay on it
   lone_out : IsLone nodes → (bits : List Bool) (n : ℕ) → ¬ (bits ≡ []) → lead nodes (Node 0) bits ≡ Node n → ⊥
   lone_out lone [] n some is = some refl
   lone_out lone (x ∷ bits) n some is = leaf_no_node lone.0 n (sym (lead-leaf nodes lone.0 bits) ∙ ap (λ (r : Record). lead nodes r bits) (sym (lone_side x)) ∙ sym (lead-one nodes 0 x bits) ∙ is)

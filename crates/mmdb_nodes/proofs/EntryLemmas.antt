@@ -61,7 +61,7 @@ all-drop P zero es h = h
 all-drop P (suc n) [] h = tt
 all-drop P (suc n) (e ∷ es) h = all-drop P n es h.1
 
--- what is behind an entry that is no whole block is none either
+-- what is after an entry that is no whole block is none either
 smaller_behind : (first free : ℕ) (e f : Entry) → IsInside first free e → IsInside first free f → free_bits e < free → ComesBefore e f → free_bits f < free
 smaller_behind first free e f i j lt (inl before) = elim (cases_lt (free_bits f) free) [
   | inl small ↦ small

@@ -188,7 +188,7 @@ cases_of (Data offset) = inl (Some offset, refl)
 pub own_leads : (from : ℕ) (nodes : List SpecNode) (v found : Option ℕ) (first free : ℕ) (es : List Entry) → ((a : ℕ) → a < 2 ^ free → v ≡ offset_after found es (first + a)) → Leads from nodes (leaf v) first free found es
 own_leads from nodes v found first free es h = record { to = λ all keeps a lt. lead-leaf all v (bits_of free a) ∙ ap leaf (h a lt) }
 
--- the nodes of two halves behind the place of their own node
+-- the nodes of two halves after the place of their own node
 pub record AreHalves (old n1 n2 n3 : List SpecNode) : Type 0 where
   pub blank : SpecNode
   pub placed : n1 ≡ old ++ blank ∷ []

@@ -50,7 +50,7 @@ none_of : (e : Entry) (es : List Entry) (a : ℕ) → has e a ≡ false → HasN
 none_of e es a out h zero f at there = let same : e ≡ f = cc in false≢true (sym out ∙ ap (λ (x : Entry). has x a) same ∙ there)
 none_of e es a out h (suc j) f at there = h j f at there
 
--- all entries behind one that shares an address with them are no larger
+-- all entries after one that shares an address with them are no larger
 behind : (first free a : ℕ) (e : Entry) (es : List Entry) → IsInside first free e → AllByRecursion (IsInside first free) es → AllByRecursion (ComesBefore e) es → has e a ≡ true → (j : ℕ) (f : Entry) → slice_get es j ≡ Some f → has f a ≡ true → e.prefix ≤ f.prefix
 behind first free a e [] i all before h j f at there = absurd (cc)
 behind first free a e (x ∷ xs) i all before h zero f at there =

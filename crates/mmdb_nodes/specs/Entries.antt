@@ -19,7 +19,7 @@ block_of entry = record { first = entry.first; prefix = entry.prefix }
 abbrev pub has : Entry → ℕ → Bool
 has entry address = nat_le entry.first address && nat_lt address (end (block_of entry))
 
--- a block of addresses of this version, with an offset of a data section of so many bytes, or with none
+-- a block of addresses of this version, with an offset of a data section of that length, or with none
 pub record IsEntry (version : IpVersion) (data_len : ℕ) (entry : Entry) : Type 0 where
   pub block : IsBlock (block_of entry)
   pub within : end (block_of entry) ≤ 2 ^ width version

@@ -62,7 +62,7 @@ unfoldable pub lead : List SpecNode → Record → List Bool → Record
 lead nodes r [] = r
 lead nodes r (x ∷ bits) = lead nodes (step nodes r x) bits
 
--- these nodes have, from a number on, what stands there
+-- these nodes have, from a number on, what is there
 abbrev pub Keeps : ℕ → List SpecNode → List SpecNode → Type 0
 Keeps from nodes all = (k : ℕ) → from ≤ k → k < length nodes → slice_get all k ≡ slice_get nodes k
 
@@ -71,7 +71,7 @@ Keeps from nodes all = (k : ℕ) → from ≤ k → k < length nodes → slice_g
 pub record Leads (from : ℕ) (nodes : List SpecNode) (r : Record) (first free : ℕ) (found : Option ℕ) (entries : List Entry) : Type 0 where
   pub to : (all : List SpecNode) → Keeps from nodes all → (a : ℕ) → a < 2 ^ free → lead all r (bits_of free a) ≡ leaf (offset_after found entries (first + a))
 
--- it leads to one of so many nodes, or to an offset below a bound
+-- it leads to one of a number of nodes, or to an offset below a bound
 abbrev pub IsBelow : ℕ → ℕ → Record → Type 0
 IsBelow count bound (Node n) = n < count
 IsBelow count bound Empty = Unit {0}
@@ -91,7 +91,7 @@ pub record IsForest (from : ℕ) (nodes : List SpecNode) : Type 0 where
   pub onward : (k n : ℕ) (right : Bool) → from ≤ k → k < length nodes → side (slice_get nodes k) right ≡ Node n → (k < n) × (n < length nodes)
   pub own : (k n : ℕ) (right : Bool) → from ≤ k → k < length nodes → side (slice_get nodes k) right ≡ Node n → parent n ≡ (k, right)
 
--- ---- what stands for two halves
+-- ---- the record for two halves
 
 -- they have not both the same leaf
 abbrev pub IsKept : Record → Record → Type 0
@@ -114,7 +114,7 @@ IsJoined place left right old new r = IsSame place left right old new r ⊎ IsNo
 
 -- ---- how many leaves and nodes
 
--- the leaves below a record, so many bits at most
+-- the leaves below a record, a number of bits at most
 abbrev pub ends : List SpecNode → Record → ℕ → ℕ
 ends nodes r zero = 1
 ends nodes Empty (suc left) = 1
@@ -151,7 +151,7 @@ pub record AreNodesOf (version : IpVersion) (entries : List Entry) (data_len : �
 
 -- ---- nodes as bytes
 
--- a node with these numbers stands behind the bytes
+-- a node with these numbers follows the bytes
 pub record AddsNode (record_size left right : ℕ) (old new : List ℕ) : Type 0 where
   pub more : List ℕ
   pub grown : new ≡ old ++ more
@@ -159,7 +159,7 @@ pub record AddsNode (record_size left right : ℕ) (old new : List ℕ) : Type 0
   pub left_is : child more record_size 0 false ≡ left
   pub right_is : child more record_size 0 true ≡ right
 
--- The number of a record, in a tree of so many nodes.
+-- The number of a record, in a tree of a number of nodes.
 abbrev pub number_in : ℕ → Record → ℕ
 number_in count (Node n) = n
 number_in count Empty = count

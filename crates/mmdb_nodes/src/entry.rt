@@ -7,7 +7,7 @@ ghost use Rattle.mmdb_nodes.specs.Working.{IsInside, IsSmaller, Follows, Precede
 
 use mmdb_blocks::Block;
 
-/// Which addresses a tree has: those of IPv4, or those of IPv6, in which the ones of IPv4 stand behind 96 zero bits
+/// Which addresses a tree has: those of IPv4, or those of IPv6, in which the ones of IPv4 follow 96 zero bits
 /// ("IPv4 addresses in an IPv6 tree" of the MaxMind DB File Format Specification 2.0).
 #[derive(Clone, Copy, Debug, PartialEq, Eq)]
 pub enum IpVersion {
@@ -73,7 +73,7 @@ impl Entry {
         }
     }
 
-    /// Whether a tree of this version can have it before a data section of so many bytes: it is a block of addresses of that
+    /// Whether a tree of this version can have it before a data section of `data_len` bytes: it is a block of addresses of that
     /// version, and its offset, if it has one, is one of the section.
     pub fn fits(&self, version: IpVersion, data_len: usize) -> bool
         ensures { IsTrue result ↔ IsEntry version data_len self.now }
@@ -114,7 +114,8 @@ pub fn are_ordered(entries: &[Entry]) -> bool
     true
 }
 
-/// Whether a tree of this version can have all entries before a data section of so many bytes, as `Entry::fits` says of each.
+/// Whether a tree of this version can have all entries before a data section of `data_len` bytes, as `Entry::fits` says of
+/// each.
 pub fn all_fit(entries: &[Entry], version: IpVersion, data_len: usize) -> bool
     ensures { IsTrue result ↔ AllByRecursion (IsEntry version data_len) entries.now }
 {

@@ -34,7 +34,7 @@ impl Record {
 // A tree of City's size has six million nodes.
 const _: () = prove!(size_of::<Node>() == 16);
 
-// What stands in the place of a node until its halves are known.
+// What is in the place of a node until its halves are known.
 pub(crate) const NO_NODE: Node = Node {
     left: Record::Empty,
     right: Record::Empty,
@@ -51,7 +51,7 @@ fn are_same_leaf(left: Record, right: Record) -> bool
     }
 }
 
-// One record for the two halves of a block, whose nodes stand from a place on: the leaf that both have, or the node at that
+// One record for the two halves of a block, whose nodes are from a place on: the leaf that both have, or the node at that
 // place.
 pub(crate) fn join(
     nodes: &mut Vec<Node>,

@@ -10,7 +10,7 @@ use crate::entry::{Entry, cut_at, skip_whole};
 use crate::node::{NO_NODE, Node, Record, join};
 use crate::tree::TreeError;
 
-// How many addresses half of a block has, whose halves have so many free bits.
+// How many addresses half of a block has, whose halves have `free` free bits.
 fn half_size(free: u8) -> u128
     requires { free < 128 }
     ensures { result ≡ 2 ^ free }
@@ -19,7 +19,7 @@ fn half_size(free: u8) -> u128
 }
 
 // The record for the block of `2 ^ free` addresses from `first` on, which have the offset that was found where no entry says
-// another. Its nodes go behind the others, each before those of its halves.
+// another. Its nodes go after the others, each before those of its halves.
 pub(crate) fn plant(
     nodes: &mut Vec<Node>,
     entries: &[Entry],

@@ -54,7 +54,7 @@ impl<T: Drop> From<AllocFailed<T>> for TreeError {
     }
 }
 
-// The number of a record in a tree of so many nodes, before so many bytes of data.
+// The number of a record in a tree of `node_count` nodes, before `data_len` bytes of data.
 fn number_of(to: Record, node_count: usize, data_len: usize) -> u32
     requires room { node_count + 16 + data_len ≤ 2 ^ 32 }
     requires below { IsBelow node_count data_len to }

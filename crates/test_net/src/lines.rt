@@ -1,7 +1,7 @@
 //! Addresses that texts spell, beside std's parser of them; lines of JSON; and what is kept of short answers.
 use json::Scratch;
 use mmdb_addresses::{AddressText, Reading, address_of, read_address};
-use mmdb_blocks::{Block, Kind, Kinds};
+use mmdb_blocks::{Block, BlockKind, Kinds};
 use mmdb_cache::{CacheTable, Memo};
 use mmdb_objects::{Line, PathStep, ReadLine, read_line};
 use std::alloc::{AllocError, Global};
@@ -198,16 +198,19 @@ fn tables_keep_the_last(rt: HostRuntime) {
 #[test]
 fn networks_of_blocks(rt: HostRuntime) {
     let block = Block::of_numbers(0x0a00_0000, 32, 8);
-    let network = Kind::Ipv4.network_of(block);
+    let network = BlockKind::Ipv4.network_of(block);
     assert!(rt;
         network.is_ok_and(|it| it.ip() == IpAddr::V4(Ipv4Addr::new(10, 0, 0, 0))
             && it.prefix() == 8)
     );
     let block = Block::of_numbers(1 << 125, 128, 3);
-    let network = Kind::of_width(128).network_of(block);
+    let network = BlockKind::of_width(128).network_of(block);
     assert!(rt;
         network.is_ok_and(|it| it.ip() == IpAddr::V6(Ipv6Addr::from_bits(1 << 125))
             && it.prefix() == 3)
     );
-    assert!(rt; Kinds::Both.has(Kind::Ipv6) && !Kinds::One(Kind::Ipv4).has(Kind::of_width(128)));
+    assert!(rt;
+        Kinds::Both.has(BlockKind::Ipv6)
+            && !Kinds::One(BlockKind::Ipv4).has(BlockKind::of_width(128))
+    );
 }

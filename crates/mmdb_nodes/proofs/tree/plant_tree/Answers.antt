@@ -25,7 +25,7 @@ plant-requires-clause-room c =
     let most : 2 ^ c.width.result ≤ 2 ^ 128 = pow-le-pow_right (omega arith) fits in
     omega arith
 
--- the clauses of what was planted behind no nodes
+-- the clauses of what was planted after no nodes
 planted : (version : IpVersion) (es : List Entry) (data_len : ℕ) (nodes old : List SpecNode) (r : Record) (free : ℕ) → old ≡ [] → free ≡ width version
     → Leads (length old) nodes r 0 free None es → IsSound (length old) data_len nodes → IsBelow (length nodes) data_len r
     → ((n : ℕ) → r ≡ Node n → (n ≡ length old) × (n < length nodes)) → HasFewEnds (length old) nodes r free → HasNoTwins (length old) nodes → IsForest (length old) nodes
