@@ -17,8 +17,8 @@ use Rattle.mmdb_tree.specs.Tree.{step as tree_step}
 use Rattle.mmdb_nodes.specs.declared.size.RecordSize.{RecordSize}
 use Rattle.mmdb_nodes.specs.declared.size.RecordSize.TheVariants.{Bits24, Bits28, Bits32}
 use Rattle.mmdb_nodes.specs.declared.node.Node.{Node as SpecNode}
-use Rattle.mmdb_nodes.specs.declared.node.Record.{Record}
-use Rattle.mmdb_nodes.specs.declared.node.Record.TheVariants.{Node, Empty, Data}
+use Rattle.mmdb_nodes.specs.declared.node.NodeRecord.{NodeRecord}
+use Rattle.mmdb_nodes.specs.declared.node.NodeRecord.TheVariants.{Node, Empty, Data}
 use Rattle.mmdb_tree.specs.Records.{record_of}
 
 -- the four bytes of a number
@@ -163,7 +163,7 @@ child-kept size old more k right valid h = elim (size_cases size valid) [
 
 -- ---- the bytes of all nodes
 
-pub number_fits : (count bound size : ℕ) (r : Record) → count + 16 + bound ≤ 2 ^ size → IsBelow count bound r → number_in count r < 2 ^ size
+pub number_fits : (count bound size : ℕ) (r : NodeRecord) → count + 16 + bound ≤ 2 ^ size → IsBelow count bound r → number_in count r < 2 ^ size
 number_fits count bound size (Node n) room h = omega arith
 number_fits count bound size Empty room h = omega arith
 number_fits count bound size (Data v) room h = omega arith
@@ -218,7 +218,7 @@ leaf_out : (most count : ℕ) (v : Option ℕ) → most ≡ count → most ≤ n
 leaf_out most count None e = omega arith
 leaf_out most count (Some v) e = omega arith
 
-pub same_walk : (tree : SearchTree) (nodes : List SpecNode) (bound : ℕ) → tree.node_count ≡ length nodes → HoldsNodes tree.record_size nodes tree.bytes → IsSound 0 bound nodes → (r : Record) (bits : List Bool) → IsBelow (length nodes) bound r
+pub same_walk : (tree : SearchTree) (nodes : List SpecNode) (bound : ℕ) → tree.node_count ≡ length nodes → HoldsNodes tree.record_size nodes tree.bytes → IsSound 0 bound nodes → (r : NodeRecord) (bits : List Bool) → IsBelow (length nodes) bound r
     → walk_from tree (number_in (length nodes) r) bits ≡ number_in (length nodes) (lead nodes r bits)
 unfolding walk_from lead
 same_walk tree nodes bound count are sound r [] below = refl

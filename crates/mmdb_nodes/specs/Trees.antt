@@ -6,7 +6,7 @@ use Rattle.mmdb_tree.specs.Records.{record_of}
 use Rattle.mmdb_tree.specs.Stops.{WalkedTree, IsClean}
 use Rattle.mmdb_tree.specs.declared.record.TreeRecord.{TreeRecord}
 use Rattle.mmdb_tree.specs.declared.record.TreeRecord.TheVariants.{Empty, Data}
-use Rattle.mmdb_nodes.specs.declared.entry.Entry.{Entry}
+use Rattle.mmdb_nodes.specs.declared.entry.NodeEntry.{NodeEntry}
 use Rattle.mmdb_nodes.specs.declared.entry.IpVersion.{IpVersion}
 use Rattle.mmdb_nodes.specs.declared.size.RecordSize.{RecordSize}
 use Rattle.mmdb_nodes.specs.declared.size.RecordSize.TheVariants.{Bits24, Bits28, Bits32}
@@ -48,7 +48,7 @@ leaf_of None = Empty
 leaf_of (Some offset) = Data offset
 
 -- The bits of each address lead to the offset of its longest prefix, or to no data, whatever follows the nodes.
-abbrev pub LeadsByPrefix : IpVersion → ℕ → List Entry → SearchTree → Type 0
+abbrev pub LeadsByPrefix : IpVersion → ℕ → List NodeEntry → SearchTree → Type 0
 LeadsByPrefix version data_len entries tree =
     (behind : List ℕ) (address : ℕ) → address < 2 ^ width version → (found : Option ℕ) × Gives entries address found
     × (record_of tree.node_count data_len (walk (tree_in tree behind) (bits_of (width version) address)) ≡ leaf_of found)
@@ -71,7 +71,7 @@ HasNoEqualLeaves tree =
 -- ---- blocks whose addresses differ
 
 -- Of two addresses that begin with these bits the one has another offset than the other, or one of them has none.
-pub record IsSplit (version : IpVersion) (entries : List Entry) (bits : List Bool) : Type 0 where
+pub record IsSplit (version : IpVersion) (entries : List NodeEntry) (bits : List Bool) : Type 0 where
   pub one : ℕ
   pub other : ℕ
   pub fits : one < 2 ^ width version
@@ -81,7 +81,7 @@ pub record IsSplit (version : IpVersion) (entries : List Entry) (bits : List Boo
   pub differ : ¬ (offset_in entries one ≡ offset_in entries other)
 
 -- Each node but the first is that of a block whose addresses differ.
-abbrev pub HasSplitNodes : IpVersion → List Entry → SearchTree → Type 0
+abbrev pub HasSplitNodes : IpVersion → List NodeEntry → SearchTree → Type 0
 HasSplitNodes version entries tree = (behind : List ℕ) (bits : List Bool) → ¬ (bits ≡ []) → length bits ≤ width version
     → walk (tree_in tree behind) bits < tree.node_count → IsSplit version entries bits
 
@@ -109,5 +109,5 @@ splits at first zero = 0
 splits at first (suc half) = (if all_same at first (2 ^ suc half) then 0 else 1) + (splits at first half + splits at (first + 2 ^ half) half)
 
 -- A node for each block whose addresses have not all the same offset, and one where there is none.
-abbrev pub nodes_for : IpVersion → List Entry → ℕ
+abbrev pub nodes_for : IpVersion → List NodeEntry → ℕ
 nodes_for version entries = max 1 (splits (offset_in entries) 0 (width version))
