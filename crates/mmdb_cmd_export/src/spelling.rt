@@ -1,5 +1,5 @@
 //! Blocks as a person writes them: a network, an address, or the first address and the last one.
-use mmdb_blocks::{Block, Kind, Range};
+use mmdb_blocks::{Block, BlockKind, BlockRange};
 use mmdb_reader::IpNetwork;
 use std::net::IpAddr;
 
@@ -8,17 +8,17 @@ const NOT_A_BLOCK: &str = "not a network, an address or FIRST-LAST";
 /// The addresses that a text spells.
 #[derive(Clone, Copy)]
 pub(crate) struct Spelt {
-    pub(crate) kind: Kind,
-    pub(crate) range: Range,
+    pub(crate) kind: BlockKind,
+    pub(crate) range: BlockRange,
     /// The network as which one is read that has address bits after its prefix.
     pub(crate) read_as: Option<IpNetwork>,
 }
 
 // The kind and the number of an address.
-fn number_of(address: IpAddr) -> (Kind, u128) {
+fn number_of(address: IpAddr) -> (BlockKind, u128) {
     match address {
-        IpAddr::V4(address) => (Kind::Ipv4, u128::from(address.to_bits())),
-        IpAddr::V6(address) => (Kind::Ipv6, address.to_bits()),
+        IpAddr::V4(address) => (BlockKind::Ipv4, u128::from(address.to_bits())),
+        IpAddr::V6(address) => (BlockKind::Ipv6, address.to_bits()),
     }
 }
 
@@ -39,7 +39,7 @@ fn range_between(first: &str, last: &str) -> Result<Spelt, &'static str> {
     }
     Ok(Spelt {
         kind,
-        range: Range { first, last },
+        range: BlockRange { first, last },
         read_as: None,
     })
 }
@@ -47,14 +47,14 @@ fn range_between(first: &str, last: &str) -> Result<Spelt, &'static str> {
 // The addresses of a network.
 fn of_network(network: IpNetwork) -> Spelt {
     let kind = match network {
-        IpNetwork::V4(_) => Kind::Ipv4,
-        IpNetwork::V6(_) => Kind::Ipv6,
+        IpNetwork::V4(_) => BlockKind::Ipv4,
+        IpNetwork::V6(_) => BlockKind::Ipv6,
     };
     let block = Block::of_network(network);
     let is_exact = network.ip() == network.network();
     Spelt {
         kind,
-        range: Range {
+        range: BlockRange {
             first: block.first,
             last: block.last(),
         },

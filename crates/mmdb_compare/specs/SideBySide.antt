@@ -1,7 +1,7 @@
 -- What two readings side by side have passed, and what is kept of it.
 use Rattle.std.specs.Prelude.{◌≡◌, ◌≤◌, ℕ, ◌+◌, ◌*◌, List, true}
 use Rattle.std.specs.List.{Contains}
-use Rattle.mmdb_cache.specs.declared.table.Known.{Known}
+use Rattle.mmdb_cache.specs.declared.table.Memo.{Memo}
 use Rattle.mmdb_format.specs.Contents.{text}
 use Rattle.mmdb_format.specs.Unfolding.{Tree, scalar, Trees, Pairs, Unfolds, AllUnfold, PairsUnfold, levels_without_key_pointers, trees_levels, pairs_levels, key_levels, value_count, trees_count, pairs_count, payload, trees_payload, pairs_payload, has_texts, trees_texts, pairs_texts, is_key, is_keyed, trees_keyed, pairs_keyed, without_pointers, trees_without, pairs_without}
 use Rattle.mmdb_compare.specs.declared.equality.KnownMap.{KnownMap}
@@ -101,8 +101,8 @@ abbrev pub AreSamePairsUpTo : Sections → PairPosition → ℕ → ℕ → ℕ 
 AreSamePairsUpTo s before left n depth = (after : PairPosition) × AreSamePairs s before after n depth × (left ≤ after.left)
 
 -- what is kept of two maps is so
-abbrev pub IsKnownMap : Sections → Known Offsets KnownMap → Type 0
+abbrev pub IsKnownMap : Sections → Memo Offsets KnownMap → Type 0
 IsKnownMap s known = AreSamePairsUpTo s (record { in_old = known.key.old; in_new = known.key.new; left = known.value.cost }) 0 known.value.pairs known.value.depth
 
-abbrev pub AreKnownMaps : Sections → List (Known Offsets KnownMap) → Type 0
-AreKnownMaps s kept = (known : Known Offsets KnownMap) → Contains kept known → IsKnownMap s known
+abbrev pub AreKnownMaps : Sections → List (Memo Offsets KnownMap) → Type 0
+AreKnownMaps s kept = (known : Memo Offsets KnownMap) → Contains kept known → IsKnownMap s known

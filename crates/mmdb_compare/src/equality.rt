@@ -9,7 +9,7 @@ ghost use Rattle.mmdb_compare.specs.SideBySide.{IsSame, IsSameKey, AreSamePairs,
 use crate::contents::{are_same, is_text};
 use crate::pairs::Offsets;
 use crate::place::PairPosition;
-use mmdb_cache::{Known, Table};
+use mmdb_cache::{CacheTable, Memo};
 use mmdb_format::content::{Content, content_at, content_end, key_bytes_at};
 use mmdb_format::header::{Direct, direct_at};
 use mmdb_format::kind::{ARRAY, MAP};
@@ -46,7 +46,7 @@ pub struct SideBySide<'r> {
     /// Whether both are one: then what was read in the old one is not read again.
     are_one: bool,
     ghost one: { are_one ≡ true → in_new.now ≡ in_old.now },
-    known: Table<Offsets, KnownMap, SETS_OF_MAPS>,
+    known: CacheTable<Offsets, KnownMap, SETS_OF_MAPS>,
 }
 
 impl<'r> Model for SideBySide<'r> {
@@ -61,7 +61,7 @@ impl<'r> Model for SideBySide<'r> {
 }
 
 /// What is kept at first.
-const NO_PAIRS: Known<Offsets, KnownMap> = Known {
+const NO_PAIRS: Memo<Offsets, KnownMap> = Memo {
     key: Offsets { old: 0, new: 0 },
     value: KnownMap {
         pairs: 0,
@@ -79,7 +79,7 @@ impl<'r> SideBySide<'r> {
             in_old: old,
             in_new: new,
             are_one: false,
-            known: Table::new(alloc, NO_PAIRS)?,
+            known: CacheTable::new(alloc, NO_PAIRS)?,
         })
     }
 
@@ -92,7 +92,7 @@ impl<'r> SideBySide<'r> {
             in_old: section,
             in_new: section,
             are_one: true,
-            known: Table::new(alloc, NO_PAIRS)?,
+            known: CacheTable::new(alloc, NO_PAIRS)?,
         })
     }
 

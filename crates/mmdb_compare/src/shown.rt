@@ -1,6 +1,6 @@
 //! What is shown of pairs of records.
 use crate::pairs::Offsets;
-use mmdb_cache::{Cache, Key};
+use mmdb_cache::{Cache, CacheKey};
 use std::alloc::{AllocError, Global};
 
 /// The most bytes of what is shown of a record of a pair that is kept.

@@ -46,7 +46,7 @@ pub(crate) fn put_ready<W: Write>(out: &mut W, ready: &mut Vec<u8>) -> io::Resul
     put
 }
 
-// Appends three texts, one behind the other. Some may stand there where memory runs out.
+// Appends three texts, one after the other. Some of them may be there where memory runs out.
 #[inline(always)]
 fn append_three(
     ready: &mut Vec<u8>,
@@ -63,7 +63,7 @@ fn append_three(
     ready.extend_from_slice(third)
 }
 
-/// Appends a row, with what is added before its end and so many bytes of its text, or nothing where memory runs out.
+/// Appends a row, with what is added before its end and `behind` bytes of its text, or nothing where memory runs out.
 #[inline(always)]
 pub(crate) fn append_row(
     ready: &mut Vec<u8>,

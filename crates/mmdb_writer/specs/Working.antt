@@ -10,7 +10,7 @@ use Rattle.mmdb_nodes.specs.declared.tree.SearchTree.{SearchTree}
 use Rattle.mmdb_writer.specs.declared.options.Options.{Options}
 use Rattle.std.specs.List.{AllByRecursion, filter}
 use Rattle.mmdb_tree.specs.Tree.{node_bytes}
-use Rattle.mmdb_nodes.specs.declared.entry.Entry.{Entry}
+use Rattle.mmdb_nodes.specs.declared.entry.NodeEntry.{NodeEntry}
 use Rattle.mmdb_nodes.specs.declared.entry.IpVersion.{IpVersion}
 use Rattle.mmdb_nodes.specs.Entries.{IsEntry, IsOrdered}
 use Rattle.mmdb_writer.specs.declared.error.WriteError.{WriteError}
@@ -111,22 +111,22 @@ abbrev pub IsMissing : ℕ → Option ℕ → Type 0
 IsMissing count value = (index : ℕ) × (value ≡ Some index) × (count ≤ index)
 
 -- Entries in the order that a tree wants, in which those of one block stand in the order that was given.
-pub record AreInOrder (version : IpVersion) (data_len : ℕ) (given entries : List Entry) : Type 0 where
+pub record AreInOrder (version : IpVersion) (data_len : ℕ) (given entries : List NodeEntry) : Type 0 where
   pub ordered : IsOrdered entries
   pub fit : AllByRecursion (IsEntry version data_len) entries
-  pub stable : (e : Entry) → filter (is_same_block e) entries ≡ filter (is_same_block e) given
+  pub stable : (e : NodeEntry) → filter (is_same_block e) entries ≡ filter (is_same_block e) given
 
 -- ---- the parts of a file
 
 -- in the order that a tree wants they are not all entries of the tree
-pub record HasNoFit (version : IpVersion) (data_len : ℕ) (given : List Entry) : Type 0 where
-  pub entries : List Entry
+pub record HasNoFit (version : IpVersion) (data_len : ℕ) (given : List NodeEntry) : Type 0 where
+  pub entries : List NodeEntry
   pub order : AreOrdered given entries
   pub no_fit : ¬ AllByRecursion (IsEntry version data_len) entries
 
 -- A file of a data section and a tree of these entries, which was read back.
-pub record IsFileOf (options : Options) (section : List ℕ) (given : List Entry) (file : List ℕ) : Type 0 where
-  pub entries : List Entry
+pub record IsFileOf (options : Options) (section : List ℕ) (given : List NodeEntry) (file : List ℕ) : Type 0 where
+  pub entries : List NodeEntry
   pub order : AreInOrder options.ip_version (length section) given entries
   pub tree : SearchTree
   pub leads : LeadsByPrefix options.ip_version (length section) entries tree

@@ -9,7 +9,7 @@ use crate::entries::put_in_order;
 use crate::error::WriteError;
 use crate::metadata::metadata_bytes;
 use crate::options::Options;
-use mmdb_nodes::{Entry, SearchTree, search_tree};
+use mmdb_nodes::{NodeEntry, SearchTree, search_tree};
 use mmdb_section::SectionError;
 use mmdb_tree::SEPARATOR;
 use std::alloc::Global;
@@ -54,7 +54,7 @@ pub(crate) fn write_file(
     alloc: Global,
     options: &Options,
     section: &[u8],
-    entries: &mut Vec<Entry>,
+    entries: &mut Vec<NodeEntry>,
 ) -> Result<Vec<u8>, WriteError>
     ensures ok { IfOk result
         (λ file. IsFileOf options.now section.now entries.old.items file.items) }

@@ -2,7 +2,7 @@ use Rattle.std.proofs.Common.{rules, ◌≡◌, ◌+◌, ◌<◌, ◌≤◌, tru
 use Rattle.mmdb_filter.specs.Rows.{Leads}
 use Rattle.mmdb_filter.specs.Lines.{IsAdded, StandsBehind, most_seen, seen_of, is_long}
 use Rattle.mmdb_filter.specs.Working.{UnderWay}
-use Rattle.mmdb_filter.specs.declared.rows.Position.TheVariants.{Cell}
+use Rattle.mmdb_filter.specs.declared.rows.RowPosition.TheVariants.{Cell}
 use Rattle.mmdb_filter.proofs.FrontLaws.{on_any_err}
 use Rattle.mmdb_filter.proofs.LineLaws.{way_kept, next_row, read_out, given_up_between, given_up_in}
 use Rattle.mmdb_filter.proofs.TextLaws.{most, long}

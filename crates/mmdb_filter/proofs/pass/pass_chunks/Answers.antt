@@ -1,7 +1,7 @@
 use Rattle.std.proofs.Common.{rules, ◌≡◌, ◌≢◌, ◌≤◌, ◌-◌, ◌++◌, [], length, take, drop, OnSome, sym, ap, ◌∙◌, subst, arith, take-append-drop, append-nil, length-drop}
 use Rattle.std.specs.Io.KnownBytes.{Appends, IsAtEnd}
 use Rattle.mmdb_filter.specs.Lines.{row_with, AppendsFront}
-use Rattle.mmdb_filter.specs.declared.rows.Position.TheVariants as spec_position
+use Rattle.mmdb_filter.specs.declared.rows.RowPosition.TheVariants as spec_position
 use Rattle.mmdb_filter.proofs.FrontLaws.{on_any_err, front_whole, appends_kept}
 use Rattle.mmdb_filter.proofs.PassLaws.{passes_chunk, passed, stopped, stopped_in, at_end_too}
 use Rattle.mmdb_filter.proofs.pass.pass_chunks.Goals.{then-eq-via-then-eq, then-eq-via-else-eq+then-len-lt-CHUNK}
