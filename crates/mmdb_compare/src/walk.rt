@@ -32,8 +32,8 @@ pub(crate) enum Stand {
     AtEnd,
 }
 
-/// The networks of one database, one at a time. What it is at are numbers side by side, since a network or a result
-/// of a lookup would be copied in pieces.
+/// The networks of one database, one at a time. The network that it is at is kept as numbers side by side, since a
+/// network or a result of a lookup would be copied in pieces.
 #[derive(Drop)]
 pub(crate) struct Walk<'a, S: AsSlice<u8> + Drop> {
     reader: &'a Reader<S>,
@@ -293,7 +293,7 @@ impl<'a, S: AsSlice<u8> + Drop> Walk<'a, S> {
         self.prefix
     }
 
-    /// Where the record of the network is that it is at, if there is one.
+    /// Where the record is of the network that it is at, if there is one.
     #[inline(always)]
     pub(crate) fn offset(&self) -> Option<usize>
         ensures { result ≡ self.now.offset }

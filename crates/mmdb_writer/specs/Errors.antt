@@ -25,7 +25,7 @@ IsWrongOption options NoType = string_bytes options.database_type ≡ []
 IsWrongOption options NoDescription = options.description.entries ≡ []
 IsWrongOption options TooLate = 2 ^ 63 ≤ options.build_epoch
 
--- A database of IPv4 has no networks of IPv6, and each row has one of a number of values, or none.
+-- A database of IPv4 has no networks of IPv6, and each row has one of `count` values, or none.
 abbrev pub IsWrongRow : IpVersion → ℕ → Row → RowError → Type 0
 IsWrongRow version count row Ipv6 = (version ≡ V4) × (address_width (ip_of row.network) ≡ 128)
 IsWrongRow version count row NoValue = (index : ℕ) × (row.value ≡ Some index) × (count ≤ index)

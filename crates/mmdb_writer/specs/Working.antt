@@ -106,7 +106,7 @@ pub record AreLeft (all : Pairs) (seen : List ℕ → Bool) (left : List (List �
 
 -- ---- entries of rows
 
--- it has an index that is none of that many
+-- it has an index that is none of `count`
 abbrev pub IsMissing : ℕ → Option ℕ → Type 0
 IsMissing count value = (index : ℕ) × (value ≡ Some index) × (count ≤ index)
 
