@@ -44,7 +44,7 @@ pub(crate) enum AtHand {
 
 /// What was taken of bytes at hand.
 #[derive(Clone, Copy)]
-struct TakenRows {
+struct TakenAtHand {
     /// How many bytes of them passed.
     bytes: usize,
     at_hand: AtHand,
@@ -102,7 +102,7 @@ fn pass_rows<A: Additions, P: Progress>(
     until: u64,
     batch: &mut Batch,
     progress: &mut P,
-) -> TakenRows
+) -> TakenAtHand
     requires fits { A.fits additions.now memory.old }
     requires few { total batch.old.counts ≡ batch.old.passed }
     ensures within { result.bytes ≤ length bytes.now }
@@ -117,7 +117,7 @@ fn pass_rows<A: Additions, P: Progress>(
     for passed in batch.passed..until {
         let rest = &bytes[at..];
         if batch.ready.len() >= READY {
-            return TakenRows {
+            return TakenAtHand {
                 bytes: at,
                 at_hand: AtHand::Rows,
             };
@@ -126,7 +126,7 @@ fn pass_rows<A: Additions, P: Progress>(
             additions.foresee(memory, rest);
         }
         let Some(len) = whole_row(rows, rest) else {
-            return TakenRows {
+            return TakenAtHand {
                 bytes: at,
                 at_hand: if at > 0 { AtHand::Rows } else { AtHand::Part },
             };
@@ -134,7 +134,7 @@ fn pass_rows<A: Additions, P: Progress>(
         let row = &rest[..len];
         let Ok(outcome) = pass_row(additions, memory, row, &mut batch.added, &mut batch.ready)
         else {
-            return TakenRows {
+            return TakenAtHand {
                 bytes: at,
                 at_hand: AtHand::OutOfMemory,
             };
@@ -146,7 +146,7 @@ fn pass_rows<A: Additions, P: Progress>(
         batch.passed = passed + 1;
         at += len;
     }
-    TakenRows {
+    TakenAtHand {
         bytes: at,
         at_hand: AtHand::Rows,
     }
