@@ -15,7 +15,7 @@ use crate::counts::Outcome;
 use crate::filter::{Additions, Progress};
 use crate::put::append_row;
 use crate::rows::{RowPosition, Rows, scan};
-use crate::text::seen;
+use crate::text::{seen, text_length};
 use std::alloc::AllocError;
 use std::io::{self, BufRead, ErrorKind};
 
@@ -86,9 +86,10 @@ fn pass_row<A: Additions>(
     ensures fits { A.fits additions.now memory.new }
 {
     added.clear();
-    let (text, is_long) = seen(row);
+    let len = text_length(row);
+    let (text, is_long) = seen(row, len);
     let addition = additions.add(memory, text, is_long, added)?;
-    append_row(ready, row, added.as_slice(), addition.behind)?;
+    append_row(ready, row, len, added.as_slice(), addition.behind)?;
     Ok(addition.outcome)
 }
 
