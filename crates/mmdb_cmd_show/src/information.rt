@@ -325,7 +325,9 @@ fn note_fields<O: Write, E: Write>(
         return Ok(DONE);
     };
     let count = fields.unreadable;
-    let text: String = format!(in alloc; "{count} records can't be read, the first: {error}")?;
+    let text: String = format!(in alloc;
+        "{count} of its records can't be read, the first: {error}"
+    )?;
     console.flush()?;
     console.report(file, &text);
     Ok(FAILED)

@@ -159,7 +159,7 @@ fn not_readable(
             let (count, network, error) = (found.count, found.network, &found.error);
             *unreadable = Some(count);
             let text: Result<String, AllocError> = format!(in alloc;
-                "{count} records can't be read, the first at {network}: {error}"
+                "{count} of its records can't be read, the first at {network}: {error}"
             );
             drop(found);
             Ok(Some(text?))

@@ -556,7 +556,7 @@ fn records_that_verify_reads(rt: HostRuntime) {
     let is_whole = whole.out() == "here.mmdb: ok\n" && whole.status == 0;
     assert_of(&rt, words, &whole, is_whole);
     let run = run_of(rt.alloc(), bytes.as_slice(), &["verify", "here.mmdb"], "");
-    let wanted = "here.mmdb: 1 records can't be read, the first at 128.0.0.0/1: ";
+    let wanted = "here.mmdb: 1 of its records can't be read, the first at 128.0.0.0/1: ";
     let is_named = run.out().starts_with(wanted) && run.status == 1;
     assert_of(&rt, &["verify"], &run, is_named);
     let words = &["verify", "here.mmdb", "--json"];
