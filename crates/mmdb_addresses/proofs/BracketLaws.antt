@@ -9,7 +9,7 @@ use Rattle.std.specs.declared.net.ip_addr.IpAddr.{IpAddr}
 use Rattle.mmdb_addresses.specs.Addresses.{Finds}
 use Rattle.mmdb_addresses.specs.Kinds.{has}
 use Rattle.mmdb_addresses.specs.Words.{HasBrackets, HasZone, IsEnd, before, after}
-use Rattle.mmdb_addresses.specs.declared.bytes.Kind.TheVariants.{Not}
+use Rattle.mmdb_addresses.specs.declared.bytes.AddressKind.TheVariants.{Not}
 use Rattle.mmdb_addresses.proofs.FindLaws.{finds_like}
 
 module _ (word : List ℕ) (bracket : ℕ) (some : 0 < length word) (opens : get_or word 0 0 ≡ 91) (is : bracket ≡ 1 + prefix_len (has (Not 93)) (drop 1 word)) where

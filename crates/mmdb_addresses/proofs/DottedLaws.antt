@@ -19,7 +19,7 @@ use Rattle.mmdb_addresses.specs.Cells.{first_word, unquoted, without_opening, wi
 use Rattle.mmdb_addresses.specs.declared.readings.Reading.TheVariants.{First}
 use Rattle.mmdb_addresses.specs.Octets.{HasOctet, HasDotAndOctet}
 
--- what stands before an index is what the text has before the rest from there on
+-- what is before an index is what the text has before the rest from there on
 front_is : (text front : List ℕ) (end : ℕ) → end ≤ length text → text ≡ front ++ drop end text → take end text ≡ front
 front_is text front end high is =
     let long : length front ≡ end = omega (arith, ap length is, length-append front (drop end text), length-drop end text) in

@@ -13,7 +13,7 @@ use Rattle.std.specs.Str.Parse.{AllDigits, digits_value}
 use Rattle.mmdb_addresses.specs.Bytes.{is_name_byte}
 use Rattle.mmdb_addresses.specs.Kinds.{has}
 use Rattle.mmdb_addresses.specs.Words.{IsPort, IsZone}
-use Rattle.mmdb_addresses.specs.declared.bytes.Kind.TheVariants.{Name}
+use Rattle.mmdb_addresses.specs.declared.bytes.AddressKind.TheVariants.{Name}
 
 pub value_of_digit : (x : ℕ) → 48 ≤ x → x ≤ 57 → digit_value x ≡ x - 48
 value_of_digit x low high = omega (arith, digit_value_digit x (low, high))

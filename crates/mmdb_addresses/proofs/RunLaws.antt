@@ -1,4 +1,4 @@
--- Where addresses stand in a text.
+-- Where addresses are in a text.
 use Rattle.std.proofs.Common.{◌≡◌, ◌≢◌, ℕ, ◌+◌, ◌-◌, ◌<◌, ◌≤◌, Bool, true, false, not, List, [], length, get_or, take, drop, Option, refl, sym, ap, subst, ◌∙◌, arith}
 use Rattle.std.proofs.Math.Logic.{⊎_elim}
 use Rattle.std.proofs.Math.ListN.{drop_of_length-le}
@@ -11,7 +11,7 @@ use Rattle.mmdb_addresses.specs.Addresses.{Finds}
 use Rattle.mmdb_addresses.specs.Bytes.{is_run_byte}
 use Rattle.mmdb_addresses.specs.Kinds.{has}
 use Rattle.mmdb_addresses.specs.Rows.{BeginsRun, StandsAt, IsRun, is_behind_slash, run_at, behind_run}
-use Rattle.mmdb_addresses.specs.declared.bytes.Kind.TheVariants.{InRun, OffRun}
+use Rattle.mmdb_addresses.specs.declared.bytes.AddressKind.TheVariants.{InRun, OffRun}
 use Rattle.mmdb_addresses.proofs.FindLaws.{finds_like}
 
 -- ---- a run
@@ -97,7 +97,7 @@ begins_at text end at is l border = record {
       (cases_lt end at));
 }
 
--- ---- behind a run
+-- ---- after a run
 
 in_run : (text : List ℕ) (at k : ℕ) → at ≤ k → k < at + prefix_len is_run_byte (drop at text) → is_run_byte (get_or text k 0) ≡ true
 in_run text at k from l =
@@ -105,7 +105,7 @@ in_run text at k from l =
     let less : k - at < prefix_len is_run_byte (drop at text) = omega arith in
     subst (λ x. is_run_byte x ≡ true) (get_or-drop at text (k - at) 0 ∙ ap (λ i. get_or text i 0) same) (prefix_len_passes is_run_byte (drop at text) (k - at) 0 less)
 
--- where a run that begins here ends, no run byte stands
+-- where a run that begins here ends, there is no run byte
 pub border_at : (text : List ℕ) (at end : ℕ) → at ≤ length text → end ≡ at + prefix_len (has InRun) (drop at text) → is_run_byte (get_or text end 0) ≡ false
 border_at text at end room is =
     let n = prefix_len is_run_byte (drop at text) in

@@ -8,7 +8,7 @@ use Rattle.std.specs.declared.net.ipv4_addr.Ipv4Addr.{Ipv4Addr}
 use Rattle.std.specs.declared.net.ipv6_addr.Ipv6Addr.{Ipv6Addr}
 use Rattle.mmdb_addresses.specs.Kinds.{has}
 use Rattle.mmdb_addresses.specs.Words.{HasPort, HasZone, before}
-use Rattle.mmdb_addresses.specs.declared.bytes.Kind.TheVariants.{Not}
+use Rattle.mmdb_addresses.specs.declared.bytes.AddressKind.TheVariants.{Not}
 
 pub front_at : (word : List ℕ) (byte end : ℕ) → end ≡ 0 + prefix_len (has (Not byte)) (drop 0 word) → before byte word ≡ take end word
 front_at word byte end is =

@@ -8,8 +8,8 @@ use Rattle.mmdb_addresses.specs.Words.{IsWord}
 use Rattle.mmdb_addresses.specs.declared.readings.Reading.{Reading}
 use Rattle.mmdb_addresses.specs.declared.readings.Reading.TheVariants.{Exact, First, Last, Anywhere}
 
--- This is the address in a text: all of it, its first word, the first word behind its last comma, or the first address
--- that stands anywhere.
+-- This is the address in a text: all of it, its first word, the first word after its last comma, or the first address
+-- that is anywhere in it.
 abbrev pub IsAddressIn : Reading → List ℕ → IpAddr → Type 0
 IsAddressIn Exact text address = IsIpText text address
 IsAddressIn First text address = IsWord (unquoted (first_word text)) address

@@ -3,11 +3,11 @@ use Rattle.std.specs.Prelude.{ℕ, ◌-◌, List, ◌==◌, not, length, take, d
 use Rattle.std.specs.List.{prefix_len, suffix_len}
 use Rattle.mmdb_addresses.specs.Bytes.{is_blank, ends_word}
 
--- the first word: behind blanks, up to a blank, a comma or a semicolon
+-- the first word: after blanks, up to a blank, a comma or a semicolon
 abbrev pub first_word : List ℕ → List ℕ
 first_word cell = take_while (λ x. not (ends_word x)) (drop (prefix_len is_blank cell) cell)
 
--- what stands behind the last comma, or all
+-- what is after the last comma, or all
 abbrev pub last_hop : List ℕ → List ℕ
 last_hop cell = drop (length cell - suffix_len (λ x. not (x == 44)) cell) cell
 

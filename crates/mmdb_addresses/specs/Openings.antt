@@ -9,11 +9,11 @@ IsHexLetter x = ((65 ≤ x) × (x ≤ 70)) ⊎ ((97 ≤ x) × (x ≤ 102))
 abbrev pub HasEarly : ℕ → List ℕ → Type 0
 HasEarly byte word = (k : ℕ) × (k < 5) × (get_or word k 0 ≡ byte)
 
--- groups of IPv6: a hex digit or a colon stands first, and a colon follows the first group, which has four digits at most
+-- groups of IPv6: a hex digit or a colon is first, and a colon follows the first group, which has four digits at most
 abbrev pub BeginsGroups : List ℕ → Type 0
 BeginsGroups word = (((48 ≤ get_or word 0 0) × (get_or word 0 0 ≤ 58)) ⊎ IsHexLetter (get_or word 0 0)) × HasEarly 58 word
 
--- octets of IPv4: a digit stands first, and a dot follows the first octet, which has three digits at most
+-- octets of IPv4: a digit is first, and a dot follows the first octet, which has three digits at most
 abbrev pub BeginsOctets : List ℕ → Type 0
 BeginsOctets word = ((48 ≤ get_or word 0 0) × (get_or word 0 0 ≤ 57)) × HasEarly 46 word
 

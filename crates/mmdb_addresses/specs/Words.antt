@@ -7,7 +7,7 @@ use Rattle.std.specs.declared.net.ip_addr.IpAddr.{IpAddr}
 use Rattle.std.specs.declared.net.ip_addr.IpAddr.TheVariants.{V4, V6}
 use Rattle.mmdb_addresses.specs.Bytes.{is_name_byte}
 
--- what stands before the first byte of this value, or all; and what stands after it, or nothing
+-- what is before the first byte of this value, or all; and what is after it, or nothing
 abbrev pub before : ℕ → List ℕ → List ℕ
 before byte word = before_first (λ x. x == byte) word
 

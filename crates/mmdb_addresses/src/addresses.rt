@@ -15,7 +15,7 @@ struct Octet {
     end: usize,
 }
 
-// The value of the decimal digit at an index, or more than 9 where none stands there.
+// The value of the decimal digit at an index, or more than 9 where there is none.
 #[inline(always)]
 fn digit_at(text: &[u8], at: usize) -> u32
     ensures fits { result < 256 }
@@ -29,7 +29,7 @@ fn digit_at(text: &[u8], at: usize) -> u32
     }
 }
 
-// The octet whose digits stand from an index on; none where they do not spell one.
+// The octet whose digits begin at an index; none where they do not spell one.
 #[inline(always)]
 fn octet_at(text: &[u8], from: usize) -> Option<Octet>
     requires { from ≤ length text.now }
@@ -67,7 +67,7 @@ fn octet_at(text: &[u8], from: usize) -> Option<Octet>
     })
 }
 
-// The octet behind the dot at an index; none where that is no dot.
+// The octet after the dot at an index; none where that is no dot.
 #[inline(always)]
 fn octet_behind_dot(text: &[u8], from: usize) -> Option<Octet>
     requires { from ≤ length text.now }

@@ -6,7 +6,7 @@ ghost use Rattle.mmdb_addresses.specs.Kinds.{has as spec_has};
 
 /// A kind of bytes.
 #[derive(Clone, Copy)]
-pub(crate) enum Kind {
+pub(crate) enum AddressKind {
     /// A space or a tab.
     Blank,
     /// None that ends a word of a cell.
@@ -47,26 +47,26 @@ fn is_name_byte(byte: u8) -> bool
     }
 }
 
-impl Kind {
+impl AddressKind {
     // Whether a byte is of this kind.
     #[inline(always)]
     fn has(self, byte: u8) -> bool
         ensures { result ≡ spec_has self byte }
     {
         match self {
-            Kind::Blank => is_blank(byte),
-            Kind::InWord => !ends_word(byte),
-            Kind::Name => is_name_byte(byte),
-            Kind::InRun => is_name_byte(byte) || byte == b':',
-            Kind::OffRun => !is_name_byte(byte) && byte != b':',
-            Kind::Not(other) => byte != other,
+            AddressKind::Blank => is_blank(byte),
+            AddressKind::InWord => !ends_word(byte),
+            AddressKind::Name => is_name_byte(byte),
+            AddressKind::InRun => is_name_byte(byte) || byte == b':',
+            AddressKind::OffRun => !is_name_byte(byte) && byte != b':',
+            AddressKind::Not(other) => byte != other,
         }
     }
 }
 
-/// Where bytes of a kind end that stand from an index on.
+/// Where bytes of a kind end that begin at an index.
 #[inline(always)]
-pub(crate) fn end_of(kind: Kind, text: &[u8], from: usize) -> usize
+pub(crate) fn end_of(kind: AddressKind, text: &[u8], from: usize) -> usize
     requires { from ≤ length text.now }
     ensures end { result ≡ from + prefix_len (spec_has kind) (drop from text.now) }
     ensures within { result ≤ length text.now }

@@ -4,21 +4,21 @@ ghost use Rattle.mmdb_addresses.specs.Addresses.{Finds, IsAddressIn};
 ghost use Rattle.mmdb_addresses.specs.Cells.{first_word as spec_first_word, last_hop as spec_last_hop, unquoted as spec_unquoted, without_opening as spec_without_opening, without_closing as spec_without_closing};
 ghost use Rattle.mmdb_addresses.specs.declared.readings.Reading.TheVariants.{First, Last};
 
-use crate::bytes::{Kind, end_of};
+use crate::bytes::{AddressKind, end_of};
 use crate::openings::{Opening, opening_of};
 use crate::words::word_address;
 use std::net::{IpAddr, Ipv6Addr};
 
-// The first word of a cell: behind blanks, up to a blank, a comma or a semicolon.
+// The first word of a cell: after blanks, up to a blank, a comma or a semicolon.
 fn first_word(cell: &[u8]) -> &[u8]
     ensures { result.now ≡ spec_first_word cell.now }
 {
-    let from = end_of(Kind::Blank, cell, 0);
-    let end = end_of(Kind::InWord, cell, from);
+    let from = end_of(AddressKind::Blank, cell, 0);
+    let end = end_of(AddressKind::InWord, cell, from);
     &cell[from..end]
 }
 
-// What stands behind the last comma, or all.
+// What is after the last comma, or all.
 fn last_hop(cell: &[u8]) -> &[u8]
     ensures { result.now ≡ spec_last_hop cell.now }
 {
@@ -86,7 +86,7 @@ fn cell_or_word(cell: &[u8]) -> Option<IpAddr>
 pub(crate) fn first_address(cell: &[u8]) -> Option<IpAddr>
     ensures { Finds (IsAddressIn First cell.now) result }
 {
-    let from = end_of(Kind::Blank, cell, 0);
+    let from = end_of(AddressKind::Blank, cell, 0);
     match opening_of(&cell[from..]) {
         Opening::Other => None,
         Opening::Marked => word_in(cell),
@@ -94,7 +94,7 @@ pub(crate) fn first_address(cell: &[u8]) -> Option<IpAddr>
     }
 }
 
-/// The address of the first word behind the last comma of a cell.
+/// The address of the first word after the last comma of a cell.
 #[inline(never)]
 pub(crate) fn last_address(cell: &[u8]) -> Option<IpAddr>
     ensures { Finds (IsAddressIn Last cell.now) result }

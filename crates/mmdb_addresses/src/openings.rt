@@ -3,15 +3,15 @@ ghost use Rattle.std.specs.Prelude.{◌≡◌, ◌<◌, false};
 ghost use Rattle.mmdb_addresses.specs.Openings.{HasEarly, MayBegin};
 ghost use Rattle.mmdb_addresses.specs.declared.openings.Opening.TheVariants.{Other};
 
-use crate::bytes::{Kind, end_of};
+use crate::bytes::{AddressKind, end_of};
 
-// Within how many bytes the first group of IPv6 or the first octet of IPv4 ends, with the colon or the dot behind it.
+// Within how many bytes the first group of IPv6 or the first octet of IPv4 ends, with the colon or the dot after it.
 const EARLY: usize = 5;
 
 /// How a text begins.
 #[derive(Clone, Copy)]
 pub(crate) enum Opening {
-    /// As most addresses of IPv6: a colon stands behind four hex digits.
+    /// As most addresses of IPv6: a colon comes after four hex digits.
     FourDigits,
     /// As another address, or with a double quote.
     Marked,
@@ -26,7 +26,7 @@ fn has_early(byte: u8, word: &[u8]) -> bool
     ensures { result ≡ false → ¬ HasEarly byte word.now }
 {
     let early = word.len().min(EARLY);
-    end_of(Kind::Not(byte), &word[..early], 0) < early
+    end_of(AddressKind::Not(byte), &word[..early], 0) < early
 }
 
 /// How a text begins. Most words that are no address are known by that.

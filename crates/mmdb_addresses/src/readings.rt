@@ -16,9 +16,9 @@ pub enum Reading {
     Exact,
     /// It is the first word, with a port, a zone, brackets or quotes, or without.
     First,
-    /// It is the first word behind the last comma, as of the hops of a request.
+    /// It is the first word after the last comma, as of the hops of a request.
     Last,
-    /// It stands anywhere; the first one counts.
+    /// It is anywhere; the first one counts.
     Anywhere,
 }
 

@@ -3,11 +3,11 @@ ghost use Rattle.std.specs.Prelude.{◌≡◌, ◌+◌, ◌<◌, ◌≤◌, Bool
 ghost use Rattle.mmdb_addresses.specs.Addresses.{Finds};
 ghost use Rattle.mmdb_addresses.specs.Rows.{BeginsRun, FindsFirst, IsClosed, IsRun, StandsAt, is_behind_slash as spec_is_behind_slash, run_at, behind_run};
 
-use crate::bytes::{Kind, end_of, is_blank};
+use crate::bytes::{AddressKind, end_of, is_blank};
 use crate::words::plain_address;
 use std::net::IpAddr;
 
-// Whether a slash stands right before an index, and no other one before that.
+// Whether a slash is right before an index, and no other one before that.
 fn is_behind_slash(text: &[u8], at: usize) -> bool
     requires { at ≤ length text.now }
     ensures { result ≡ spec_is_behind_slash text.now at }
@@ -15,7 +15,7 @@ fn is_behind_slash(text: &[u8], at: usize) -> bool
     at > 0 && text[at - 1] == b'/' && !(at > 1 && text[at - 2] == b'/')
 }
 
-// Whether a run ends with `.` or `:`, behind which a blank or the text's end stands.
+// Whether a run ends with `.` or `:`, after which comes a blank or the text's end.
 fn is_closed(run: &[u8], rest: &[u8]) -> bool
     requires { 0 < length run.now }
     ensures { Decides result (IsClosed run.now rest.now) }
@@ -24,7 +24,7 @@ fn is_closed(run: &[u8], rest: &[u8]) -> bool
     (last == b'.' || last == b':') && (rest.is_empty() || is_blank(rest[0]))
 }
 
-// The address that a run is, behind which the rest stands.
+// The address that a run is, which the rest follows.
 fn run_address(run: &[u8], rest: &[u8]) -> Option<IpAddr>
     requires { 0 < length run.now }
     ensures { Finds (IsRun run.now rest.now) result }
@@ -52,18 +52,18 @@ fn address_at(text: &[u8], goes_on: bool, at: usize, end: usize) -> Option<IpAdd
     run_address(&text[at..end], &text[end..])
 }
 
-/// The first address that stands anywhere in a text, which may go on behind what is seen of it.
+/// The first address anywhere in a text, which may go on after what is seen of it.
 #[inline(never)]
 pub fn address_anywhere(text: &[u8], goes_on: bool) -> Option<IpAddr>
     ensures { FindsFirst text.now goes_on result }
 {
     let mut end = 0;
     while end < text.len() {
-        let at = end_of(Kind::OffRun, text, end);
+        let at = end_of(AddressKind::OffRun, text, end);
         if at >= text.len() {
             return None;
         }
-        end = end_of(Kind::InRun, text, at);
+        end = end_of(AddressKind::InRun, text, at);
         if let Some(address) = address_at(text, goes_on, at, end) {
             return Some(address);
         }

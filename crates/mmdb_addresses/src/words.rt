@@ -6,7 +6,7 @@ ghost use Rattle.mmdb_addresses.specs.Rows.{IsPlain};
 ghost use Rattle.mmdb_addresses.specs.Words.{IsPort, IsZone, IsEnd, IsWord, HasPort, HasZone, HasBrackets};
 
 use crate::addresses::{read_address, read_dotted};
-use crate::bytes::{Kind, end_of};
+use crate::bytes::{AddressKind, end_of};
 use std::net::{IpAddr, Ipv4Addr, Ipv6Addr};
 
 // The most bytes of a port.
@@ -36,14 +36,14 @@ fn is_port(digits: &[u8]) -> bool
 fn is_zone(name: &[u8]) -> bool
     ensures { Decides result (IsZone name.now) }
 {
-    !name.is_empty() && end_of(Kind::Name, name, 0) == name.len()
+    !name.is_empty() && end_of(AddressKind::Name, name, 0) == name.len()
 }
 
 // The address of IPv4 before a port.
 fn address_with_port(word: &[u8]) -> Option<IpAddr>
     ensures { Finds (HasPort word.now) result }
 {
-    let colon = end_of(Kind::Not(b':'), word, 0);
+    let colon = end_of(AddressKind::Not(b':'), word, 0);
     if colon >= word.len() || !is_port(&word[colon + 1..]) {
         return None;
     }
@@ -57,7 +57,7 @@ fn address_with_port(word: &[u8]) -> Option<IpAddr>
 fn address_with_zone(word: &[u8]) -> Option<IpAddr>
     ensures { Finds (HasZone word.now) result }
 {
-    let percent = end_of(Kind::Not(b'%'), word, 0);
+    let percent = end_of(AddressKind::Not(b'%'), word, 0);
     if percent >= word.len() || !is_zone(&word[percent + 1..]) {
         return None;
     }
@@ -77,7 +77,7 @@ fn address_inside(word: &[u8]) -> Option<IpAddr>
     }
 }
 
-// Whether what stands behind a bracket is nothing, or `:` and a port.
+// Whether what is after a bracket is nothing, or `:` and a port.
 fn is_end(rest: &[u8]) -> bool
     ensures { Decides result (IsEnd rest.now) }
 {
@@ -91,7 +91,7 @@ fn address_in_brackets(word: &[u8]) -> Option<IpAddr>
     if word.is_empty() || word[0] != b'[' {
         return None;
     }
-    let bracket = end_of(Kind::Not(b']'), word, 1);
+    let bracket = end_of(AddressKind::Not(b']'), word, 1);
     if bracket >= word.len() || !is_end(&word[bracket + 1..]) {
         return None;
     }

@@ -40,7 +40,7 @@ takes-none handed waiting none never h = record { kept = h; covers = λ a. ((λ 
     back a (inl i) = i
     back a (inr n) = absurd (never a n)
 
--- one thing is taken behind another
+-- one thing is taken after another
 pub takes-both : (h0 w0 h1 w1 h2 w2 : List Block) (P Q R : ℕ → Type 0)
     → Takes h0 w0 h1 w1 P → Takes h1 w1 h2 w2 Q → ((a : ℕ) → (P a ⊎ Q a) ↔ R a) → Takes h0 w0 h2 w2 R
 takes-both h0 w0 h1 w1 h2 w2 P Q R p q same = record {

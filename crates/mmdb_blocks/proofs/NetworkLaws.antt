@@ -47,7 +47,7 @@ ipv6_has_bits first prefix a masked within is m =
     let bits : bits_of 128 first ≡ take prefix (bits_of 128 (ipv6_bits a)) ++ zero_bits (128 - prefix) = ap (bits_of 128) is ∙ m.bits in
     first_bits 128 prefix first (bits_of 128 (ipv6_bits a)) within bits (length-bits_of 128 (ipv6_bits a))
 
--- and that of an IPv4 network one behind 96 zeros
+-- and that of an IPv4 network one after 96 zeros
 pub ipv4_is_block : (first prefix : ℕ) (a masked : Ipv4Addr) → prefix ≤ 32 → first ≡ ipv4_bits masked → first < 2 ^ 32 → IsMaskedIp (V4 a) prefix (V4 masked) → IsBlock (record { first = first; prefix = 96 + prefix })
 ipv4_is_block first prefix a masked within is fits m =
     let bits : bits_of 32 first ≡ take prefix (bits_of 32 (ipv4_bits a)) ++ zero_bits (32 - prefix) = ap (bits_of 32) is ∙ m.bits in

@@ -1,4 +1,4 @@
--- Where a joiner stands: what was pushed, what was handed out, and what waits.
+-- Where a joiner is: what was pushed, what was handed out, and what waits.
 use Rattle.std.specs.Prelude.{◌≡◌, ℕ, suc, ◌<◌, ◌≤◌, List, [], ◌∷◌, ◌++◌}
 use Rattle.std.specs.List.{AllByRecursion}
 use Rattle.mmdb_blocks.specs.declared.block.Block.{Block}

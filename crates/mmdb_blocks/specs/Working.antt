@@ -2,7 +2,7 @@
 use Rattle.std.specs.Prelude.{◌≡◌, ℕ, ◌+◌, ◌<◌, ◌≤◌, ◌⊎◌, ◌↔◌, List, [], ◌∷◌, ◌++◌, max}
 use Rattle.std.specs.List.{AllByRecursion}
 use Rattle.mmdb_blocks.specs.declared.block.Block.{Block}
-use Rattle.mmdb_blocks.specs.declared.ranges.Range.{Range}
+use Rattle.mmdb_blocks.specs.declared.ranges.BlockRange.{BlockRange}
 use Rattle.mmdb_blocks.specs.Blocks.{IsBlock, IsIn, SameAddresses, AscendsFrom, AreHalves, HasNoHalves, whole}
 use Rattle.mmdb_blocks.specs.Joining.{IsSealed, IsJoining}
 use Rattle.mmdb_blocks.specs.Ranges.{IsAmong}
@@ -36,12 +36,12 @@ pub record IsPending (pushed handed waiting : List Block) (block : Block) : Type
   pub sealed : IsSealed handed (waiting ++ block ∷ [])
 
 -- the range is the last one
-abbrev pub EndsWith : Range → List Range → Type 0
-EndsWith range ranges = (front : List Range) × (ranges ≡ front ++ range ∷ [])
+abbrev pub EndsWith : BlockRange → List BlockRange → Type 0
+EndsWith range ranges = (front : List BlockRange) × (ranges ≡ front ++ range ∷ [])
 
 -- the last range was taken, with which another one makes one
-pub record TakesReached (old new : List Range) (range joined : Range) : Type 0 where
-  pub last : Range
+pub record TakesReached (old new : List BlockRange) (range joined : BlockRange) : Type 0 where
+  pub last : BlockRange
   pub old_is : old ≡ new ++ last ∷ []
   pub in_order : last.first ≤ range.first
   pub meets : range.first ≤ last.last + 1
@@ -51,33 +51,33 @@ pub record TakesReached (old new : List Range) (range joined : Range) : Type 0 w
 -- ---- ranges that begin in order
 
 -- each begins at an address or later
-abbrev pub BeginFrom : ℕ → List Range → Type 0
+abbrev pub BeginFrom : ℕ → List BlockRange → Type 0
 BeginFrom from [] = Unit {0}
 BeginFrom from (range ∷ ranges) = (from ≤ range.first) × BeginFrom from ranges
 
 -- none begins before one that comes before it
-abbrev pub Begins : List Range → Type 0
+abbrev pub Begins : List BlockRange → Type 0
 Begins [] = Unit {0}
 Begins (range ∷ ranges) = BeginFrom range.first ranges × Begins ranges
 
 -- the first one has an address from this one on
-abbrev pub Reaches : ℕ → List Range → Type 0
+abbrev pub Reaches : ℕ → List BlockRange → Type 0
 Reaches from [] = Unit {0}
 Reaches from (range ∷ ranges) = (from ≤ range.last) × (range.first ≤ range.last)
 
 -- the first one begins after an address
-abbrev pub BeginsAfter : ℕ → List Range → Type 0
+abbrev pub BeginsAfter : ℕ → List BlockRange → Type 0
 BeginsAfter last [] = Unit {0}
 BeginsAfter last (range ∷ ranges) = last < range.first
 
 -- the first one is this one
-abbrev pub BeginsWith : Range → List Range → Type 0
+abbrev pub BeginsWith : BlockRange → List BlockRange → Type 0
 BeginsWith first [] = ⊥
 BeginsWith first (range ∷ ranges) = first ≡ range
 
 -- What was added is what the addresses from one to another have that no range has; the rest of the ranges has what they
 -- have from the last address on.
-pub record HasRest (first last : ℕ) (others old new rest : List Range) : Type 0 where
+pub record HasRest (first last : ℕ) (others old new rest : List BlockRange) : Type 0 where
   pub begins : Begins rest
   pub later : (address : ℕ) → last ≤ address → IsAmong address rest ↔ IsAmong address others
   pub left : (address : ℕ) → IsAmong address new

@@ -3,11 +3,11 @@ ghost use Rattle.std.specs.Prelude.{◌≡◌, ◌<◌, ◌≤◌, ◌⊎◌, �
 ghost use Rattle.mmdb_blocks.specs.Ranges.{IsOfRange, IsAmong};
 ghost use Rattle.mmdb_blocks.specs.Working.{Begins, Reaches, BeginsAfter, BeginsWith, HasRest};
 
-use crate::ranges::{Range, RangesError};
+use crate::ranges::{BlockRange, RangesError};
 use std::alloc::{AllocError, Global};
 
 // Without the first ranges, as far as they have no address from this one on.
-fn skip(others: &[Range], from: u128) -> &[Range]
+fn skip(others: &[BlockRange], from: u128) -> &[BlockRange]
     requires { Begins others.now }
     ensures begins { Begins result.now }
     ensures same { (address : ℕ) → from ≤ address
@@ -25,7 +25,7 @@ fn skip(others: &[Range], from: u128) -> &[Range]
 }
 
 // The first range, if it begins at this address or before.
-fn first_within(others: &[Range], last: u128) -> Option<Range>
+fn first_within(others: &[BlockRange], last: u128) -> Option<BlockRange>
     ensures { MatchOption result (BeginsAfter last others.now)
         (λ range. (range.first ≤ last) × BeginsWith range others.now) }
 {
@@ -34,16 +34,16 @@ fn first_within(others: &[Range], last: u128) -> Option<Range>
 }
 
 // Adds a range.
-fn put(first: u128, last: u128, left: &mut Vec<Range>) -> Result<(), RangesError>
+fn put(first: u128, last: u128, left: &mut Vec<BlockRange>) -> Result<(), RangesError>
     ensures { OnOk result ((address : ℕ) → IsAmong address left.new.items
         ↔ (IsAmong address left.old.items ⊎ ((first ≤ address) × (address ≤ last)))) }
 {
-    left.push(Range { first, last })?;
+    left.push(BlockRange { first, last })?;
     Ok(())
 }
 
 // Adds the addresses from one up to another one, without the other one, where there are some.
-fn put_before(first: u128, end: u128, left: &mut Vec<Range>) -> Result<(), RangesError>
+fn put_before(first: u128, end: u128, left: &mut Vec<BlockRange>) -> Result<(), RangesError>
     ensures { OnOk result ((address : ℕ) → IsAmong address left.new.items
         ↔ (IsAmong address left.old.items ⊎ ((first ≤ address) × (address < end)))) }
 {
@@ -58,9 +58,9 @@ fn put_before(first: u128, end: u128, left: &mut Vec<Range>) -> Result<(), Range
 fn put_rest<'a>(
     first: u128,
     last: u128,
-    others: &'a [Range],
-    left: &mut Vec<Range>,
-) -> Result<&'a [Range], RangesError>
+    others: &'a [BlockRange],
+    left: &mut Vec<BlockRange>,
+) -> Result<&'a [BlockRange], RangesError>
     requires span { first ≤ last }
     requires begins { Begins others.now }
     ensures { IfOk result
@@ -85,9 +85,9 @@ fn put_rest<'a>(
 // What ranges have that others have not, which begin in order.
 pub(crate) fn without(
     alloc: Global,
-    ranges: &[Range],
-    others: &[Range],
-) -> Result<Vec<Range>, RangesError>
+    ranges: &[BlockRange],
+    others: &[BlockRange],
+) -> Result<Vec<BlockRange>, RangesError>
     requires { Begins others.now }
     ensures { IfOk result (λ left. (address : ℕ) → IsAmong address left.items
         ↔ (IsAmong address ranges.now × ¬ (IsAmong address others.now))) }

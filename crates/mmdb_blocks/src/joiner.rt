@@ -41,7 +41,7 @@ impl Model for Joiner {
 }
 
 impl Joiner {
-    /// A joiner with all the memory that it will need: 258 blocks. An error where there is not so much.
+    /// A joiner with all the memory that it will need: 258 blocks. An error where there is not that much.
     pub fn new(alloc: Global) -> Result<Joiner, AllocError>
         ensures none { IfOk result (λ joiner. joiner ≡ ([], [])) }
         ensures joining { IfOk result (λ joiner. IsJoining [] [] (waiting_of joiner)) }

@@ -8,7 +8,7 @@ use std::net::{IpAddr, Ipv4Addr, Ipv6Addr};
 
 /// A kind of addresses.
 #[derive(Clone, Copy, PartialEq, Eq)]
-pub enum Kind {
+pub enum BlockKind {
     Ipv4,
     Ipv6,
 }
@@ -17,12 +17,12 @@ pub enum Kind {
 #[derive(Clone, Copy)]
 pub enum Kinds {
     Both,
-    One(Kind),
+    One(BlockKind),
 }
 
 impl Kinds {
     /// Whether a kind is wanted.
-    pub fn has(&self, kind: Kind) -> bool
+    pub fn has(&self, kind: BlockKind) -> bool
         ensures { IsTrue result ↔ IsWanted self.now kind }
     {
         match self {
@@ -32,24 +32,31 @@ impl Kinds {
     }
 }
 
-impl Kind {
-    /// The kind of addresses of so many bits, of 32 or 128.
+impl BlockKind {
+    /// The kind of addresses of `width` bits, of 32 or 128.
     #[inline(always)]
-    pub fn of_width(width: usize) -> Kind
+    pub fn of_width(width: usize) -> BlockKind
         ensures { result ≡ kind_of width }
     {
-        if width == 32 { Kind::Ipv4 } else { Kind::Ipv6 }
+        if width == 32 {
+            BlockKind::Ipv4
+        } else {
+            BlockKind::Ipv6
+        }
     }
 
     /// The network of a block of this kind. Addresses of IPv4 are numbers below 2^32, whose blocks have prefixes of 96
     /// and more.
     pub fn network_of(&self, block: Block) -> Result<IpNetwork, IpNetworkError> {
         match self {
-            Kind::Ipv4 => IpNetwork::new(
+            BlockKind::Ipv4 => IpNetwork::new(
                 IpAddr::V4(Ipv4Addr::from((block.first % (1 << 32)) as u32)),
                 block.prefix.saturating_sub(96),
             ),
-            Kind::Ipv6 => IpNetwork::new(IpAddr::V6(Ipv6Addr::from(block.first)), block.prefix),
+            BlockKind::Ipv6 => IpNetwork::new(
+                IpAddr::V6(Ipv6Addr::from(block.first)),
+                block.prefix,
+            ),
         }
     }
 }

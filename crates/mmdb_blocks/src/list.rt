@@ -1,7 +1,7 @@
 //! Lists of the fewest networks that have the addresses of those that are pushed.
 use crate::block::Block;
 use crate::joiner::Joiner;
-use crate::kind::{Kind, Kinds};
+use crate::kind::{BlockKind, Kinds};
 use crate::ranges::RangesError;
 use crate::syntax::{Action, Syntax};
 use mmdb_net::{IpNetwork, IpNetworkError};
@@ -10,7 +10,7 @@ use std::io::{self, Write};
 
 /// Why a list is not written.
 #[derive(Debug, Drop)]
-pub enum ListError {
+pub enum BlocksError {
     /// The output failed.
     Write(io::Error),
     /// The networks do not ascend.
@@ -19,24 +19,24 @@ pub enum ListError {
     Memory,
 }
 
-impl From<AllocError> for ListError {
-    fn from(_error: AllocError) -> ListError {
-        ListError::Memory
+impl From<AllocError> for BlocksError {
+    fn from(_error: AllocError) -> BlocksError {
+        BlocksError::Memory
     }
 }
 
-impl From<RangesError> for ListError {
-    fn from(error: RangesError) -> ListError {
+impl From<RangesError> for BlocksError {
+    fn from(error: RangesError) -> BlocksError {
         match error {
-            RangesError::OutOfOrder => ListError::OutOfOrder,
-            RangesError::Memory => ListError::Memory,
+            RangesError::OutOfOrder => BlocksError::OutOfOrder,
+            RangesError::Memory => BlocksError::Memory,
         }
     }
 }
 
-impl From<IpNetworkError> for ListError {
-    fn from(_error: IpNetworkError) -> ListError {
-        ListError::OutOfOrder
+impl From<IpNetworkError> for BlocksError {
+    fn from(_error: IpNetworkError) -> BlocksError {
+        BlocksError::OutOfOrder
     }
 }
 
@@ -61,7 +61,7 @@ pub struct List<'a> {
     kinds: Kinds,
     joiner: Joiner,
     /// The kind of the last network.
-    kind: Option<Kind>,
+    kind: Option<BlockKind>,
     /// Whether a network of that kind was written.
     has_written: bool,
     /// Whether what comes before all networks was written.
@@ -71,10 +71,10 @@ pub struct List<'a> {
 }
 
 // Writes a text.
-fn put<O: Write>(text: &[u8], out: &mut O) -> Result<(), ListError> {
+fn put<O: Write>(text: &[u8], out: &mut O) -> Result<(), BlocksError> {
     match out.write_all(text) {
         Ok(()) => Ok(()),
-        Err(error) => Err(ListError::Write(error)),
+        Err(error) => Err(BlocksError::Write(error)),
     }
 }
 
@@ -96,7 +96,7 @@ fn halves_of(block: Block) -> [Block; 2] {
 }
 
 impl<'a> List<'a> {
-    /// A list without networks. All memory but that of what stands before networks is taken here.
+    /// A list without networks. All memory but that of what comes before networks is taken here.
     pub fn new(alloc: Global, syntax: Syntax<'a>, kinds: Kinds) -> Result<List<'a>, AllocError> {
         List::of_action(alloc, syntax, Action::Fill, kinds)
     }
@@ -129,7 +129,7 @@ impl<'a> List<'a> {
 
     /// Writes what comes before all networks, once. The first network does that too, so that a list without networks writes
     /// nothing.
-    pub fn begin<O: Write>(&mut self, out: &mut O) -> Result<(), ListError> {
+    pub fn begin<O: Write>(&mut self, out: &mut O) -> Result<(), BlocksError> {
         if self.has_begun {
             return Ok(());
         }
@@ -139,7 +139,7 @@ impl<'a> List<'a> {
     }
 
     // Writes what comes before the first network of a kind.
-    fn open<O: Write>(&mut self, kind: Kind, out: &mut O) -> Result<(), ListError> {
+    fn open<O: Write>(&mut self, kind: BlockKind, out: &mut O) -> Result<(), BlocksError> {
         if self.has_written {
             return Ok(());
         }
@@ -151,10 +151,10 @@ impl<'a> List<'a> {
     // Writes a network.
     fn put_network<O: Write>(
         &mut self,
-        kind: Kind,
+        kind: BlockKind,
         network: IpNetwork,
         out: &mut O,
-    ) -> Result<(), ListError> {
+    ) -> Result<(), BlocksError> {
         self.open(kind, out)?;
         self.line.clear();
         self.syntax.push_network(
@@ -171,10 +171,10 @@ impl<'a> List<'a> {
     // Writes a block, or its halves where it has all addresses and those may not be written as one.
     fn put_block<O: Write>(
         &mut self,
-        kind: Kind,
+        kind: BlockKind,
         block: Block,
         out: &mut O,
-    ) -> Result<(), ListError> {
+    ) -> Result<(), BlocksError> {
         let network = kind.network_of(block)?;
         if network.prefix() > 0 || !self.syntax.halves_all() {
             return self.put_network(kind, network, out);
@@ -186,7 +186,7 @@ impl<'a> List<'a> {
     }
 
     // Writes the blocks of a kind that nothing can join any more.
-    fn put_settled<O: Write>(&mut self, kind: Kind, out: &mut O) -> Result<(), ListError> {
+    fn put_settled<O: Write>(&mut self, kind: BlockKind, out: &mut O) -> Result<(), BlocksError> {
         for index in 0..self.joiner.settled().len() {
             if let Some(block) = self.joiner.settled().get(index) {
                 let block = *block;
@@ -197,7 +197,7 @@ impl<'a> List<'a> {
     }
 
     // Writes what is left of a kind.
-    fn end_kind<O: Write>(&mut self, kind: Kind, out: &mut O) -> Result<(), ListError> {
+    fn end_kind<O: Write>(&mut self, kind: BlockKind, out: &mut O) -> Result<(), BlocksError> {
         self.joiner.finish();
         self.put_settled(kind, out)?;
         if self.has_written {
@@ -208,7 +208,7 @@ impl<'a> List<'a> {
     }
 
     // Writes what is left of the kind before, where there was one.
-    fn change_to<O: Write>(&mut self, kind: Kind, out: &mut O) -> Result<(), ListError> {
+    fn change_to<O: Write>(&mut self, kind: BlockKind, out: &mut O) -> Result<(), BlocksError> {
         if let Some(before) = self.kind {
             if before != kind {
                 self.end_kind(before, out)?;
@@ -220,7 +220,7 @@ impl<'a> List<'a> {
 
     /// Takes the next network, if it is of the kind of the last one, and writes nothing.
     #[inline(always)]
-    pub fn take(&mut self, kind: Kind, block: Block) -> Taken {
+    pub fn take(&mut self, kind: BlockKind, block: Block) -> Taken {
         if self.kind != Some(kind) {
             return Taken::Not;
         }
@@ -233,7 +233,7 @@ impl<'a> List<'a> {
 
     /// Writes the blocks that nothing can join any more.
     #[inline(never)]
-    pub fn write_settled<O: Write>(&mut self, out: &mut O) -> Result<(), ListError> {
+    pub fn write_settled<O: Write>(&mut self, out: &mut O) -> Result<(), BlocksError> {
         match self.kind {
             Some(kind) => self.put_settled(kind, out),
             None => Ok(()),
@@ -243,10 +243,10 @@ impl<'a> List<'a> {
     /// Takes the next network, if its kind is wanted, and writes those that nothing can join any more.
     pub fn push<O: Write>(
         &mut self,
-        kind: Kind,
+        kind: BlockKind,
         block: Block,
         out: &mut O,
-    ) -> Result<(), ListError> {
+    ) -> Result<(), BlocksError> {
         if !self.kinds.has(kind) {
             return Ok(());
         }
@@ -254,20 +254,20 @@ impl<'a> List<'a> {
         match self.take(kind, block) {
             Taken::Whole => Ok(()),
             Taken::Settled => self.put_settled(kind, out),
-            Taken::Not => Err(ListError::OutOfOrder),
+            Taken::Not => Err(BlocksError::OutOfOrder),
         }
     }
 
     /// Writes what is left of the networks.
-    pub fn finish<O: Write>(&mut self, out: &mut O) -> Result<(), ListError> {
+    pub fn finish<O: Write>(&mut self, out: &mut O) -> Result<(), BlocksError> {
         match self.kind {
             Some(kind) => self.end_kind(kind, out),
             None => Ok(()),
         }
     }
 
-    /// Writes what comes behind all networks.
-    pub fn end<O: Write>(&mut self, out: &mut O) -> Result<(), ListError> {
+    /// Writes what comes after all networks.
+    pub fn end<O: Write>(&mut self, out: &mut O) -> Result<(), BlocksError> {
         put(self.syntax.ending().as_bytes(), out)
     }
 }

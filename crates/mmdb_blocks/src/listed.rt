@@ -8,7 +8,7 @@ ghost use Rattle.mmdb_blocks.specs.Working.{Begins, IsKept, Takes};
 use crate::block::Block;
 use crate::except::without;
 use crate::joiner::Joiner;
-use crate::ranges::{Range, Ranges, RangesError, merged, sort};
+use crate::ranges::{BlockRange, Ranges, RangesError, merged, sort};
 use std::alloc::Global;
 
 // Takes a block, and adds those that nothing can join any more.
@@ -24,7 +24,11 @@ fn push_block(block: Block, joiner: &mut Joiner, blocks: &mut Vec<Block>) -> Res
 }
 
 // Takes the addresses of a range, if it has some, block by block.
-fn push_range(range: Range, joiner: &mut Joiner, blocks: &mut Vec<Block>) -> Result<(), RangesError>
+fn push_range(
+    range: BlockRange,
+    joiner: &mut Joiner,
+    blocks: &mut Vec<Block>,
+) -> Result<(), RangesError>
     ensures { OnOk result (IsKept blocks.old.items (waiting_of joiner.old)
         → Takes blocks.old.items (waiting_of joiner.old) blocks.new.items (waiting_of joiner.new)
         (λ address. IsOfRange address range)) }
@@ -46,7 +50,7 @@ fn push_range(range: Range, joiner: &mut Joiner, blocks: &mut Vec<Block>) -> Res
 
 // Takes the addresses of ranges.
 fn push_ranges(
-    ranges: &[Range],
+    ranges: &[BlockRange],
     joiner: &mut Joiner,
     blocks: &mut Vec<Block>,
 ) -> Result<(), RangesError>
@@ -61,7 +65,7 @@ fn push_ranges(
 }
 
 // The fewest blocks of ascending ranges.
-fn blocks_of(alloc: Global, ranges: &[Range]) -> Result<Vec<Block>, RangesError>
+fn blocks_of(alloc: Global, ranges: &[BlockRange]) -> Result<Vec<Block>, RangesError>
     ensures exact { IfOk result (λ blocks. (address : ℕ) → IsIn address blocks.items
         ↔ IsAmong address ranges.now) }
     ensures fewest { IfOk result (λ blocks. IsJoined blocks.items blocks.items) }
@@ -75,7 +79,11 @@ fn blocks_of(alloc: Global, ranges: &[Range]) -> Result<Vec<Block>, RangesError>
 }
 
 // Ranges in the order in which they begin.
-fn sorted(alloc: Global, some: &[Range], others: &[Range]) -> Result<Vec<Range>, RangesError>
+fn sorted(
+    alloc: Global,
+    some: &[BlockRange],
+    others: &[BlockRange],
+) -> Result<Vec<BlockRange>, RangesError>
     ensures same { IfOk result (λ ranges. (address : ℕ) → IsAmong address ranges.items
         ↔ (IsAmong address some.now ⊎ IsAmong address others.now)) }
     ensures begins { IfOk result (λ ranges. Begins ranges.items) }
@@ -89,9 +97,9 @@ fn sorted(alloc: Global, some: &[Range], others: &[Range]) -> Result<Vec<Range>,
 // The fewest blocks that have the addresses of some ranges or others, less those of a third kind.
 fn blocks_among(
     alloc: Global,
-    chosen: &[Range],
-    also: &[Range],
-    except: &[Range],
+    chosen: &[BlockRange],
+    also: &[BlockRange],
+    except: &[BlockRange],
 ) -> Result<Vec<Block>, RangesError>
     ensures exact { IfOk result (λ blocks. (address : ℕ) → IsIn address blocks.items
         ↔ IsListed address chosen.now also.now except.now) }

@@ -39,7 +39,7 @@ fn of_ipv6(network: Ipv6Network) -> Block
 }
 
 impl Block {
-    /// The block of the addresses of so many bits, 32 or 128, of which so many are those of the first one.
+    /// The block of the addresses of `width` bits, 32 or 128, of which the first `prefix` are those of the first one.
     #[inline(always)]
     pub fn of_numbers(first: u128, width: usize, prefix: usize) -> Block
         requires prefix { prefix ≤ width }

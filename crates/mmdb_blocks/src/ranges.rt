@@ -3,7 +3,7 @@ ghost use Rattle.std.specs.Prelude.{◌≡◌, ◌+◌, ◌≤◌, ◌⊎◌, �
 ghost use Rattle.mmdb_blocks.specs.Blocks.{IsBlock, IsWithin};
 ghost use Rattle.mmdb_blocks.specs.Ranges.{IsOfRange, IsAmong};
 ghost use Rattle.mmdb_blocks.specs.Working.{Begins, EndsWith, TakesReached};
-ghost use Rattle.mmdb_blocks.specs.declared.ranges.Range.{Range as SpecRange};
+ghost use Rattle.mmdb_blocks.specs.declared.ranges.BlockRange.{BlockRange as SpecRange};
 
 use crate::block::Block;
 use std::alloc::{AllocError, AllocFailed, Global};
@@ -11,7 +11,7 @@ use std::marker::Model;
 
 /// The addresses from one to another one, both with it. None where the last one is below the first.
 #[derive(Clone, Copy, Debug, PartialEq, Eq)]
-pub struct Range {
+pub struct BlockRange {
     pub first: u128,
     pub last: u128,
 }
@@ -40,7 +40,7 @@ impl<T: Drop> From<AllocFailed<T>> for RangesError {
 /// A set of addresses, as ranges in any order.
 #[derive(Drop)]
 pub struct Ranges {
-    items: Vec<Range>,
+    items: Vec<BlockRange>,
 }
 
 impl Model for Ranges {
@@ -49,22 +49,22 @@ impl Model for Ranges {
     ghost view = { λ ranges. ranges.items.items };
 }
 
-// Whether a range begins in another one, or right behind it.
-fn is_reached(last: Range, range: Range) -> bool
+// Whether a range begins in another one, or right after it.
+fn is_reached(last: BlockRange, range: BlockRange) -> bool
     ensures { IsTrue result → (last.first ≤ range.first) × (range.first ≤ last.last + 1) }
 {
     last.first <= range.first && range.first <= last.last.saturating_add(1)
 }
 
 // The last range.
-fn last_of(ranges: &[Range]) -> Option<Range>
+fn last_of(ranges: &[BlockRange]) -> Option<BlockRange>
     ensures { MatchOption result (ranges.now ≡ []) (λ last. EndsWith last ranges.now) }
 {
     ranges.last().copied()
 }
 
-// Takes out the last range, if this one begins in it or right behind it: the two as one.
-fn take_reached(items: &mut Vec<Range>, range: Range) -> Option<Range>
+// Takes out the last range, if this one begins in it or right after it: the two as one.
+fn take_reached(items: &mut Vec<BlockRange>, range: BlockRange) -> Option<BlockRange>
     ensures { MatchOption result (items.new.items ≡ items.old.items)
         (λ joined. TakesReached items.old.items items.new.items range joined) }
 {
@@ -73,14 +73,14 @@ fn take_reached(items: &mut Vec<Range>, range: Range) -> Option<Range>
         return None;
     }
     items.pop();
-    Some(Range {
+    Some(BlockRange {
         first: last.first,
         last: last.last.max(range.last),
     })
 }
 
 // The range that is to be added for this one, with the last one where the two meet.
-fn to_add(items: &mut Vec<Range>, range: Range) -> Range
+fn to_add(items: &mut Vec<BlockRange>, range: BlockRange) -> BlockRange
     ensures { (address : ℕ) → IsAmong address (items.new.items ++ result ∷ [])
         ↔ (IsAmong address items.old.items ⊎ IsOfRange address range) }
 {
@@ -90,8 +90,8 @@ fn to_add(items: &mut Vec<Range>, range: Range) -> Range
     }
 }
 
-// Adds a range. One that begins in the last one or right behind it becomes a part of it.
-fn add(items: &mut Vec<Range>, range: Range) -> Result<(), AllocError>
+// Adds a range. One that begins in the last one or right after it becomes a part of it.
+fn add(items: &mut Vec<BlockRange>, range: BlockRange) -> Result<(), AllocError>
     ensures { OnOk result ((address : ℕ) → IsAmong address items.new.items
         ↔ (IsAmong address items.old.items ⊎ IsOfRange address range)) }
 {
@@ -101,7 +101,7 @@ fn add(items: &mut Vec<Range>, range: Range) -> Result<(), AllocError>
 }
 
 // Ranges that are sorted by their first addresses, with those that meet as one.
-pub(crate) fn merged(alloc: Global, ranges: &[Range]) -> Result<Vec<Range>, AllocError>
+pub(crate) fn merged(alloc: Global, ranges: &[BlockRange]) -> Result<Vec<BlockRange>, AllocError>
     ensures { IfOk result (λ items. (address : ℕ) → IsAmong address items.items
         ↔ IsAmong address ranges.now) }
 {
@@ -113,7 +113,7 @@ pub(crate) fn merged(alloc: Global, ranges: &[Range]) -> Result<Vec<Range>, Allo
 }
 
 // Sorts ranges by their first addresses.
-pub(crate) fn sort(ranges: &mut Vec<Range>)
+pub(crate) fn sort(ranges: &mut Vec<BlockRange>)
     ensures same { (address : ℕ) → IsAmong address ranges.new.items
         ↔ IsAmong address ranges.old.items }
     ensures begins { Begins ranges.new.items }
@@ -132,14 +132,14 @@ impl Ranges {
     }
 
     // The ranges.
-    pub(crate) fn as_slice(&self) -> &[Range]
+    pub(crate) fn as_slice(&self) -> &[BlockRange]
         ensures { result.now ≡ self.now }
     {
         &self.items
     }
 
     /// Adds the addresses of a range. Without memory for it, those of the last range may be lost.
-    pub fn add(&mut self, range: Range) -> Result<(), AllocError>
+    pub fn add(&mut self, range: BlockRange) -> Result<(), AllocError>
         ensures { OnOk result ((address : ℕ) → IsAmong address self.new
             ↔ (IsAmong address self.old ⊎ IsOfRange address range)) }
     {
@@ -154,7 +154,7 @@ impl Ranges {
         if !block.is_block() {
             return Err(RangesError::OutOfOrder);
         }
-        let range = Range {
+        let range = BlockRange {
             first: block.first,
             last: block.last(),
         };

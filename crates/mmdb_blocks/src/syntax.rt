@@ -1,9 +1,9 @@
 //! How a list of networks is written.
-use crate::kind::{Kind, Kinds};
+use crate::kind::{BlockKind, Kinds};
 use mmdb_net::IpNetwork;
 use std::alloc::{AllocError, Global};
 
-/// The most bytes of a set's name: ipset takes 31, and the kind's name stands behind it.
+/// The most bytes of a set's name: ipset takes 31, and the kind's name follows it.
 const MOST_NAME: usize = 26;
 
 /// The most bytes of a value.
@@ -56,7 +56,7 @@ pub enum Action {
     Add,
 }
 
-// Whether a text has at most so many letters, digits and other bytes of ASCII, the first of them a letter or `_`.
+// Whether a text has at most `most` letters, digits and other bytes of ASCII, the first of them a letter or `_`.
 fn is_name(name: &str, most: usize, others: &[u8]) -> bool {
     let bytes = name.as_bytes();
     let Some(first) = bytes.first() else {
@@ -87,19 +87,19 @@ pub fn is_list_value(value: &str) -> bool {
     !bytes.is_empty() && bytes.len() <= MOST_VALUE && bytes.iter().all(is_part)
 }
 
-// What stands behind a name for the set of a kind.
-fn suffix(kind: Kind) -> &'static str {
+// What follows a name for the set of a kind.
+fn suffix(kind: BlockKind) -> &'static str {
     match kind {
-        Kind::Ipv4 => "ipv4",
-        Kind::Ipv6 => "ipv6",
+        BlockKind::Ipv4 => "ipv4",
+        BlockKind::Ipv6 => "ipv6",
     }
 }
 
 // What lets only the program of a kind take a rule.
-fn rule_kind(kind: Kind) -> &'static str {
+fn rule_kind(kind: BlockKind) -> &'static str {
     match kind {
-        Kind::Ipv4 => " -4 -s ",
-        Kind::Ipv6 => " -6 -s ",
+        BlockKind::Ipv4 => " -4 -s ",
+        BlockKind::Ipv6 => " -6 -s ",
     }
 }
 
@@ -124,7 +124,7 @@ fn push_between(
 fn push_member(
     action: Action,
     name: &str,
-    kind: Kind,
+    kind: BlockKind,
     network: IpNetwork,
     line: &mut Vec<u8>,
 ) -> Result<(), AllocError> {
@@ -138,7 +138,7 @@ fn push_member(
 // Adds the rule of a network for a chain.
 fn push_rule(
     chain: &str,
-    kind: Kind,
+    kind: BlockKind,
     network: IpNetwork,
     target: &str,
     line: &mut Vec<u8>,
@@ -169,7 +169,7 @@ fn nft_set(
     family: &str,
     table: &str,
     name: &str,
-    kind: Kind,
+    kind: BlockKind,
 ) -> Result<String, AllocError> {
     let set = suffix(kind);
     format!(in alloc;
@@ -178,11 +178,11 @@ fn nft_set(
 }
 
 // The lines that make a set for ipset, if it is not there, and empty it.
-fn ipset_set(alloc: Global, name: &str, kind: Kind) -> Result<String, AllocError> {
+fn ipset_set(alloc: Global, name: &str, kind: BlockKind) -> Result<String, AllocError> {
     let set = suffix(kind);
     let family = match kind {
-        Kind::Ipv4 => "inet",
-        Kind::Ipv6 => "inet6",
+        BlockKind::Ipv4 => "inet",
+        BlockKind::Ipv6 => "inet6",
     };
     format!(in alloc;
         "create {name}_{set} hash:net family {family} maxelem 4294967295 -exist\nflush {name}_{set}\n"
@@ -206,7 +206,7 @@ impl Action {
         }
     }
 
-    // What stands before a network of a line of its own.
+    // What comes before a network of a line of its own.
     fn of_line(self) -> &'static str {
         match self {
             Action::Fill => "",
@@ -218,7 +218,7 @@ impl Action {
 
 impl Syntax<'_> {
     // What makes the set of a kind.
-    fn set(&self, alloc: Global, kind: Kind) -> Result<String, AllocError> {
+    fn set(&self, alloc: Global, kind: BlockKind) -> Result<String, AllocError> {
         match self {
             Syntax::Nft {
                 family,
@@ -234,7 +234,7 @@ impl Syntax<'_> {
     fn push_set(
         &self,
         alloc: Global,
-        kind: Kind,
+        kind: BlockKind,
         kinds: Kinds,
         text: &mut String,
     ) -> Result<(), AllocError> {
@@ -245,7 +245,7 @@ impl Syntax<'_> {
         text.push_str(set.as_str())
     }
 
-    // What stands before all sets and networks.
+    // What comes before all sets and networks.
     fn head(&self, alloc: Global) -> Result<String, AllocError> {
         match self {
             Syntax::Nft { family, table, .. } => {
@@ -259,19 +259,19 @@ impl Syntax<'_> {
         }
     }
 
-    /// What stands before all networks: it makes the sets of the wanted kinds.
+    /// What comes before all networks: it makes the sets of the wanted kinds.
     pub(crate) fn beginning(&self, alloc: Global, kinds: Kinds) -> Result<String, AllocError> {
         let mut text = self.head(alloc)?;
-        self.push_set(alloc, Kind::Ipv4, kinds, &mut text)?;
-        self.push_set(alloc, Kind::Ipv6, kinds, &mut text)?;
+        self.push_set(alloc, BlockKind::Ipv4, kinds, &mut text)?;
+        self.push_set(alloc, BlockKind::Ipv6, kinds, &mut text)?;
         Ok(text)
     }
 
-    /// What stands before the first network of a kind.
+    /// What comes before the first network of a kind.
     pub(crate) fn opening(
         &self,
         alloc: Global,
-        kind: Kind,
+        kind: BlockKind,
         action: Action,
     ) -> Result<String, AllocError> {
         match self {
@@ -287,7 +287,7 @@ impl Syntax<'_> {
         }
     }
 
-    /// What stands behind the last network of a kind.
+    /// What comes after the last network of a kind.
     pub(crate) fn closing(&self) -> &'static str {
         match self {
             Syntax::Nft { .. } => "\n}\n",
@@ -295,7 +295,7 @@ impl Syntax<'_> {
         }
     }
 
-    /// What stands behind all networks.
+    /// What comes after all networks.
     pub(crate) fn ending(&self) -> &'static str {
         match self {
             Syntax::Iptables { .. } => "COMMIT\n",
@@ -318,7 +318,7 @@ impl Syntax<'_> {
     // Adds a network of a kind with a line of its own.
     fn push_line(
         &self,
-        kind: Kind,
+        kind: BlockKind,
         action: Action,
         network: IpNetwork,
         line: &mut Vec<u8>,
@@ -336,7 +336,7 @@ impl Syntax<'_> {
     /// Adds a network of a kind, the first of its kind or another one.
     pub(crate) fn push_network(
         &self,
-        kind: Kind,
+        kind: BlockKind,
         action: Action,
         is_first: bool,
         network: IpNetwork,

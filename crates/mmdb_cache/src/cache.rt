@@ -6,7 +6,7 @@ ghost use Rattle.mmdb_cache.specs.Cache.{AreOfBefore, AreOfBeforeOr, IsNone};
 use std::alloc::{AllocError, Global};
 use std::marker::Model;
 
-/// How many places there are for so many values: for few, for some, and for more.
+/// How many places there are for a number of values: for few, for some, and for more.
 const FEWEST: usize = 64;
 
 const FEW: usize = 16;
@@ -17,7 +17,7 @@ const SOME: usize = 64;
 
 const MOST: usize = 8192;
 
-// How many places there are for values of which so many were put.
+// How many places there are for values of which `puts` were put.
 fn places_for(puts: usize) -> usize {
     if puts < FEW {
         FEWEST
@@ -30,18 +30,18 @@ fn places_for(puts: usize) -> usize {
 
 /// A value that is kept for a key, and the bytes that it takes.
 #[derive(Drop)]
-pub struct Entry<V: Drop> {
+pub struct CacheEntry<V: Drop> {
     pub key: usize,
     pub value: V,
     pub bytes: usize,
 }
 
-/// Values by their keys, each at the place that its key gives, up to so many bytes of them together. What is put takes the
-/// place of what stands there, and of others where there is no room. Nothing is taken before something is put.
+/// Values by their keys, each at the place that its key gives, up to a given number of bytes of them together. What is put
+/// takes the place of what is there, and of others where there is no room. Nothing is taken before something is put.
 #[derive(Drop)]
 pub struct Cache<V: Drop> {
     alloc: Global,
-    places: Vec<Option<Entry<V>>>,
+    places: Vec<Option<CacheEntry<V>>>,
     /// How many bytes there are for all values, and how many of them are left.
     most: usize,
     left: usize,
@@ -54,7 +54,7 @@ pub struct Cache<V: Drop> {
 impl<V: Drop> Model for Cache<V> {
     ghost use Rattle.std.specs.Prelude.{List, Option};
     ghost use Rattle.mmdb_cache.specs.Cache.{IsBounded};
-    ghost use Rattle.mmdb_cache.specs.declared.cache.Entry.{Entry as SpecEntry};
+    ghost use Rattle.mmdb_cache.specs.declared.cache.CacheEntry.{CacheEntry as SpecEntry};
 
     ghost Value = { List (Option (SpecEntry V)) };
 
@@ -63,15 +63,18 @@ impl<V: Drop> Model for Cache<V> {
     ghost invariant = { λ c. IsBounded c.places.items c.left c.most };
 }
 
-// The place of a key among so many, which depends on all of its lower bits.
+// The place of a key among `count` places, which depends on all of its lower bits.
 #[inline(always)]
 fn place_among(count: usize, key: usize) -> usize {
     let mixed = (key as u64).wrapping_mul(0x9E37_79B9_7F4A_7C15) >> 32;
     mixed as usize & count.wrapping_sub(1)
 }
 
-// So many places at which nothing is kept.
-fn empty_places<V: Drop>(alloc: Global, count: usize) -> Result<Vec<Option<Entry<V>>>, AllocError>
+// `count` places at which nothing is kept.
+fn empty_places<V: Drop>(
+    alloc: Global,
+    count: usize,
+) -> Result<Vec<Option<CacheEntry<V>>>, AllocError>
     ensures { IfOk result (λ places. All IsNone places.items) }
 {
     let mut places = Vec::with_capacity(alloc, count)?;
@@ -82,7 +85,7 @@ fn empty_places<V: Drop>(alloc: Global, count: usize) -> Result<Vec<Option<Entry
 }
 
 impl<V: Drop> Cache<V> {
-    /// Of so many bytes. It takes no memory before something is put.
+    /// Of at most `most` bytes. It takes no memory before something is put.
     pub fn new(alloc: Global, most: usize) -> Cache<V>
         ensures { result ≡ [] }
     {
@@ -142,7 +145,7 @@ impl<V: Drop> Cache<V> {
         }
     }
 
-    // Lets go of values until there is room for so many bytes, if there can be.
+    // Lets go of values until there is room for `bytes` bytes, if there can be.
     fn make_room(&mut self, bytes: usize)
         ensures { AreOfBefore self.old self.new }
     {
@@ -157,7 +160,7 @@ impl<V: Drop> Cache<V> {
     }
 
     // Keeps an entry at a place where nothing is kept, if there is room for it.
-    fn keep_at(&mut self, place: usize, entry: Entry<V>)
+    fn keep_at(&mut self, place: usize, entry: CacheEntry<V>)
         ensures { AreOfBeforeOr entry self.old self.new }
     {
         if entry.bytes > self.left {
@@ -172,7 +175,7 @@ impl<V: Drop> Cache<V> {
         }
     }
 
-    /// Keeps a value for a key, which takes so many bytes, unless there is no room or memory for it.
+    /// Keeps a value for a key, which takes `bytes` bytes, unless there is no room or memory for it.
     #[inline(never)]
     pub fn put(&mut self, key: usize, value: V, bytes: usize)
         ensures { AreOfBeforeOr (record { key = key; value = value; bytes = bytes })
@@ -185,6 +188,6 @@ impl<V: Drop> Cache<V> {
         let place = place_among(self.places.len(), key);
         self.let_go(place);
         self.make_room(bytes);
-        self.keep_at(place, Entry { key, value, bytes });
+        self.keep_at(place, CacheEntry { key, value, bytes });
     }
 }

@@ -4,5 +4,5 @@
 mod cache;
 mod table;
 
-pub use cache::{Cache, Entry};
-pub use table::{Key, Known, Table};
+pub use cache::{Cache, CacheEntry};
+pub use table::{CacheKey, CacheTable, Memo};

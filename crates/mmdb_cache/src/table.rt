@@ -10,7 +10,7 @@ use std::marker::Model;
 const WAYS: usize = 4;
 
 /// What something is kept by.
-pub trait Key: Copy {
+pub trait CacheKey: Copy {
     /// A number on whose lower bits the place depends.
     fn number(self) -> u64;
 
@@ -19,7 +19,7 @@ pub trait Key: Copy {
         ensures { result ≡ true → self ≡ other };
 }
 
-impl Key for u32 {
+impl CacheKey for u32 {
     #[inline(always)]
     fn number(self) -> u64 {
         u64::from(self)
@@ -33,22 +33,21 @@ impl Key for u32 {
 
 /// What is known by a key.
 #[derive(Clone, Copy)]
-pub struct Known<K: Key, V: Copy> {
+pub struct Memo<K: CacheKey, V: Copy> {
     pub key: K,
     pub value: V,
 }
 
-/// What is known by the last keys, in so many sets of four: each stands in the set that its key gives. All memory is taken at
-/// once.
+/// What is known by the last keys, in `SETS` sets of four: each is in the set that its key gives. All memory is taken at once.
 #[derive(Drop)]
-pub struct Table<K: Key, V: Copy, const SETS: usize> {
-    /// Of each set what was put last stands first.
-    kept: Vec<Known<K, V>>,
+pub struct CacheTable<K: CacheKey, V: Copy, const SETS: usize> {
+    /// Of each set what was put last comes first.
+    kept: Vec<Memo<K, V>>,
 }
 
-impl<K: Key, V: Copy, const SETS: usize> Model for Table<K, V, SETS> {
+impl<K: CacheKey, V: Copy, const SETS: usize> Model for CacheTable<K, V, SETS> {
     ghost use Rattle.std.specs.Prelude.{List};
-    ghost use Rattle.mmdb_cache.specs.declared.table.Known.{Known as SpecKnown};
+    ghost use Rattle.mmdb_cache.specs.declared.table.Memo.{Memo as SpecKnown};
 
     ghost Value = { List (SpecKnown K V) };
 
@@ -63,10 +62,10 @@ fn place_among(sets: usize, number: u64) -> usize {
     set.wrapping_mul(WAYS)
 }
 
-// Puts what is known at the first place of a set. What stands there moves on by one place, up to the place of the same key,
+// Puts what is known at the first place of a set. What is there moves on by one place, up to the place of the same key,
 // or out of the set.
 #[inline(always)]
-fn put_from<K: Key, V: Copy>(kept: &mut [Known<K, V>], first: usize, put: Known<K, V>)
+fn put_from<K: CacheKey, V: Copy>(kept: &mut [Memo<K, V>], first: usize, put: Memo<K, V>)
     ensures { AreKnownOr put kept.old kept.new }
 {
     let mut moved = put;
@@ -83,20 +82,20 @@ fn put_from<K: Key, V: Copy>(kept: &mut [Known<K, V>], first: usize, put: Known<
     }
 }
 
-impl<K: Key, V: Copy, const SETS: usize> Table<K, V, SETS> {
-    ghost use Rattle.mmdb_cache.specs.declared.table.Known.{Known as SpecKnown};
+impl<K: CacheKey, V: Copy, const SETS: usize> CacheTable<K, V, SETS> {
+    ghost use Rattle.mmdb_cache.specs.declared.table.Memo.{Memo as SpecKnown};
 
     /// Without memory for anything.
-    pub fn without_memory(alloc: Global) -> Table<K, V, SETS>
+    pub fn without_memory(alloc: Global) -> CacheTable<K, V, SETS>
         ensures { result ≡ [] }
     {
-        Table {
+        CacheTable {
             kept: Vec::new(alloc),
         }
     }
 
     /// Each place has the same.
-    pub fn new(alloc: Global, known: Known<K, V>) -> Result<Table<K, V, SETS>, AllocError>
+    pub fn new(alloc: Global, known: Memo<K, V>) -> Result<CacheTable<K, V, SETS>, AllocError>
         ensures { IfOk result (λ table. All (IsKnown known) table) }
     {
         let count = SETS.saturating_mul(WAYS);
@@ -108,12 +107,12 @@ impl<K: Key, V: Copy, const SETS: usize> Table<K, V, SETS> {
         for _ in 0..count % 64 {
             kept.push(known)?;
         }
-        Ok(Table { kept })
+        Ok(CacheTable { kept })
     }
 
     // The set that a key gives.
     #[inline(always)]
-    fn set_of(&self, key: K) -> Option<&[Known<K, V>]>
+    fn set_of(&self, key: K) -> Option<&[Memo<K, V>]>
         ensures { IfSome result (λ set. (known : SpecKnown K V) → Contains set.now known
             → Contains self.now known) }
     {
@@ -158,6 +157,6 @@ impl<K: Key, V: Copy, const SETS: usize> Table<K, V, SETS> {
         ensures { AreKnownOr (record { key = key; value = value }) self.old self.new }
     {
         let first = place_among(SETS, key.number());
-        put_from(self.kept.as_mut_slice(), first, Known { key, value });
+        put_from(self.kept.as_mut_slice(), first, Memo { key, value });
     }
 }

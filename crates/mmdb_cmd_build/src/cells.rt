@@ -11,7 +11,7 @@ use crate::types::Types;
 use bumpalo::Bump;
 use csv::{ByteRecord, ReaderBuilder};
 use memchr::{memchr, memchr2};
-use mmdb_filter::{Position, Rows};
+use mmdb_filter::{RowPosition, Rows};
 use mmdb_net::IpNetwork;
 use mmdb_value::Value;
 use std::alloc::Global;
@@ -51,18 +51,18 @@ struct ValueColumn {
 
 // What is wrong with the quotes of a row of CSV, or with a carriage return that does not end it.
 fn check_quotes(rows: Rows, row: &[u8]) -> Result<(), Reason> {
-    let mut now = Position::Cell;
+    let mut now = RowPosition::Cell;
     for byte in row {
         let next = now.after(rows, *byte);
-        if *byte == b'\r' && next != Position::Quoted {
+        if *byte == b'\r' && next != RowPosition::Quoted {
             return Err(Reason::LoneReturn);
         }
-        if now == Position::Closing && next == Position::Plain {
+        if now == RowPosition::Closing && next == RowPosition::Plain {
             return Err(Reason::BehindQuote);
         }
         now = next;
     }
-    if now == Position::Quoted {
+    if now == RowPosition::Quoted {
         Err(Reason::Unclosed)
     } else {
         Ok(())

@@ -7,7 +7,7 @@ use crate::summary::{Summary, summary_of};
 use crate::taken::TakenRows;
 use crate::task::BuildTask;
 use mmdb_arguments::Reserved;
-use mmdb_blocks::{Block, Kind};
+use mmdb_blocks::{Block, BlockKind};
 use mmdb_console::{Console, DONE, FAILED, ProgramError};
 use mmdb_files::{MadeFile, make_file};
 use mmdb_layout::{Database, open_database};
@@ -80,9 +80,9 @@ fn report_nothing<O: Write, E: Write>(task: &BuildTask<'_>, console: &mut Consol
 // An address by its number, as one network.
 fn text_of_number(alloc: Global, number: u128) -> Result<String, AllocError> {
     let kind = if number < 1 << 32 {
-        Kind::Ipv4
+        BlockKind::Ipv4
     } else {
-        Kind::Ipv6
+        BlockKind::Ipv6
     };
     let block = Block {
         first: number,

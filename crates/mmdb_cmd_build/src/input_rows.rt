@@ -1,5 +1,5 @@
 //! Rows that are read whole, up to a limit.
-use mmdb_filter::{Position, Rows, read_chunk};
+use mmdb_filter::{RowPosition, Rows, read_chunk};
 use std::alloc::Global;
 use std::io::{self, BufRead, ErrorKind};
 
@@ -37,8 +37,8 @@ fn line_ends(rows: Rows, bytes: &[u8]) -> u64 {
 }
 
 // What a row is that ends here.
-fn read_of(position: Position, is_whole: bool) -> RowRead {
-    if position == Position::Quoted {
+fn read_of(position: RowPosition, is_whole: bool) -> RowRead {
+    if position == RowPosition::Quoted {
         RowRead::Unclosed
     } else if is_whole {
         RowRead::Whole
@@ -52,7 +52,7 @@ fn read_rest<I: BufRead>(
     alloc: Global,
     input: &mut I,
     rows: Rows,
-    position: Position,
+    position: RowPosition,
     row: &mut Vec<u8>,
     lines: &mut u64,
 ) -> io::Result<RowRead> {
@@ -64,7 +64,7 @@ fn read_rest<I: BufRead>(
         now = read_chunk(input, rows, now, &mut chunk)?;
         is_whole = is_whole && append(row, &chunk)?;
         *lines = lines.saturating_add(line_ends(rows, &chunk));
-        if chunk.is_empty() || now == Position::Ended {
+        if chunk.is_empty() || now == RowPosition::Ended {
             return Ok(read_of(now, is_whole));
         }
     }
@@ -81,11 +81,11 @@ pub fn read_row<I: BufRead>(
     lines: &mut u64,
 ) -> io::Result<RowRead> {
     row.clear();
-    let position = read_chunk(input, rows, Position::Cell, row)?;
+    let position = read_chunk(input, rows, RowPosition::Cell, row)?;
     *lines = lines.saturating_add(line_ends(rows, row));
     if row.is_empty() {
         Ok(RowRead::End)
-    } else if position == Position::Ended {
+    } else if position == RowPosition::Ended {
         Ok(RowRead::Whole)
     } else {
         read_rest(alloc, input, rows, position, row, lines)

@@ -1,6 +1,6 @@
 //! Ranges of addresses as networks.
 use crate::error::Reason;
-use mmdb_blocks::{Block, Kind};
+use mmdb_blocks::{Block, BlockKind};
 use mmdb_net::IpNetwork;
 use std::net::IpAddr;
 
@@ -88,9 +88,9 @@ impl RangeNetworks {
             None
         };
         let kind = if range.is_ipv4 {
-            Kind::Ipv4
+            BlockKind::Ipv4
         } else {
-            Kind::Ipv6
+            BlockKind::Ipv6
         };
         let block = Block {
             first: range.first,

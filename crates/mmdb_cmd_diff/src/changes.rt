@@ -1,7 +1,7 @@
 //! What differs, written as the fewest networks: neighbours with the same two values are joined.
 use crate::counts::{ABSENT, ChangeCounts, Presence};
 use crate::differences::{FoundInBoth, Pairs, put_difference};
-use mmdb_blocks::{Block, Joiner, Kind};
+use mmdb_blocks::{Block, BlockKind, Joiner};
 use mmdb_compare::{ShownPair, Stretch};
 use mmdb_console::ProgramError;
 use mmdb_layout::{Found, Layout};
@@ -57,7 +57,11 @@ pub(crate) struct Changes<'a, 'r> {
 
 /// The network of a block.
 pub(crate) fn network_of(block: Block, is_ipv4: bool) -> Result<IpNetwork, ProgramError> {
-    let kind = if is_ipv4 { Kind::Ipv4 } else { Kind::Ipv6 };
+    let kind = if is_ipv4 {
+        BlockKind::Ipv4
+    } else {
+        BlockKind::Ipv6
+    };
     match kind.network_of(block) {
         Ok(network) => Ok(network),
         Err(_) => Err(ProgramError::OutOfOrder),

@@ -6,7 +6,7 @@ use Rattle.std.specs.List.{prefix_len}
 use Rattle.mmdb_filter.specs.Rows.{position_after}
 use Rattle.mmdb_filter.specs.Runs.{is_neither}
 use Rattle.mmdb_filter.specs.declared.rows.Rows.TheVariants.{Lines, Csv}
-use Rattle.mmdb_filter.specs.declared.rows.Position.TheVariants.{Cell, Plain, Quoted, Closing, Ended}
+use Rattle.mmdb_filter.specs.declared.rows.RowPosition.TheVariants.{Cell, Plain, Quoted, Closing, Ended}
 use Rattle.mmdb_filter.proofs.TextLaws.{or_less}
 use Rattle.mmdb_cmd_enrich.specs.Columns.{cell_length}
 use Rattle.mmdb_cmd_enrich.proofs.ColumnLaws.{delimiter_at, no_delimiter_in}

@@ -5,8 +5,8 @@ use Rattle.std.proofs.lemmas.List.{take_rest, drop-drop, drop_more, drop_all}
 use Rattle.mmdb_filter.specs.Rows.{position_after}
 use Rattle.mmdb_filter.specs.declared.rows.Rows.{Rows}
 use Rattle.mmdb_filter.specs.declared.rows.Rows.TheVariants.{Lines}
-use Rattle.mmdb_filter.specs.declared.rows.Position.{Position}
-use Rattle.mmdb_filter.specs.declared.rows.Position.TheVariants.{Cell, Plain, Quoted, Closing, Ended}
+use Rattle.mmdb_filter.specs.declared.rows.RowPosition.{RowPosition}
+use Rattle.mmdb_filter.specs.declared.rows.RowPosition.TheVariants.{Cell, Plain, Quoted, Closing, Ended}
 use Rattle.mmdb_cmd_enrich.specs.Columns.{delimiter_of, is_quoted, cell_length, column_of}
 
 column_suc : (rows : Rows) (goes_on : Bool) (n : ℕ) (xs ys : List ℕ) (t : nat_lt (cell_length rows Cell xs) (length xs) ≡ true) → ys ≡ drop (cell_length rows Cell xs + 1) xs → column_of rows goes_on (suc n) xs ≡ column_of rows goes_on n ys
@@ -40,20 +40,20 @@ whole_column rows n p xs z e = ap (λ n. column_of rows false n xs) z ∙ at (na
     at false = refl
 
 -- one byte after another
-pub cell_stops : (rows : Rows) (p : Position) (xs : List ℕ) (at : ℕ) → at < length xs → (get_or xs at 0 == delimiter_of rows && not (is_quoted p)) ≡ true → cell_length rows p (drop at xs) ≡ 0
+pub cell_stops : (rows : Rows) (p : RowPosition) (xs : List ℕ) (at : ℕ) → at < length xs → (get_or xs at 0 == delimiter_of rows && not (is_quoted p)) ≡ true → cell_length rows p (drop at xs) ≡ 0
 unfolding cell_length
 cell_stops rows p xs at l e = ap (cell_length rows p) (drop_more xs at 0 l) ∙ ap (λ b. if b then 0 else suc (cell_length rows (position_after rows p (get_or xs at 0)) (drop (at + 1) xs))) e
 
-pub cell_goes_on : (rows : Rows) (p : Position) (xs : List ℕ) (at : ℕ) → at < length xs → (get_or xs at 0 == delimiter_of rows && not (is_quoted p)) ≡ false → cell_length rows p (drop at xs) ≡ suc (cell_length rows (position_after rows p (get_or xs at 0)) (drop (at + 1) xs))
+pub cell_goes_on : (rows : Rows) (p : RowPosition) (xs : List ℕ) (at : ℕ) → at < length xs → (get_or xs at 0 == delimiter_of rows && not (is_quoted p)) ≡ false → cell_length rows p (drop at xs) ≡ suc (cell_length rows (position_after rows p (get_or xs at 0)) (drop (at + 1) xs))
 unfolding cell_length
 cell_goes_on rows p xs at l e = ap (cell_length rows p) (drop_more xs at 0 l) ∙ ap (λ b. if b then 0 else suc (cell_length rows (position_after rows p (get_or xs at 0)) (drop (at + 1) xs))) e
 
-pub cell_ends : (rows : Rows) (p : Position) (xs : List ℕ) (at : ℕ) → length xs ≤ at → cell_length rows p (drop at xs) ≡ 0
+pub cell_ends : (rows : Rows) (p : RowPosition) (xs : List ℕ) (at : ℕ) → length xs ≤ at → cell_length rows p (drop at xs) ≡ 0
 unfolding cell_length
 cell_ends rows p xs at l = ap (cell_length rows p) (drop_all at xs l)
 
 -- of a line, in which nothing is quoted
-unquoted_on : (d : ℕ) (p : Position) (x : ℕ) → is_quoted p ≡ false → is_quoted (position_after (Lines d) p x) ≡ false
+unquoted_on : (d : ℕ) (p : RowPosition) (x : ℕ) → is_quoted p ≡ false → is_quoted (position_after (Lines d) p x) ≡ false
 unfolding position_after
 unquoted_on d p x e = at (x == 10)
   where
@@ -61,10 +61,10 @@ unquoted_on d p x e = at (x == 10)
     at true = refl
     at false = e
 
-passes : (d x : ℕ) (p : Position) → ((x == d) ≡ true → ⊥) → (x == d && not (is_quoted p)) ≡ false
+passes : (d x : ℕ) (p : RowPosition) → ((x == d) ≡ true → ⊥) → (x == d && not (is_quoted p)) ≡ false
 passes d x p h = ap (λ b. b && not (is_quoted p)) (ne_eqb x d (λ e. h (eq-eqb x d e)))
 
-pub delimiter_at : (d : ℕ) (p : Position) (at : ℕ) (xs : List ℕ) → is_quoted p ≡ false → at < length xs → ((k : ℕ) → k < at → (get_or xs k 0 == d) ≡ true → ⊥) → (get_or xs at 0 == d) ≡ true → cell_length (Lines d) p xs ≡ at
+pub delimiter_at : (d : ℕ) (p : RowPosition) (at : ℕ) (xs : List ℕ) → is_quoted p ≡ false → at < length xs → ((k : ℕ) → k < at → (get_or xs k 0 == d) ≡ true → ⊥) → (get_or xs at 0 == d) ≡ true → cell_length (Lines d) p xs ≡ at
 unfolding cell_length
 delimiter_at d p at [] q l h is = absurd (omega (arith, l))
 delimiter_at d p zero (x ∷ xs) q l h is = ap (λ b. if b then 0 else suc (cell_length (Lines d) (position_after (Lines d) p x) xs)) (ap (λ b. b && not (is_quoted p)) is ∙ ap not q)
@@ -72,27 +72,27 @@ delimiter_at d p (suc at) (x ∷ xs) q l h is =
     ap (λ b. if b then 0 else suc (cell_length (Lines d) (position_after (Lines d) p x) xs)) (passes d x p (h 0 (omega arith)))
     ∙ ap suc (delimiter_at d (position_after (Lines d) p x) at xs (unquoted_on d p x q) (omega (arith, l)) (λ k below. h (suc k) (omega arith)) is)
 
-pub no_delimiter_in : (d : ℕ) (p : Position) (xs : List ℕ) → is_quoted p ≡ false → ((k : ℕ) → k < length xs → (get_or xs k 0 == d) ≡ true → ⊥) → cell_length (Lines d) p xs ≡ length xs
+pub no_delimiter_in : (d : ℕ) (p : RowPosition) (xs : List ℕ) → is_quoted p ≡ false → ((k : ℕ) → k < length xs → (get_or xs k 0 == d) ≡ true → ⊥) → cell_length (Lines d) p xs ≡ length xs
 unfolding cell_length
 no_delimiter_in d p [] q h = refl
 no_delimiter_in d p (x ∷ xs) q h =
     ap (λ b. if b then 0 else suc (cell_length (Lines d) (position_after (Lines d) p x) xs)) (passes d x p (h 0 (omega arith)))
     ∙ ap suc (no_delimiter_in d (position_after (Lines d) p x) xs (unquoted_on d p x q) (λ k below. h (suc k) (omega arith)))
 
-pub not_quoted : (p : Position) → p ≢ Quoted → is_quoted p ≡ false
+pub not_quoted : (p : RowPosition) → p ≢ Quoted → is_quoted p ≡ false
 not_quoted Cell h = refl
 not_quoted Plain h = refl
 not_quoted Quoted h = absurd (h refl)
 not_quoted Closing h = refl
 not_quoted Ended h = refl
 
-pub is_delimiter : (rows : Rows) (x d : ℕ) (p : Position) → d ≡ delimiter_of rows → x ≡ d → is_quoted p ≡ false → (x == delimiter_of rows && not (is_quoted p)) ≡ true
+pub is_delimiter : (rows : Rows) (x d : ℕ) (p : RowPosition) → d ≡ delimiter_of rows → x ≡ d → is_quoted p ≡ false → (x == delimiter_of rows && not (is_quoted p)) ≡ true
 is_delimiter rows x d p e is q = ap (λ b. b && not (is_quoted p)) (eq-eqb x (delimiter_of rows) (is ∙ e)) ∙ ap not q
 
-pub no_delimiter : (rows : Rows) (x d : ℕ) (p : Position) → d ≡ delimiter_of rows → x ≢ d → (x == delimiter_of rows && not (is_quoted p)) ≡ false
+pub no_delimiter : (rows : Rows) (x d : ℕ) (p : RowPosition) → d ≡ delimiter_of rows → x ≢ d → (x == delimiter_of rows && not (is_quoted p)) ≡ false
 no_delimiter rows x d p e is = ap (λ b. b && not (is_quoted p)) (ne_eqb x (delimiter_of rows) (λ same. is (same ∙ sym e)))
 
-pub quoted_delimiter : (rows : Rows) (x : ℕ) (p : Position) → p ≡ Quoted → (x == delimiter_of rows && not (is_quoted p)) ≡ false
+pub quoted_delimiter : (rows : Rows) (x : ℕ) (p : RowPosition) → p ≡ Quoted → (x == delimiter_of rows && not (is_quoted p)) ≡ false
 quoted_delimiter rows x p e = ap (λ q. x == delimiter_of rows && not (is_quoted q)) e ∙ at (x == delimiter_of rows)
   where
     at : (b : Bool) → b && false ≡ false

@@ -8,7 +8,7 @@ use Rattle.json.specs.Token.{Token, key, begin_object, end_object}
 use Rattle.json.specs.Tree.{json_tokens, depth}
 use Rattle.mmdb_reader.specs.File.{Database, data_section}
 use Rattle.mmdb_reader.specs.declared.path.PathElement.{PathElement}
-use Rattle.mmdb_objects.specs.declared.step.Step.{Step}
+use Rattle.mmdb_objects.specs.declared.step.PathStep.{PathStep}
 use Rattle.mmdb_filter.specs.Lines.{text_length, text_of, front_of, back_of, most_seen, seen_of, is_long, row_with}
 use Rattle.mmdb_filter.specs.declared.counts.Outcome.TheVariants.{Found}
 use Rattle.mmdb_filter.proofs.TextLaws.{text_within}
@@ -44,7 +44,7 @@ member_is name ts shown e = ap (λ l. key name ∷ begin_object ∷ l) (ap (λ l
 
 -- ---- of any line that holds such a text
 
-module _ (db : Database) (reading : Reading) (path : List Step) (nulls : Bool) (name : List ℕ) (fields : List NamedField) (text : List ℕ) (goes_on : Bool) (extra : List ℕ) (behind : ℕ) (line longer : List ℕ)
+module _ (db : Database) (reading : Reading) (path : List PathStep) (nulls : Bool) (name : List ℕ) (fields : List NamedField) (text : List ℕ) (goes_on : Bool) (extra : List ℕ) (behind : ℕ) (line longer : List ℕ)
     (was : (ms : Members) → IsObject text goes_on ms behind → document line ≡ Some (object ms))
     (becomes : (ms shown : Members) → IsObject text goes_on ms behind → extra ≡ comma_behind (is_empty ms) ++ print (key name ∷ json_tokens (object shown))
     → tokens (print (key name ∷ json_tokens (object shown))) ≡ key name ∷ json_tokens (object shown) → depth (object shown) < max_depth → document longer ≡ Some (object (and_last ms name (object shown)))) where

@@ -14,7 +14,7 @@ use Rattle.mmdb_addresses.specs.Words.{IsWord}
 use Rattle.mmdb_addresses.specs.declared.readings.Reading.{Reading}
 use Rattle.mmdb_addresses.specs.declared.readings.Reading.TheVariants.{First}
 use Rattle.mmdb_filter.specs.Runs.{is_neither}
-use Rattle.mmdb_filter.specs.declared.rows.Position.TheVariants.{Cell}
+use Rattle.mmdb_filter.specs.declared.rows.RowPosition.TheVariants.{Cell}
 use Rattle.mmdb_filter.specs.declared.rows.Rows.{Rows}
 use Rattle.mmdb_filter.specs.declared.rows.Rows.TheVariants.{Lines}
 use Rattle.mmdb_cmd_enrich.specs.Columns.{cell_length, column_of, value_of}

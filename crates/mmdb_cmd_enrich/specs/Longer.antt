@@ -14,7 +14,7 @@ use Rattle.mmdb_cmd_enrich.specs.Asked.{Asks}
 use Rattle.mmdb_cmd_enrich.specs.Fields.{AreValue}
 use Rattle.mmdb_cmd_enrich.specs.Members.{AddsMember}
 use Rattle.mmdb_objects.specs.Longer.{comma_behind, put_in, and_last}
-use Rattle.mmdb_objects.specs.declared.step.Step.{Step}
+use Rattle.mmdb_objects.specs.declared.step.PathStep.{PathStep}
 use Rattle.mmdb_objects.specs.Objects.{LeadsToAddress, has_member, is_empty}
 use Rattle.mmdb_cmd_enrich.specs.declared.members.NamedField.{NamedField}
 
@@ -28,7 +28,7 @@ AreShown (field ∷ fields) s offset shown =
 -- A line is an object, in which the path leads to an address. What is added is the text of a member, whose value is
 -- an object of the fields of that address's record. The longer line is the object with that member after its own,
 -- where the value nests less deep than a reader goes.
-pub record GainsMember (db : Database) (reading : Reading) (path : List Step) (name : List ℕ) (fields : List NamedField)
+pub record GainsMember (db : Database) (reading : Reading) (path : List PathStep) (name : List ℕ) (fields : List NamedField)
     (line extra longer : List ℕ) : Type 0 where
   pub members : Members
   pub was : document line ≡ Some (object members)
@@ -48,13 +48,13 @@ pub record GainsMember (db : Database) (reading : Reading) (path : List Step) (n
 -- Where a member is added to a text, the text gains it.
 abbrev pub LongerTextIsJson : Type 0
 LongerTextIsJson =
-    (db : Database) (reading : Reading) (path : List Step) (nulls : Bool) (name : List ℕ) (fields : List NamedField) (text : List ℕ) (goes_on : Bool)
+    (db : Database) (reading : Reading) (path : List PathStep) (nulls : Bool) (name : List ℕ) (fields : List NamedField) (text : List ℕ) (goes_on : Bool)
     (extra : List ℕ) (behind : ℕ) → AddsMember db reading path nulls name fields text goes_on extra behind Found
     → GainsMember db reading path name fields text extra (put_in text extra behind)
 
 -- The same of a row with its end, as a filter writes it.
 abbrev pub LongerRowIsJson : Type 0
 LongerRowIsJson =
-    (db : Database) (reading : Reading) (path : List Step) (nulls : Bool) (name : List ℕ) (fields : List NamedField) (row extra : List ℕ) (behind : ℕ)
+    (db : Database) (reading : Reading) (path : List PathStep) (nulls : Bool) (name : List ℕ) (fields : List NamedField) (row extra : List ℕ) (behind : ℕ)
     → AddsMember db reading path nulls name fields (seen_of row) (is_long row) extra behind Found
     → GainsMember db reading path name fields row extra (row_with row extra behind)

@@ -14,7 +14,7 @@ use Rattle.mmdb_objects.specs.Longer.{comma_behind}
 use Rattle.mmdb_objects.specs.Objects.{IsObject, text_along, has_member, is_empty}
 use Rattle.mmdb_cmd_enrich.specs.declared.members.NamedField.{NamedField}
 use Rattle.mmdb_objects.specs.declared.objects.Line.{Line}
-use Rattle.mmdb_objects.specs.declared.step.Step.{Step}
+use Rattle.mmdb_objects.specs.declared.step.PathStep.{PathStep}
 use Rattle.mmdb_filter.specs.declared.filter.Added.{Added}
 
 -- The lookup of the address fails, or a field of its record can't be read.
@@ -40,14 +40,14 @@ AddsMemberFor db nulls name fields empty at (Some address) extra behind outcome 
     × (extra ≡ comma_behind empty ++ text) × (behind ≡ at) × (outcome ≡ Found)))
 
 -- An object that has a member of the name stays as it is. Any other gets what its address is given.
-abbrev pub AddsToObject : Database → Reading → List Step → Bool → List ℕ → List NamedField → Members → ℕ → List ℕ → ℕ → Outcome → Type 0
+abbrev pub AddsToObject : Database → Reading → List PathStep → Bool → List ℕ → List NamedField → Members → ℕ → List ℕ → ℕ → Outcome → Type 0
 AddsToObject db reading path nulls name fields members at extra behind outcome =
     ((extra ≡ []) × (outcome ≡ Occupied) × (has_member name members ≡ true))
     ⊎ ((has_member name members ≡ false) × (address asked : Option IpAddr) × ReadsAddress reading (text_along path (object members)) address
     × AsksIfAny db address asked × AddsMemberFor db nulls name fields (is_empty members) at asked extra behind outcome)
 
 -- Nothing is added to a line that is no object.
-abbrev pub AddsMember : Database → Reading → List Step → Bool → List ℕ → List NamedField → List ℕ → Bool → List ℕ → ℕ → Outcome → Type 0
+abbrev pub AddsMember : Database → Reading → List PathStep → Bool → List ℕ → List NamedField → List ℕ → Bool → List ℕ → ℕ → Outcome → Type 0
 AddsMember db reading path nulls name fields text goes_on extra behind outcome =
     ((extra ≡ []) × (outcome ≡ Malformed) × ((members : Members) (at : ℕ) → ¬ IsObject text goes_on members at))
     ⊎ ((members : Members) × (at : ℕ) × IsObject text goes_on members at

@@ -1,6 +1,6 @@
 //! The address in a row.
 ghost use Rattle.std.specs.Prelude.{◌≡◌, ◌≢◌, ◌≤◌, get_or, length, option_map, false};
-ghost use Rattle.mmdb_filter.specs.declared.rows.Position.TheVariants.{Cell};
+ghost use Rattle.mmdb_filter.specs.declared.rows.RowPosition.TheVariants.{Cell};
 ghost use Rattle.mmdb_filter.specs.declared.rows.Rows.TheVariants.{Csv};
 ghost use Rattle.mmdb_cmd_enrich.specs.Columns.{delimiter_of as spec_delimiter_of, cell_length as spec_cell_length, column_of as spec_column_of, value_of as spec_value_of};
 

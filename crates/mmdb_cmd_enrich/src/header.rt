@@ -3,7 +3,7 @@ use crate::columns::delimiter_of;
 use crate::task::{Column, RowsTask};
 use csv::{ByteRecord, ReaderBuilder};
 use mmdb_console::{ProgramError, put};
-use mmdb_filter::{MOST_SEEN, Position, Rows, put_csv_cell, read_chunk};
+use mmdb_filter::{MOST_SEEN, RowPosition, Rows, put_csv_cell, read_chunk};
 use std::alloc::{AllocError, Global};
 use std::io::{BufRead, Write};
 
@@ -14,8 +14,8 @@ fn read_header<I: BufRead>(
     input: &mut I,
 ) -> Result<Vec<u8>, ProgramError> {
     let mut row = Vec::new(alloc);
-    let place = read_chunk(input, rows, Position::Cell, &mut row)?;
-    if place != Position::Ended && row.len() > MOST_SEEN {
+    let place = read_chunk(input, rows, RowPosition::Cell, &mut row)?;
+    if place != RowPosition::Ended && row.len() > MOST_SEEN {
         return Err(ProgramError::LongHeader);
     }
     Ok(row)

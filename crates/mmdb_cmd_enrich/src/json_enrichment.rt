@@ -10,7 +10,7 @@ use crate::notes::{Notes, note_rejected};
 use json::Scratch;
 use mmdb_addresses::Reading;
 use mmdb_filter::{Added, Additions, Outcome};
-use mmdb_objects::{Line, ReadLine, Step, read_line};
+use mmdb_objects::{Line, PathStep, ReadLine, read_line};
 use mmdb_reader::{LookupResult, Reader};
 use std::alloc::{AllocError, Global};
 use std::convert::AsSlice;
@@ -25,7 +25,7 @@ pub struct JsonEnrichment<'a, 'f, S: AsSlice<u8> + Drop> {
     /// Where in a string the address is.
     pub reading: Reading,
     /// The path to the address in an object.
-    pub path: Vec<Step<'f>>,
+    pub path: Vec<PathStep<'f>>,
     /// The name of the member.
     pub name: &'f str,
     /// Whether an object without a record gets the member too, with every field null.

@@ -3,7 +3,7 @@ ghost use Rattle.std.specs.Prelude.{◌≡◌, Option, Some, IfSome, option_map,
 ghost use Rattle.std.specs.declared.net.ip_addr.IpAddr.{IpAddr as SpecIpAddr};
 ghost use Rattle.mmdb_addresses.specs.Addresses.{ReadsAddress};
 ghost use Rattle.mmdb_addresses.specs.Cells.{first_word};
-ghost use Rattle.mmdb_filter.specs.declared.rows.Position.TheVariants.{Cell};
+ghost use Rattle.mmdb_filter.specs.declared.rows.RowPosition.TheVariants.{Cell};
 ghost use Rattle.mmdb_filter.specs.declared.rows.Rows.TheVariants.{Lines};
 ghost use Rattle.mmdb_cmd_enrich.specs.Columns.{cell_length, column_of, value_of};
 

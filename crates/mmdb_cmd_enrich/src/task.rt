@@ -6,7 +6,7 @@ use mmdb_addresses::Reading;
 use mmdb_arguments::{EnrichArguments, Hop, NoRequest};
 use mmdb_console::{paths_of, wanted_path};
 use mmdb_filter::Rows;
-use mmdb_objects::Step;
+use mmdb_objects::PathStep;
 use mmdb_reader::PathElement;
 use std::alloc::{AllocError, Global};
 
@@ -48,7 +48,7 @@ impl RowsTask<'_> {
 pub(crate) struct JsonTask<'a> {
     pub(crate) reading: Reading,
     /// The path of the address in an object.
-    pub(crate) path: Vec<Step<'a>>,
+    pub(crate) path: Vec<PathStep<'a>>,
     /// The name of the member that is added.
     pub(crate) into: &'a str,
     /// Whether objects without a record get it too.
@@ -186,10 +186,14 @@ pub(crate) fn wanted_members<'a>(
 }
 
 // A step of the path of an address in an object: a key, or an index from the front.
-fn step_of<'a>(alloc: Global, step: &PathElement<'a>, path: &str) -> Result<Step<'a>, NoRequest> {
+fn step_of<'a>(
+    alloc: Global,
+    step: &PathElement<'a>,
+    path: &str,
+) -> Result<PathStep<'a>, NoRequest> {
     match step {
-        PathElement::Key(key) => Ok(Step::Key(*key)),
-        PathElement::Index(index) => Ok(Step::Index(*index)),
+        PathElement::Key(key) => Ok(PathStep::Key(*key)),
+        PathElement::Index(index) => Ok(PathStep::Index(*index)),
         PathElement::IndexFromEnd(_) => Err(NoRequest::bad_argument(
             alloc,
             path,
@@ -199,7 +203,7 @@ fn step_of<'a>(alloc: Global, step: &PathElement<'a>, path: &str) -> Result<Step
 }
 
 // The path of an address in an object.
-fn address_path<'a>(alloc: Global, text: &'a str) -> Result<Vec<Step<'a>>, NoRequest> {
+fn address_path<'a>(alloc: Global, text: &'a str) -> Result<Vec<PathStep<'a>>, NoRequest> {
     let path = wanted_path(alloc, text)?;
     let mut steps = Vec::new(alloc);
     for step in &path {

@@ -2,17 +2,17 @@
 use crate::blocks::{end_list, of_list};
 use crate::gathering::{Addresses, Adjustment, of_ranges};
 use crate::task::ExportTask;
-use mmdb_blocks::{Block, Kind, List, Syntax};
+use mmdb_blocks::{Block, BlockKind, List, Syntax};
 use mmdb_console::ProgramError;
 use std::alloc::Global;
 use std::io::Write;
 
 /// Both kinds of addresses, in the order in which lists have them.
-pub(crate) const KINDS: [Kind; 2] = [Kind::Ipv4, Kind::Ipv6];
+pub(crate) const KINDS: [BlockKind; 2] = [BlockKind::Ipv4, BlockKind::Ipv6];
 
 /// Writes blocks of a kind.
 pub(crate) fn push_blocks<O: Write>(
-    kind: Kind,
+    kind: BlockKind,
     blocks: &[Block],
     list: &mut List<'_>,
     out: &mut O,
@@ -26,7 +26,7 @@ pub(crate) fn push_blocks<O: Write>(
 // Writes the blocks of a kind.
 fn push_kind<O: Write>(
     alloc: Global,
-    kind: Kind,
+    kind: BlockKind,
     chosen: &Addresses,
     adjustment: &Adjustment,
     list: &mut List<'_>,

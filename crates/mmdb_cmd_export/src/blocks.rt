@@ -1,7 +1,7 @@
 //! Lists of the fewest blocks.
 use crate::clip::Clip;
 use crate::sink::NetworkSink;
-use mmdb_blocks::{Kinds, List, ListError, Syntax, Taken};
+use mmdb_blocks::{BlocksError, Kinds, List, Syntax, Taken};
 use mmdb_console::ProgramError;
 use mmdb_layout::{FieldsMet, Found};
 use mmdb_reader::IpNetwork;
@@ -19,12 +19,12 @@ pub(crate) struct Blocks<'a> {
 
 /// What a list answered, as the program reports it.
 #[inline(always)]
-pub(crate) fn of_list(done: Result<(), ListError>) -> Result<(), ProgramError> {
+pub(crate) fn of_list(done: Result<(), BlocksError>) -> Result<(), ProgramError> {
     match done {
         Ok(()) => Ok(()),
-        Err(ListError::Write(error)) => Err(ProgramError::Write(error)),
-        Err(ListError::OutOfOrder) => Err(ProgramError::OutOfOrder),
-        Err(ListError::Memory) => Err(ProgramError::Memory),
+        Err(BlocksError::Write(error)) => Err(ProgramError::Write(error)),
+        Err(BlocksError::OutOfOrder) => Err(ProgramError::OutOfOrder),
+        Err(BlocksError::Memory) => Err(ProgramError::Memory),
     }
 }
 

@@ -8,7 +8,7 @@ use crate::networks::{
 };
 use crate::task::{ExportTask, Shape, export_task};
 use mmdb_arguments::ListDiffArguments;
-use mmdb_blocks::{Action, Block, Kind, List, RangesError, Syntax, blocks_without};
+use mmdb_blocks::{Action, Block, BlockKind, List, RangesError, Syntax, blocks_without};
 use mmdb_console::{Console, DIFFERENT, DONE, FAILED, Pace, ProgramError, note_range};
 use mmdb_layout::{Database, open_database};
 use std::alloc::Global;
@@ -32,10 +32,10 @@ struct ListChanges {
 }
 
 impl ListChanges {
-    fn of(&self, kind: Kind) -> &BlockChanges {
+    fn of(&self, kind: BlockKind) -> &BlockChanges {
         match kind {
-            Kind::Ipv4 => &self.ipv4,
-            Kind::Ipv6 => &self.ipv6,
+            BlockKind::Ipv4 => &self.ipv4,
+            BlockKind::Ipv6 => &self.ipv6,
         }
     }
 
@@ -69,7 +69,7 @@ fn changes_of(
     old: &Gathered,
     newer: &Gathered,
     adjustment: &Adjustment,
-    kind: Kind,
+    kind: BlockKind,
 ) -> Result<BlockChanges, RangesError> {
     let old = adjustment.blocks_of(alloc, &old.gathering.chosen, kind)?;
     let newer = adjustment.blocks_of(alloc, &newer.gathering.chosen, kind)?;
@@ -89,8 +89,8 @@ fn list_changes(
     newer: &Gathered,
     adjustment: &Adjustment,
 ) -> Result<ListChanges, RangesError> {
-    let ipv4 = changes_of(alloc, old, newer, adjustment, Kind::Ipv4)?;
-    let ipv6 = changes_of(alloc, old, newer, adjustment, Kind::Ipv6)?;
+    let ipv4 = changes_of(alloc, old, newer, adjustment, BlockKind::Ipv4)?;
+    let ipv6 = changes_of(alloc, old, newer, adjustment, BlockKind::Ipv6)?;
     Ok(ListChanges { ipv4, ipv6 })
 }
 

@@ -4,7 +4,7 @@ ghost use Rattle.mmdb_blocks.specs.Blocks.{IsJoined};
 
 use crate::clip::Clip;
 use crate::sink::NetworkSink;
-use mmdb_blocks::{Block, Kind, Range, Ranges, RangesError, listed_blocks};
+use mmdb_blocks::{Block, BlockKind, BlockRange, Ranges, RangesError, listed_blocks};
 use mmdb_console::ProgramError;
 use mmdb_layout::{FieldsMet, Found};
 use mmdb_reader::IpNetwork;
@@ -34,26 +34,26 @@ impl Addresses {
         }
     }
 
-    fn of(&self, kind: Kind) -> &Ranges {
+    fn of(&self, kind: BlockKind) -> &Ranges {
         match kind {
-            Kind::Ipv4 => &self.ipv4,
-            Kind::Ipv6 => &self.ipv6,
+            BlockKind::Ipv4 => &self.ipv4,
+            BlockKind::Ipv6 => &self.ipv6,
         }
     }
 
     /// Adds the addresses of a range of a kind.
-    pub(crate) fn add(&mut self, kind: Kind, range: Range) -> Result<(), AllocError> {
+    pub(crate) fn add(&mut self, kind: BlockKind, range: BlockRange) -> Result<(), AllocError> {
         match kind {
-            Kind::Ipv4 => self.ipv4.add(range),
-            Kind::Ipv6 => self.ipv6.add(range),
+            BlockKind::Ipv4 => self.ipv4.add(range),
+            BlockKind::Ipv6 => self.ipv6.add(range),
         }
     }
 
     // Adds the addresses of a block of a kind.
-    fn add_block(&mut self, kind: Kind, block: Block) -> Result<(), ProgramError> {
+    fn add_block(&mut self, kind: BlockKind, block: Block) -> Result<(), ProgramError> {
         let added = match kind {
-            Kind::Ipv4 => self.ipv4.add_block(block),
-            Kind::Ipv6 => self.ipv6.add_block(block),
+            BlockKind::Ipv4 => self.ipv4.add_block(block),
+            BlockKind::Ipv6 => self.ipv6.add_block(block),
         };
         match added {
             Ok(()) => Ok(()),
@@ -75,7 +75,7 @@ impl Adjustment {
         &self,
         alloc: Global,
         chosen: &Addresses,
-        kind: Kind,
+        kind: BlockKind,
     ) -> Result<Vec<Block>, RangesError>
         ensures fewest { IfOk result (λ blocks. IsJoined blocks.items blocks.items) }
     {

@@ -84,14 +84,6 @@ fn is_chain_name(name: &str) -> bool {
     is_begun && bytes.len() <= MOST_OF_CHAIN && bytes.iter().all(is_part)
 }
 
-// What is wrong with a text as the beginning of the names of nft's sets.
-fn fault_of_nft_set(name: &str) -> Option<&'static str> {
-    if !is_set_name(name) {
-        return Some(NOT_A_SET);
-    }
-    is_one_of(name, WORDS_OF_NFT).then_some("a word of nft itself; give another --name")
-}
-
 // What is wrong with a text as the name of a chain.
 fn fault_of_chain(name: &str) -> Option<&'static str> {
     if !is_chain_name(name) {
@@ -115,7 +107,6 @@ fn fault_of_variable(name: &str) -> Option<&'static str> {
 /// What is wrong with a text as the name of the sets, the chain or the variable of a format.
 pub(crate) fn fault_of_name(format: Format, name: &str) -> Option<&'static str> {
     match format {
-        Format::Nft => fault_of_nft_set(name),
         Format::Iptables => fault_of_chain(name),
         Format::Nginx => fault_of_variable(name),
         _ => (!is_set_name(name)).then_some(NOT_A_SET),

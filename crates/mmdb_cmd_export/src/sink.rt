@@ -1,5 +1,5 @@
 //! What chosen networks are written as.
-use mmdb_blocks::Kind;
+use mmdb_blocks::BlockKind;
 use mmdb_console::ProgramError;
 use mmdb_layout::{FieldsMet, Found};
 use std::io::Write;
@@ -24,6 +24,6 @@ pub(crate) trait NetworkSink: Drop {
 
 /// The kind of a network that was found.
 #[inline(always)]
-pub(crate) fn kind_of(found: &Found<'_>) -> Kind {
-    Kind::of_width(found.numbered_network().width)
+pub(crate) fn kind_of(found: &Found<'_>) -> BlockKind {
+    BlockKind::of_width(found.numbered_network().width)
 }

@@ -1,5 +1,5 @@
 //! Blocks as a person writes them: a network, an address, or the first address and the last one.
-use mmdb_blocks::{Block, Kind, Range};
+use mmdb_blocks::{Block, BlockKind, BlockRange};
 use mmdb_reader::IpNetwork;
 use std::net::IpAddr;
 
@@ -8,14 +8,14 @@ const NOT_A_BLOCK: &str = "not a network, an address or FIRST-LAST";
 /// The addresses that a text spells.
 #[derive(Clone, Copy)]
 pub(crate) struct Spelt {
-    pub(crate) kind: Kind,
-    pub(crate) range: Range,
+    pub(crate) kind: BlockKind,
+    pub(crate) range: BlockRange,
     /// The network as which one is read that has address bits after its prefix.
     pub(crate) read_as: Option<IpNetwork>,
 }
 
-/// The addresses of `::ffff:0:0/96`, each of which stands for one of IPv4.
-const MAPPED: Range = Range {
+/// The addresses of `::ffff:0:0/96`, each of which is one of IPv4.
+const MAPPED: BlockRange = BlockRange {
     first: 0xffff_0000_0000,
     last: 0xffff_ffff_ffff,
 };
@@ -23,23 +23,23 @@ const MAPPED: Range = Range {
 /// The bits of an IPv4 address.
 const IPV4_BITS: u128 = 0xffff_ffff;
 
-// The addresses that a range of a kind stands for: those of IPv4 where each of its addresses stands for one.
-fn meant_by(kind: Kind, range: Range) -> (Kind, Range) {
-    if kind == Kind::Ipv4 || range.first < MAPPED.first || range.last > MAPPED.last {
+// The addresses that a range means: those of IPv4 where each of its addresses is one of `::ffff:0:0/96`.
+fn meant_by(kind: BlockKind, range: BlockRange) -> (BlockKind, BlockRange) {
+    if kind == BlockKind::Ipv4 || range.first < MAPPED.first || range.last > MAPPED.last {
         return (kind, range);
     }
-    let range = Range {
+    let range = BlockRange {
         first: range.first & IPV4_BITS,
         last: range.last & IPV4_BITS,
     };
-    (Kind::Ipv4, range)
+    (BlockKind::Ipv4, range)
 }
 
 // The kind and the number of an address.
-fn number_of(address: IpAddr) -> (Kind, u128) {
+fn number_of(address: IpAddr) -> (BlockKind, u128) {
     match address {
-        IpAddr::V4(address) => (Kind::Ipv4, u128::from(address.to_bits())),
-        IpAddr::V6(address) => (Kind::Ipv6, address.to_bits()),
+        IpAddr::V4(address) => (BlockKind::Ipv4, u128::from(address.to_bits())),
+        IpAddr::V6(address) => (BlockKind::Ipv6, address.to_bits()),
     }
 }
 
@@ -58,7 +58,7 @@ fn range_between(first: &str, last: &str) -> Result<Spelt, &'static str> {
     if first > last {
         return Err("the last address is below the first");
     }
-    let (kind, range) = meant_by(kind, Range { first, last });
+    let (kind, range) = meant_by(kind, BlockRange { first, last });
     Ok(Spelt {
         kind,
         range,
@@ -69,14 +69,14 @@ fn range_between(first: &str, last: &str) -> Result<Spelt, &'static str> {
 // The addresses of a network.
 fn of_network(network: IpNetwork) -> Spelt {
     let kind = match network {
-        IpNetwork::V4(_) => Kind::Ipv4,
-        IpNetwork::V6(_) => Kind::Ipv6,
+        IpNetwork::V4(_) => BlockKind::Ipv4,
+        IpNetwork::V6(_) => BlockKind::Ipv6,
     };
     let block = Block::of_network(network);
     let is_exact = network.ip() == network.network();
     let (kind, range) = meant_by(
         kind,
-        Range {
+        BlockRange {
             first: block.first,
             last: block.last(),
         },

@@ -3,7 +3,7 @@ use crate::conditions::{NamedValue, conditions_of, named_values};
 use crate::inputs::ValueFile;
 use crate::names::{fault_of_name, fault_of_table};
 use mmdb_arguments::{ExportArguments, Format, ListArguments, NoRequest};
-use mmdb_blocks::{Kind, Kinds, Syntax, is_list_value, is_set_name};
+use mmdb_blocks::{BlockKind, Kinds, Syntax, is_list_value, is_set_name};
 use mmdb_console::range_of;
 use mmdb_layout::{Condition, Layout, layout_of};
 use mmdb_reader::IpNetwork;
@@ -207,8 +207,8 @@ fn shape_of<'a>(alloc: Global, arguments: &'a ExportArguments<'a>) -> Result<Sha
 // Which kinds of addresses are wanted: both where both are asked for, or none.
 fn kinds_of(ipv4: bool, ipv6: bool) -> Kinds {
     match (ipv4, ipv6) {
-        (true, false) => Kinds::One(Kind::Ipv4),
-        (false, true) => Kinds::One(Kind::Ipv6),
+        (true, false) => Kinds::One(BlockKind::Ipv4),
+        (false, true) => Kinds::One(BlockKind::Ipv6),
         _ => Kinds::Both,
     }
 }

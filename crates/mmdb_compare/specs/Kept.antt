@@ -1,6 +1,6 @@
 -- What is kept of pairs of records.
 use Rattle.std.specs.Prelude.{◌≡◌, ◌<◌, ◌⊎◌, ℕ, List, Bool, true, false, Option, Some, None}
-use Rattle.mmdb_cache.specs.declared.table.Known.{Known}
+use Rattle.mmdb_cache.specs.declared.table.Memo.{Memo}
 use Rattle.mmdb_cache.specs.Table.{HasKey}
 use Rattle.mmdb_compare.specs.declared.pairs.Offsets.{Offsets}
 use Rattle.mmdb_compare.specs.declared.pairs.KnownPairs.{KnownPairs}
@@ -14,12 +14,12 @@ abbrev pub AreKeptAs : Option ℕ → Option ℕ → Offsets → Type 0
 AreKeptAs old new offsets = IsKeptAs old offsets.old × IsKeptAs new offsets.new
 
 -- a pair is kept in a table
-abbrev pub IsIn : {V : Type 0} → List (Known Offsets V) → Option Offsets → Type 0
+abbrev pub IsIn : {V : Type 0} → List (Memo Offsets V) → Option Offsets → Type 0
 IsIn kept None = ⊥
 IsIn kept (Some offsets) = HasKey offsets kept
 
 -- each pair that is kept was kept before, or is what is put
-abbrev pub ArePairsOr : {V : Type 0} → Offsets → List (Known Offsets V) → List (Known Offsets V) → Type 0
+abbrev pub ArePairsOr : {V : Type 0} → Offsets → List (Memo Offsets V) → List (Memo Offsets V) → Type 0
 ArePairsOr put before after = (offsets : Offsets) → HasKey offsets after → HasKey offsets before ⊎ (offsets ≡ put)
 
 -- of two records that are kept so it is kept whether they are shown the same

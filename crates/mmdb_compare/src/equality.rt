@@ -9,7 +9,7 @@ ghost use Rattle.mmdb_compare.specs.SideBySide.{IsSame, IsSameKey, AreSamePairs,
 use crate::contents::{are_same, is_text};
 use crate::pairs::Offsets;
 use crate::place::PairPosition;
-use mmdb_cache::{Known, Table};
+use mmdb_cache::{CacheTable, Memo};
 use mmdb_format::content::{Content, content_at, content_end, key_bytes_at};
 use mmdb_format::header::{Direct, direct_at};
 use mmdb_format::kind::{ARRAY, MAP};
@@ -17,7 +17,7 @@ use mmdb_format::utf8::is_utf8;
 use std::alloc::{AllocError, Global};
 use std::marker::Model;
 
-/// How deep maps and arrays may stand in one another, and what a record may cost. What is larger than this or costs more is
+/// How deep maps and arrays may be in one another, and what a record may cost. What is larger than this or costs more is
 /// not read: both are far below the limits within which a value can be read.
 const MOST_LEVELS: usize = 32;
 
@@ -46,7 +46,7 @@ pub struct SideBySide<'r> {
     /// Whether both are one: then what was read in the old one is not read again.
     are_one: bool,
     ghost one: { are_one ≡ true → in_new.now ≡ in_old.now },
-    known: Table<Offsets, KnownMap, SETS_OF_MAPS>,
+    known: CacheTable<Offsets, KnownMap, SETS_OF_MAPS>,
 }
 
 impl<'r> Model for SideBySide<'r> {
@@ -61,7 +61,7 @@ impl<'r> Model for SideBySide<'r> {
 }
 
 /// What is kept at first.
-const NO_PAIRS: Known<Offsets, KnownMap> = Known {
+const NO_PAIRS: Memo<Offsets, KnownMap> = Memo {
     key: Offsets { old: 0, new: 0 },
     value: KnownMap {
         pairs: 0,
@@ -79,7 +79,7 @@ impl<'r> SideBySide<'r> {
             in_old: old,
             in_new: new,
             are_one: false,
-            known: Table::new(alloc, NO_PAIRS)?,
+            known: CacheTable::new(alloc, NO_PAIRS)?,
         })
     }
 
@@ -92,7 +92,7 @@ impl<'r> SideBySide<'r> {
             in_old: section,
             in_new: section,
             are_one: true,
-            known: Table::new(alloc, NO_PAIRS)?,
+            known: CacheTable::new(alloc, NO_PAIRS)?,
         })
     }
 
@@ -127,7 +127,7 @@ impl<'r> SideBySide<'r> {
         direct_at(self.in_new, place.in_new, 0).ok()
     }
 
-    // The content behind two headers, where it is the same, and text.
+    // The content after two headers, where it is the same, and text.
     #[inline(always)]
     fn content_in_both(&self, place: PairPosition, old: Direct, new: Direct) -> Option<Content<'r>>
         requires old { spec_direct_at self.now.in_old place.in_old 0 ≡ Some old }
@@ -170,7 +170,7 @@ impl<'r> SideBySide<'r> {
         true
     }
 
-    // Passes the contents behind two headers, which hold no others. Whether they are the same.
+    // Passes the contents after two headers, which hold no others. Whether they are the same.
     #[inline(always)]
     fn has_same_content(&self, place: &mut PairPosition, old: Direct, new: Direct) -> bool
         requires old { spec_direct_at self.now.in_old place.old.in_old 0 ≡ Some old }
@@ -189,7 +189,7 @@ impl<'r> SideBySide<'r> {
         true
     }
 
-    // Passes so many pairs of both. Whether they are the same.
+    // Passes `count` pairs of both. Whether they are the same.
     #[cycle(equality)]
     fn has_same_pairs(&mut self, place: &mut PairPosition, depth: usize, count: usize) -> bool
         ensures pairs { result ≡ true → AreSamePairs self.old place.old place.new count depth }
@@ -239,7 +239,7 @@ impl<'r> SideBySide<'r> {
         true
     }
 
-    // Passes the maps behind two headers. Whether they are the same.
+    // Passes the maps after two headers. Whether they are the same.
     #[cycle(equality)]
     fn has_same_map(
         &mut self,
@@ -269,7 +269,7 @@ impl<'r> SideBySide<'r> {
         is_same
     }
 
-    // Passes so many elements of both. Whether they are the same.
+    // Passes `count` elements of both. Whether they are the same.
     #[cycle(equality)]
     fn has_same_elements(&mut self, place: &mut PairPosition, depth: usize, count: usize) -> bool
         ensures elements { result ≡ true
@@ -284,7 +284,7 @@ impl<'r> SideBySide<'r> {
         true
     }
 
-    // Passes the arrays behind two headers. Whether they are the same.
+    // Passes the arrays after two headers. Whether they are the same.
     #[cycle(equality)]
     fn has_same_array(
         &mut self,

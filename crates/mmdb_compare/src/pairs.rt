@@ -2,7 +2,7 @@
 ghost use Rattle.std.specs.Prelude.{◌≡◌, true, false, Some, IfSome};
 ghost use Rattle.mmdb_compare.specs.Kept.{IsKeptAs, AreKeptAs, IsIn, IsKeptSo, ArePairsOr};
 
-use mmdb_cache::{Key, Known, Table};
+use mmdb_cache::{CacheKey, CacheTable, Memo};
 use std::alloc::{AllocError, Global};
 
 /// How many sets of pairs are kept that are shown the same, how many of those of them that came last, and how many of
@@ -26,10 +26,10 @@ pub struct Offsets {
 /// The pairs of records that were compared last. Many networks share a pair.
 #[derive(Drop)]
 pub struct KnownPairs {
-    same: Table<Offsets, (), SETS_OF_SAME>,
+    same: CacheTable<Offsets, (), SETS_OF_SAME>,
     /// Some of the same, in a table that the first cache holds.
-    last: Table<Offsets, (), SETS_OF_LAST>,
-    different: Table<Offsets, (), SETS_OF_DIFFERENT>,
+    last: CacheTable<Offsets, (), SETS_OF_LAST>,
+    different: CacheTable<Offsets, (), SETS_OF_DIFFERENT>,
 }
 
 // The offset by which a record is kept, unless it is too large.
@@ -68,7 +68,7 @@ impl Offsets {
     }
 }
 
-impl Key for Offsets {
+impl CacheKey for Offsets {
     /// It is another one for each pair.
     #[inline(always)]
     fn number(self) -> u64 {
@@ -82,12 +82,12 @@ impl Key for Offsets {
 }
 
 // No pairs yet.
-fn no_pairs<const SETS: usize>(alloc: Global) -> Result<Table<Offsets, (), SETS>, AllocError> {
+fn no_pairs<const SETS: usize>(alloc: Global) -> Result<CacheTable<Offsets, (), SETS>, AllocError> {
     let key = Offsets {
         old: NO_RECORD,
         new: NO_RECORD,
     };
-    Table::new(alloc, Known { key, value: () })
+    CacheTable::new(alloc, Memo { key, value: () })
 }
 
 impl KnownPairs {

@@ -1,6 +1,6 @@
 //! What is shown of pairs of records.
 use crate::pairs::Offsets;
-use mmdb_cache::{Cache, Key};
+use mmdb_cache::{Cache, CacheKey};
 use std::alloc::{AllocError, Global};
 
 /// The most bytes of what is shown of a record of a pair that is kept.
@@ -41,7 +41,7 @@ impl ShownPair {
 }
 
 impl ShownPairs {
-    /// None yet. At most so many bytes are kept.
+    /// None yet. At most `most` bytes are kept.
     pub fn new(alloc: Global, most: usize) -> ShownPairs {
         ShownPairs {
             kept: Cache::new(alloc, most),

@@ -13,8 +13,8 @@ use Rattle.mmdb_filter.specs.Working.{Passes, PassesFront, UnderWay, GoOn, IsBeg
 use Rattle.mmdb_filter.specs.declared.counts.Counts.{Counts}
 use Rattle.mmdb_filter.specs.declared.counts.Outcome.{Outcome}
 use Rattle.mmdb_filter.specs.declared.rows.Rows.{Rows}
-use Rattle.mmdb_filter.specs.declared.rows.Position.{Position}
-use Rattle.mmdb_filter.specs.declared.rows.Position.TheVariants.{Cell, Ended}
+use Rattle.mmdb_filter.specs.declared.rows.RowPosition.{RowPosition}
+use Rattle.mmdb_filter.specs.declared.rows.RowPosition.TheVariants.{Cell, Ended}
 use Rattle.mmdb_filter.proofs.FrontLaws.{appends_kept}
 use Rattle.mmdb_filter.proofs.PassLaws.{nothing_left}
 use Rattle.mmdb_filter.proofs.RowLaws.{row_from_some, row_from_empty, row_from_ended, rows_after_ended, rows_after_nothing}
@@ -31,7 +31,7 @@ way_kept rows Adds (Some all) None old now new ready before c way k = absurd way
 way_kept rows Adds (Some all) (Some xs) old now new ready before c way k = (way.0, appends_kept old now new way.0 way.1 k, way.2)
 
 -- what is seen of a chunk is seen of the row
-pub seen_whole : (rows : Rows) (position : Position) (chunk ys : List ℕ) → (position ≢ Ended → length chunk < 65539 → ys ≡ [])
+pub seen_whole : (rows : Rows) (position : RowPosition) (chunk ys : List ℕ) → (position ≢ Ended → length chunk < 65539 → ys ≡ [])
     → (seen_of (chunk ++ row_from rows position ys) ≡ seen_of chunk) × (is_long (chunk ++ row_from rows position ys) ≡ is_long chunk)
 seen_whole rows position chunk ys ready = at (or_less (length chunk) 65539)
   where
@@ -42,7 +42,7 @@ seen_whole rows position chunk ys ready = at (or_less (length chunk) 65539)
         (ap seen_of same, ap is_long same)
 
 -- a row of which a chunk was read
-begins : (rows : Rows) (Adds : MayAdd) (left : List ℕ) (lines : List Line) (position : Position) (chunk extra xs ys : List ℕ) (behind : ℕ) (outcome : Outcome)
+begins : (rows : Rows) (Adds : MayAdd) (left : List ℕ) (lines : List Line) (position : RowPosition) (chunk extra xs ys : List ℕ) (behind : ℕ) (outcome : Outcome)
     → (row_from rows Cell xs ≡ chunk ++ row_from rows position ys) × (rows_after rows Cell xs ≡ rows_after rows position ys) → (position ≢ Ended → length chunk < 65539 → ys ≡ []) → 0 < length chunk
     → IsAdded Adds chunk extra behind outcome → AreLines rows Adds lines (rows_after rows position ys) left
     → AreLines rows Adds (record { bytes = chunk ++ row_from rows position ys; extra = extra; behind = behind; outcome = outcome } ∷ lines) xs left
@@ -59,7 +59,7 @@ begins rows Adds left lines position chunk extra xs ys behind outcome leads read
 regroup_row : (done front last rest : List ℕ) → done ++ ((front ++ last) ++ rest) ≡ (done ++ front) ++ (last ++ rest)
 regroup_row done front last rest = simp append_assoc
 
-pub next_row : (rows : Rows) (Adds : MayAdd) (input left mid next old now new : Option (List ℕ)) (before c : Counts) (position : Position) (chunk extra : List ℕ) (behind : ℕ) (outcome : Outcome)
+pub next_row : (rows : Rows) (Adds : MayAdd) (input left mid next old now new : Option (List ℕ)) (before c : Counts) (position : RowPosition) (chunk extra : List ℕ) (behind : ℕ) (outcome : Outcome)
     → Leads rows Cell left chunk position mid → (position ≢ Ended → length chunk < 65539 → OnSome left (IsAtEnd mid)) → 0 < length chunk → IsAdded Adds chunk extra behind outcome
     → (last : List ℕ) → ((position ≢ Ended → length chunk < 65539 → IsAtEnd mid) → Passes rows position chunk extra behind mid next now new last)
     → UnderWay rows Adds input left old now [] before c → UnderWay rows Adds input next old new last before (count_one c outcome)
@@ -79,7 +79,7 @@ next_row rows Adds (Some all) (Some xs) (Some ys) next old now new before c posi
     )
 
 -- all was read
-pub read_out : (rows : Rows) (Adds : MayAdd) (input left mid old now : Option (List ℕ)) (before c : Counts) (position : Position) (chunk : List ℕ)
+pub read_out : (rows : Rows) (Adds : MayAdd) (input left mid old now : Option (List ℕ)) (before c : Counts) (position : RowPosition) (chunk : List ℕ)
     → Leads rows Cell left chunk position mid → (position ≢ Ended → length chunk < 65539 → OnSome left (IsAtEnd mid)) → chunk ≡ [] → UnderWay rows Adds input left old now [] before c
     → UnderWay rows Adds input mid old now [] before c × OnSome input (IsAtEnd mid)
 read_out rows Adds None left mid old now before c position chunk leads ready none way = (tt, tt)
@@ -207,7 +207,7 @@ written_in rows Adds (Some xs) old now new ready begun (front, back, split, part
     let (left, lines, done, rest, are, text, appended) = begun in
     (left, lines, are, (done ++ front, back ++ rest, text ∙ ap (λ t. done ++ t) (ap (λ t. t ++ rest) split ∙ append_assoc front back rest) ∙ sym (append_assoc done front (back ++ rest)), Appends-trans old now new done front appended part))
 
-pub given_up_in : (rows : Rows) (Adds : MayAdd) (input left mid old now new : Option (List ℕ)) (before c : Counts) (position : Position) (chunk extra : List ℕ) (behind : ℕ) (outcome : Outcome)
+pub given_up_in : (rows : Rows) (Adds : MayAdd) (input left mid old now new : Option (List ℕ)) (before c : Counts) (position : RowPosition) (chunk extra : List ℕ) (behind : ℕ) (outcome : Outcome)
     → Leads rows Cell left chunk position mid → (position ≢ Ended → length chunk < 65539 → OnSome left (IsAtEnd mid)) → 0 < length chunk → IsAdded Adds chunk extra behind outcome
     → ((position ≢ Ended → length chunk < 65539 → IsAtEnd mid) → PassesFront rows position chunk extra behind mid now new)
     → UnderWay rows Adds input left old now [] before c → IsBegun rows Adds input old new

@@ -8,8 +8,8 @@ use Rattle.mmdb_filter.specs.Rows.{is_ended, position_after, Goes}
 use Rattle.mmdb_filter.specs.Runs.{is_neither}
 use Rattle.mmdb_filter.specs.Working.{position_past, position_behind}
 use Rattle.mmdb_filter.specs.declared.rows.Rows.TheVariants.{Csv}
-use Rattle.mmdb_filter.specs.declared.rows.Position.{Position}
-use Rattle.mmdb_filter.specs.declared.rows.Position.TheVariants.{Cell, Plain, Quoted, Closing, Ended}
+use Rattle.mmdb_filter.specs.declared.rows.RowPosition.{RowPosition}
+use Rattle.mmdb_filter.specs.declared.rows.RowPosition.TheVariants.{Cell, Plain, Quoted, Closing, Ended}
 use Rattle.mmdb_filter.proofs.RowLaws.{goes_one}
 
 neither_one : (a b : Bool) → not (a || b) ≡ true → (a ≡ false) × (b ≡ false)
@@ -22,7 +22,7 @@ outside : (d x : ℕ) (opens : Bool) → (x == 34) ≡ false → (x == 10) ≡ f
 outside d x opens quote feed =
     ap (λ b. if b then Ended else (if x == d then Cell else (if x == 34 && opens then Quoted else Plain))) feed ∙ ap (λ b. if x == d then Cell else (if b && opens then Quoted else Plain)) quote
 
-past : (d : ℕ) (p : Position) (x : ℕ) → is_ended p ≡ false → is_neither 34 10 x ≡ true → position_after (Csv d) p x ≡ position_past d p x
+past : (d : ℕ) (p : RowPosition) (x : ℕ) → is_ended p ≡ false → is_neither 34 10 x ≡ true → position_after (Csv d) p x ≡ position_past d p x
 unfolding position_after
 past d Cell x e h = let (quote, feed) = neither_one (x == 34) (x == 10) h in outside d x true quote feed
 past d Plain x e h = let (quote, feed) = neither_one (x == 34) (x == 10) h in outside d x false quote feed
@@ -34,7 +34,7 @@ told_by_last : (d : ℕ) (b : Bool) (y : ℕ) → position_past d (if b then Cel
 told_by_last d true y = refl
 told_by_last d false y = refl
 
-past_twice : (d : ℕ) (p : Position) (x y : ℕ) → position_past d (position_past d p x) y ≡ position_past d p y
+past_twice : (d : ℕ) (p : RowPosition) (x y : ℕ) → position_past d (position_past d p x) y ≡ position_past d p y
 past_twice d Quoted x y = refl
 past_twice d Cell x y = told_by_last d (x == d) y
 past_twice d Plain x y = told_by_last d (x == d) y
@@ -45,27 +45,27 @@ not_over : (b : Bool) → is_ended (if b then Cell else Plain) ≡ false
 not_over true = refl
 not_over false = refl
 
-going_past : (d : ℕ) (p : Position) (x : ℕ) → is_ended (position_past d p x) ≡ false
+going_past : (d : ℕ) (p : RowPosition) (x : ℕ) → is_ended (position_past d p x) ≡ false
 going_past d Quoted x = refl
 going_past d Cell x = not_over (x == d)
 going_past d Plain x = not_over (x == d)
 going_past d Closing x = not_over (x == d)
 going_past d Ended x = not_over (x == d)
 
--- the position behind so many bytes
-abbrev past_run : ℕ → Position → List ℕ → ℕ → ℕ → Position
+-- the position after a number of bytes
+abbrev past_run : ℕ → RowPosition → List ℕ → ℕ → ℕ → RowPosition
 past_run d p bytes at zero = p
 past_run d p bytes at (suc n) = position_past d p (get_or bytes (at + n) 0)
 
-going_on : (d : ℕ) (p : Position) (bytes : List ℕ) (at n : ℕ) → is_ended p ≡ false → is_ended (past_run d p bytes at n) ≡ false
+going_on : (d : ℕ) (p : RowPosition) (bytes : List ℕ) (at n : ℕ) → is_ended p ≡ false → is_ended (past_run d p bytes at n) ≡ false
 going_on d p bytes at zero e = e
 going_on d p bytes at (suc n) e = going_past d p (get_or bytes (at + n) 0)
 
-one_more : (d : ℕ) (p : Position) (bytes : List ℕ) (at n x : ℕ) → position_past d (past_run d p bytes at n) x ≡ position_past d p x
+one_more : (d : ℕ) (p : RowPosition) (bytes : List ℕ) (at n x : ℕ) → position_past d (past_run d p bytes at n) x ≡ position_past d p x
 one_more d p bytes at zero x = refl
 one_more d p bytes at (suc n) x = past_twice d p (get_or bytes (at + n) 0) x
 
-goes_run : (d : ℕ) (first p : Position) (at n m : ℕ) (bytes ys xs : List ℕ) → m ≡ at + n → m ≤ length bytes → is_ended p ≡ false → ((k : ℕ) → k < n → is_neither 34 10 (get_or bytes (at + k) 0) ≡ true)
+goes_run : (d : ℕ) (first p : RowPosition) (at n m : ℕ) (bytes ys xs : List ℕ) → m ≡ at + n → m ≤ length bytes → is_ended p ≡ false → ((k : ℕ) → k < n → is_neither 34 10 (get_or bytes (at + k) 0) ≡ true)
     → Goes (Csv d) first xs (take at bytes) p (drop at bytes ++ ys) → Goes (Csv d) first xs (take m bytes) (past_run d p bytes at n) (drop m bytes ++ ys)
 goes_run d first p at zero m bytes ys xs is l e run g =
     let same : at ≡ m = omega arith in
@@ -80,7 +80,7 @@ goes_run d first p at (suc n) m bytes ys xs is l e run g =
     subst (λ n. Goes (Csv d) first xs (take n bytes) (position_past d p x) (drop n bytes ++ ys)) same
     (subst (λ r. Goes (Csv d) first xs (take ((at + n) + 1) bytes) r (drop ((at + n) + 1) bytes ++ ys)) next one)
 
-behind_is : (d : ℕ) (p : Position) (bytes : List ℕ) (at n m : ℕ) → m ≡ at + n → past_run d p bytes at n ≡ position_behind d p bytes at m
+behind_is : (d : ℕ) (p : RowPosition) (bytes : List ℕ) (at n m : ℕ) → m ≡ at + n → past_run d p bytes at n ≡ position_behind d p bytes at m
 behind_is d p bytes at zero m is =
     let none : nat_le m at ≡ true = grind (arith, nat_tests) in
     sym (ap (λ b. if b then p else position_past d p (get_or bytes (m - 1) 0)) none)
@@ -90,7 +90,7 @@ behind_is d p bytes at (suc n) m is =
     ap (λ k. position_past d p (get_or bytes k 0)) last ∙ sym (ap (λ b. if b then p else position_past d p (get_or bytes (m - 1) 0)) some)
 
 -- a run of such bytes
-pub goes_behind : (d : ℕ) (first p : Position) (at m : ℕ) (bytes ys xs : List ℕ) → at ≤ length bytes → m ≤ length bytes → m ≡ at + prefix_len (is_neither 34 10) (drop at bytes) → is_ended p ≡ false
+pub goes_behind : (d : ℕ) (first p : RowPosition) (at m : ℕ) (bytes ys xs : List ℕ) → at ≤ length bytes → m ≤ length bytes → m ≡ at + prefix_len (is_neither 34 10) (drop at bytes) → is_ended p ≡ false
     → Goes (Csv d) first xs (take at bytes) p (drop at bytes ++ ys) → Goes (Csv d) first xs (take m bytes) (position_behind d p bytes at m) (drop m bytes ++ ys)
 goes_behind d first p at m bytes ys xs within l is e g =
     let n = prefix_len (is_neither 34 10) (drop at bytes) in
@@ -98,12 +98,12 @@ goes_behind d first p at m bytes ys xs within l is e g =
     λ k below. ap (is_neither 34 10) (sym (get_or-drop at bytes k 0)) ∙ prefix_len_passes (is_neither 34 10) (drop at bytes) k 0 below in
     subst (λ r. Goes (Csv d) first xs (take m bytes) r (drop m bytes ++ ys)) (behind_is d p bytes at n m is) (goes_run d first p at n m bytes ys xs is l e run g)
 
-going_behind : (d : ℕ) (p : Position) (bytes : List ℕ) (at m : ℕ) (b : Bool) → is_ended p ≡ false → is_ended (if b then p else position_past d p (get_or bytes (m - 1) 0)) ≡ false
+going_behind : (d : ℕ) (p : RowPosition) (bytes : List ℕ) (at m : ℕ) (b : Bool) → is_ended p ≡ false → is_ended (if b then p else position_past d p (get_or bytes (m - 1) 0)) ≡ false
 going_behind d p bytes at m true e = e
 going_behind d p bytes at m false e = going_past d p (get_or bytes (m - 1) 0)
 
 -- it does not end the row
-pub not_ended_behind : (d : ℕ) (p : Position) (bytes : List ℕ) (at m : ℕ) → is_ended p ≡ false → is_ended (position_behind d p bytes at m) ≡ false
+pub not_ended_behind : (d : ℕ) (p : RowPosition) (bytes : List ℕ) (at m : ℕ) → is_ended p ≡ false → is_ended (position_behind d p bytes at m) ≡ false
 not_ended_behind d p bytes at m e = going_behind d p bytes at m (nat_le m at) e
 
 -- between quotes all but a quote is passed
@@ -111,7 +111,7 @@ quoted_on : (d x : ℕ) → is_neither 34 34 x ≡ true → position_after (Csv 
 unfolding position_after
 quoted_on d x h = ap (λ b. if b then Closing else Quoted) (neither_one (x == 34) (x == 34) h).0
 
-goes_quoted_run : (d : ℕ) (first : Position) (at n m : ℕ) (bytes ys xs : List ℕ) → m ≡ at + n → m ≤ length bytes → ((k : ℕ) → k < n → is_neither 34 34 (get_or bytes (at + k) 0) ≡ true)
+goes_quoted_run : (d : ℕ) (first : RowPosition) (at n m : ℕ) (bytes ys xs : List ℕ) → m ≡ at + n → m ≤ length bytes → ((k : ℕ) → k < n → is_neither 34 34 (get_or bytes (at + k) 0) ≡ true)
     → Goes (Csv d) first xs (take at bytes) Quoted (drop at bytes ++ ys) → Goes (Csv d) first xs (take m bytes) Quoted (drop m bytes ++ ys)
 goes_quoted_run d first at zero m bytes ys xs is l run g =
     let same : at ≡ m = omega arith in
@@ -124,7 +124,7 @@ goes_quoted_run d first at (suc n) m bytes ys xs is l run g =
     subst (λ n. Goes (Csv d) first xs (take n bytes) Quoted (drop n bytes ++ ys)) same
     (subst (λ r. Goes (Csv d) first xs (take ((at + n) + 1) bytes) r (drop ((at + n) + 1) bytes ++ ys)) (quoted_on d x (run n (omega arith))) one)
 
-pub goes_quoted : (d : ℕ) (first p : Position) (at m : ℕ) (bytes ys xs : List ℕ) → p ≡ Quoted → m ≤ length bytes → m ≡ at + prefix_len (is_neither 34 34) (drop at bytes)
+pub goes_quoted : (d : ℕ) (first p : RowPosition) (at m : ℕ) (bytes ys xs : List ℕ) → p ≡ Quoted → m ≤ length bytes → m ≡ at + prefix_len (is_neither 34 34) (drop at bytes)
     → Goes (Csv d) first xs (take at bytes) p (drop at bytes ++ ys) → Goes (Csv d) first xs (take m bytes) p (drop m bytes ++ ys)
 goes_quoted d first p at m bytes ys xs between l is g =
     let n = prefix_len (is_neither 34 34) (drop at bytes) in
@@ -152,7 +152,7 @@ stopped_by_quote at m bytes below is other =
     eqb-true x 34 (one_of (x == 34) (x == 10) (stopped 34 10 at m bytes below is) (ne_eqb x 10 other))
 
 -- one byte on
-pub goes_to : (d : ℕ) (first p q : Position) (at m : ℕ) (bytes ys xs : List ℕ) → m ≡ at + 1 → at < length bytes → is_ended p ≡ false → position_after (Csv d) p (get_or bytes at 0) ≡ q
+pub goes_to : (d : ℕ) (first p q : RowPosition) (at m : ℕ) (bytes ys xs : List ℕ) → m ≡ at + 1 → at < length bytes → is_ended p ≡ false → position_after (Csv d) p (get_or bytes at 0) ≡ q
     → Goes (Csv d) first xs (take at bytes) p (drop at bytes ++ ys) → Goes (Csv d) first xs (take m bytes) q (drop m bytes ++ ys)
 goes_to d first p q at m bytes ys xs is below going next g =
     subst (λ n. Goes (Csv d) first xs (take n bytes) q (drop n bytes ++ ys)) (sym is)
@@ -166,19 +166,19 @@ closes d x h = ap (λ b. if b then Closing else Quoted) (either_one (x == 34) h)
     either_one true e = refl
     either_one false e = absurd (cc)
 
--- from between quotes to behind the quote that closes
-pub goes_closed : (d : ℕ) (first p : Position) (at m : ℕ) (bytes ys xs : List ℕ) → p ≡ Quoted → m < length bytes → m ≡ at + prefix_len (is_neither 34 34) (drop at bytes)
+-- from between quotes to after the quote that closes
+pub goes_closed : (d : ℕ) (first p : RowPosition) (at m : ℕ) (bytes ys xs : List ℕ) → p ≡ Quoted → m < length bytes → m ≡ at + prefix_len (is_neither 34 34) (drop at bytes)
     → Goes (Csv d) first xs (take at bytes) p (drop at bytes ++ ys) → Goes (Csv d) first xs (take (m + 1) bytes) Closing (drop (m + 1) bytes ++ ys)
 goes_closed d first p at m bytes ys xs between below is g =
     let run = subst (λ q. Goes (Csv d) first xs (take m bytes) q (drop m bytes ++ ys)) between (goes_quoted d first p at m bytes ys xs between (omega arith) is g) in
     goes_to d first Quoted Closing m (m + 1) bytes ys xs refl below refl (closes d (get_or bytes m 0) (stopped 34 34 at m bytes below is)) run
 
 -- a quote does not end a row
-either_goes : (b : Bool) (p q : Position) → is_ended p ≡ false → is_ended q ≡ false → is_ended (if b then p else q) ≡ false
+either_goes : (b : Bool) (p q : RowPosition) → is_ended p ≡ false → is_ended q ≡ false → is_ended (if b then p else q) ≡ false
 either_goes true p q e f = e
 either_goes false p q e f = f
 
-going_by_quote : (d : ℕ) (p : Position) → is_ended p ≡ false → is_ended (position_after (Csv d) p 34) ≡ false
+going_by_quote : (d : ℕ) (p : RowPosition) → is_ended p ≡ false → is_ended (position_after (Csv d) p 34) ≡ false
 unfolding position_after
 going_by_quote d Cell e = either_goes (34 == d) Cell Quoted refl refl
 going_by_quote d Plain e = either_goes (34 == d) Cell Plain refl refl
@@ -186,10 +186,10 @@ going_by_quote d Closing e = either_goes (34 == d) Cell Quoted refl refl
 going_by_quote d Quoted e = refl
 going_by_quote d Ended e = absurd (cc)
 
-ends : (p : Position) → is_ended p ≡ false → p ≢ Ended
+ends : (p : RowPosition) → is_ended p ≡ false → p ≢ Ended
 ends p e = λ is. absurd (cc (ap is_ended is))
 
-pub not_ended_by_quote : (d : ℕ) (p : Position) → is_ended p ≡ false → position_after (Csv d) p 34 ≢ Ended
+pub not_ended_by_quote : (d : ℕ) (p : RowPosition) → is_ended p ≡ false → position_after (Csv d) p 34 ≢ Ended
 not_ended_by_quote d p e = ends (position_after (Csv d) p 34) (going_by_quote d p e)
 
 -- outside of quotes a line feed does
@@ -197,18 +197,18 @@ by_last : (b : Bool) → (if b then Cell else Plain) ≢ Quoted
 by_last true = λ is. absurd (cc)
 by_last false = λ is. absurd (cc)
 
-past_outside : (d : ℕ) (p : Position) (x : ℕ) → p ≢ Quoted → position_past d p x ≢ Quoted
+past_outside : (d : ℕ) (p : RowPosition) (x : ℕ) → p ≢ Quoted → position_past d p x ≢ Quoted
 past_outside d Quoted x other = absurd (other refl)
 past_outside d Cell x other = by_last (x == d)
 past_outside d Plain x other = by_last (x == d)
 past_outside d Closing x other = by_last (x == d)
 past_outside d Ended x other = by_last (x == d)
 
-behind_outside : (d : ℕ) (p : Position) (x : ℕ) (b : Bool) → p ≢ Quoted → (if b then p else position_past d p x) ≢ Quoted
+behind_outside : (d : ℕ) (p : RowPosition) (x : ℕ) (b : Bool) → p ≢ Quoted → (if b then p else position_past d p x) ≢ Quoted
 behind_outside d p x true other = other
 behind_outside d p x false other = past_outside d p x other
 
-ended_by_feed : (d : ℕ) (p : Position) → p ≢ Quoted → position_after (Csv d) p 10 ≡ Ended
+ended_by_feed : (d : ℕ) (p : RowPosition) → p ≢ Quoted → position_after (Csv d) p 10 ≡ Ended
 unfolding position_after
 ended_by_feed d Quoted other = absurd (other refl)
 ended_by_feed d Cell other = refl
@@ -216,6 +216,6 @@ ended_by_feed d Plain other = refl
 ended_by_feed d Closing other = refl
 ended_by_feed d Ended other = refl
 
-pub ended_behind : (d : ℕ) (p : Position) (bytes : List ℕ) (at m x : ℕ) → p ≢ Quoted → x ≡ 10 → position_after (Csv d) (position_behind d p bytes at m) x ≡ Ended
+pub ended_behind : (d : ℕ) (p : RowPosition) (bytes : List ℕ) (at m x : ℕ) → p ≢ Quoted → x ≡ 10 → position_after (Csv d) (position_behind d p bytes at m) x ≡ Ended
 ended_behind d p bytes at m x other feed =
     ap (position_after (Csv d) (position_behind d p bytes at m)) feed ∙ ended_by_feed d (position_behind d p bytes at m) (behind_outside d p (get_or bytes (m - 1) 0) (nat_le m at) other)

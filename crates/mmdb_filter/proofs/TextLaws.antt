@@ -1,4 +1,4 @@
--- The end of a row and what is seen of its text, where the row goes on before or behind some bytes.
+-- The end of a row and what is seen of its text, where the row goes on before or after some bytes.
 use Rattle.std.proofs.Common.{◌≡◌, ℕ, min, ◌+◌, ◌-◌, ◌<◌, ◌≤◌, List, [], ◌++◌, length, take, drop, get_or, Bool, true, false, ◌&&◌, ◌==◌, nat_lt, if◌then◌else◌, refl, sym, ap, ◌∙◌, subst, append_assoc, arith, length-append, take-take, get_or-append-add, length-take-le, take_all, inl, inr, ◌⊎◌}
 use Rattle.std.proofs.lemmas.List.{take-append-le}
 use Rattle.std.proofs.lemmas.Bool.Decides.{nat_tests}
@@ -40,7 +40,7 @@ text_length_behind d l h =
         ≡ length d + (if a' && (x' == 10) then (if b' && (y' == 13) then length l - 2 else length l - 1) else length l)
     at a a' b b' x x' y y' e e' f f' g k = rw (e, e', f, f', g, k) (choose (x' == 10) (y' == 13))
 
--- where so many bytes of the text stand behind what is added: none, or the bytes before end no text
+-- where a number of bytes of the text follow what is added: none, or the bytes before end no text
 at_behind : (d l : List ℕ) (behind : ℕ) → 2 ≤ length l → behind ≡ 0 → text_length (d ++ l) - behind ≡ length d + (text_length l - behind)
 at_behind d l behind h none = omega (arith, text_length_behind d l h)
 

@@ -6,7 +6,7 @@ use Rattle.mmdb_filter.specs.Rows.{row_from, rows_after}
 use Rattle.mmdb_filter.specs.declared.counts.Counts.{Counts}
 use Rattle.mmdb_filter.specs.declared.counts.Outcome.{Outcome}
 use Rattle.mmdb_filter.specs.declared.rows.Rows.{Rows}
-use Rattle.mmdb_filter.specs.declared.rows.Position.TheVariants.{Cell}
+use Rattle.mmdb_filter.specs.declared.rows.RowPosition.TheVariants.{Cell}
 
 -- the length of a row without its end, `\n` or `\r\n`
 unfoldable pub text_length : List ℕ → ℕ
@@ -18,7 +18,7 @@ text_length row =
 abbrev pub text_of : List ℕ → List ℕ
 text_of row = take (text_length row) row
 
--- a row without its last bytes: its end, and so many bytes of its text
+-- a row without its last bytes: its end, and `behind` bytes of its text
 abbrev pub front_of : List ℕ → ℕ → List ℕ
 front_of row behind = take (text_length row - behind) row
 
@@ -36,19 +36,19 @@ seen_of row = take most_seen (text_of row)
 abbrev pub is_long : List ℕ → Bool
 is_long row = nat_lt most_seen (length (text_of row))
 
--- a row with its end, what is added to it, how many bytes of its text stand behind that, and how it fared
+-- a row with its end, what is added to it, how many bytes of its text follow that, and how it fared
 pub record Line : Type 0 where
   pub bytes : List ℕ
   pub extra : List ℕ
   pub behind : ℕ
   pub outcome : Outcome
 
--- What additions may do: to a row of which they see such a text, and whether it is longer, they add such bytes, behind
--- which so many bytes of the text stand, with that outcome.
+-- What additions may do: to a row of which they see such a text, and whether it is longer, they add such bytes, after
+-- which that number of bytes of the text follows, with that outcome.
 abbrev pub MayAdd : Type 1
 MayAdd = List ℕ → Bool → List ℕ → ℕ → Outcome → Type 0
 
--- The bytes that stand behind are of the text that is seen; none of a text that is longer.
+-- The bytes that follow are of the text that is seen; none of a text that is longer.
 abbrev pub StandsBehind : List ℕ → Bool → ℕ → Type 0
 StandsBehind text is_long behind = (behind ≤ length text) × (is_long ≡ true → behind ≡ 0)
 
@@ -63,7 +63,7 @@ AreLines rows Adds (line ∷ lines) xs left =
     (0 < length xs) × (line.bytes ≡ row_from rows Cell xs) × IsAdded Adds line.bytes line.extra line.behind line.outcome
     × AreLines rows Adds lines (rows_after rows Cell xs) left
 
--- a row as it is written: what is added stands before its end, and before so many bytes of its text
+-- a row as it is written: what is added comes before its end, and before `behind` bytes of its text
 abbrev pub row_with : List ℕ → List ℕ → ℕ → List ℕ
 row_with bytes extra behind = front_of bytes behind ++ (extra ++ back_of bytes behind)
 

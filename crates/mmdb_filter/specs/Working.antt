@@ -5,32 +5,32 @@ use Rattle.mmdb_filter.specs.Rows.{row_from, rows_after}
 use Rattle.mmdb_filter.specs.Lines.{MayAdd, Line, AreLines, row_with, written, counted, AppendsFront}
 use Rattle.mmdb_filter.specs.declared.counts.Counts.{Counts}
 use Rattle.mmdb_filter.specs.declared.rows.Rows.{Rows}
-use Rattle.mmdb_filter.specs.declared.rows.Position.{Position}
-use Rattle.mmdb_filter.specs.declared.rows.Position.TheVariants.{Cell, Plain, Quoted, Ended}
+use Rattle.mmdb_filter.specs.declared.rows.RowPosition.{RowPosition}
+use Rattle.mmdb_filter.specs.declared.rows.RowPosition.TheVariants.{Cell, Plain, Quoted, Ended}
 
 -- A row that has not ended in a chunk of less than 65,539 bytes ends with the input.
-abbrev pub EndsWithInput : Position → List ℕ → Option (List ℕ) → Type 0
+abbrev pub EndsWithInput : RowPosition → List ℕ → Option (List ℕ) → Type 0
 EndsWithInput position chunk left = position ≢ Ended → length chunk < 65539 → IsAtEnd left
 
 -- all of the row was read, and what was written of it and what is ready make it, with what is added
-abbrev pub Passes : Rows → Position → List ℕ → List ℕ → ℕ → Option (List ℕ) → Option (List ℕ) → Option (List ℕ) → Option (List ℕ) → List ℕ → Type 0
+abbrev pub Passes : Rows → RowPosition → List ℕ → List ℕ → ℕ → Option (List ℕ) → Option (List ℕ) → Option (List ℕ) → Option (List ℕ) → List ℕ → Type 0
 Passes rows position chunk extra behind None next old new ready = Unit {0}
 Passes rows position chunk extra behind (Some xs) next old new ready =
     (next ≡ Some (rows_after rows position xs))
     × ((done : List ℕ) × (row_with (chunk ++ row_from rows position xs) extra behind ≡ done ++ ready) × Appends old new done)
 
 -- a beginning of it was written
-abbrev pub PassesFront : Rows → Position → List ℕ → List ℕ → ℕ → Option (List ℕ) → Option (List ℕ) → Option (List ℕ) → Type 0
+abbrev pub PassesFront : Rows → RowPosition → List ℕ → List ℕ → ℕ → Option (List ℕ) → Option (List ℕ) → Option (List ℕ) → Type 0
 PassesFront rows position chunk extra behind None old new = Unit {0}
 PassesFront rows position chunk extra behind (Some xs) old new = AppendsFront old new (row_with (chunk ++ row_from rows position xs) extra behind)
 
--- the position behind a byte that is neither a quote nor a line feed
-abbrev pub position_past : ℕ → Position → ℕ → Position
+-- the position after a byte that is neither a quote nor a line feed
+abbrev pub position_past : ℕ → RowPosition → ℕ → RowPosition
 position_past delimiter Quoted x = Quoted
 position_past delimiter position x = if x == delimiter then Cell else Plain
 
--- the position behind such bytes
-abbrev pub position_behind : ℕ → Position → List ℕ → ℕ → ℕ → Position
+-- the position after such bytes
+abbrev pub position_behind : ℕ → RowPosition → List ℕ → ℕ → ℕ → RowPosition
 position_behind delimiter position xs from to =
     if nat_le to from then position else position_past delimiter position (get_or xs (to - 1) 0)
 
@@ -43,8 +43,8 @@ UnderWay rows Adds (Some all) (Some left) old now ready before c =
     (done : List ℕ) × Appends old now done
     × ((rest : List ℕ) (lines : List Line) → AreLines rows Adds lines left rest → (whole : List Line) × AreLines rows Adds whole all rest × (written whole ≡ done ++ (ready ++ written lines)) × (counted before whole ≡ counted c lines))
 
--- So many bytes at the head of others are rows that became ready, whatever stands behind, and whatever rows are left complete
--- those of the whole.
+-- The first `n` of some bytes are rows that became ready, whatever follows them, and whatever rows are left complete those of
+-- the whole.
 abbrev pub GoOn : Rows → MayAdd → List ℕ → ℕ → List ℕ → List ℕ → Counts → Counts → Type 0
 GoOn rows Adds xs n old new before after =
     (ys rest : List ℕ) (lines : List Line) → AreLines rows Adds lines (drop n xs ++ ys) rest

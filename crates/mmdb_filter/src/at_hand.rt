@@ -1,4 +1,4 @@
-//! Rows that stand whole in what an input has at hand.
+//! Rows that are whole in what an input has at hand.
 ghost use Rattle.std.specs.Prelude.{◌≡◌, ◌≢◌, ◌+◌, ◌<◌, ◌≤◌, ◌++◌, ◌^◌, List, ℕ, Option, OnErr, OnOk, OnSome, IfOk, IfSome, length, take, drop};
 ghost use Rattle.std.specs.Io.KnownBytes.{Keeps, IsAtEnd};
 ghost use Rattle.mmdb_filter.specs.Counting.{total};
@@ -7,26 +7,26 @@ ghost use Rattle.mmdb_filter.specs.Rows.{Goes};
 ghost use Rattle.mmdb_filter.specs.Working.{GoOn, UnderWay};
 ghost use Rattle.mmdb_filter.specs.declared.counts.Counts.{Counts as SpecCounts};
 ghost use Rattle.mmdb_filter.specs.declared.at_hand.AtHand.TheVariants as spec_at_hand;
-ghost use Rattle.mmdb_filter.specs.declared.rows.Position.TheVariants.{Cell, Ended};
+ghost use Rattle.mmdb_filter.specs.declared.rows.RowPosition.TheVariants.{Cell, Ended};
 
 use crate::batch::Batch;
 use crate::chunk::CHUNK;
 use crate::counts::Outcome;
 use crate::filter::{Additions, Progress};
 use crate::put::append_row;
-use crate::rows::{Position, Rows, scan};
-use crate::text::seen;
+use crate::rows::{RowPosition, Rows, scan};
+use crate::text::{seen, text_length};
 use std::alloc::AllocError;
 use std::io::{self, BufRead, ErrorKind};
 
-/// What is ready is written when it has so many bytes, or before a read. It is more than what 64 KiB at hand mostly become, so
-/// that they go out in one write, and a buffered output of fewer bytes hands that on with no copy.
+/// What is ready is written when it has this many bytes, or before a read. It is more than what 64 KiB at hand mostly become,
+/// so that they go out in one write, and a buffered output of fewer bytes hands that on with no copy.
 pub(crate) const READY: usize = 114_688;
 
 /// Room for what is ready: most rows begin before its end and end within this.
 pub(crate) const ROOM: usize = READY + 8_192;
 
-/// After so many rows additions are shown what comes.
+/// After this many rows additions are shown what comes.
 const AHEAD: u64 = 64;
 
 /// What an input had at hand.
@@ -44,13 +44,13 @@ pub(crate) enum AtHand {
 
 /// What was taken of bytes at hand.
 #[derive(Clone, Copy)]
-struct Taken {
+struct TakenAtHand {
     /// How many bytes of them passed.
     bytes: usize,
     at_hand: AtHand,
 }
 
-// How long the row is that is first in some bytes, where it stands whole in them and is no longer than a chunk.
+// How long the row is that is first in some bytes, where it is whole in them and is no longer than a chunk.
 #[inline(always)]
 fn whole_row(rows: Rows, bytes: &[u8]) -> Option<usize>
     ensures some { IfSome result (λ n. 0 < n) }
@@ -61,8 +61,8 @@ fn whole_row(rows: Rows, bytes: &[u8]) -> Option<usize>
     if bytes.is_empty() {
         return None;
     }
-    let (len, next) = scan(rows, Position::Cell, bytes);
-    if next == Position::Ended && len <= CHUNK {
+    let (len, next) = scan(rows, RowPosition::Cell, bytes);
+    if next == RowPosition::Ended && len <= CHUNK {
         Some(len)
     } else {
         None
@@ -86,13 +86,14 @@ fn pass_row<A: Additions>(
     ensures fits { A.fits additions.now memory.new }
 {
     added.clear();
-    let (text, is_long) = seen(row);
+    let len = text_length(row);
+    let (text, is_long) = seen(row, len);
     let addition = additions.add(memory, text, is_long, added)?;
-    append_row(ready, row, added.as_slice(), addition.behind)?;
+    append_row(ready, row, len, added.as_slice(), addition.behind)?;
     Ok(addition.outcome)
 }
 
-// Passes the first rows of some bytes that stand whole in them, until so many passed in all or much is ready.
+// Passes the first rows of some bytes that are whole in them, until a given number passed in all or much is ready.
 #[inline(never)]
 fn pass_rows<A: Additions, P: Progress>(
     rows: Rows,
@@ -102,7 +103,7 @@ fn pass_rows<A: Additions, P: Progress>(
     until: u64,
     batch: &mut Batch,
     progress: &mut P,
-) -> Taken
+) -> TakenAtHand
     requires fits { A.fits additions.now memory.old }
     requires few { total batch.old.counts ≡ batch.old.passed }
     ensures within { result.bytes ≤ length bytes.now }
@@ -117,7 +118,7 @@ fn pass_rows<A: Additions, P: Progress>(
     for passed in batch.passed..until {
         let rest = &bytes[at..];
         if batch.ready.len() >= READY {
-            return Taken {
+            return TakenAtHand {
                 bytes: at,
                 at_hand: AtHand::Rows,
             };
@@ -126,7 +127,7 @@ fn pass_rows<A: Additions, P: Progress>(
             additions.foresee(memory, rest);
         }
         let Some(len) = whole_row(rows, rest) else {
-            return Taken {
+            return TakenAtHand {
                 bytes: at,
                 at_hand: if at > 0 { AtHand::Rows } else { AtHand::Part },
             };
@@ -134,7 +135,7 @@ fn pass_rows<A: Additions, P: Progress>(
         let row = &rest[..len];
         let Ok(outcome) = pass_row(additions, memory, row, &mut batch.added, &mut batch.ready)
         else {
-            return Taken {
+            return TakenAtHand {
                 bytes: at,
                 at_hand: AtHand::OutOfMemory,
             };
@@ -146,13 +147,13 @@ fn pass_rows<A: Additions, P: Progress>(
         batch.passed = passed + 1;
         at += len;
     }
-    Taken {
+    TakenAtHand {
         bytes: at,
         at_hand: AtHand::Rows,
     }
 }
 
-/// Passes the rows that stand whole in what an input has at hand, until so many passed in all or much is ready. It reads
+/// Passes the rows that are whole in what an input has at hand, until a given number passed in all or much is ready. It reads
 /// where nothing is at hand.
 #[inline(never)]
 pub(crate) fn pass_at_hand<A: Additions, R: BufRead, P: Progress>(

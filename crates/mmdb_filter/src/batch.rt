@@ -21,7 +21,7 @@ pub(crate) struct Batch {
 }
 
 impl Batch {
-    /// Of no row behind those that were counted before. It takes room for what is ready at once.
+    /// Of no row after those that were counted before. It takes room for what is ready at once.
     pub(crate) fn new(alloc: Global, passed: u64, counts: Counts) -> Result<Batch, AllocError>
         ensures passed { IfOk result (λ batch. batch.passed ≡ passed) }
         ensures counts { IfOk result (λ batch. batch.counts ≡ counts) }

@@ -2,10 +2,10 @@
 ghost use Rattle.std.specs.Prelude.{◌≡◌, ◌≢◌, ◌<◌, Ok, None, IfOk, IfSome, OnSome, length};
 ghost use Rattle.std.specs.Io.KnownBytes.{Keeps, IsAtEnd};
 ghost use Rattle.mmdb_filter.specs.Rows.{GrowsAlong};
-ghost use Rattle.mmdb_filter.specs.declared.rows.Position.TheVariants as spec_position;
+ghost use Rattle.mmdb_filter.specs.declared.rows.RowPosition.TheVariants as spec_position;
 
 use crate::live::Live;
-use crate::rows::{Position, Rows, scan};
+use crate::rows::{RowPosition, Rows, scan};
 use std::io::{self, BufRead, ErrorKind, Write};
 
 /// How many bytes of a row are held at most.
@@ -16,9 +16,9 @@ pub(crate) const CHUNK: usize = 65_539;
 fn read_some<R: BufRead>(
     input: &mut R,
     rows: Rows,
-    position: Position,
+    position: RowPosition,
     chunk: &mut Vec<u8>,
-) -> io::Result<Option<Position>>
+) -> io::Result<Option<RowPosition>>
     requires { position ≢ spec_position.Ended }
     ensures interrupted { result ≡ Ok None → Keeps (R.remaining input.old) (R.remaining input.new)
         × (chunk.new.items ≡ chunk.old.items) }
@@ -46,15 +46,15 @@ fn read_some<R: BufRead>(
     Ok(Some(next))
 }
 
-/// Appends bytes of a row from a position in it, up to its end or until there are 65,539, and says the position behind
-/// them. It is inlined: an `io::Result` is large, and dear to hand back for each row.
+/// Appends bytes of a row from a position in it, up to its end or until there are 65,539, and says the position after
+/// them. It is inlined: an `io::Result` is large, and expensive to hand back for each row.
 #[inline(always)]
 pub fn read_chunk<R: BufRead>(
     input: &mut R,
     rows: Rows,
-    position: Position,
+    position: RowPosition,
     chunk: &mut Vec<u8>,
-) -> io::Result<Position>
+) -> io::Result<RowPosition>
     ensures leads { IfOk result (λ next.
         GrowsAlong rows position next chunk.old.items chunk.new.items
         (R.remaining input.old) (R.remaining input.new)) }
@@ -65,7 +65,7 @@ pub fn read_chunk<R: BufRead>(
     let mut now = position;
     for _ in 0..u64::MAX {
         let before = chunk.len();
-        if now == Position::Ended || before >= CHUNK {
+        if now == RowPosition::Ended || before >= CHUNK {
             return Ok(now);
         }
         if let Some(next) = read_some(input, rows, now, chunk)? {
@@ -83,10 +83,10 @@ pub fn read_chunk<R: BufRead>(
 pub(crate) fn read_live<R: Live, W: Write>(
     input: &mut R,
     rows: Rows,
-    position: Position,
+    position: RowPosition,
     chunk: &mut Vec<u8>,
     out: &mut W,
-) -> io::Result<Position>
+) -> io::Result<RowPosition>
     ensures leads { IfOk result (λ next.
         GrowsAlong rows position next chunk.old.items chunk.new.items
         (R.remaining input.old) (R.remaining input.new)) }
@@ -98,7 +98,7 @@ pub(crate) fn read_live<R: Live, W: Write>(
     let mut now = position;
     for _ in 0..u64::MAX {
         let before = chunk.len();
-        if now == Position::Ended || before >= CHUNK {
+        if now == RowPosition::Ended || before >= CHUNK {
             return Ok(now);
         }
         if input.is_drained() {

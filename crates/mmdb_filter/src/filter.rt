@@ -14,8 +14,8 @@ use crate::counts::{Counts, Outcome};
 use crate::live::{Live, flush_before_read};
 use crate::pass::pass_chunks;
 use crate::put::put_ready;
-use crate::rows::{Position, Rows};
-use crate::text::seen;
+use crate::rows::{RowPosition, Rows};
+use crate::text::{seen, text_length};
 use std::alloc::{AllocError, Global};
 use std::io::{self, ErrorKind, Write};
 
@@ -24,7 +24,7 @@ use std::io::{self, ErrorKind, Write};
 pub struct Added {
     /// How the row fares.
     pub outcome: Outcome,
-    /// How many bytes of the row's text stand behind what is added.
+    /// How many bytes of the row's text follow what is added.
     pub behind: usize,
 }
 
@@ -34,14 +34,14 @@ pub trait Additions {
     type Memory: Drop;
 
     /// What may be added to a row of which such a text is seen, without the row's end, where it may be that the
-    /// text is longer; how many bytes of the text stand behind that; and how that row fares then.
+    /// text is longer; how many bytes of the text follow that; and how that row fares then.
     ghost adds: { Self → List ℕ → Bool → List ℕ → ℕ → SpecOutcome → Type 0 };
 
     /// What is remembered is right.
     ghost fits: { Self → Self.Memory → Type 0 };
 
     /// Appends to `out` what is added to a row. Its text comes without its end. Of a long text only the first
-    /// [`MOST_SEEN`](crate::MOST_SEEN) bytes come, and `is_long` says so; what is added stands behind all of it.
+    /// [`MOST_SEEN`](crate::MOST_SEEN) bytes come, and `is_long` says so; what is added comes after all of it.
     fn add(
         &self,
         memory: &mut Self::Memory,
@@ -68,10 +68,10 @@ pub trait Progress {
     /// The rows that passed fared so. Whether the filter goes on; else it ends before the next row.
     fn passed(&mut self, counts: Counts) -> bool;
 
-    /// The row behind so many stands between quotes where 65,539 bytes of it are read, or where the input ends.
+    /// The row after this many is between quotes where 65,539 bytes of it are read, or where the input ends.
     fn stays_quoted(&mut self, rows: u64);
 
-    /// The row behind so many has already what would be added.
+    /// The row after this many has already what would be added.
     fn is_occupied(&mut self, rows: u64);
 }
 
@@ -84,13 +84,13 @@ pub struct Filtered {
     pub is_end: bool,
 }
 
-/// After so many rows it is asked first whether the filter goes on.
+/// After this many rows it is asked first whether the filter goes on.
 const FIRST: u64 = 1_000;
 
-/// After each so many rows it is asked again.
+/// Each time that this many more rows passed, it is asked again.
 const STEP: u64 = 65_536;
 
-// After how many rows, of which so many passed, it is asked next.
+// After how many rows it is asked next, where `passed` rows passed.
 fn next_asked(passed: u64) -> u64 {
     if passed < FIRST {
         FIRST
@@ -130,14 +130,15 @@ fn pass_read<A: Additions, R: Live, W: Write, P: Progress>(
     ensures fits { A.fits additions.now memory.new }
 {
     batch.chunk.clear();
-    let mut position = read_live(input, rows, Position::Cell, &mut batch.chunk, out)?;
+    let mut position = read_live(input, rows, RowPosition::Cell, &mut batch.chunk, out)?;
     if batch.chunk.is_empty() {
         return Ok(false);
     }
     batch.added.clear();
-    let (text, is_long) = seen(batch.chunk.as_slice());
+    let len = text_length(batch.chunk.as_slice());
+    let (text, is_long) = seen(batch.chunk.as_slice(), len);
     let addition = additions.add(memory, text, is_long, &mut batch.added)?;
-    let is_quoted = position == Position::Quoted;
+    let is_quoted = position == RowPosition::Quoted;
     pass_chunks(
         input,
         rows,
@@ -148,7 +149,7 @@ fn pass_read<A: Additions, R: Live, W: Write, P: Progress>(
         &mut batch.ready,
         out,
     )?;
-    if is_quoted || position == Position::Quoted {
+    if is_quoted || position == RowPosition::Quoted {
         progress.stays_quoted(batch.passed);
     }
     if addition.outcome == Outcome::Occupied {

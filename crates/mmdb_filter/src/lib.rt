@@ -20,6 +20,6 @@ pub use counts::{Counts, Outcome};
 pub use filter::{Added, Additions, Filtered, Progress, filter_rows};
 pub use live::Live;
 pub use quotes::put_csv_cell;
-pub use rows::{Position, Rows, first_row};
+pub use rows::{RowPosition, Rows, first_row};
 pub use runs::{either_from, here_or_from};
 pub use text::MOST_SEEN;

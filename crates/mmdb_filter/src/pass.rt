@@ -3,12 +3,13 @@ ghost use Rattle.std.specs.Prelude.{◌≡◌, ◌-◌, ◌<◌, ◌≤◌, [], 
 ghost use Rattle.std.specs.Io.KnownBytes.{Appends};
 ghost use Rattle.mmdb_filter.specs.Lines.{AppendsFront};
 ghost use Rattle.mmdb_filter.specs.Working.{EndsWithInput, Passes, PassesFront};
-ghost use Rattle.mmdb_filter.specs.declared.rows.Position.TheVariants as spec_position;
+ghost use Rattle.mmdb_filter.specs.declared.rows.RowPosition.TheVariants as spec_position;
 
 use crate::chunk::{CHUNK, read_live};
 use crate::live::Live;
 use crate::put::{append_row, put_all};
-use crate::rows::{Position, Rows};
+use crate::rows::{RowPosition, Rows};
+use crate::text::text_length;
 use std::io::{self, ErrorKind, Write};
 
 // Writes all of a chunk but the last two bytes, in which the row's end may begin, and keeps those.
@@ -30,14 +31,14 @@ fn put_front<W: Write>(out: &mut W, chunk: &mut Vec<u8>) -> io::Result<()>
     Ok(())
 }
 
-/// Passes a row, of which the first chunk was read, with what is added before its end and so many bytes of its text:
-/// none, where the row is longer. What stands before its last chunk is written, and the rest is ready. The position then
-/// stands behind the row.
+/// Passes a row, of which the first chunk was read, with what is added before its end and `behind` bytes of its text:
+/// none, where the row is longer. What is before its last chunk is written, and the rest is ready. The position is
+/// then after the row.
 #[inline(never)]
 pub(crate) fn pass_chunks<R: Live, W: Write>(
     input: &mut R,
     rows: Rows,
-    position: &mut Position,
+    position: &mut RowPosition,
     chunk: &mut Vec<u8>,
     added: &[u8],
     behind: usize,
@@ -57,8 +58,9 @@ pub(crate) fn pass_chunks<R: Live, W: Write>(
 {
     let mut now = *position;
     for _ in 0..u64::MAX {
-        if now == Position::Ended || chunk.len() < CHUNK {
-            append_row(ready, chunk.as_slice(), added, behind)?;
+        if now == RowPosition::Ended || chunk.len() < CHUNK {
+            let len = text_length(chunk.as_slice());
+            append_row(ready, chunk.as_slice(), len, added, behind)?;
             return Ok(());
         }
         put_front(out, chunk)?;

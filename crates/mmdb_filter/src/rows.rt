@@ -3,7 +3,7 @@ ghost use Rattle.std.specs.Prelude.{◌≡◌, ◌≢◌, ◌+◌, ◌<◌, ◌�
 ghost use Rattle.mmdb_filter.specs.Lines.{text_of};
 ghost use Rattle.mmdb_filter.specs.Rows.{position_after, row_from, rows_after, Goes};
 ghost use Rattle.mmdb_filter.specs.Working.{position_behind};
-ghost use Rattle.mmdb_filter.specs.declared.rows.Position.TheVariants as spec_position;
+ghost use Rattle.mmdb_filter.specs.declared.rows.RowPosition.TheVariants as spec_position;
 ghost use Rattle.mmdb_filter.specs.declared.rows.Rows.TheVariants.{Csv};
 
 use crate::runs::{either_from, here_or_from};
@@ -15,68 +15,68 @@ use memchr::memchr;
 pub enum Rows {
     /// A line, whatever it holds: its cells have no quotes.
     Lines {
-        /// What stands between cells.
+        /// What is between cells.
         delimiter: u8,
     },
     /// A row of CSV, which a line feed between quotes does not end.
     Csv {
-        /// What stands between cells.
+        /// What is between cells.
         delimiter: u8,
     },
 }
 
 /// Where one is in a row, after some of its bytes.
 #[derive(Clone, Copy, PartialEq, Eq)]
-pub enum Position {
+pub enum RowPosition {
     /// A cell begins.
     Cell,
     /// In a cell, and not between quotes.
     Plain,
     /// Between quotes.
     Quoted,
-    /// Behind a quote that ends the quoted text, or is the first of two that stand for one.
+    /// After a quote that ends the quoted text, or is the first of two that stand for one.
     Closing,
-    /// Behind the line feed.
+    /// After the line feed.
     Ended,
 }
 
-impl Position {
+impl RowPosition {
     /// The position one byte on.
     #[inline(always)]
     #[tactic(auto, unfolding(crate::specs::Rows::position_after))]
-    pub fn after(self, rows: Rows, byte: u8) -> Position
+    pub fn after(self, rows: Rows, byte: u8) -> RowPosition
         ensures { result ≡ position_after rows self byte }
     {
         match (rows, self) {
-            (Rows::Lines { .. }, _) if byte == b'\n' => Position::Ended,
+            (Rows::Lines { .. }, _) if byte == b'\n' => RowPosition::Ended,
             (Rows::Lines { .. }, position) => position,
-            (Rows::Csv { .. }, Position::Quoted) if byte == b'"' => Position::Closing,
-            (Rows::Csv { .. }, Position::Quoted) => Position::Quoted,
-            (Rows::Csv { .. }, _) if byte == b'\n' => Position::Ended,
-            (Rows::Csv { delimiter }, _) if byte == delimiter => Position::Cell,
-            (Rows::Csv { .. }, Position::Cell | Position::Closing) if byte == b'"' =>
-                Position::Quoted,
-            (Rows::Csv { .. }, _) => Position::Plain,
+            (Rows::Csv { .. }, RowPosition::Quoted) if byte == b'"' => RowPosition::Closing,
+            (Rows::Csv { .. }, RowPosition::Quoted) => RowPosition::Quoted,
+            (Rows::Csv { .. }, _) if byte == b'\n' => RowPosition::Ended,
+            (Rows::Csv { delimiter }, _) if byte == delimiter => RowPosition::Cell,
+            (Rows::Csv { .. }, RowPosition::Cell | RowPosition::Closing) if byte == b'"' =>
+                RowPosition::Quoted,
+            (Rows::Csv { .. }, _) => RowPosition::Plain,
         }
     }
 }
 
-// The position behind bytes of which none is a quote or a line feed. Outside of quotes the last of them alone tells it.
+// The position after bytes of which none is a quote or a line feed. Outside of quotes the last of them alone tells it.
 #[inline(always)]
-fn behind_run(delimiter: u8, now: Position, bytes: &[u8], from: usize, to: usize) -> Position
+fn behind_run(delimiter: u8, now: RowPosition, bytes: &[u8], from: usize, to: usize) -> RowPosition
     requires { to ≤ length bytes.now }
     ensures { result ≡ position_behind delimiter now bytes.now from to }
 {
-    if now == Position::Quoted || to <= from {
+    if now == RowPosition::Quoted || to <= from {
         now
     } else if bytes[to - 1] == delimiter {
-        Position::Cell
+        RowPosition::Cell
     } else {
-        Position::Plain
+        RowPosition::Plain
     }
 }
 
-// Whether a delimiter stands at an index, and a quote behind it, so that a cell in quotes begins there.
+// Whether a delimiter is at an index, and a quote after it, so that a cell in quotes begins there.
 #[inline(always)]
 #[tactic(auto, unfolding(crate::specs::Rows::position_after))]
 fn next_is_quoted(delimiter: u8, bytes: &[u8], at: usize) -> bool
@@ -94,10 +94,10 @@ fn next_is_quoted(delimiter: u8, bytes: &[u8], at: usize) -> bool
         && delimiter != b'"'
 }
 
-// How many of the bytes belong to a row of CSV, and the position behind them. Between quotes it goes to the next quote, else
-// to the next one or a line feed, since the bytes before these are passed many at a time. Cells in quotes mostly stand side
+// How many of the bytes belong to a row of CSV, and the position after them. Between quotes it goes to the next quote, else
+// to the next one or a line feed, since the bytes before these are passed many at a time. Cells in quotes are mostly side
 // by side, so what leads from one to the next is passed at once.
-fn scan_quotes(delimiter: u8, position: Position, bytes: &[u8]) -> (usize, Position)
+fn scan_quotes(delimiter: u8, position: RowPosition, bytes: &[u8]) -> (usize, RowPosition)
     requires { position ≢ spec_position.Ended }
     ensures within { result.0 ≤ length bytes.now }
     ensures goes { (ys : List ℕ) → Goes (Csv delimiter) position (bytes.now ++ ys)
@@ -109,7 +109,7 @@ fn scan_quotes(delimiter: u8, position: Position, bytes: &[u8]) -> (usize, Posit
     let mut now = position;
     let mut at = 0;
     while at < bytes.len() {
-        if now == Position::Quoted {
+        if now == RowPosition::Quoted {
             let quote = here_or_from(bytes, at, b'"', b'"');
             if quote >= bytes.len() {
                 return (quote, now);
@@ -117,7 +117,7 @@ fn scan_quotes(delimiter: u8, position: Position, bytes: &[u8]) -> (usize, Posit
             if next_is_quoted(delimiter, bytes, quote + 1) {
                 at = quote + 3;
             } else {
-                now = Position::Closing;
+                now = RowPosition::Closing;
                 at = quote + 1;
             }
             continue;
@@ -133,7 +133,7 @@ fn scan_quotes(delimiter: u8, position: Position, bytes: &[u8]) -> (usize, Posit
             return (stop, now);
         }
         if bytes[stop] == b'\n' {
-            return (stop + 1, Position::Ended);
+            return (stop + 1, RowPosition::Ended);
         }
         now = now.after(rows, b'"');
         at = stop + 1;
@@ -141,9 +141,9 @@ fn scan_quotes(delimiter: u8, position: Position, bytes: &[u8]) -> (usize, Posit
     (at, now)
 }
 
-/// How many of the bytes belong to the row, and the position behind them.
+/// How many of the bytes belong to the row, and the position after them.
 #[inline(always)]
-pub(crate) fn scan(rows: Rows, position: Position, bytes: &[u8]) -> (usize, Position)
+pub(crate) fn scan(rows: Rows, position: RowPosition, bytes: &[u8]) -> (usize, RowPosition)
     requires { position ≢ spec_position.Ended }
     ensures within { result.0 ≤ length bytes.now }
     ensures goes { (ys : List ℕ) → Goes rows position (bytes.now ++ ys)
@@ -153,7 +153,7 @@ pub(crate) fn scan(rows: Rows, position: Position, bytes: &[u8]) -> (usize, Posi
 {
     match rows {
         Rows::Lines { .. } => match memchr(b'\n', bytes) {
-            Some(at) => (at + 1, Position::Ended),
+            Some(at) => (at + 1, RowPosition::Ended),
             None => (bytes.len(), position),
         },
         Rows::Csv { delimiter } => scan_quotes(delimiter, position, bytes),
@@ -161,15 +161,15 @@ pub(crate) fn scan(rows: Rows, position: Position, bytes: &[u8]) -> (usize, Posi
 }
 
 /// The text of the row that is first in some bytes, without its end, and the bytes after it; none where it may go on
-/// behind them.
+/// after them.
 pub fn first_row(rows: Rows, bytes: &[u8]) -> Option<(&[u8], &[u8])>
     ensures text { IfSome result (λ r. r.0.now
         ≡ text_of (row_from rows spec_position.Cell bytes.now)) }
     ensures rest { IfSome result (λ r. r.1.now ≡ rows_after rows spec_position.Cell bytes.now) }
     ensures last { result ≡ None → rows_after rows spec_position.Cell bytes.now ≡ [] }
 {
-    let (len, next) = scan(rows, Position::Cell, bytes);
-    if next != Position::Ended {
+    let (len, next) = scan(rows, RowPosition::Cell, bytes);
+    if next != RowPosition::Ended {
         return None;
     }
     let (row, rest) = bytes.split_at(len);

@@ -18,7 +18,7 @@ fn marks(bytes: u8x16, first: u8, second: u8) -> u64
     (bytes.simd_eq(u8x16::splat(first)) | bytes.simd_eq(u8x16::splat(second))).to_bitmask()
 }
 
-// Where the first of two bytes stands from an index on, or the end, byte by byte.
+// Where the first of two bytes is from an index on, or the end, byte by byte.
 #[inline(always)]
 fn short_either_from(bytes: &[u8], from: usize, first: u8, second: u8) -> usize
     requires { from ≤ length bytes.now }
@@ -31,7 +31,7 @@ fn short_either_from(bytes: &[u8], from: usize, first: u8, second: u8) -> usize
     at
 }
 
-// Where the first of two bytes stands from an index on, or the end, for one that may stand far.
+// Where the first of two bytes is from an index on, or the end, for one that may be far.
 #[inline(never)]
 fn far_either_from(bytes: &[u8], from: usize, first: u8, second: u8) -> usize
     requires { from ≤ length bytes.now }
@@ -43,8 +43,8 @@ fn far_either_from(bytes: &[u8], from: usize, first: u8, second: u8) -> usize
     }
 }
 
-/// Where the first of two bytes stands from an index on, or the end. It mostly stands near, so the next bytes are looked
-/// at in place, before a search that is made to look far, whose first steps are dearer.
+/// Where the first of two bytes is from an index on, or the end. It is mostly near, so the next bytes are looked
+/// at in place, before a search that is made to look far, whose first steps are more expensive.
 #[inline(always)]
 pub fn either_from(bytes: &[u8], from: usize, first: u8, second: u8) -> usize
     requires { from ≤ length bytes.now }
@@ -65,7 +65,7 @@ pub fn either_from(bytes: &[u8], from: usize, first: u8, second: u8) -> usize
     short_either_from(bytes, at, first, second)
 }
 
-/// The same where it often stands at the index itself, which is looked at alone first.
+/// The same where it often is at the index itself, which is looked at alone first.
 #[inline(always)]
 pub fn here_or_from(bytes: &[u8], from: usize, first: u8, second: u8) -> usize
     requires { from ≤ length bytes.now }

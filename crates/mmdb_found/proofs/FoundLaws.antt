@@ -81,7 +81,7 @@ read_whole [] s offset v h =
     record { way = record { value = true; next = offset; values = 0; bytes = 0 }; leads = refl; there = refl; last = r; read = is; is = value }
 read_whole (e ∷ path) s offset v h = along (e ∷ path) s offset v h
 
--- the tree that stands there
+-- the tree that is there
 pub stands : (path : List PathElement) (s : List ℕ) (offset : ℕ) (v : Tree) → answer_along path true (value_at true) s offset ≡ Some (Some v) → (part : Tree) × StandsAlong path s offset part × (v ≡ without_pointers part)
 stands path s offset v h =
     let r = read_whole path s offset v h in

@@ -24,7 +24,7 @@ pub record StandsAlong (path : List PathElement) (s : List ℕ) (offset : ℕ) (
   pub unfolds : Unfolds s way.next part end
   pub is_part : (u : Tree) (q : ℕ) → Unfolds s offset u q → part_of path u ≡ Some part
 
--- a tree that stands along the path, and its text
+-- a tree that is found along the path, and its text
 abbrev pub IsJsonAlong : List PathElement → List ℕ → Option ℕ → List ℕ → Type 0
 IsJsonAlong path s None text = ⊥
 IsJsonAlong path s (Some offset) text = (part : Tree) × StandsAlong path s offset part × IsCompact part text

@@ -188,7 +188,7 @@ own_name s offset end before after old new a = record {
   grown = a.grown;
 }
 
--- a scalar behind its header
+-- a scalar after its header
 pub scalar_stands : (s : List ℕ) (offset levels : ℕ) (header : Header) (c : Scalar) (before after : Budget) (old new : Drafted) → header_at s offset ≡ Some header → content_at s header ≡ Some c → before.levels ≤ levels → AppendsScalar c old new → ChargesBytes before after (scalar_payload c) → AppendsText s offset (content_end header) levels before after old new
 scalar_stands s offset levels header c before after old new here is enough w charged = record {
   bytes = w.bytes;
@@ -204,7 +204,7 @@ text_content s header x kind is = rw (kind, is) refl
 text_end : (header : Header) → header.kind ≡ 2 → content_end header ≡ header.body + header.size
 text_end header kind = rw kind refl
 
--- the text behind a header, as a name
+-- the text after a header, as a name
 pub name_stands : (s : List ℕ) (offset : ℕ) (header : Header) (x : List ℕ) (before after : Budget) (old mid new : Drafted) → header_at s offset ≡ Some header → header.kind ≡ 2 → bytes_of_content s header ≡ Some x → is_utf8 x ≡ true → ChargesBytes before after (length x) → Grows old mid (quoted x) → Grows mid new (58 ∷ []) → AppendsOwnName s offset (header.body + header.size) before after old new
 name_stands s offset header x before after old mid new here kind is utf8 charged grown more = record {
   bytes = quoted x ++ 58 ∷ [];

@@ -20,7 +20,7 @@ grows_more a b c x y first second =
           second.plain (omega (arith, h, i, e)) ∙ ap (λ l. l ++ y) (first.plain (omega (arith, h, i, e))) ∙ append_assoc a.text x y;
     }
 
--- what is appended to the text stands behind what is shown
+-- what is appended to the text comes after what is shown
 rest_within : (text : List ℕ) (h : Hole) (hs : List Hole) → AreWithin text (h ∷ hs) → AreWithin text hs
 rest_within text h hs all k d within = all (suc k) d (omega (arith, within))
 
@@ -106,7 +106,7 @@ pub behind_extended : {T E : Type 0} (r : Result T E) (old new x : List ℕ) →
 behind_extended (Ok v) old new x e = (x, e)
 behind_extended (Err v) old new x e = ([], e ∙ sym (append-nil old))
 
--- what stands in front of what is behind it
+-- what comes before what is after it
 pub front_of : (old new : List ℕ) → IsBehind old new → take (length old) new ≡ old
 front_of old new (rest, e) = ap (take (length old)) e ∙ take-append-le (length old) old rest (omega arith) ∙ take_all (length old) old (omega arith)
 

@@ -3,7 +3,7 @@ use Rattle.std.proofs.Common.{◌≡◌, ◌≤◌, ◌+◌, ◌-◌, ◌⊎◌,
 use Rattle.std.specs.Prelude.{IfSome}
 use Rattle.std.specs.List.{Contains}
 use Rattle.std.proofs.lemmas.List.Elements.{All-contains}
-use Rattle.mmdb_cache.specs.declared.cache.Entry.{Entry}
+use Rattle.mmdb_cache.specs.declared.cache.CacheEntry.{CacheEntry}
 use Rattle.mmdb_cache.specs.Cache.{IsOfBeforeOr, AreOfBeforeOr}
 use Rattle.mmdb_format.specs.Unfolding.{Tree, scalar, array, table, pointer, value_count}
 use Rattle.mmdb_json.specs.declared.budget.Budget.{Budget}
@@ -17,31 +17,31 @@ in_nothing : {A : Type 0} (x : A) → Contains [] x → ⊥
 in_nothing x (k, within, is) = absurd (omega (arith, within))
 
 -- where nothing is kept all of it is right
-pub nothing_right : (s : List ℕ) (values names : List (Option (Entry KeptText))) → values ≡ [] → names ≡ [] → AreRight s values names
+pub nothing_right : (s : List ℕ) (values names : List (Option (CacheEntry KeptText))) → values ≡ [] → names ≡ [] → AreRight s values names
 nothing_right s values names e f = record {
   values_are = λ entry there. absurd (in_nothing (Some entry) (subst (λ l. Contains l (Some entry)) e there));
   names_are = λ entry there. absurd (in_nothing (Some entry) (subst (λ l. Contains l (Some entry)) f there));
 }
 
-old_or_put : (put entry : Entry KeptText) (before after : List (Option (Entry KeptText))) → AreOfBeforeOr put before after → Contains after (Some entry) → Contains before (Some entry) ⊎ (entry ≡ put)
+old_or_put : (put entry : CacheEntry KeptText) (before after : List (Option (CacheEntry KeptText))) → AreOfBeforeOr put before after → Contains after (Some entry) → Contains before (Some entry) ⊎ (entry ≡ put)
 old_or_put put entry before after all there = All-contains (IsOfBeforeOr put before) after (Some entry) all there
 
-text_of_either : (s : List ℕ) (before : List (Option (Entry KeptText))) (put entry : Entry KeptText) → ((e : Entry KeptText) → Contains before (Some e) → IsKeptText s e.key e.value) → IsKeptText s put.key put.value → Contains before (Some entry) ⊎ (entry ≡ put) → IsKeptText s entry.key entry.value
+text_of_either : (s : List ℕ) (before : List (Option (CacheEntry KeptText))) (put entry : CacheEntry KeptText) → ((e : CacheEntry KeptText) → Contains before (Some e) → IsKeptText s e.key e.value) → IsKeptText s put.key put.value → Contains before (Some entry) ⊎ (entry ≡ put) → IsKeptText s entry.key entry.value
 text_of_either s before put entry right one (inl there) = right entry there
-text_of_either s before put entry right one (inr is) = subst (λ (e : Entry KeptText). IsKeptText s e.key e.value) (sym is) one
+text_of_either s before put entry right one (inr is) = subst (λ (e : CacheEntry KeptText). IsKeptText s e.key e.value) (sym is) one
 
-name_of_either : (s : List ℕ) (before : List (Option (Entry KeptText))) (put entry : Entry KeptText) → ((e : Entry KeptText) → Contains before (Some e) → IsKeptName s e.key e.value) → IsKeptName s put.key put.value → Contains before (Some entry) ⊎ (entry ≡ put) → IsKeptName s entry.key entry.value
+name_of_either : (s : List ℕ) (before : List (Option (CacheEntry KeptText))) (put entry : CacheEntry KeptText) → ((e : CacheEntry KeptText) → Contains before (Some e) → IsKeptName s e.key e.value) → IsKeptName s put.key put.value → Contains before (Some entry) ⊎ (entry ≡ put) → IsKeptName s entry.key entry.value
 name_of_either s before put entry right one (inl there) = right entry there
-name_of_either s before put entry right one (inr is) = subst (λ (e : Entry KeptText). IsKeptName s e.key e.value) (sym is) one
+name_of_either s before put entry right one (inr is) = subst (λ (e : CacheEntry KeptText). IsKeptName s e.key e.value) (sym is) one
 
 -- one more text, or name
-pub keeps_text : (s : List ℕ) (values names after : List (Option (Entry KeptText))) (put : Entry KeptText) → AreRight s values names → AreOfBeforeOr put values after → IsKeptText s put.key put.value → AreRight s after names
+pub keeps_text : (s : List ℕ) (values names after : List (Option (CacheEntry KeptText))) (put : CacheEntry KeptText) → AreRight s values names → AreOfBeforeOr put values after → IsKeptText s put.key put.value → AreRight s after names
 keeps_text s values names after put right all one = record {
   values_are = λ entry there. text_of_either s values put entry right.values_are one (old_or_put put entry values after all there);
   names_are = right.names_are;
 }
 
-pub keeps_name : (s : List ℕ) (values names after : List (Option (Entry KeptText))) (put : Entry KeptText) → AreRight s values names → AreOfBeforeOr put names after → IsKeptName s put.key put.value → AreRight s values after
+pub keeps_name : (s : List ℕ) (values names after : List (Option (CacheEntry KeptText))) (put : CacheEntry KeptText) → AreRight s values names → AreOfBeforeOr put names after → IsKeptName s put.key put.value → AreRight s values after
 keeps_name s values names after put right all one = record {
   values_are = right.values_are;
   names_are = λ entry there. name_of_either s names put entry right.names_are one (old_or_put put entry names after all there);
@@ -90,7 +90,7 @@ one_value (array ts) = omega arith
 one_value (table ps) = omega arith
 one_value (pointer a t) = one_value t
 
--- what was laid out behind other bytes can be kept
+-- what was laid out after other bytes can be kept
 pub text_to_keep : (s : List ℕ) (offset end levels : ℕ) (before after : Budget) (old new : Drafted) (kept : KeptText) → AppendsText s offset end levels before after old new
     → kept.text.items ≡ drop (length old.text) new.text → length new.holes ≡ length old.holes → kept.levels ≡ levels - after.levels → kept.values ≡ before.values - after.values → kept.bytes ≡ before.bytes - after.bytes
     → IsKeptText s offset kept

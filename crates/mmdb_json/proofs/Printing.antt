@@ -1,4 +1,4 @@
--- The text of a value behind other tokens.
+-- The text of a value after other tokens.
 use Rattle.std.proofs.Common.{◌≡◌, ℕ, Bool, true, false, cond, ◌&&◌, List, [], ◌∷◌, ◌++◌, refl, sym, ap, ◌∙◌, append_assoc}
 use Rattle.std.proofs.lemmas.List.Sums.{fold-append}
 use Rattle.std.specs.List.{fold}
@@ -9,7 +9,7 @@ use Rattle.json.specs.Print.{print, print_from, quoted, ends, token_text}
 use Rattle.json.proofs.Printed.Tokens.{print_from-append}
 use Rattle.mmdb_json.specs.Appended.{comma_if}
 
--- a value has just ended behind its tokens
+-- a value has just ended after its tokens
 mutual
   ended : (b : Bool) (j : Json) → fold (λ _ u. ends u) b (json_tokens j) ≡ true
   ended b null = refl
@@ -27,7 +27,7 @@ mutual
   members_ended b no_members = refl
   members_ended b (member k j ms) = fold-append (λ _ u. ends u) false (json_tokens j) (members_tokens ms) ∙ members_ended _ ms
 
--- a comma stands before a value behind another one
+-- a comma comes before a value that follows another one
 lead : (b : Bool) (j : Json) → print_from b (json_tokens j) ≡ comma_if b ++ print (json_tokens j)
 unfolding print_from
 lead true null = refl

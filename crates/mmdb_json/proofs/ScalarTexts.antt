@@ -40,7 +40,7 @@ pub grows : {T E : Type 0} (r : Result T E) (c : Scalar) (j : Json) (old new : D
 grows (Ok x) c j old new bytes e s t is = record { json = j; bytes = bytes; shows = s; text = t; is_text = is; grown = e }
 grows (Err x) c j old new bytes e s t is = tt
 
--- plain bytes stand as they are
+-- plain bytes are left as they are
 pub escape_plain : (d : List ℕ) → All IsPlain d → escape d ≡ d
 escape_plain [] h = refl
 escape_plain (x ∷ xs) h =

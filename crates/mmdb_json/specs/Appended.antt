@@ -15,7 +15,7 @@ use Rattle.mmdb_json.specs.Drafts.{Drafted, Grows}
 abbrev pub IsPlain : ℕ → Type 0
 IsPlain x = (32 ≤ x) × (x ≡ 34 → ⊥) × (x ≡ 92 → ⊥)
 
--- bytes are the text of JSON, which can be written behind other JSON
+-- bytes are the text of JSON, which can be written after other JSON
 pub record IsTextOf (j : Json) (bytes : List ℕ) : Type 0 where
   pub is : bytes ≡ print (json_tokens j)
   pub numbers : HasNumbers j
@@ -30,7 +30,7 @@ pub record AppendsScalar (c : Scalar) (old new : Drafted) : Type 0 where
   pub is_text : scalar_is_text c ≡ true
   pub grown : Grows old new bytes
 
--- so many bytes are charged, and nothing else
+-- that number of bytes is charged, and nothing else
 pub record ChargesBytes (before after : Budget) (bytes : ℕ) : Type 0 where
   pub bytes_left : after.bytes + bytes ≡ before.bytes
   pub values_left : after.values ≡ before.values
@@ -53,7 +53,7 @@ pub record IsTextAt (s : List ℕ) (offset end : ℕ) (bytes : List ℕ) : Type 
   pub shows : Shows tree json
   pub text : IsTextOf json bytes
 
--- a key: a text, directly or behind one pointer
+-- a key: a text, directly or through one pointer
 abbrev pub IsKeyOf : List ℕ → Tree → Type 0
 IsKeyOf x tree = (tree ≡ scalar (text x)) ⊎ ((to : ℕ) × (tree ≡ pointer to (scalar (text x))))
 
@@ -73,7 +73,7 @@ pub record IsOwnNameAt (s : List ℕ) (offset end : ℕ) (bytes : List ℕ) : Ty
   pub utf8 : is_utf8 key ≡ true
   pub is : bytes ≡ quoted key ++ 58 ∷ []
 
--- what a tree costs, with so many levels for it: the values behind the first, the bytes, and the fewest levels left
+-- what a tree costs, with a number of levels for it: the values after the first, the bytes, and the fewest levels left
 pub record Costs (levels : ℕ) (before after : Budget) (tree : Tree) : Type 0 where
   pub values : after.values + value_count tree ≡ before.values + 1
   pub bytes : after.bytes + payload tree ≡ before.bytes
@@ -99,11 +99,11 @@ pub record AppendsOwnName (s : List ℕ) (offset end : ℕ) (before after : Budg
   pub charges : ChargesBytes before after (length at.key)
   pub grown : Grows old new bytes
 
--- the comma behind a value
+-- the comma after a value
 abbrev pub comma_if : Bool → List ℕ
 comma_if after_value = cond after_value (44 ∷ []) []
 
--- a draft grows by an item, or by a member, with the comma behind a value before it
+-- a draft grows by an item, or by a member, with the comma after a value before it
 pub record AppendsItem (s : List ℕ) (offset end levels : ℕ) (after_value : Bool) (before after : Budget) (old new : Drafted) : Type 0 where
   pub bytes : List ℕ
   pub at : IsTextAt s offset end bytes

@@ -26,16 +26,16 @@ filled from text (h ∷ hs) = slice_range text from h.at ++ (later_string h.late
 abbrev pub shown : Drafted → List ℕ
 shown d = filled 0 d.text d.holes
 
--- nothing is put in behind the end
+-- nothing is put in after the end
 abbrev pub AreWithin : List ℕ → List Hole → Type 0
 AreWithin text holes = All (λ h. h.at ≤ length text) holes
 
--- It grows by bytes. They stand in the text itself where nothing more is put in last.
+-- It grows by bytes. They are in the text itself where nothing more is put in last.
 pub record Grows (old new : Drafted) (bytes : List ℕ) : Type 0 where
   pub shows : shown new ≡ shown old ++ bytes
   pub holes : length old.holes ≤ length new.holes
   pub plain : length new.holes ≡ length old.holes → new.text ≡ old.text ++ bytes
 
--- bytes stand behind others
+-- bytes follow others
 abbrev pub IsBehind : List ℕ → List ℕ → Type 0
 IsBehind old new = (rest : List ℕ) × (new ≡ old ++ rest)

@@ -1,7 +1,7 @@
 -- Which JSON shows a tree of a file ("Data Field Format" of the MaxMind DB File Format Specification 2.0): a text is
 -- a string, bytes are a string of base64, a number is a number, and a map is an object, with its keys in the
 -- file's order, repeated ones too. The digits of a double or a float read back as it, and no 0 that could be left
--- out ends them; one that is no number, or infinite, is null. A pointer shows what stands behind it.
+-- out ends them; one that is no number, or infinite, is null. A pointer shows what it leads to.
 use Rattle.mmdb_format.specs.Contents as contents
 use Rattle.mmdb_format.specs.Unfolding as unfolding_words
 use Rattle.std.specs.Prelude.{◌≡◌, ℕ, List, [], ◌++◌, Some, decimal, from_bits}
@@ -18,8 +18,8 @@ use Rattle.json.specs.Tree.{json_tokens}
 use Rattle.mmdb_format.specs.Contents.{Scalar, text, bytes, signed32, number16, number32, number64, number128, double_bits, float_bits}
 use Rattle.mmdb_format.specs.Unfolding.{Tree, scalar, table, pointer, Trees, no_trees, tree, Pairs, no_pairs, pair}
 
--- digits that read back as the number; an exponent stands only where more than so many digits would stand before the
--- point, or more than so many zeros behind it
+-- digits that read back as the number; there is an exponent only where more than a given number of digits would come before the
+-- point, or more than a given number of zeros after it
 abbrev pub ShowsFloat : Format → ℕ → ℕ → ℕ → Json → Type 0
 ShowsFloat f whole_digits leading_zeros bits j =
     MatchBool (float_is_finite (from_bits f bits))
@@ -38,7 +38,7 @@ ShowsScalar (number128 n) j = j ≡ number (decimal n)
 ShowsScalar (double_bits n) j = ShowsFloat binary64 16 4 n j
 ShowsScalar (float_bits n) j = ShowsFloat binary32 13 5 n j
 
--- the bytes of a key, directly or behind pointers
+-- the bytes of a key, directly or through pointers
 abbrev pub key_bytes : Tree → List ℕ
 key_bytes (scalar (text x)) = x
 key_bytes (pointer a t) = key_bytes t

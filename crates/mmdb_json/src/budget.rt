@@ -7,7 +7,7 @@ use crate::kept::KeptText;
 /// What a record may still have on the way through it: the limits are those within which any value is read.
 #[derive(Clone, Copy)]
 pub(crate) struct Budget {
-    /// So many values behind those that are charged, and bytes of texts, keys and byte strings.
+    /// How many values are left after those that are charged, and how many bytes of texts, keys and byte strings.
     pub(crate) values: usize,
     pub(crate) bytes: usize,
     /// The fewest levels that were left on any way down so far.
@@ -15,7 +15,7 @@ pub(crate) struct Budget {
 }
 
 impl Budget {
-    /// Charges values. Whether so many are left.
+    /// Charges values. Whether that many are left.
     #[inline(always)]
     pub(crate) fn charge_values(&mut self, values: usize) -> bool
         ensures left { result ≡ true → self.new.values + values ≡ self.old.values }
@@ -29,7 +29,7 @@ impl Budget {
         true
     }
 
-    /// Charges bytes. Whether so many are left.
+    /// Charges bytes. Whether that many are left.
     #[inline(always)]
     pub(crate) fn charge_bytes(&mut self, bytes: usize) -> bool
         ensures left { result ≡ true → self.new.bytes + bytes ≡ self.old.bytes }
@@ -43,7 +43,7 @@ impl Budget {
         true
     }
 
-    /// Notes that so many levels are left.
+    /// Notes that this many levels are left.
     #[inline(always)]
     pub(crate) fn note_levels(&mut self, levels: usize)
         ensures fewest { (self.new.levels ≤ levels) × (self.new.levels ≤ self.old.levels) }
@@ -53,7 +53,7 @@ impl Budget {
         self.levels = self.levels.min(levels);
     }
 
-    /// Charges what is kept, with so many levels left. Whether there is so much left.
+    /// Charges what is kept, with this many levels left. Whether that much is left.
     #[inline(always)]
     pub(crate) fn charge_kept(&mut self, kept: &KeptText, levels: usize) -> bool
         ensures { result ≡ true → ChargesKept kept.now levels self.old self.new }

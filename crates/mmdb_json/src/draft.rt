@@ -11,8 +11,8 @@ use std::alloc::{AllocError, Global};
 use std::marker::Model;
 use std::mem;
 
-/// So many bytes of texts with escapes and of byte strings are laid out at once. More of them are put in when all of a
-/// record was read: to lay them out takes far longer than to read them, which is in vain where the record can't be read.
+/// This many bytes of texts with escapes and of byte strings are laid out at once. More of them are put in when all of a
+/// record was read: to lay them out takes far longer than to read them, which is of no use where the record can't be read.
 const MOST_AT_ONCE: usize = 512;
 
 /// A larger room for a text is not kept for the next one.
@@ -44,14 +44,14 @@ pub(crate) enum Later<'r> {
     Bytes(&'r [u8]),
 }
 
-/// Where something is put in last: behind so many bytes of the text.
+/// Where something is put in last: after this many bytes of the text.
 #[derive(Clone, Copy)]
 pub(crate) struct Hole<'r> {
     pub(crate) at: usize,
     pub(crate) later: Later<'r>,
 }
 
-/// How far a draft has come: so many bytes, and so many strings that are put in last.
+/// How far a draft has come: the number of its bytes, and of the strings that are put in last.
 #[derive(Clone, Copy)]
 pub(crate) struct DraftLength {
     pub(crate) bytes: usize,
@@ -63,9 +63,9 @@ pub(crate) struct DraftLength {
 pub(crate) struct Draft<'r> {
     alloc: Global,
     text: Vec<u8>,
-    /// Where strings are put in, one behind another.
+    /// Where strings are put in, one after another.
     holes: Vec<Hole<'r>>,
-    /// So many bytes may still be laid out at once.
+    /// How many bytes may still be laid out at once.
     at_once: usize,
     /// Where strings are written apart.
     room: Vec<u8>,
@@ -156,7 +156,7 @@ impl<'r> Draft<'r> {
         Ok(())
     }
 
-    /// Appends the comma that stands behind a value.
+    /// Appends the comma that follows a value.
     #[inline(always)]
     pub(crate) fn put_comma(&mut self, after_value: bool) -> Result<(), AllocError>
         ensures { OnOk result (Grows self.old self.new (comma_if after_value)) }
@@ -172,7 +172,7 @@ impl<'r> Draft<'r> {
         self.text.extend_from_slice(bytes)
     }
 
-    // Notes what is put in last behind what there is.
+    // Notes what is put in last after what there is.
     fn put_last(&mut self, later: Later<'r>) -> Result<(), AllocError>
         ensures { OnOk result (Grows self.old self.new (later_string later.entry)) }
     {
@@ -181,7 +181,7 @@ impl<'r> Draft<'r> {
         Ok(())
     }
 
-    // Whether so many bytes may be laid out at once. They are counted then. A long string is put in last, so that it is
+    // Whether this many bytes may be laid out at once. They are counted then. A long string is put in last, so that it is
     // copied once.
     fn may_be_at_once(&mut self, bytes: usize) -> bool
         ensures { self.new ≡ self.old }
@@ -270,8 +270,8 @@ impl<'r> Draft<'r> {
         self.holes.is_empty() && self.text.capacity() > MOST_ROOM
     }
 
-    /// Appends the whole text. Whether there was memory for it; if not, nothing is appended. A large text that nothing
-    /// stands before is handed over.
+    /// Appends the whole text. Whether there was memory for it; if not, nothing is appended. A large text that has
+    /// nothing before it is handed over.
     pub(crate) fn append_to(&mut self, out: &mut Vec<u8>) -> bool
         ensures put { result ≡ true → out.new.items ≡ out.old.items ++ shown self.old }
         ensures left { result ≡ false → out.new.items ≡ out.old.items }

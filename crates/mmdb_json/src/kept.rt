@@ -3,10 +3,10 @@
 #[derive(Drop)]
 pub(crate) struct KeptText {
     pub(crate) text: Vec<u8>,
-    /// So many containers and pointers are on any way down in it at most.
+    /// The most containers and pointers that are on any way down in it.
     pub(crate) levels: usize,
-    /// So many values are in it beside itself.
+    /// The number of values in it beside itself.
     pub(crate) values: usize,
-    /// So many bytes of texts, keys and byte strings.
+    /// The number of bytes of texts, keys and byte strings.
     pub(crate) bytes: usize,
 }

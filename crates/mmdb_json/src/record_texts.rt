@@ -25,20 +25,20 @@ const LEAST_KEPT: usize = 16;
 
 const LEAST_KEPT_STRING: usize = 512;
 
-/// All that is kept of a record takes at most so many times the bytes of its text: of values behind many pointers in turn the
-/// inner ones are kept, and the others where they are met again.
+/// All that is kept of a record takes at most this many times the bytes of its text: of values that are reached
+/// through many pointers in turn the inner ones are kept, and the others where they are met again.
 const MOST_COPIES: usize = 2;
 
-/// After the first record that was laid out in vain twice as many are thought to be such, after each further one twice as many
-/// as before, and at most so many.
+/// After the first record that was laid out for nothing twice as many are thought to be such, after each further one twice as
+/// many as before, and at most `MOST_SUSPECTED`.
 const FEWEST_SUSPECTED: usize = 2;
 
 const MOST_SUSPECTED: usize = 64;
 
-/// As many at least as it had so many bytes laid out in vain: such a record takes as long as many small ones.
+/// At least one for each this many of its bytes that were laid out for nothing: such a record takes as long as many small ones.
 const BYTES_OF_SUSPECTED: usize = 128;
 
-/// What is kept of the names of members takes this part of all that is kept: one of so many.
+/// What is kept of the names of members takes this part of all that is kept: one part in this many.
 const PART_OF_NAMES: usize = 8;
 
 /// The bytes that are counted for an offset whose record can't be read.
@@ -54,13 +54,13 @@ pub struct RecordTexts<'r> {
     /// The offsets of records of which it is noted that they can't be read.
     unreadable: Cache<bool>,
     rooms: Rooms,
-    /// So many bytes of the record that is laid out are kept.
+    /// How many bytes of the record that is laid out are kept.
     copied: usize,
-    /// So many bytes of the record that was met last were laid out in vain.
+    /// How many bytes of the record that was met last were laid out for nothing.
     in_vain: usize,
-    /// So many records that come next are thought to be such, by the last ones that were met.
+    /// How many records that come next are thought to be such, by the last ones that were met.
     suspected: usize,
-    /// How many were after the last one that was laid out in vain, by how often that was so.
+    /// How many were after the last one that was laid out for nothing, by how often that was so.
     span: usize,
 }
 
@@ -90,7 +90,7 @@ impl<'r> Model for RecordTexts<'r> {
     ghost invariant = { λ t. AreRight t.section.now t.values t.names };
 }
 
-// Appends the value behind a header, which holds no others; where it ends.
+// Appends the value after a header, which holds no others; where it ends.
 #[inline(always)]
 fn put_scalar<'r>(
     section: &'r [u8],
@@ -113,7 +113,7 @@ fn put_scalar<'r>(
     }
 }
 
-// Appends the name that is the text behind a header; where the text ends.
+// Appends the name that is the text after a header; where the text ends.
 fn put_own_name<'r>(
     section: &'r [u8],
     offset: usize,
@@ -138,7 +138,7 @@ fn put_own_name<'r>(
     Some(header.body + header.size)
 }
 
-// Appends a text that is kept, with so many levels left. Whether it is within what is left, and there was memory.
+// Appends a text that is kept, with `levels` levels left. Whether it is within what is left, and there was memory.
 #[inline(always)]
 fn put_kept(kept: &KeptText, levels: usize, budget: &mut Budget, out: &mut Draft<'_>) -> bool
     ensures charged { result ≡ true → ChargesKept kept.now levels budget.old budget.new }
@@ -192,7 +192,7 @@ impl<'r> RecordTexts<'r> {
     ghost use Rattle.mmdb_json.specs.Kept.{IsKeptText, IsKeptName};
     ghost use Rattle.mmdb_json.specs.RecordText.{AppendsRecord};
 
-    /// Of the records of a data section, of which none was met yet. At most so many bytes are kept of them together.
+    /// Of the records of a data section, of which none was met yet. At most `most` bytes are kept of them together.
     pub fn new(alloc: Global, section: &'r [u8], most: usize) -> RecordTexts<'r>
         ensures { result ≡ section.now }
     {
@@ -286,7 +286,7 @@ impl<'r> RecordTexts<'r> {
         self.names.put(offset, kept, bytes);
     }
 
-    // Lays out the name that the text at an offset is, appends and keeps it. Whether a text stands there.
+    // Lays out the name that the text at an offset is, appends and keeps it. Whether there is a text.
     #[inline(never)]
     fn make_name(&mut self, offset: usize, budget: &mut Budget, out: &mut Draft<'r>) -> bool
         ensures name { result ≡ true → (end : ℕ) × AppendsOwnName self.old offset end
@@ -305,7 +305,7 @@ impl<'r> RecordTexts<'r> {
         true
     }
 
-    // Appends the name that the text at an offset is. Whether a text stands there.
+    // Appends the name that the text at an offset is. Whether there is a text.
     #[inline(always)]
     fn put_name_at(&mut self, offset: usize, budget: &mut Budget, out: &mut Draft<'r>) -> bool
         ensures name { result ≡ true → (end : ℕ) × AppendsOwnName self.old offset end
@@ -384,7 +384,7 @@ impl<'r> RecordTexts<'r> {
         }
     }
 
-    // Appends what the pointer behind a header leads to; where the pointer ends.
+    // Appends what the pointer after a header leads to; where the pointer ends.
     #[cycle(texts)]
     #[inline(always)]
     fn put_target(
@@ -412,7 +412,7 @@ impl<'r> RecordTexts<'r> {
         None
     }
 
-    // Appends a member: the name that a key at an offset gives, and the value behind it; where that ends.
+    // Appends a member: the name that a key at an offset gives, and the value after it; where that ends.
     #[cycle(texts)]
     #[inline(always)]
     fn put_member(
@@ -453,7 +453,7 @@ impl<'r> RecordTexts<'r> {
         self.put_value(offset, levels, budget, out)
     }
 
-    // Appends the map behind a header; where it ends.
+    // Appends the map after a header; where it ends.
     #[cycle(texts)]
     fn put_table(
         &mut self,
@@ -485,7 +485,7 @@ impl<'r> RecordTexts<'r> {
         Some(at)
     }
 
-    // Appends the array behind a header; where it ends.
+    // Appends the array after a header; where it ends.
     #[cycle(texts)]
     #[inline(never)]
     fn put_array(
@@ -517,7 +517,7 @@ impl<'r> RecordTexts<'r> {
         Some(at)
     }
 
-    // Appends the value at an offset, of at most so many levels; where it ends.
+    // Appends the value at an offset, of at most `levels` levels; where it ends.
     #[cycle(texts)]
     fn put_value(
         &mut self,
@@ -611,19 +611,20 @@ impl<'r> RecordTexts<'r> {
     }
 
     /// Whether the record at an offset is thought to be one that can't be read: that is noted of it, or it is noted of those
-    /// that were met last. To lay such a record out is mostly in vain, so it is better read by steps that say why it can't be.
+    /// that were met last. To lay such a record out is mostly for nothing, so it is better read by steps that say why it can't
+    /// be.
     pub fn is_suspected(&self, offset: usize) -> bool {
         self.suspected > 0 || self.unreadable.get(offset).is_some()
     }
 
-    // Notes that so many bytes were laid out in vain.
+    // Notes that `bytes` bytes were laid out for nothing.
     fn note_in_vain(&mut self, bytes: usize)
         ensures { self.new ≡ self.old }
     {
         self.suspected = self.suspected.max(bytes / BYTES_OF_SUSPECTED);
     }
 
-    /// Lets go of a text that was laid out in vain, since another record that it belongs to can't be read.
+    /// Lets go of a text that was laid out for nothing, since another record that it belongs to can't be read.
     pub fn leave(&mut self, text: RecordText<'r>)
         ensures { self.new ≡ self.old }
     {

@@ -57,7 +57,7 @@ fn put_text<'r>(bytes: &'r [u8], out: &mut Draft<'r>) -> bool
     }
 }
 
-/// Appends a content, whose bytes are charged if it is a text or a byte string. Whether so many are left, a text is UTF-8,
+/// Appends a content, whose bytes are charged if it is a text or a byte string. Whether enough are left, a text is UTF-8,
 /// and there was memory.
 #[inline(always)]
 pub(crate) fn put_content<'r>(

@@ -13,7 +13,7 @@ use json::Writer;
 use std::alloc::{AllocError, Global};
 use std::mem;
 
-/// A string of a longer text is not written apart, nor one behind less than this.
+/// A string of a longer text is not written apart, nor one after less than this.
 pub(crate) const MOST_APART: usize = 1024;
 
 /// A longer text is looked at as a whole.
@@ -113,7 +113,7 @@ fn hex_of(digit: u8) -> u8
     }
 }
 
-// Appends what stands in a string for a byte.
+// Appends what is written in a string for a byte.
 #[inline(always)]
 fn put_byte(byte: u8, out: &mut Vec<u8>) -> Result<(), AllocError>
     ensures put { OnOk result (out.new.items ≡ out.old.items ++ escape_byte byte) }
@@ -174,8 +174,8 @@ fn string_in(room: Vec<u8>, text: &str) -> Result<Vec<u8>, AllocError>
     Ok(writer.into_inner())
 }
 
-/// Appends the string of a text. One of middling length behind much is written apart, in a room for it: the kit's writer fills room
-/// ahead of what it writes, the more the longer the text before it is.
+/// Appends the string of a text. One of middling length after much is written apart, in a room for it: the kit's writer fills
+/// room ahead of what it writes, the more the longer the text before it is.
 #[inline(never)]
 pub(crate) fn put_string(
     alloc: Global,

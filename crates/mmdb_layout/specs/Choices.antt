@@ -2,7 +2,7 @@
 use Rattle.std.specs.Prelude.{◌<◌, ℕ, List, Some, Bool}
 use Rattle.std.specs.List.{All}
 use Rattle.std.specs.declared.convert.AsSlice.{Ghosts}
-use Rattle.mmdb_cache.specs.declared.table.Known.{Known}
+use Rattle.mmdb_cache.specs.declared.table.Memo.{Memo}
 use Rattle.mmdb_reader.specs.Found.{section_asked, offset_found}
 use Rattle.mmdb_reader.specs.declared.lookup_result.LookupResult.{LookupResult}
 use Rattle.mmdb_layout.specs.Conditions.{SaysAllMetAt, HasUnreadAt}
@@ -22,7 +22,7 @@ abbrev pub no_record : ℕ
 no_record = 4294967295
 
 -- what is kept of a record of a data section is whether it meets all conditions
-abbrev pub IsKept : List Condition → List ℕ → Known ℕ Bool → Type 0
+abbrev pub IsKept : List Condition → List ℕ → Memo ℕ Bool → Type 0
 IsKept conditions s answer = answer.key < no_record → SaysAllMetAt conditions s (Some answer.key) answer.value
 
 -- all that a choice keeps is so kept of records of a data section

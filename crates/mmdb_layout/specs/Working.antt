@@ -1,7 +1,7 @@
 -- What contracts of private functions and proofs name.
 use Rattle.std.specs.Prelude.{◌≡◌, ℕ, List, Bool, true, false}
 use Rattle.std.specs.declared.convert.AsSlice.{Ghosts}
-use Rattle.mmdb_cache.specs.declared.table.Known.{Known}
+use Rattle.mmdb_cache.specs.declared.table.Memo.{Memo}
 use Rattle.mmdb_format.specs.Unfolding.{Tree, array, table}
 use Rattle.mmdb_reader.specs.Found.{section_asked, offset_found}
 use Rattle.mmdb_reader.specs.declared.lookup_result.LookupResult.{LookupResult}
@@ -21,9 +21,9 @@ abbrev pub SaysFound : {S : Type 0} {G : Ghosts S ℕ} → Condition → LookupR
 SaysFound condition found b = SaysFoundAt condition.wanted condition.path.items (texts_of condition) (section_asked found) (offset_found found) b
 
 -- an answer is of no record
-abbrev pub IsOfNone : Known ℕ Bool → Type 0
+abbrev pub IsOfNone : Memo ℕ Bool → Type 0
 IsOfNone answer = answer.key ≡ no_record
 
 -- with one more answer a choice is of the data section that it was of, if the answer is
-abbrev pub Keeps : Choice → Known ℕ Bool → Choice → Type 0
+abbrev pub Keeps : Choice → Memo ℕ Bool → Choice → Type 0
 Keeps old answer new = (s : List ℕ) → IsKept old.conditions.now s answer → IsOfSection old s → IsOfSection new s

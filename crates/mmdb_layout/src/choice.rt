@@ -6,7 +6,7 @@ ghost use Rattle.mmdb_layout.specs.Choices.{SaysChosen, HasUnread, IsOfSection, 
 ghost use Rattle.mmdb_layout.specs.Working.{IsOfNone, Keeps};
 
 use crate::condition::Condition;
-use mmdb_cache::{Known, Table};
+use mmdb_cache::{CacheTable, Memo};
 use mmdb_reader::{LookupResult, MaxMindDbError};
 use std::alloc::{AllocError, Global};
 use std::convert::AsSlice;
@@ -23,7 +23,7 @@ const NO_RECORD: u32 = u32::MAX;
 pub struct Choice<'a> {
     alloc: Global,
     conditions: &'a [Condition<'a>],
-    kept: Table<u32, bool, SETS>,
+    kept: CacheTable<u32, bool, SETS>,
 }
 
 // The offset by which the answer for a record is kept, unless it is too large.
@@ -38,12 +38,12 @@ fn kept_offset(offset: Option<usize>) -> Option<u32>
 }
 
 // No answers.
-fn no_answers(alloc: Global) -> Result<Table<u32, bool, SETS>, AllocError>
+fn no_answers(alloc: Global) -> Result<CacheTable<u32, bool, SETS>, AllocError>
     ensures { IfOk result (All IsOfNone) }
 {
-    Table::new(
+    CacheTable::new(
         alloc,
-        Known {
+        Memo {
             key: NO_RECORD,
             value: false,
         },
@@ -57,7 +57,7 @@ impl<'a> Choice<'a> {
         ensures of { IfOk result (λ choice. (s : List ℕ) → IsOfSection choice s) }
     {
         let kept = if conditions.is_empty() {
-            Table::without_memory(alloc)
+            CacheTable::without_memory(alloc)
         } else {
             no_answers(alloc)?
         };

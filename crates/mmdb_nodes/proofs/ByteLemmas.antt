@@ -17,8 +17,8 @@ use Rattle.mmdb_tree.specs.Tree.{step as tree_step}
 use Rattle.mmdb_nodes.specs.declared.size.RecordSize.{RecordSize}
 use Rattle.mmdb_nodes.specs.declared.size.RecordSize.TheVariants.{Bits24, Bits28, Bits32}
 use Rattle.mmdb_nodes.specs.declared.node.Node.{Node as SpecNode}
-use Rattle.mmdb_nodes.specs.declared.node.Record.{Record}
-use Rattle.mmdb_nodes.specs.declared.node.Record.TheVariants.{Node, Empty, Data}
+use Rattle.mmdb_nodes.specs.declared.node.NodeRecord.{NodeRecord}
+use Rattle.mmdb_nodes.specs.declared.node.NodeRecord.TheVariants.{Node, Empty, Data}
 use Rattle.mmdb_tree.specs.Records.{record_of}
 
 -- the four bytes of a number
@@ -56,12 +56,12 @@ module _ (l r : ℕ) (b d old : List ℕ) (left_bytes : b ≡ to_be_bytes w32 l)
     right_is = omega (arith, y.0, y.1, y.2, y.3);
   }
 
--- what holds of bytes that were put behind others, where they were
+-- what holds of bytes that were put after others, where they were
 pub if_put : {E : Type 0} (r : Result (Unit {0}) E) (P : List ℕ → Type 0) (old text new : List ℕ) → new ≡ cond (is_ok r) text old → P text → OnOk r (P new)
 if_put (Ok x) P old text new is h = subst P (sym is) h
 if_put (Err e) P old text new is h = tt
 
--- ---- bytes behind others, and bytes before others
+-- ---- bytes after others, and bytes before others
 
 byte-seam : (old more : List ℕ) (at d : ℕ) → at ≡ length old + d → get_or (old ++ more) at 0 ≡ get_or more d 0
 byte-seam old more at d e = ap (λ (n : ℕ). get_or (old ++ more) n 0) e ∙ get_or-append-add old more d 0
@@ -95,7 +95,7 @@ four-kept old more at h =
     let b = three-kept old more (at + 1) (omega arith) in
     omega arith
 
--- ---- nodes behind others, and nodes before others
+-- ---- nodes after others, and nodes before others
 
 pub size_cases : (size : ℕ) → is_record_size size ≡ true → (size ≡ 24) ⊎ (size ≡ 28) ⊎ (size ≡ 32)
 size_cases size h = grind (arith, nat_tests)
@@ -163,12 +163,12 @@ child-kept size old more k right valid h = elim (size_cases size valid) [
 
 -- ---- the bytes of all nodes
 
-pub number_fits : (count bound size : ℕ) (r : Record) → count + 16 + bound ≤ 2 ^ size → IsBelow count bound r → number_in count r < 2 ^ size
+pub number_fits : (count bound size : ℕ) (r : NodeRecord) → count + 16 + bound ≤ 2 ^ size → IsBelow count bound r → number_in count r < 2 ^ size
 number_fits count bound size (Node n) room h = omega arith
 number_fits count bound size Empty room h = omega arith
 number_fits count bound size (Data v) room h = omega arith
 
--- the bytes have the first nodes, so many of them, of a tree of that many
+-- the bytes have the first nodes, `i` of them, of a tree of that many
 pub record HasNodes (size i : ℕ) (nodes : List SpecNode) (bytes : List ℕ) : Type 0 where
   pub len : length bytes ≡ i * node_bytes size
   pub each : (k : ℕ) (right : Bool) → k < i → child bytes size k right ≡ number_in (length nodes) (side (slice_get nodes k) right)
@@ -194,7 +194,7 @@ one_more_node size i nodes node old new valid is h a = record {
   ];
 }
 
--- the bytes have these nodes, whatever stands behind them
+-- the bytes have these nodes, whatever follows them
 abbrev pub HoldsNodes : ℕ → List SpecNode → List ℕ → Type 0
 HoldsNodes size nodes bytes = (k : ℕ) (right : Bool) → k < length nodes → child bytes size k right ≡ number_in (length nodes) (side (slice_get nodes k) right)
 
@@ -218,7 +218,7 @@ leaf_out : (most count : ℕ) (v : Option ℕ) → most ≡ count → most ≤ n
 leaf_out most count None e = omega arith
 leaf_out most count (Some v) e = omega arith
 
-pub same_walk : (tree : SearchTree) (nodes : List SpecNode) (bound : ℕ) → tree.node_count ≡ length nodes → HoldsNodes tree.record_size nodes tree.bytes → IsSound 0 bound nodes → (r : Record) (bits : List Bool) → IsBelow (length nodes) bound r
+pub same_walk : (tree : SearchTree) (nodes : List SpecNode) (bound : ℕ) → tree.node_count ≡ length nodes → HoldsNodes tree.record_size nodes tree.bytes → IsSound 0 bound nodes → (r : NodeRecord) (bits : List Bool) → IsBelow (length nodes) bound r
     → walk_from tree (number_in (length nodes) r) bits ≡ number_in (length nodes) (lead nodes r bits)
 unfolding walk_from lead
 same_walk tree nodes bound count are sound r [] below = refl

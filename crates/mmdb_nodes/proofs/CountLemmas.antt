@@ -12,8 +12,8 @@ use Rattle.mmdb_tree.specs.Stops.{WalkedTree, Stop, stop, record_in, is_alias_in
 use Rattle.mmdb_tree.specs.declared.record.TreeRecord.{TreeRecord}
 use Rattle.mmdb_tree.specs.declared.record.TreeRecord.TheVariants as kinds
 use Rattle.mmdb_nodes.specs.declared.node.Node.{Node as SpecNode}
-use Rattle.mmdb_nodes.specs.declared.node.Record.{Record}
-use Rattle.mmdb_nodes.specs.declared.node.Record.TheVariants.{Node, Empty, Data}
+use Rattle.mmdb_nodes.specs.declared.node.NodeRecord.{NodeRecord}
+use Rattle.mmdb_nodes.specs.declared.node.NodeRecord.TheVariants.{Node, Empty, Data}
 use Rattle.mmdb_nodes.specs.Trees.{leaf_of}
 use Rattle.mmdb_nodes.specs.Working.{side, lead, IsBelow, IsSound, IsJoined, number_in, ends, HasFewEnds, leaf}
 use Rattle.mmdb_nodes.proofs.LeadLemmas.{AreHalves, behind_place, new_length, node_at, keeps_left, keeps_right, bits-low, bits-high}
@@ -29,13 +29,13 @@ ends-leaf nodes (Some offset) (suc free) = refl
 pub own_few : (from : ℕ) (nodes : List SpecNode) (v : Option ℕ) (free : ℕ) → from ≤ length nodes → HasFewEnds from nodes (leaf v) free
 own_few from nodes v free h = record { few = λ all keeps. let e = ends-leaf all v free in omega arith }
 
-pub joined_few : (old n1 n2 n3 : List SpecNode) (h : AreHalves old n1 n2 n3) (left right r : Record) (new : List SpecNode) (half : ℕ) → IsJoined (length old) left right n3 new r → HasFewEnds (length n1) n2 left half → HasFewEnds (length n2) n3 right half → length old ≤ length new → HasFewEnds (length old) new r (suc half)
-joined_few old n1 n2 n3 h left right r new half (inl same) f g le = record { few = λ all keeps. let e = ends-leaf all same.value (suc half) in let k = ap (λ (x : Record). ends all x (suc half)) same.result_is in omega arith }
+pub joined_few : (old n1 n2 n3 : List SpecNode) (h : AreHalves old n1 n2 n3) (left right r : NodeRecord) (new : List SpecNode) (half : ℕ) → IsJoined (length old) left right n3 new r → HasFewEnds (length n1) n2 left half → HasFewEnds (length n2) n3 right half → length old ≤ length new → HasFewEnds (length old) new r (suc half)
+joined_few old n1 n2 n3 h left right r new half (inl same) f g le = record { few = λ all keeps. let e = ends-leaf all same.value (suc half) in let k = ap (λ (x : NodeRecord). ends all x (suc half)) same.result_is in omega arith }
 joined_few old n1 n2 n3 h left right r new half (inr node) f g le = record {
   few = λ all keeps.
       let at = node_at old n1 n2 n3 h left right r new node all keeps in
       let whole : ends all r (suc half) ≡ ends all left half + ends all right half =
-      ap (λ (x : Record). ends all x (suc half)) node.result_is ∙ ap (λ (o : Option SpecNode). ends all (side o false) half + ends all (side o true) half) at in
+      ap (λ (x : NodeRecord). ends all x (suc half)) node.result_is ∙ ap (λ (o : Option SpecNode). ends all (side o false) half + ends all (side o true) half) at in
       let a = f.few all (keeps_left old n1 n2 n3 h left right r new node all keeps) in
       let b = g.few all (keeps_right old n1 n2 n3 h left right r new node all keeps) in
       let c = behind_place old n1 n2 n3 h in
@@ -43,30 +43,30 @@ joined_few old n1 n2 n3 h left right r new half (inr node) f g le = record {
       omega arith;
 }
 
-ends_positive : (nodes : List SpecNode) (r : Record) (left : ℕ) → 1 ≤ ends nodes r left
+ends_positive : (nodes : List SpecNode) (r : NodeRecord) (left : ℕ) → 1 ≤ ends nodes r left
 ends_positive nodes r zero = omega arith
 ends_positive nodes Empty (suc left) = omega arith
 ends_positive nodes (Data v) (suc left) = omega arith
 ends_positive nodes (Node n) (suc left) = let a = ends_positive nodes (side (slice_get nodes n) false) left in omega arith
 
-pub lone_few : (to : Record) (v : Option ℕ) (nodes : List SpecNode) (width : ℕ) → to ≡ leaf v → nodes ≡ (record { left = to; right = to }) ∷ [] → ends nodes (Node 0) width ≤ 1 + length nodes
+pub lone_few : (to : NodeRecord) (v : Option ℕ) (nodes : List SpecNode) (width : ℕ) → to ≡ leaf v → nodes ≡ (record { left = to; right = to }) ∷ [] → ends nodes (Node 0) width ≤ 1 + length nodes
 lone_few to v nodes zero is one = let e = ap length one in omega arith
 lone_few to v nodes (suc w) is one =
     let l = ap length one in
     let at : slice_get nodes 0 ≡ Some (record { left = to; right = to }) = ap (λ (xs : List SpecNode). slice_get xs 0) one in
     let whole : ends nodes (Node 0) (suc w) ≡ ends nodes to w + ends nodes to w = ap (λ (o : Option SpecNode). ends nodes (side o false) w + ends nodes (side o true) w) at in
-    let each : ends nodes to w ≡ 1 = ap (λ (x : Record). ends nodes x w) is ∙ ends-leaf nodes v w in
+    let each : ends nodes to w ≡ 1 = ap (λ (x : NodeRecord). ends nodes x w) is ∙ ends-leaf nodes v w in
     omega arith
 
 -- ---- all ways end at leaves
 
-abbrev IsFinite : List SpecNode → Record → ℕ → Type 0
+abbrev IsFinite : List SpecNode → NodeRecord → ℕ → Type 0
 IsFinite nodes r zero = (v : Option ℕ) × (r ≡ leaf v)
 IsFinite nodes Empty (suc left) = Unit {0}
 IsFinite nodes (Data v) (suc left) = Unit {0}
 IsFinite nodes (Node n) (suc left) = IsFinite nodes (side (slice_get nodes n) false) left × IsFinite nodes (side (slice_get nodes n) true) left
 
-finite : (nodes : List SpecNode) (r : Record) (left : ℕ) → ((a : ℕ) → a < 2 ^ left → (v : Option ℕ) × (lead nodes r (bits_of left a) ≡ leaf v)) → IsFinite nodes r left
+finite : (nodes : List SpecNode) (r : NodeRecord) (left : ℕ) → ((a : ℕ) → a < 2 ^ left → (v : Option ℕ) × (lead nodes r (bits_of left a) ≡ leaf v)) → IsFinite nodes r left
 unfolding lead bits_of
 finite nodes r zero h = h 0 (omega arith)
 finite nodes Empty (suc left) h = tt
@@ -137,7 +137,7 @@ module _ (walked : WalkedTree) (nodes : List SpecNode) (count : walked.tree.node
   leads_on bits n x h lt =
       walk_more walked.tree 0 bits x ∙ ap (λ (m : ℕ). tree_step walked.tree m x) h ∙ step-on walked.tree n x (omega arith) ∙ are n x lt
 
-  few_stops : (left : ℕ) (r : Record) (bits : List Bool) → walk walked.tree bits ≡ number_in (length nodes) r → IsBelow (length nodes) walked.data_length r → length (stops_below walked left bits) ≤ ends nodes r left
+  few_stops : (left : ℕ) (r : NodeRecord) (bits : List Bool) → walk walked.tree bits ≡ number_in (length nodes) r → IsBelow (length nodes) walked.data_length r → length (stops_below walked left bits) ≤ ends nodes r left
   unfolding stops_below
   few_stops zero r bits h below = omega arith
   few_stops (suc left) Empty bits h below = let g = goes_not_on bits None h in rw g (omega arith)
@@ -165,7 +165,7 @@ module _ (walked : WalkedTree) (nodes : List SpecNode) (count : walked.tree.node
   at_node bits below n h lt none true e = any_one bits (end_at walked bits) (alias_end bits n h lt e)
   at_node bits below n h lt none false e = none
 
-  no_faults : (left : ℕ) (r : Record) (bits : List Bool) → walk walked.tree bits ≡ number_in (length nodes) r → IsBelow (length nodes) walked.data_length r → IsFinite nodes r left → list_any (λ m. is_fault m.end) (stops_below walked left bits) ≡ false
+  no_faults : (left : ℕ) (r : NodeRecord) (bits : List Bool) → walk walked.tree bits ≡ number_in (length nodes) r → IsBelow (length nodes) walked.data_length r → IsFinite nodes r left → list_any (λ m. is_fault m.end) (stops_below walked left bits) ≡ false
   unfolding stops_below
   no_faults zero r bits h below ends_here =
       let there : IsBelow (length nodes) walked.data_length (leaf ends_here.0) = subst (IsBelow (length nodes) walked.data_length) ends_here.1 below in

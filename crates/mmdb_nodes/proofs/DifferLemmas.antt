@@ -4,11 +4,11 @@ use Rattle.std.specs.List.{slice_get}
 use Rattle.mmdb_net.specs.Bits.{bits_of, number_of}
 use Rattle.mmdb_tree.specs.Tree.{walk, walk_from, SearchTree}
 use Rattle.mmdb_tree.proofs.HighBits.{number-below}
-use Rattle.mmdb_nodes.specs.declared.entry.Entry.{Entry}
+use Rattle.mmdb_nodes.specs.declared.entry.NodeEntry.{NodeEntry}
 use Rattle.mmdb_nodes.specs.declared.entry.IpVersion.{IpVersion}
 use Rattle.mmdb_nodes.specs.declared.node.Node.{Node as SpecNode}
-use Rattle.mmdb_nodes.specs.declared.node.Record.{Record}
-use Rattle.mmdb_nodes.specs.declared.node.Record.TheVariants.{Node, Empty, Data}
+use Rattle.mmdb_nodes.specs.declared.node.NodeRecord.{NodeRecord}
+use Rattle.mmdb_nodes.specs.declared.node.NodeRecord.TheVariants.{Node, Empty, Data}
 use Rattle.mmdb_nodes.specs.Entries.{width, offset_in}
 use Rattle.mmdb_nodes.specs.Trees.{IsSplit}
 use Rattle.mmdb_nodes.specs.Working.{side, step, lead, leaf, IsBelow, IsSound, HasNoTwins, IsLone, AreNodesOf, number_in}
@@ -46,7 +46,7 @@ numbered w bits len = record {
 
 -- ---- where bits lead, one after the other
 
-pub lead-append : (nodes : List SpecNode) (r : Record) (a b : List Bool) → lead nodes r (a ++ b) ≡ lead nodes (lead nodes r a) b
+pub lead-append : (nodes : List SpecNode) (r : NodeRecord) (a b : List Bool) → lead nodes r (a ++ b) ≡ lead nodes (lead nodes r a) b
 unfolding lead
 lead-append nodes r [] b = refl
 lead-append nodes r (x ∷ a) b = lead-append nodes (step nodes r x) a b
@@ -55,7 +55,7 @@ lead-one : (nodes : List SpecNode) (n : ℕ) (x : Bool) (b : List Bool) → lead
 unfolding lead
 lead-one nodes n x b = refl
 
-pub below_lead : (nodes : List SpecNode) (bound : ℕ) → IsSound 0 bound nodes → (r : Record) (bits : List Bool) → IsBelow (length nodes) bound r → IsBelow (length nodes) bound (lead nodes r bits)
+pub below_lead : (nodes : List SpecNode) (bound : ℕ) → IsSound 0 bound nodes → (r : NodeRecord) (bits : List Bool) → IsBelow (length nodes) bound r → IsBelow (length nodes) bound (lead nodes r bits)
 unfolding lead
 below_lead nodes bound sound r [] below = below
 below_lead nodes bound sound (Node n) (x ∷ bits) below = below_lead nodes bound sound (side (slice_get nodes n) x) bits (sound n x (omega arith) below)
@@ -70,7 +70,7 @@ unfolding zeros
 length-zeros zero = refl
 length-zeros (suc n) = ap suc (length-zeros n)
 
--- Two ways on from these bits, of so many bits each, lead to leaves that are not the same.
+-- Two ways on from these bits, of `left` bits each, lead to leaves that are not the same.
 record IsApart (nodes : List SpecNode) (bits : List Bool) (left : ℕ) : Type 0 where
   a : List Bool
   b : List Bool
@@ -96,7 +96,7 @@ one_earlier nodes bits x left h = record {
   apart = h.apart;
 }
 
-module _ (version : IpVersion) (es : List Entry) (data_len : ℕ) (nodes : List SpecNode) (of : AreNodesOf version es data_len nodes) where
+module _ (version : IpVersion) (es : List NodeEntry) (data_len : ℕ) (nodes : List SpecNode) (of : AreNodesOf version es data_len nodes) where
   full_is_leaf : (bits : List Bool) (n : ℕ) → length bits ≡ width version → lead nodes (Node 0) bits ≡ Node n → ⊥
   full_is_leaf bits n len is =
       let number = numbered (width version) bits len in
@@ -104,11 +104,11 @@ module _ (version : IpVersion) (es : List Entry) (data_len : ℕ) (nodes : List 
 
   on_side : (bits : List Bool) (n : ℕ) (x : Bool) → lead nodes (Node 0) bits ≡ Node n → lead nodes (Node 0) (bits ++ x ∷ []) ≡ side (slice_get nodes n) x
   unfolding lead
-  on_side bits n x is = lead-append nodes (Node 0) bits (x ∷ []) ∙ ap (λ (r : Record). lead nodes r (x ∷ [])) is
+  on_side bits n x is = lead-append nodes (Node 0) bits (x ∷ []) ∙ ap (λ (r : NodeRecord). lead nodes r (x ∷ [])) is
 
   leads_on : (bits : List Bool) (n : ℕ) (x : Bool) (v : Option ℕ) (b : List Bool) → lead nodes (Node 0) bits ≡ Node n → side (slice_get nodes n) x ≡ leaf v → lead nodes (Node 0) (bits ++ x ∷ b) ≡ leaf v
   leads_on bits n x v b is leads =
-      lead-append nodes (Node 0) bits (x ∷ b) ∙ ap (λ (r : Record). lead nodes r (x ∷ b)) is ∙ lead-one nodes n x b ∙ ap (λ (r : Record). lead nodes r b) leads ∙ lead-leaf nodes v b
+      lead-append nodes (Node 0) bits (x ∷ b) ∙ ap (λ (r : NodeRecord). lead nodes r (x ∷ b)) is ∙ lead-one nodes n x b ∙ ap (λ (r : NodeRecord). lead nodes r b) leads ∙ lead-leaf nodes v b
 
   one_less : (bits : List Bool) (x : Bool) (left : ℕ) → length bits + suc left ≡ width version → length (bits ++ x ∷ []) + left ≡ width version
   one_less bits x left len = let e : length (bits ++ x ∷ []) ≡ length bits + 1 = length-append bits (x ∷ []) in omega arith
@@ -153,10 +153,10 @@ module _ (version : IpVersion) (es : List Entry) (data_len : ℕ) (nodes : List 
         differ = λ same. h.apart (sym a_has ∙ same ∙ b_has);
       }
 
-  -- where there is one node, only no bits stand on it
+  -- where there is one node, only no bits stay on it
   lone_out : IsLone nodes → (bits : List Bool) (n : ℕ) → ¬ (bits ≡ []) → lead nodes (Node 0) bits ≡ Node n → ⊥
   lone_out lone [] n some is = some refl
-  lone_out lone (x ∷ bits) n some is = leaf_no_node lone.0 n (sym (lead-leaf nodes lone.0 bits) ∙ ap (λ (r : Record). lead nodes r bits) (sym (lone_side x)) ∙ sym (lead-one nodes 0 x bits) ∙ is)
+  lone_out lone (x ∷ bits) n some is = leaf_no_node lone.0 n (sym (lead-leaf nodes lone.0 bits) ∙ ap (λ (r : NodeRecord). lead nodes r bits) (sym (lone_side x)) ∙ sym (lead-one nodes 0 x bits) ∙ is)
     where
       lone_side : (x : Bool) → side (slice_get nodes 0) x ≡ leaf lone.0
       lone_side true = ap (λ (ns : List SpecNode). side (slice_get ns 0) true) lone.1
@@ -172,7 +172,7 @@ module _ (version : IpVersion) (es : List Entry) (data_len : ℕ) (nodes : List 
   ]
 
   -- a number that is one of a node
-  node_of : (bound : ℕ) (r : Record) → number_in (length nodes) r < length nodes → IsBelow (length nodes) bound r → (n : ℕ) × (r ≡ Node n)
+  node_of : (bound : ℕ) (r : NodeRecord) → number_in (length nodes) r < length nodes → IsBelow (length nodes) bound r → (n : ℕ) × (r ≡ Node n)
   node_of bound (Node n) lt below = (n, refl)
   node_of bound Empty lt below = absurd (omega arith)
   node_of bound (Data v) lt below = absurd (omega arith)

@@ -5,8 +5,8 @@ use Rattle.std.proofs.lemmas.Bool.{cases_lt, lt-ltb, le-ltb}
 use Rattle.std.proofs.lemmas.Bool.Decides.{nat_tests}
 use Rattle.mmdb_tree.specs.Tree.{walk, walk_from, SearchTree}
 use Rattle.mmdb_nodes.specs.declared.node.Node.{Node as SpecNode}
-use Rattle.mmdb_nodes.specs.declared.node.Record.{Record}
-use Rattle.mmdb_nodes.specs.declared.node.Record.TheVariants.{Node, Empty, Data}
+use Rattle.mmdb_nodes.specs.declared.node.NodeRecord.{NodeRecord}
+use Rattle.mmdb_nodes.specs.declared.node.NodeRecord.TheVariants.{Node, Empty, Data}
 use Rattle.mmdb_nodes.specs.Working.{side, lead, leaf, IsBelow, IsSound, IsForest, IsJoined, IsNode, number_in}
 use Rattle.mmdb_nodes.proofs.ByteLemmas.{HoldsNodes, same_walk}
 use Rattle.mmdb_nodes.proofs.DifferLemmas.{lead-append, below_lead}
@@ -21,7 +21,7 @@ own_forest nodes = record {
   own = λ k n x ge lt is. absurd (omega arith);
 }
 
-pub lone_forest : (v : Option ℕ) (to : Record) (nodes : List SpecNode) → to ≡ leaf v → nodes ≡ (record { left = to; right = to }) ∷ [] → IsForest 0 nodes
+pub lone_forest : (v : Option ℕ) (to : NodeRecord) (nodes : List SpecNode) → to ≡ leaf v → nodes ≡ (record { left = to; right = to }) ∷ [] → IsForest 0 nodes
 lone_forest v to nodes is one = record { parent = λ n. (n, false); onward = λ k n x ge lt at. absurd (none k n x lt at); own = λ k n x ge lt at. absurd (none k n x lt at) } where
   sides : (x : Bool) → side (slice_get nodes 0) x ≡ to
   sides true = ap (λ (ns : List SpecNode). side (slice_get ns 0) true) one
@@ -34,7 +34,7 @@ lone_forest v to nodes is one = record { parent = λ n. (n, false); onward = λ 
 same_node : (n m : ℕ) → Node n ≡ Node m → n ≡ m
 same_node n m h = cc
 
-module _ (old n1 n2 n3 : List SpecNode) (h : AreHalves old n1 n2 n3) (left right r : Record) (new : List SpecNode) (node : IsNode (length old) left right n3 new r)
+module _ (old n1 n2 n3 : List SpecNode) (h : AreHalves old n1 n2 n3) (left right r : NodeRecord) (new : List SpecNode) (node : IsNode (length old) left right n3 new r)
     (f : IsForest (length n1) n2) (g : IsForest (length n2) n3)
     (first : (n : ℕ) → left ≡ Node n → (n ≡ length n1) × (n < length n2)) (second : (n : ℕ) → right ≡ Node n → (n ≡ length n2) × (n < length n3)) where
   parent_of : ℕ → ℕ × Bool
@@ -108,7 +108,7 @@ module _ (old n1 n2 n3 : List SpecNode) (h : AreHalves old n1 n2 n3) (left right
     own = λ k n x ge lt is. (at_node k n x ge lt is).1;
   }
 
-pub joined_forest : (old n1 n2 n3 : List SpecNode) (h : AreHalves old n1 n2 n3) (left right r : Record) (new : List SpecNode) → IsJoined (length old) left right n3 new r → IsForest (length n1) n2 → IsForest (length n2) n3
+pub joined_forest : (old n1 n2 n3 : List SpecNode) (h : AreHalves old n1 n2 n3) (left right r : NodeRecord) (new : List SpecNode) → IsJoined (length old) left right n3 new r → IsForest (length n1) n2 → IsForest (length n2) n3
     → ((n : ℕ) → left ≡ Node n → (n ≡ length n1) × (n < length n2)) → ((n : ℕ) → right ≡ Node n → (n ≡ length n2) × (n < length n3)) → IsForest (length old) new
 joined_forest old n1 n2 n3 h left right r new (inl same) f g first second =
     let e = ap length same.nodes in
@@ -143,7 +143,7 @@ module _ (nodes : List SpecNode) (bound : ℕ) (sound : IsSound 0 bound nodes) (
     there : node < length nodes
     leads : side (slice_get nodes node) last ≡ Node n
 
-  one_step : (r : Record) (front : List Bool) (x : Bool) (n : ℕ) → lead nodes (Node 0) front ≡ r → lead nodes r (x ∷ []) ≡ Node n → CameFrom front x n
+  one_step : (r : NodeRecord) (front : List Bool) (x : Bool) (n : ℕ) → lead nodes (Node 0) front ≡ r → lead nodes r (x ∷ []) ≡ Node n → CameFrom front x n
   unfolding lead
   one_step (Node m) front x n is to = record { node = m; at = is; there = on_nodes front m is; leads = to }
   one_step Empty front x n is to = absurd (cc)
@@ -183,7 +183,7 @@ module _ (nodes : List SpecNode) (bound : ℕ) (sound : IsSound 0 bound nodes) (
       e.whole ∙ ap (λ (xs : List Bool). xs ++ e.last ∷ []) front ∙ ap (λ (z : Bool). f.front ++ z ∷ []) bit ∙ sym f.whole
 
   -- a number that is one of a node
-  node_of : (r : Record) → number_in (length nodes) r < length nodes → (n : ℕ) × ((r ≡ Node n) × (number_in (length nodes) r ≡ n))
+  node_of : (r : NodeRecord) → number_in (length nodes) r < length nodes → (n : ℕ) × ((r ≡ Node n) × (number_in (length nodes) r ≡ n))
   node_of (Node n) lt = (n, (refl, refl))
   node_of Empty lt = absurd (omega arith)
   node_of (Data v) lt = absurd (omega arith)

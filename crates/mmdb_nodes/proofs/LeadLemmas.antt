@@ -8,10 +8,10 @@ use Rattle.std.proofs.lemmas.Nat.Bits.{bit_at_cat_low}
 use Rattle.std.proofs.lemmas.Bool.{cases_lt, true≢false}
 use Rattle.std.proofs.Common.{eqb, take-append-drop}
 use Rattle.mmdb_net.specs.Bits.{bit_of, bits_of}
-use Rattle.mmdb_nodes.specs.declared.entry.Entry.{Entry}
+use Rattle.mmdb_nodes.specs.declared.entry.NodeEntry.{NodeEntry}
 use Rattle.mmdb_nodes.specs.declared.node.Node.{Node as SpecNode}
-use Rattle.mmdb_nodes.specs.declared.node.Record.{Record}
-use Rattle.mmdb_nodes.specs.declared.node.Record.TheVariants.{Node, Empty, Data}
+use Rattle.mmdb_nodes.specs.declared.node.NodeRecord.{NodeRecord}
+use Rattle.mmdb_nodes.specs.declared.node.NodeRecord.TheVariants.{Node, Empty, Data}
 use Rattle.mmdb_blocks.specs.Blocks.{end}
 use Rattle.mmdb_nodes.specs.Entries.{has, offset_after, IsOrdered, block_of}
 use Rattle.mmdb_nodes.specs.Working.{IsInside, IsSmaller, Precedes, Follows, HasOffsetBelow, side, lead, Keeps, Leads, IsBelow, IsSound, HasNoTwins, IsNode, IsJoined, free_bits, leaf}
@@ -27,7 +27,7 @@ room_between p k m h = elim (cases_lt k m) [
 ]
 
 -- what begins before the middle of a block, and where one of its size may, ends there at the latest
-pub ends_by_middle : (first half : ℕ) (e : Entry) → first % 2 ^ suc half ≡ 0 → e.first % 2 ^ free_bits e ≡ 0 → free_bits e ≤ half → e.first < first + 2 ^ half → end (block_of e) ≤ first + 2 ^ half
+pub ends_by_middle : (first half : ℕ) (e : NodeEntry) → first % 2 ^ suc half ≡ 0 → e.first % 2 ^ free_bits e ≡ 0 → free_bits e ≤ half → e.first < first + 2 ^ half → end (block_of e) ≤ first + 2 ^ half
 ends_by_middle first half e block entry small before =
     let p : ℕ = 2 ^ free_bits e in
     let x : ℕ = 2 ^ (half - free_bits e) in
@@ -70,7 +70,7 @@ bits-high half b h =
 
 -- ---- halves of entries
 
-pub low_inside : (first half : ℕ) (es : List Entry) → first % 2 ^ suc half ≡ 0 → AllByRecursion (IsInside first (suc half)) es → AllByRecursion (IsSmaller (suc half)) es → AllByRecursion (Precedes (first + 2 ^ half)) es → AllByRecursion (IsInside first half) es
+pub low_inside : (first half : ℕ) (es : List NodeEntry) → first % 2 ^ suc half ≡ 0 → AllByRecursion (IsInside first (suc half)) es → AllByRecursion (IsSmaller (suc half)) es → AllByRecursion (Precedes (first + 2 ^ half)) es → AllByRecursion (IsInside first half) es
 low_inside first half [] block all small before = tt
 low_inside first half (e ∷ es) block all small before = (
   record {
@@ -83,7 +83,7 @@ low_inside first half (e ∷ es) block all small before = (
   low_inside first half es block all.1 small.1 before.1,
 )
 
-pub high_inside : (first half : ℕ) (es : List Entry) → AllByRecursion (IsInside first (suc half)) es → AllByRecursion (IsSmaller (suc half)) es → AllByRecursion (Follows (first + 2 ^ half)) es → AllByRecursion (IsInside (first + 2 ^ half) half) es
+pub high_inside : (first half : ℕ) (es : List NodeEntry) → AllByRecursion (IsInside first (suc half)) es → AllByRecursion (IsSmaller (suc half)) es → AllByRecursion (Follows (first + 2 ^ half)) es → AllByRecursion (IsInside (first + 2 ^ half) half) es
 high_inside first half [] all small after = tt
 high_inside first half (e ∷ es) all small after = (
   record {
@@ -96,22 +96,22 @@ high_inside first half (e ∷ es) all small after = (
   high_inside first half es all.1 small.1 after.1,
 )
 
-none_of_high : (first half a : ℕ) (es : List Entry) → a < 2 ^ half → AllByRecursion (Follows (first + 2 ^ half)) es → AllByRecursion (λ e. has e (first + a) ≡ false) es
+none_of_high : (first half a : ℕ) (es : List NodeEntry) → a < 2 ^ half → AllByRecursion (Follows (first + 2 ^ half)) es → AllByRecursion (λ e. has e (first + a) ≡ false) es
 none_of_high first half a [] lt after = tt
 none_of_high first half a (e ∷ es) lt after = (has-before e (first + a) (let f = after.0 in omega arith), none_of_high first half a es lt after.1)
 
-none_of_low : (middle b : ℕ) (es : List Entry) → AllByRecursion (λ e. end (block_of e) ≤ middle) es → AllByRecursion (λ e. has e (middle + b) ≡ false) es
+none_of_low : (middle b : ℕ) (es : List NodeEntry) → AllByRecursion (λ e. end (block_of e) ≤ middle) es → AllByRecursion (λ e. has e (middle + b) ≡ false) es
 none_of_low middle b [] ends = tt
 none_of_low middle b (e ∷ es) ends = (has-after e (middle + b) (let f = ends.0 in omega arith), none_of_low middle b es ends.1)
 
-low_ends : (first half : ℕ) (es : List Entry) → AllByRecursion (IsInside first half) es → AllByRecursion (λ e. end (block_of e) ≤ first + 2 ^ half) es
+low_ends : (first half : ℕ) (es : List NodeEntry) → AllByRecursion (IsInside first half) es → AllByRecursion (λ e. end (block_of e) ≤ first + 2 ^ half) es
 low_ends first half [] all = tt
 low_ends first half (e ∷ es) all = (all.0.to, low_ends first half es all.1)
 
-pub low_value : (found : Option ℕ) (first half a : ℕ) (low high : List Entry) → a < 2 ^ half → AllByRecursion (Follows (first + 2 ^ half)) high → offset_after found (low ++ high) (first + a) ≡ offset_after found low (first + a)
+pub low_value : (found : Option ℕ) (first half a : ℕ) (low high : List NodeEntry) → a < 2 ^ half → AllByRecursion (Follows (first + 2 ^ half)) high → offset_after found (low ++ high) (first + a) ≡ offset_after found low (first + a)
 low_value found first half a low high lt after = offset_after-append found low high (first + a) ∙ offset_after-none (offset_after found low (first + a)) high (first + a) (none_of_high first half a high lt after)
 
-pub high_value : (found : Option ℕ) (first half b : ℕ) (low high : List Entry) → AllByRecursion (IsInside first half) low → offset_after found (low ++ high) (first + (2 ^ half + b)) ≡ offset_after found high (first + 2 ^ half + b)
+pub high_value : (found : Option ℕ) (first half b : ℕ) (low high : List NodeEntry) → AllByRecursion (IsInside first half) low → offset_after found (low ++ high) (first + (2 ^ half + b)) ≡ offset_after found high (first + 2 ^ half + b)
 high_value found first half b low high all =
     let sum : first + (2 ^ half + b) ≡ first + 2 ^ half + b = omega arith in
     ap (offset_after found (low ++ high)) sum ∙ offset_after-append found low high (first + 2 ^ half + b)
@@ -158,7 +158,7 @@ lead-node nodes n node x bits h = ap (λ (o : Option SpecNode). lead nodes (side
 pub Keeps-refl : (from : ℕ) (nodes : List SpecNode) → Keeps from nodes nodes
 Keeps-refl from nodes k h l = refl
 
-pub IsBelow-more : (m n bound : ℕ) (r : Record) → m ≤ n → IsBelow m bound r → IsBelow n bound r
+pub IsBelow-more : (m n bound : ℕ) (r : NodeRecord) → m ≤ n → IsBelow m bound r → IsBelow n bound r
 IsBelow-more m n bound (Node k) h b = omega arith
 IsBelow-more m n bound Empty h b = tt
 IsBelow-more m n bound (Data v) h b = b
@@ -179,16 +179,16 @@ leaf_no_node None n h = cc
 leaf_no_node (Some v) n h = cc
 
 -- a record is a leaf or a node
-pub cases_of : (r : Record) → ((v : Option ℕ) × (r ≡ leaf v)) ⊎ ((n : ℕ) × (r ≡ Node n))
+pub cases_of : (r : NodeRecord) → ((v : Option ℕ) × (r ≡ leaf v)) ⊎ ((n : ℕ) × (r ≡ Node n))
 cases_of (Node n) = inr (n, refl)
 cases_of Empty = inl (None, refl)
 cases_of (Data offset) = inl (Some offset, refl)
 
 -- what entries for all of a block say
-pub own_leads : (from : ℕ) (nodes : List SpecNode) (v found : Option ℕ) (first free : ℕ) (es : List Entry) → ((a : ℕ) → a < 2 ^ free → v ≡ offset_after found es (first + a)) → Leads from nodes (leaf v) first free found es
+pub own_leads : (from : ℕ) (nodes : List SpecNode) (v found : Option ℕ) (first free : ℕ) (es : List NodeEntry) → ((a : ℕ) → a < 2 ^ free → v ≡ offset_after found es (first + a)) → Leads from nodes (leaf v) first free found es
 own_leads from nodes v found first free es h = record { to = λ all keeps a lt. lead-leaf all v (bits_of free a) ∙ ap leaf (h a lt) }
 
--- the nodes of two halves behind the place of their own node
+-- the nodes of two halves after the place of their own node
 pub record AreHalves (old n1 n2 n3 : List SpecNode) : Type 0 where
   pub blank : SpecNode
   pub placed : n1 ≡ old ++ blank ∷ []
@@ -210,7 +210,7 @@ module _ (old n1 n2 n3 : List SpecNode) (h : AreHalves old n1 n2 n3) where
   old_first : n3 ≡ old ++ (h.blank ∷ [] ++ h.lefts ++ h.rights)
   old_first = h.right_grown ∙ ap (λ (xs : List SpecNode). xs ++ h.rights) (h.left_grown ∙ ap (λ (xs : List SpecNode). xs ++ h.lefts) h.placed) ∙ simp append_assoc
 
-  pub joined_grown : (left right r : Record) (new : List SpecNode) → IsJoined (length old) left right n3 new r → (more : List SpecNode) × (new ≡ old ++ more)
+  pub joined_grown : (left right r : NodeRecord) (new : List SpecNode) → IsJoined (length old) left right n3 new r → (more : List SpecNode) × (new ≡ old ++ more)
   joined_grown left right r new (inl same) = ([], same.nodes ∙ ap (take (length old)) old_first ∙ take-append_front old _ ∙ sym (append-nil old))
   joined_grown left right r new (inr node) = (_, node.nodes ∙ ap (λ (xs : List SpecNode). set xs (length old) (record { left = left; right = right })) old_first ∙ set-append_back old _ _)
 
@@ -220,7 +220,7 @@ module _ (old n1 n2 n3 : List SpecNode) (h : AreHalves old n1 n2 n3) where
   pub left_kept : (k : ℕ) → k < length n2 → slice_get n3 k ≡ slice_get n2 k
   left_kept k lt = ap (λ (xs : List SpecNode). slice_get xs k) h.right_grown ∙ slice_get-append_left n2 h.rights k lt
 
-  module _ (left right r : Record) (new : List SpecNode) (node : IsNode (length old) left right n3 new r) where
+  module _ (left right r : NodeRecord) (new : List SpecNode) (node : IsNode (length old) left right n3 new r) where
     pub new_length : length new ≡ length n3
     new_length = ap length node.nodes ∙ length-set n3 (length old) _
 
@@ -243,7 +243,7 @@ module _ (old n1 n2 n3 : List SpecNode) (h : AreHalves old n1 n2 n3) where
     pub node_at : (all : List SpecNode) → Keeps (length old) new all → slice_get all (length old) ≡ Some (record { left = left; right = right })
     node_at all keeps = let c = new_length in let d = node_there in keeps (length old) (omega arith) (omega arith) ∙ at_place
 
-  module _ (left right r : Record) (new : List SpecNode) (found : Option ℕ) (first half : ℕ) (low high : List Entry)
+  module _ (left right r : NodeRecord) (new : List SpecNode) (found : Option ℕ) (first half : ℕ) (low high : List NodeEntry)
       (l : Leads (length n1) n2 left first half found low) (m : Leads (length n2) n3 right (first + 2 ^ half) half found high)
       (inside : AllByRecursion (IsInside first half) low) (after : AllByRecursion (Follows (first + 2 ^ half)) high) where
     double : 2 ^ suc half ≡ 2 ^ half + 2 ^ half
@@ -254,8 +254,8 @@ module _ (old n1 n2 n3 : List SpecNode) (h : AreHalves old n1 n2 n3) where
       | inl below ↦
           let to = l.to n2 (Keeps-refl (length n1) n2) a below in
           let stays = lead-leaf n2 same.value (bits_of half a) in
-          let at : lead n2 left (bits_of half a) ≡ leaf same.value = ap (λ (x : Record). lead n2 x (bits_of half a)) same.left_is ∙ stays in
-          ap (λ (x : Record). lead all x (bits_of (suc half) a)) same.result_is ∙ lead-leaf all same.value (bits_of (suc half) a) ∙ sym at ∙ to ∙ ap leaf (sym (low_value found first half a low high below after))
+          let at : lead n2 left (bits_of half a) ≡ leaf same.value = ap (λ (x : NodeRecord). lead n2 x (bits_of half a)) same.left_is ∙ stays in
+          ap (λ (x : NodeRecord). lead all x (bits_of (suc half) a)) same.result_is ∙ lead-leaf all same.value (bits_of (suc half) a) ∙ sym at ∙ to ∙ ap leaf (sym (low_value found first half a low high below after))
       | inr above ↦
           let b : ℕ = a - 2 ^ half in
           let parts : a ≡ 2 ^ half + b = omega arith in
@@ -263,13 +263,13 @@ module _ (old n1 n2 n3 : List SpecNode) (h : AreHalves old n1 n2 n3) where
           let fits : b < 2 ^ half = omega arith in
           let to = m.to n3 (Keeps-refl (length n2) n3) b fits in
           let stays = lead-leaf n3 same.value (bits_of half b) in
-          let at : lead n3 right (bits_of half b) ≡ leaf same.value = ap (λ (x : Record). lead n3 x (bits_of half b)) same.right_is ∙ stays in
-          ap (λ (x : Record). lead all x (bits_of (suc half) a)) same.result_is ∙ lead-leaf all same.value (bits_of (suc half) a) ∙ sym at ∙ to
+          let at : lead n3 right (bits_of half b) ≡ leaf same.value = ap (λ (x : NodeRecord). lead n3 x (bits_of half b)) same.right_is ∙ stays in
+          ap (λ (x : NodeRecord). lead all x (bits_of (suc half) a)) same.result_is ∙ lead-leaf all same.value (bits_of (suc half) a) ∙ sym at ∙ to
           ∙ ap leaf (sym (ap (λ (n : ℕ). offset_after found (low ++ high) (first + n)) parts ∙ high_value found first half b low high inside))
     ]
     joined_leads (inr node) a lt all keeps = elim (cases_lt a (2 ^ half)) [
       | inl below ↦
-          ap (λ (x : Record). lead all x (bits_of (suc half) a)) node.result_is ∙ ap (lead all (Node (length old))) (bits-low half a below)
+          ap (λ (x : NodeRecord). lead all x (bits_of (suc half) a)) node.result_is ∙ ap (lead all (Node (length old))) (bits-low half a below)
           ∙ lead-node all (length old) _ false (bits_of half a) (node_at left right r new node all keeps)
           ∙ l.to all (keeps_left left right r new node all keeps) a below ∙ ap leaf (sym (low_value found first half a low high below after))
       | inr above ↦
@@ -277,14 +277,14 @@ module _ (old n1 n2 n3 : List SpecNode) (h : AreHalves old n1 n2 n3) where
           let parts : a ≡ 2 ^ half + b = omega arith in
           let e = double in
           let fits : b < 2 ^ half = omega arith in
-          ap (λ (x : Record). lead all x (bits_of (suc half) a)) node.result_is ∙ ap (λ (n : ℕ). lead all (Node (length old)) (bits_of (suc half) n)) parts
+          ap (λ (x : NodeRecord). lead all x (bits_of (suc half) a)) node.result_is ∙ ap (λ (n : ℕ). lead all (Node (length old)) (bits_of (suc half) n)) parts
           ∙ ap (lead all (Node (length old))) (bits-high half b fits)
           ∙ lead-node all (length old) _ true (bits_of half b) (node_at left right r new node all keeps)
           ∙ m.to all (keeps_right left right r new node all keeps) b fits
           ∙ ap leaf (sym (ap (λ (n : ℕ). offset_after found (low ++ high) (first + n)) parts ∙ high_value found first half b low high inside))
     ]
 
-  pub joined_sound : (left right r : Record) (new : List SpecNode) (bound : ℕ) → IsJoined (length old) left right n3 new r → IsSound (length n1) bound n2 → IsSound (length n2) bound n3 → IsBelow (length n2) bound left → IsBelow (length n3) bound right → IsSound (length old) bound new
+  pub joined_sound : (left right r : NodeRecord) (new : List SpecNode) (bound : ℕ) → IsJoined (length old) left right n3 new r → IsSound (length n1) bound n2 → IsSound (length n2) bound n3 → IsBelow (length n2) bound left → IsBelow (length n3) bound right → IsSound (length old) bound new
   joined_sound left right r new bound (inl same) s t b c k x ge lt =
       let e = ap length same.nodes in absurd (omega (arith, length-take (length old) n3))
   joined_sound left right r new bound (inr node) s t b c k x ge lt =
@@ -292,8 +292,8 @@ module _ (old n1 n2 n3 : List SpecNode) (h : AreHalves old n1 n2 n3) where
       let f = behind_place in
       let g = left_longer in
       let i = right_longer in
-      let wider : (y : Record) → IsBelow (length n2) bound y → IsBelow (length new) bound y = λ y. IsBelow-more (length n2) (length new) bound y (omega arith) in
-      let same : (y : Record) → IsBelow (length n3) bound y → IsBelow (length new) bound y = λ y. IsBelow-more (length n3) (length new) bound y (omega arith) in
+      let wider : (y : NodeRecord) → IsBelow (length n2) bound y → IsBelow (length new) bound y = λ y. IsBelow-more (length n2) (length new) bound y (omega arith) in
+      let same : (y : NodeRecord) → IsBelow (length n3) bound y → IsBelow (length new) bound y = λ y. IsBelow-more (length n3) (length new) bound y (omega arith) in
       elim (cases_lt (length old) k) [
         | inl behind ↦ elim (cases_lt k (length n2)) [
           | inl in_left ↦
@@ -310,7 +310,7 @@ module _ (old n1 n2 n3 : List SpecNode) (h : AreHalves old n1 n2 n3) where
             subst (λ (o : Option SpecNode). IsBelow (length new) bound (side o x)) (sym is) both
       ]
 
-  pub joined_below : (left right r : Record) (new : List SpecNode) (bound : ℕ) → IsJoined (length old) left right n3 new r → IsBelow (length n2) bound left → IsBelow (length new) bound r
+  pub joined_below : (left right r : NodeRecord) (new : List SpecNode) (bound : ℕ) → IsJoined (length old) left right n3 new r → IsBelow (length n2) bound left → IsBelow (length new) bound r
   joined_below left right r new bound (inl same) b =
       let at : IsBelow (length n2) bound (leaf same.value) = subst (IsBelow (length n2) bound) same.left_is b in
       subst (IsBelow (length new) bound) (sym same.result_is) (leaf_below (length n2) (length new) bound same.value at)
@@ -319,7 +319,7 @@ module _ (old n1 n2 n3 : List SpecNode) (h : AreHalves old n1 n2 n3) where
       let lt : length old < length new = omega arith in
       subst (IsBelow (length new) bound) (sym node.result_is) lt
 
-  pub joined_reduced : (left right r : Record) (new : List SpecNode) → IsJoined (length old) left right n3 new r → HasNoTwins (length n1) n2 → HasNoTwins (length n2) n3 → HasNoTwins (length old) new
+  pub joined_reduced : (left right r : NodeRecord) (new : List SpecNode) → IsJoined (length old) left right n3 new r → HasNoTwins (length n1) n2 → HasNoTwins (length n2) n3 → HasNoTwins (length old) new
   joined_reduced left right r new (inl same) s t k v ge lt a b =
       let e = ap length same.nodes in absurd (omega (arith, length-take (length old) n3))
   joined_reduced left right r new (inr node) s t k v ge lt a b =
@@ -341,7 +341,7 @@ module _ (old n1 n2 n3 : List SpecNode) (h : AreHalves old n1 n2 n3) where
       ]
 
   -- a node that stands for two halves is the one at their place
-  pub joined_place : (left right r : Record) (new : List SpecNode) (n : ℕ) → IsJoined (length old) left right n3 new r → r ≡ Node n → (n ≡ length old) × (n < length new)
+  pub joined_place : (left right r : NodeRecord) (new : List SpecNode) (n : ℕ) → IsJoined (length old) left right n3 new r → r ≡ Node n → (n ≡ length old) × (n < length new)
   joined_place left right r new n (inl same) is = let e = same.result_is in absurd (leaf_no_node same.value n (sym e ∙ is))
   joined_place left right r new n (inr node) is =
       let e = node.result_is in let f : Node (length old) ≡ Node n = sym e ∙ is in
@@ -351,7 +351,7 @@ module _ (old n1 n2 n3 : List SpecNode) (h : AreHalves old n1 n2 n3) where
 
 -- ---- the block and its halves, by numbers
 
-pub free_positive : (free : ℕ) (es : List Entry) → eqb (length es) 0 ≡ false → AllByRecursion (IsSmaller free) es → 1 ≤ free
+pub free_positive : (free : ℕ) (es : List NodeEntry) → eqb (length es) 0 ≡ false → AllByRecursion (IsSmaller free) es → 1 ≤ free
 free_positive free [] test small = absurd (true≢false test)
 free_positive free (e ∷ es) test small = let s = small.0 in omega arith
 
@@ -377,7 +377,7 @@ pub halves_of : (free : ℕ) → 1 ≤ free → 2 ^ free ≡ 2 ^ (free - 1) + 2 
 halves_of free h = let e : free ≡ suc (free - 1) = omega arith in let d = pow-suc 2 (free - 1) in ap (λ (n : ℕ). 2 ^ n) e ∙ (omega arith)
 
 -- the entries that are left, where they are cut, and what is known of them
-pub record IsCut (first free middle : ℕ) (rest low high : List Entry) : Type 0 where
+pub record IsCut (first free middle : ℕ) (rest low high : List NodeEntry) : Type 0 where
   pub positive : 1 ≤ free
   pub block : first % 2 ^ free ≡ 0
   pub middle_is : middle ≡ first + 2 ^ (free - 1)
@@ -390,7 +390,7 @@ pub record IsCut (first free middle : ℕ) (rest low high : List Entry) : Type 0
   pub before : AllByRecursion (Precedes middle) (take place rest)
   pub after : AllByRecursion (Follows middle) (drop place rest)
 
-module _ (first free middle : ℕ) (rest low high : List Entry) (c : IsCut first free middle rest low high) where
+module _ (first free middle : ℕ) (rest low high : List NodeEntry) (c : IsCut first free middle rest low high) where
   pub free_is : free ≡ suc (free - 1)
   free_is = let p = c.positive in omega arith
 
@@ -433,13 +433,13 @@ module _ (first free middle : ℕ) (rest low high : List Entry) (c : IsCut first
       let all = subst (λ (n : ℕ). AllByRecursion (IsInside first n) (drop c.place rest)) free_is (all-drop (IsInside first free) c.place rest c.all) in
       let small = subst (λ (n : ℕ). AllByRecursion (IsSmaller n) (drop c.place rest)) free_is (all-drop (IsSmaller free) c.place rest c.small) in
       let inside = high_inside first (free - 1) (drop c.place rest) all small cut_after in
-      subst (λ (es : List Entry). AllByRecursion (IsInside middle (free - 1)) es) (sym c.high_is) (subst (λ (n : ℕ). AllByRecursion (IsInside n (free - 1)) (drop c.place rest)) (sym c.middle_is) inside)
+      subst (λ (es : List NodeEntry). AllByRecursion (IsInside middle (free - 1)) es) (sym c.high_is) (subst (λ (n : ℕ). AllByRecursion (IsInside n (free - 1)) (drop c.place rest)) (sym c.middle_is) inside)
 
   pub cut_whole : rest ≡ low ++ high
-  cut_whole = sym (take-append-drop c.place rest) ∙ ap (λ (xs : List Entry). xs ++ drop c.place rest) (sym c.low_is) ∙ ap (λ (xs : List Entry). low ++ xs) (sym c.high_is)
+  cut_whole = sym (take-append-drop c.place rest) ∙ ap (λ (xs : List NodeEntry). xs ++ drop c.place rest) (sym c.low_is) ∙ ap (λ (xs : List NodeEntry). low ++ xs) (sym c.high_is)
 
   -- what the halves say, the whole block says
-  pub cut_leads : (old n1 n2 n3 new : List SpecNode) (left right r : Record) (found given : Option ℕ) (es : List Entry) → AreHalves old n1 n2 n3
+  pub cut_leads : (old n1 n2 n3 new : List SpecNode) (left right r : NodeRecord) (found given : Option ℕ) (es : List NodeEntry) → AreHalves old n1 n2 n3
       → Leads (length n1) n2 left first (free - 1) found low → Leads (length n2) n3 right middle (free - 1) found high
       → IsJoined (length old) left right n3 new r
       → ((a : ℕ) → a < 2 ^ free → offset_after found rest (first + a) ≡ offset_after given es (first + a))
@@ -451,11 +451,11 @@ module _ (first free middle : ℕ) (rest low high : List Entry) (c : IsCut first
             let e : 2 ^ free ≡ 2 ^ suc (free - 1) = ap (λ (x : ℕ). 2 ^ x) free_is in
             ap (λ (x : ℕ). lead all r (bits_of x a)) free_is
             ∙ joined_leads old n1 n2 n3 h left right r new found first (free - 1) low high l n cut_low_inside cut_high_follows j a (omega arith) all keeps
-            ∙ ap (λ (xs : List Entry). leaf (offset_after found xs (first + a))) (sym cut_whole)
+            ∙ ap (λ (xs : List NodeEntry). leaf (offset_after found xs (first + a))) (sym cut_whole)
             ∙ ap leaf (says a lt);
       }
 
-pub made_cut : (first free size place : ℕ) (rest low high : List Entry) → first % 2 ^ free ≡ 0 → eqb (length rest) 0 ≡ false → AllByRecursion (IsInside first free) rest → AllByRecursion (IsSmaller free) rest → IsOrdered rest → size ≡ 2 ^ (free - 1)
+pub made_cut : (first free size place : ℕ) (rest low high : List NodeEntry) → first % 2 ^ free ≡ 0 → eqb (length rest) 0 ≡ false → AllByRecursion (IsInside first free) rest → AllByRecursion (IsSmaller free) rest → IsOrdered rest → size ≡ 2 ^ (free - 1)
     → low ≡ take place rest → high ≡ drop place rest → AllByRecursion (Precedes (first + size)) (take place rest) → AllByRecursion (Follows (first + size)) (drop place rest) → IsCut first free (first + size) rest low high
 made_cut first free size place rest low high block some all small order is l h before after = record {
   positive = free_positive free rest some small;
@@ -473,15 +473,15 @@ made_cut first free size place rest low high block some all small order is l h b
 
 -- ---- a whole tree
 
-pub lone_leads : (v : Option ℕ) (to : Record) (nodes : List SpecNode) (width a : ℕ) → to ≡ leaf v → nodes ≡ (record { left = to; right = to }) ∷ [] → 0 < width → lead nodes (Node 0) (bits_of width a) ≡ leaf v
+pub lone_leads : (v : Option ℕ) (to : NodeRecord) (nodes : List SpecNode) (width a : ℕ) → to ≡ leaf v → nodes ≡ (record { left = to; right = to }) ∷ [] → 0 < width → lead nodes (Node 0) (bits_of width a) ≡ leaf v
 unfolding bits_of
 lone_leads v to nodes zero a is one h = absurd (omega arith)
 lone_leads v to nodes (suc w) a is one h =
     let at : slice_get nodes 0 ≡ Some (record { left = to; right = to }) = ap (λ (xs : List SpecNode). slice_get xs 0) one in
     let same : cond (bit_of a w) to to ≡ to = elim (bit_of a w) as (λ (b : Bool). cond b to to ≡ to) [ true ↦ refl | false ↦ refl ] in
-    lead-node nodes 0 _ (bit_of a w) (bits_of w a) at ∙ ap (λ (r : Record). lead nodes r (bits_of w a)) (same ∙ is) ∙ lead-leaf nodes v (bits_of w a)
+    lead-node nodes 0 _ (bit_of a w) (bits_of w a) at ∙ ap (λ (r : NodeRecord). lead nodes r (bits_of w a)) (same ∙ is) ∙ lead-leaf nodes v (bits_of w a)
 
-pub lone_sound : (count bound : ℕ) (to : Record) (v : Option ℕ) (nodes : List SpecNode) → to ≡ leaf v → nodes ≡ (record { left = to; right = to }) ∷ [] → IsBelow count bound to → IsSound 0 bound nodes
+pub lone_sound : (count bound : ℕ) (to : NodeRecord) (v : Option ℕ) (nodes : List SpecNode) → to ≡ leaf v → nodes ≡ (record { left = to; right = to }) ∷ [] → IsBelow count bound to → IsSound 0 bound nodes
 lone_sound count bound to v nodes is one below zero right ge lt =
     let at : slice_get nodes 0 ≡ Some (record { left = to; right = to }) = ap (λ (xs : List SpecNode). slice_get xs 0) one in
     let there : IsBelow (length nodes) bound (leaf v) = leaf_below count (length nodes) bound v (subst (IsBelow count bound) is below) in

@@ -6,10 +6,10 @@ use Rattle.std.proofs.lemmas.Nat.{pow_pos}
 use Rattle.std.proofs.lemmas.Bool.{cases_lt, false≢true, false_from_ne_true}
 use Rattle.std.proofs.lemmas.Bool.Decides.{nat_tests}
 use Rattle.mmdb_net.specs.Bits.{bits_of}
-use Rattle.mmdb_nodes.specs.declared.entry.Entry.{Entry}
+use Rattle.mmdb_nodes.specs.declared.entry.NodeEntry.{NodeEntry}
 use Rattle.mmdb_nodes.specs.declared.node.Node.{Node as SpecNode}
-use Rattle.mmdb_nodes.specs.declared.node.Record.{Record}
-use Rattle.mmdb_nodes.specs.declared.node.Record.TheVariants.{Node}
+use Rattle.mmdb_nodes.specs.declared.node.NodeRecord.{NodeRecord}
+use Rattle.mmdb_nodes.specs.declared.node.NodeRecord.TheVariants.{Node}
 use Rattle.mmdb_nodes.specs.Entries.{offset_after}
 use Rattle.mmdb_nodes.specs.Trees.{is_same, all_same, splits}
 use Rattle.mmdb_nodes.specs.Working.{leaf, lead, Leads, IsKept, IsJoined, HasAsMany, NeedsTooMany}
@@ -132,20 +132,20 @@ splits-alike f g first (suc half) h =
 -- ---- nodes
 
 -- a block without entries of its own parts has none
-pub own_many : (from first free : ℕ) (v found : Option ℕ) (es : List Entry) → ((a : ℕ) → a < 2 ^ free → v ≡ offset_after found es (first + a)) → HasAsMany from from (leaf v) first free found es
+pub own_many : (from first free : ℕ) (v found : Option ℕ) (es : List NodeEntry) → ((a : ℕ) → a < 2 ^ free → v ≡ offset_after found es (first + a)) → HasAsMany from from (leaf v) first free found es
 own_many from first free v found es h = record {
   count = let e = splits-none (offset_after found es) v first free (λ i lt. sym (h i lt)) in omega arith;
   differs = λ n is. absurd (leaf_no_node v n is);
 }
 
 -- what a leaf says of its block
-pub leaf_says : (from : ℕ) (nodes : List SpecNode) (r : Record) (v : Option ℕ) (first free : ℕ) (found : Option ℕ) (es : List Entry) → Leads from nodes r first free found es → r ≡ leaf v → (a : ℕ) → a < 2 ^ free → offset_after found es (first + a) ≡ v
+pub leaf_says : (from : ℕ) (nodes : List SpecNode) (r : NodeRecord) (v : Option ℕ) (first free : ℕ) (found : Option ℕ) (es : List NodeEntry) → Leads from nodes r first free found es → r ≡ leaf v → (a : ℕ) → a < 2 ^ free → offset_after found es (first + a) ≡ v
 leaf_says from nodes r v first free found es l is a lt =
-    let at : lead nodes r (bits_of free a) ≡ leaf v = ap (λ (x : Record). lead nodes x (bits_of free a)) is ∙ lead-leaf nodes v (bits_of free a) in
+    let at : lead nodes r (bits_of free a) ≡ leaf v = ap (λ (x : NodeRecord). lead nodes x (bits_of free a)) is ∙ lead-leaf nodes v (bits_of free a) in
     sym (leaf_value v (offset_after found es (first + a)) (sym at ∙ l.to nodes (Keeps-refl from nodes) a lt))
 
 -- What is known of the two halves of a block, and of what its addresses have.
-pub record HasHalves (from n1 n2 n3 : ℕ) (left right : Record) (first half : ℕ) (at : ℕ → Option ℕ) : Type 0 where
+pub record HasHalves (from n1 n2 n3 : ℕ) (left right : NodeRecord) (first half : ℕ) (at : ℕ → Option ℕ) : Type 0 where
   pub behind : n1 ≡ from + 1
   pub left_count : n2 ≡ n1 + splits at first half
   pub left_differs : (n : ℕ) → left ≡ Node n → all_same at first (2 ^ half) ≡ false
@@ -154,7 +154,7 @@ pub record HasHalves (from n1 n2 n3 : ℕ) (left right : Record) (first half : �
   pub right_differs : (n : ℕ) → right ≡ Node n → all_same at (first + 2 ^ half) (2 ^ half) ≡ false
   pub right_says : (v : Option ℕ) → right ≡ leaf v → (a : ℕ) → a < 2 ^ half → at (first + 2 ^ half + a) ≡ v
 
-module _ (from n1 n2 n3 : ℕ) (left right : Record) (first half : ℕ) (at : ℕ → Option ℕ) (h : HasHalves from n1 n2 n3 left right first half at) where
+module _ (from n1 n2 n3 : ℕ) (left right : NodeRecord) (first half : ℕ) (at : ℕ → Option ℕ) (h : HasHalves from n1 n2 n3 left right first half at) where
   -- where the halves have not the same leaf, the addresses of the block differ
   pub kept_differs : IsKept left right → all_same at first (2 ^ suc half) ≡ false
   kept_differs kept = elim (cases_of left) [
@@ -191,7 +191,7 @@ module _ (from n1 n2 n3 : ℕ) (left right : Record) (first half : ℕ) (at : �
 
 -- ---- a block whose entries were cut at its middle
 
-module _ (first free middle : ℕ) (rest low high : List Entry) (c : IsCut first free middle rest low high) (found given : Option ℕ) (es : List Entry)
+module _ (first free middle : ℕ) (rest low high : List NodeEntry) (c : IsCut first free middle rest low high) (found given : Option ℕ) (es : List NodeEntry)
     (says : (a : ℕ) → a < 2 ^ free → offset_after found rest (first + a) ≡ offset_after given es (first + a)) where
   whole_is : suc (free - 1) ≡ free
   whole_is = let p = c.positive in omega arith
@@ -200,7 +200,7 @@ module _ (first free middle : ℕ) (rest low high : List Entry) (c : IsCut first
   low_at a lt =
       let e = halves_of free c.positive in
       sym (low_value found first (free - 1) a low high lt (cut_high_follows first free middle rest low high c))
-      ∙ ap (λ (xs : List Entry). offset_after found xs (first + a)) (sym (cut_whole first free middle rest low high c))
+      ∙ ap (λ (xs : List NodeEntry). offset_after found xs (first + a)) (sym (cut_whole first free middle rest low high c))
       ∙ says a (omega arith)
 
   high_at : (b : ℕ) → b < 2 ^ (free - 1) → offset_after found high (middle + b) ≡ (offset_after given es) (middle + b)
@@ -211,7 +211,7 @@ module _ (first free middle : ℕ) (rest low high : List Entry) (c : IsCut first
       let cut : first + 2 ^ (free - 1) + b ≡ middle + b = omega arith in
       ap (offset_after found high) (sym cut)
       ∙ sym (high_value found first (free - 1) b low high (cut_low_inside first free middle rest low high c))
-      ∙ ap (λ (xs : List Entry). offset_after found xs (first + (2 ^ (free - 1) + b))) (sym (cut_whole first free middle rest low high c))
+      ∙ ap (λ (xs : List NodeEntry). offset_after found xs (first + (2 ^ (free - 1) + b))) (sym (cut_whole first free middle rest low high c))
       ∙ says (2 ^ (free - 1) + b) (omega arith) ∙ ap (offset_after given es) sum
 
   low_splits : splits (offset_after found low) first (free - 1) ≡ splits (offset_after given es) first (free - 1)
@@ -241,14 +241,14 @@ module _ (first free middle : ℕ) (rest low high : List Entry) (c : IsCut first
       let f = low_splits in let g = n.many in
       too_many from whole (omega arith)
 
-  pub right_too_many : (from n1 n2 : ℕ) (left : Record) → n1 ≡ from + 1 → HasAsMany n1 n2 left first (free - 1) found low → NeedsTooMany n2 middle (free - 1) found high → NeedsTooMany from first free given es
+  pub right_too_many : (from n1 n2 : ℕ) (left : NodeRecord) → n1 ≡ from + 1 → HasAsMany n1 n2 left first (free - 1) found low → NeedsTooMany n2 middle (free - 1) found high → NeedsTooMany from first free given es
   right_too_many from n1 n2 left next l n =
       let whole : all_same (offset_after given es) first (2 ^ suc (free - 1)) ≡ false = right_differs (offset_after given es) first (free - 1) (sym high_same ∙ n.differs) in
       let e = splits-more (offset_after given es) first (free - 1) whole in
       let f = low_splits in let g = high_splits in let k = n.many in let m = l.count in
       too_many from whole (omega arith)
 
-  module _ (old nodes1 nodes2 nodes3 : List SpecNode) (h : AreHalves old nodes1 nodes2 nodes3) (left right : Record)
+  module _ (old nodes1 nodes2 nodes3 : List SpecNode) (h : AreHalves old nodes1 nodes2 nodes3) (left right : NodeRecord)
       (l : HasAsMany (length nodes1) (length nodes2) left first (free - 1) found low) (l_leads : Leads (length nodes1) nodes2 left first (free - 1) found low)
       (r : HasAsMany (length nodes2) (length nodes3) right middle (free - 1) found high) (r_leads : Leads (length nodes2) nodes3 right middle (free - 1) found high) where
     known : HasHalves (length old) (length nodes1) (length nodes2) (length nodes3) left right first (free - 1) (offset_after given es)
@@ -271,13 +271,13 @@ module _ (first free middle : ℕ) (rest low high : List Entry) (c : IsCut first
         let e = splits-more (offset_after given es) first (free - 1) whole in
         too_many (length old) whole (omega arith)
 
-    many_of_whole : (to : ℕ) (record_is : Record) → to ≡ length old + splits (offset_after given es) first (suc (free - 1)) → ((n : ℕ) → record_is ≡ Node n → all_same (offset_after given es) first (2 ^ suc (free - 1)) ≡ false) → HasAsMany (length old) to record_is first free given es
+    many_of_whole : (to : ℕ) (record_is : NodeRecord) → to ≡ length old + splits (offset_after given es) first (suc (free - 1)) → ((n : ℕ) → record_is ≡ Node n → all_same (offset_after given es) first (2 ^ suc (free - 1)) ≡ false) → HasAsMany (length old) to record_is first free given es
     many_of_whole to record_is count differs = record {
       count = let e = ap (splits (offset_after given es) first) whole_is in omega arith;
       differs = λ n is. ap (λ (k : ℕ). all_same (offset_after given es) first (2 ^ k)) (sym whole_is) ∙ differs n is;
     }
 
-    pub joined_many : (one : Record) (new : List SpecNode) → IsJoined (length old) left right nodes3 new one → HasAsMany (length old) (length new) one first free given es
+    pub joined_many : (one : NodeRecord) (new : List SpecNode) → IsJoined (length old) left right nodes3 new one → HasAsMany (length old) (length new) one first free given es
     joined_many one new (inl same) =
         let none = same_count (length old) (length nodes1) (length nodes2) (length nodes3) left right first (free - 1) (offset_after given es) known same.value same.left_is same.right_is in
         let e = ap length same.nodes in

@@ -1,12 +1,12 @@
 -- The nodes of a whole tree.
 use Rattle.std.proofs.Common.{arith, ◌≡◌, inl, inr, ℕ, ◌+◌, ◌<◌, ◌≤◌, ◌^◌, ◌∷◌, [], ap, sym, ◌∙◌, length, None, Option, List}
 use Rattle.mmdb_net.specs.Bits.{bits_of}
-use Rattle.mmdb_nodes.specs.declared.entry.Entry.{Entry}
+use Rattle.mmdb_nodes.specs.declared.entry.NodeEntry.{NodeEntry}
 use Rattle.mmdb_nodes.specs.declared.entry.IpVersion.{IpVersion}
 use Rattle.mmdb_nodes.specs.declared.entry.IpVersion.TheVariants.{V4, V6}
 use Rattle.mmdb_nodes.specs.declared.node.Node.{Node as SpecNode}
-use Rattle.mmdb_nodes.specs.declared.node.Record.{Record}
-use Rattle.mmdb_nodes.specs.declared.node.Record.TheVariants.{Node}
+use Rattle.mmdb_nodes.specs.declared.node.NodeRecord.{NodeRecord}
+use Rattle.mmdb_nodes.specs.declared.node.NodeRecord.TheVariants.{Node}
 use Rattle.mmdb_nodes.specs.Entries.{width, offset_in}
 use Rattle.mmdb_nodes.specs.Trees.{splits, nodes_for}
 use Rattle.mmdb_nodes.specs.Working.{leaf, lead, ends, Leads, IsBelow, IsSound, HasNoTwins, IsForest, HasAsMany, NeedsTooMany, AreNodesOf}
@@ -24,7 +24,7 @@ some_bits V4 = omega arith
 some_bits V6 = omega arith
 
 -- what was planted for all addresses
-pub record IsPlanted (version : IpVersion) (es : List Entry) (data_len : ℕ) (nodes : List SpecNode) (r : Record) : Type 0 where
+pub record IsPlanted (version : IpVersion) (es : List NodeEntry) (data_len : ℕ) (nodes : List SpecNode) (r : NodeRecord) : Type 0 where
   pub leads : Leads 0 nodes r 0 (width version) None es
   pub sound : IsSound 0 data_len nodes
   pub below : IsBelow (length nodes) data_len r
@@ -34,7 +34,7 @@ pub record IsPlanted (version : IpVersion) (es : List Entry) (data_len : ℕ) (n
   pub forest : IsForest 0 nodes
   pub many : HasAsMany 0 (length nodes) r 0 (width version) None es
 
-module _ (version : IpVersion) (es : List Entry) (data_len : ℕ) (nodes : List SpecNode) (r : Record) (p : IsPlanted version es data_len nodes r) where
+module _ (version : IpVersion) (es : List NodeEntry) (data_len : ℕ) (nodes : List SpecNode) (r : NodeRecord) (p : IsPlanted version es data_len nodes r) where
   -- where the addresses differ
   pub node_tree : (n : ℕ) → r ≡ Node n → AreNodesOf version es data_len nodes
   node_tree n is =
@@ -44,10 +44,10 @@ module _ (version : IpVersion) (es : List Entry) (data_len : ℕ) (nodes : List 
       record {
         leads = λ a lt.
             let sum : 0 + a ≡ a = omega arith in
-            sym (ap (λ (x : Record). lead nodes x (bits_of (width version) a)) root) ∙ p.leads.to nodes (Keeps-refl 0 nodes) a lt ∙ ap (λ (x : ℕ). leaf (offset_in es x)) sum;
+            sym (ap (λ (x : NodeRecord). lead nodes x (bits_of (width version) a)) root) ∙ p.leads.to nodes (Keeps-refl 0 nodes) a lt ∙ ap (λ (x : ℕ). leaf (offset_in es x)) sum;
         some = some;
         sound = p.sound;
-        few = let e = ap (λ (x : Record). ends nodes x (width version)) root in let f = p.few in omega arith;
+        few = let e = ap (λ (x : NodeRecord). ends nodes x (width version)) root in let f = p.few in omega arith;
         reduced = inl p.reduced;
         forest = p.forest;
         count = let c = p.many.count in omega arith;
@@ -67,10 +67,10 @@ module _ (version : IpVersion) (es : List Entry) (data_len : ℕ) (nodes : List 
         sound = lone_sound (length nodes) data_len r v lone is one p.below;
         few = lone_few r v lone (width version) is one;
         forest = lone_forest v r lone is one;
-        reduced = inr (v, one ∙ ap (λ (x : Record). (record { left = x; right = x }) ∷ []) is);
+        reduced = inr (v, one ∙ ap (λ (x : NodeRecord). (record { left = x; right = x }) ∷ []) is);
         count = omega arith;
       }
 
 -- more nodes than records can name
-pub whole_too_many : (version : IpVersion) (es : List Entry) → NeedsTooMany 0 0 (width version) None es → 2 ^ 32 < nodes_for version es
+pub whole_too_many : (version : IpVersion) (es : List NodeEntry) → NeedsTooMany 0 0 (width version) None es → 2 ^ 32 < nodes_for version es
 whole_too_many version es n = let m = n.many in omega arith

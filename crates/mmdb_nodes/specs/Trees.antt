@@ -6,7 +6,7 @@ use Rattle.mmdb_tree.specs.Records.{record_of}
 use Rattle.mmdb_tree.specs.Stops.{WalkedTree, IsClean}
 use Rattle.mmdb_tree.specs.declared.record.TreeRecord.{TreeRecord}
 use Rattle.mmdb_tree.specs.declared.record.TreeRecord.TheVariants.{Empty, Data}
-use Rattle.mmdb_nodes.specs.declared.entry.Entry.{Entry}
+use Rattle.mmdb_nodes.specs.declared.entry.NodeEntry.{NodeEntry}
 use Rattle.mmdb_nodes.specs.declared.entry.IpVersion.{IpVersion}
 use Rattle.mmdb_nodes.specs.declared.size.RecordSize.{RecordSize}
 use Rattle.mmdb_nodes.specs.declared.size.RecordSize.TheVariants.{Bits24, Bits28, Bits32}
@@ -23,7 +23,7 @@ bits_in Bits32 = 32
 abbrev pub numbers_of : ℕ → ℕ → ℕ
 numbers_of node_count data_len = node_count + 16 + data_len
 
--- Records of that size have so many numbers, and those of no smaller size have.
+-- Records of that size have that many numbers, and those of no smaller size have.
 pub record IsLeastSize (numbers : ℕ) (size : RecordSize) : Type 0 where
   pub fits : numbers ≤ 2 ^ bits_in size
   pub least : (other : RecordSize) → numbers ≤ 2 ^ bits_in other → bits_in size ≤ bits_in other
@@ -38,7 +38,7 @@ abbrev pub most_numbers : Option RecordSize → ℕ
 most_numbers None = 2 ^ 32
 most_numbers (Some asked) = 2 ^ bits_in asked
 
--- the tree in the bytes of a file, in which others stand behind its nodes
+-- the tree in the bytes of a file, in which others follow its nodes
 abbrev pub tree_in : SearchTree → List ℕ → SpecTree
 tree_in tree behind = search_tree (tree.bytes.items ++ behind) tree.node_count (bits_in tree.record_size)
 
@@ -47,8 +47,8 @@ abbrev pub leaf_of : Option ℕ → TreeRecord
 leaf_of None = Empty
 leaf_of (Some offset) = Data offset
 
--- The bits of each address lead to the offset of its longest prefix, or to no data, whatever stands behind the nodes.
-abbrev pub LeadsByPrefix : IpVersion → ℕ → List Entry → SearchTree → Type 0
+-- The bits of each address lead to the offset of its longest prefix, or to no data, whatever follows the nodes.
+abbrev pub LeadsByPrefix : IpVersion → ℕ → List NodeEntry → SearchTree → Type 0
 LeadsByPrefix version data_len entries tree =
     (behind : List ℕ) (address : ℕ) → address < 2 ^ width version → (found : Option ℕ) × Gives entries address found
     × (record_of tree.node_count data_len (walk (tree_in tree behind) (bits_of (width version) address)) ≡ leaf_of found)
@@ -58,7 +58,7 @@ abbrev pub walked_in : IpVersion → ℕ → Option ℕ → List ℕ → SearchT
 walked_in version data_len ipv4_start behind tree = record { tree = tree_in tree behind; width = width version; ipv4_start = ipv4_start; data_length = data_len }
 
 -- A walk of the whole tree meets no faulty leaf, and stops at most three times for each node, wherever aliases lead and
--- whatever stands behind the nodes.
+-- whatever follows the nodes.
 abbrev pub IsAlwaysClean : IpVersion → ℕ → SearchTree → Type 0
 IsAlwaysClean version data_len tree = (ipv4_start : Option ℕ) (behind : List ℕ) → IsClean (walked_in version data_len ipv4_start behind tree)
 
@@ -71,7 +71,7 @@ HasNoEqualLeaves tree =
 -- ---- blocks whose addresses differ
 
 -- Of two addresses that begin with these bits the one has another offset than the other, or one of them has none.
-pub record IsSplit (version : IpVersion) (entries : List Entry) (bits : List Bool) : Type 0 where
+pub record IsSplit (version : IpVersion) (entries : List NodeEntry) (bits : List Bool) : Type 0 where
   pub one : ℕ
   pub other : ℕ
   pub fits : one < 2 ^ width version
@@ -81,7 +81,7 @@ pub record IsSplit (version : IpVersion) (entries : List Entry) (bits : List Boo
   pub differ : ¬ (offset_in entries one ≡ offset_in entries other)
 
 -- Each node but the first is that of a block whose addresses differ.
-abbrev pub HasSplitNodes : IpVersion → List Entry → SearchTree → Type 0
+abbrev pub HasSplitNodes : IpVersion → List NodeEntry → SearchTree → Type 0
 HasSplitNodes version entries tree = (behind : List ℕ) (bits : List Bool) → ¬ (bits ≡ []) → length bits ≤ width version
     → walk (tree_in tree behind) bits < tree.node_count → IsSplit version entries bits
 
@@ -98,7 +98,7 @@ is_same None (Some other) = false
 is_same (Some offset) None = false
 is_same (Some offset) (Some other) = offset == other
 
--- whether so many addresses from one on have what that one has
+-- whether a number of addresses from one on have what that one has
 unfoldable pub all_same : (ℕ → Option ℕ) → ℕ → ℕ → Bool
 all_same at first zero = true
 all_same at first (suc more) = is_same (at (first + more)) (at first) && all_same at first more
@@ -109,5 +109,5 @@ splits at first zero = 0
 splits at first (suc half) = (if all_same at first (2 ^ suc half) then 0 else 1) + (splits at first half + splits at (first + 2 ^ half) half)
 
 -- A node for each block whose addresses have not all the same offset, and one where there is none.
-abbrev pub nodes_for : IpVersion → List Entry → ℕ
+abbrev pub nodes_for : IpVersion → List NodeEntry → ℕ
 nodes_for version entries = max 1 (splits (offset_in entries) 0 (width version))

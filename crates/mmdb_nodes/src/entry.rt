@@ -7,7 +7,7 @@ ghost use Rattle.mmdb_nodes.specs.Working.{IsInside, IsSmaller, Follows, Precede
 
 use mmdb_blocks::Block;
 
-/// Which addresses a tree has: those of IPv4, or those of IPv6, in which the ones of IPv4 stand behind 96 zero bits
+/// Which addresses a tree has: those of IPv4, or those of IPv6, in which the ones of IPv4 follow 96 zero bits
 /// ("IPv4 addresses in an IPv6 tree" of the MaxMind DB File Format Specification 2.0).
 #[derive(Clone, Copy, Debug, PartialEq, Eq)]
 pub enum IpVersion {
@@ -41,22 +41,22 @@ impl IpVersion {
 /// bytes, or none where they are to have no value. `first` is the first of these addresses. IPv4 addresses are numbers below
 /// 2^32, with prefixes of 96 and more.
 #[derive(Clone, Copy, Debug, PartialEq, Eq)]
-pub struct Entry {
+pub struct NodeEntry {
     pub first: u128,
     pub prefix: u8,
     pub offset: Option<u32>,
 }
 
 // A list of City's size has 5.8 million entries.
-const _: () = prove!(size_of::<Entry>() == 32);
+const _: () = prove!(size_of::<NodeEntry>() == 32);
 
-impl Entry {
+impl NodeEntry {
     /// The entry of a block, whose addresses have the value at an offset, or none.
-    pub fn new(block: Block, offset: Option<u32>) -> Entry
+    pub fn new(block: Block, offset: Option<u32>) -> NodeEntry
         ensures block { block_of result ≡ block }
         ensures offset { result.offset ≡ offset }
     {
-        Entry {
+        NodeEntry {
             first: block.first,
             prefix: block.prefix,
             offset,
@@ -73,7 +73,7 @@ impl Entry {
         }
     }
 
-    /// Whether a tree of this version can have it before a data section of so many bytes: it is a block of addresses of that
+    /// Whether a tree of this version can have it before a data section of `data_len` bytes: it is a block of addresses of that
     /// version, and its offset, if it has one, is one of the section.
     pub fn fits(&self, version: IpVersion, data_len: usize) -> bool
         ensures { IsTrue result ↔ IsEntry version data_len self.now }
@@ -95,7 +95,7 @@ impl Entry {
     }
 
     // Whether it begins before the other one, or where that one begins and with no longer prefix.
-    fn comes_before(&self, other: &Entry) -> bool
+    fn comes_before(&self, other: &NodeEntry) -> bool
         ensures { IsTrue result ↔ ComesBefore self.now other.now }
     {
         self.first < other.first || self.first == other.first && self.prefix <= other.prefix
@@ -103,7 +103,7 @@ impl Entry {
 }
 
 /// Whether entries are in order: by their first addresses, and of those that begin alike the shorter prefix first.
-pub fn are_ordered(entries: &[Entry]) -> bool
+pub fn are_ordered(entries: &[NodeEntry]) -> bool
     ensures { IsTrue result ↔ IsOrdered entries.now }
 {
     for i in 1..entries.len() {
@@ -114,8 +114,9 @@ pub fn are_ordered(entries: &[Entry]) -> bool
     true
 }
 
-/// Whether a tree of this version can have all entries before a data section of so many bytes, as `Entry::fits` says of each.
-pub fn all_fit(entries: &[Entry], version: IpVersion, data_len: usize) -> bool
+/// Whether a tree of this version can have all entries before a data section of `data_len` bytes, as `NodeEntry::fits` says of
+/// each.
+pub fn all_fit(entries: &[NodeEntry], version: IpVersion, data_len: usize) -> bool
     ensures { IsTrue result ↔ AllByRecursion (IsEntry version data_len) entries.now }
 {
     for entry in entries {
@@ -128,7 +129,11 @@ pub fn all_fit(entries: &[Entry], version: IpVersion, data_len: usize) -> bool
 
 // Passes the entries for all of a block of `2 ^ free` addresses: the offset that its addresses have after those, and the
 // other entries.
-pub(crate) fn skip_whole(entries: &[Entry], free: u8, found: Option<u32>) -> (Option<u32>, &[Entry])
+pub(crate) fn skip_whole(
+    entries: &[NodeEntry],
+    free: u8,
+    found: Option<u32>,
+) -> (Option<u32>, &[NodeEntry])
     requires free { free ≤ 128 }
     requires ordered { IsOrdered entries.now }
     ensures value { (first a : ℕ) → AllByRecursion (IsInside first free) entries.now → a < 2 ^ free
@@ -155,7 +160,7 @@ pub(crate) fn skip_whole(entries: &[Entry], free: u8, found: Option<u32>) -> (Op
 }
 
 // How many entries begin before an address.
-pub(crate) fn cut_at(entries: &[Entry], middle: u128) -> usize
+pub(crate) fn cut_at(entries: &[NodeEntry], middle: u128) -> usize
     requires { IsOrdered entries.now }
     ensures bound { result ≤ length entries.now }
     ensures before { AllByRecursion (Precedes middle) (take result entries.now) }

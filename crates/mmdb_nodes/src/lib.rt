@@ -10,6 +10,6 @@ mod plant;
 mod size;
 mod tree;
 
-pub use entry::{Entry, IpVersion, all_fit, are_ordered};
+pub use entry::{IpVersion, NodeEntry, all_fit, are_ordered};
 pub use size::RecordSize;
 pub use tree::{SearchTree, TreeError, search_tree};

@@ -6,7 +6,7 @@ use crate::tree::TreeError;
 
 /// Where a bit leads: to a node, by its number, to no data, or to the offset of a value.
 #[derive(Clone, Copy)]
-pub(crate) enum Record {
+pub(crate) enum NodeRecord {
     Node(u32),
     Empty,
     Data(u32),
@@ -15,18 +15,18 @@ pub(crate) enum Record {
 /// What a node has for each bit.
 #[derive(Clone, Copy)]
 pub(crate) struct Node {
-    pub(crate) left: Record,
-    pub(crate) right: Record,
+    pub(crate) left: NodeRecord,
+    pub(crate) right: NodeRecord,
 }
 
-impl Record {
+impl NodeRecord {
     // The leaf of addresses with this offset, or with none.
-    pub(crate) fn leaf(found: Option<u32>) -> Record
+    pub(crate) fn leaf(found: Option<u32>) -> NodeRecord
         ensures { result ≡ leaf found }
     {
         match found {
-            None => Record::Empty,
-            Some(offset) => Record::Data(offset),
+            None => NodeRecord::Empty,
+            Some(offset) => NodeRecord::Data(offset),
         }
     }
 }
@@ -34,31 +34,31 @@ impl Record {
 // A tree of City's size has six million nodes.
 const _: () = prove!(size_of::<Node>() == 16);
 
-// What stands in the place of a node until its halves are known.
+// What is in the place of a node until its halves are known.
 pub(crate) const NO_NODE: Node = Node {
-    left: Record::Empty,
-    right: Record::Empty,
+    left: NodeRecord::Empty,
+    right: NodeRecord::Empty,
 };
 
 // Whether both are no data, or both the same offset.
-fn are_same_leaf(left: Record, right: Record) -> bool
+fn are_same_leaf(left: NodeRecord, right: NodeRecord) -> bool
     ensures { IsTrue result ↔ ((v : Option ℕ) × (left ≡ leaf v) × (right ≡ leaf v)) }
 {
     match (left, right) {
-        (Record::Empty, Record::Empty) => true,
-        (Record::Data(one), Record::Data(other)) => one == other,
+        (NodeRecord::Empty, NodeRecord::Empty) => true,
+        (NodeRecord::Data(one), NodeRecord::Data(other)) => one == other,
         _ => false,
     }
 }
 
-// One record for the two halves of a block, whose nodes stand from a place on: the leaf that both have, or the node at that
+// One record for the two halves of a block, whose nodes are from a place on: the leaf that both have, or the node at that
 // place.
 pub(crate) fn join(
     nodes: &mut Vec<Node>,
     place: usize,
-    left: Record,
-    right: Record,
-) -> Result<Record, TreeError>
+    left: NodeRecord,
+    right: NodeRecord,
+) -> Result<NodeRecord, TreeError>
     requires { place < vec_len nodes.old }
     ensures ok { IfOk result (IsJoined place left right nodes.old.items nodes.new.items) }
     ensures too_large { IfErr result (λ e. e ≡ TreeError.TooLarge
@@ -72,5 +72,5 @@ pub(crate) fn join(
         return Err(TreeError::TooLarge);
     };
     nodes[place] = Node { left, right };
-    Ok(Record::Node(number))
+    Ok(NodeRecord::Node(number))
 }

@@ -6,11 +6,11 @@ ghost use Rattle.mmdb_nodes.specs.Trees.{splits};
 ghost use Rattle.mmdb_nodes.specs.Working.{IsInside, HasOffsetBelow, IsUnder, Leads, IsSound, IsBelow, HasNoTwins, IsForest, HasFewEnds, HasAsMany, NeedsTooMany};
 ghost use Rattle.mmdb_nodes.specs.declared.node.Node.{Node as SpecNode};
 
-use crate::entry::{Entry, cut_at, skip_whole};
-use crate::node::{NO_NODE, Node, Record, join};
+use crate::entry::{NodeEntry, cut_at, skip_whole};
+use crate::node::{NO_NODE, Node, NodeRecord, join};
 use crate::tree::TreeError;
 
-// How many addresses half of a block has, whose halves have so many free bits.
+// How many addresses half of a block has, whose halves have `free` free bits.
 fn half_size(free: u8) -> u128
     requires { free < 128 }
     ensures { result ≡ 2 ^ free }
@@ -19,14 +19,14 @@ fn half_size(free: u8) -> u128
 }
 
 // The record for the block of `2 ^ free` addresses from `first` on, which have the offset that was found where no entry says
-// another. Its nodes go behind the others, each before those of its halves.
+// another. Its nodes go after the others, each before those of its halves.
 pub(crate) fn plant(
     nodes: &mut Vec<Node>,
-    entries: &[Entry],
+    entries: &[NodeEntry],
     first: u128,
     free: u8,
     found: Option<u32>,
-) -> Result<Record, TreeError>
+) -> Result<NodeRecord, TreeError>
     requires bits { free ≤ 128 }
     requires room { first + 2 ^ free ≤ 2 ^ 128 }
     requires aligned { first % 2 ^ free ≡ 0 }
@@ -42,7 +42,7 @@ pub(crate) fn plant(
         → AllByRecursion (HasOffsetBelow bound) entries.now
         → IfSome found (IsUnder bound) → IsBelow (length nodes.new.items) bound r) }
     // The first of its nodes comes before the others.
-    ensures preorder { IfOk result (λ r. (n : ℕ) → r ≡ Record.Node n
+    ensures preorder { IfOk result (λ r. (n : ℕ) → r ≡ NodeRecord.Node n
         → (n ≡ length nodes.old.items) × (n < length nodes.new.items)) }
     ensures few { IfOk result (λ r. HasFewEnds (length nodes.old.items) nodes.new.items r free) }
     ensures reduced { OnOk result (HasNoTwins (length nodes.old.items) nodes.new.items) }
@@ -54,7 +54,7 @@ pub(crate) fn plant(
 {
     let (found, rest) = skip_whole(entries, free, found);
     if rest.is_empty() {
-        return Ok(Record::leaf(found));
+        return Ok(NodeRecord::leaf(found));
     }
     let half = free - 1;
     let middle = first + half_size(half);

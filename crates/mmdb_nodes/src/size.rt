@@ -32,7 +32,7 @@ impl RecordSize {
         1 << self.bits()
     }
 
-    // The least size whose records can have so many numbers.
+    // The least size whose records can have `numbers` numbers.
     fn least(numbers: u128) -> Option<RecordSize>
         ensures some { IfSome result (IsLeastSize numbers) }
         ensures none { IfNone result (2 ^ 32 < numbers) }

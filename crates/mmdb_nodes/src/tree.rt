@@ -8,8 +8,8 @@ ghost use Rattle.mmdb_nodes.specs.Trees.{bits_in, numbers_of, most_numbers, node
 ghost use Rattle.mmdb_nodes.specs.Working.{AreNodes, AreNodesOf, HasOffsetBelow, IsBelow, IsSound, leaf, number_in};
 
 use crate::bytes::push_node;
-use crate::entry::{Entry, IpVersion};
-use crate::node::{Node, Record};
+use crate::entry::{IpVersion, NodeEntry};
+use crate::node::{Node, NodeRecord};
 use crate::plant::plant;
 use crate::size::RecordSize;
 use mmdb_tree::SEPARATOR;
@@ -54,16 +54,16 @@ impl<T: Drop> From<AllocFailed<T>> for TreeError {
     }
 }
 
-// The number of a record in a tree of so many nodes, before so many bytes of data.
-fn number_of(to: Record, node_count: usize, data_len: usize) -> u32
+// The number of a record in a tree of `node_count` nodes, before `data_len` bytes of data.
+fn number_of(to: NodeRecord, node_count: usize, data_len: usize) -> u32
     requires room { node_count + 16 + data_len ≤ 2 ^ 32 }
     requires below { IsBelow node_count data_len to }
     ensures { result ≡ number_in node_count to }
 {
     let number = match to {
-        Record::Node(node) => node as usize,
-        Record::Empty => node_count,
-        Record::Data(offset) => node_count + SEPARATOR + offset as usize,
+        NodeRecord::Node(node) => node as usize,
+        NodeRecord::Empty => node_count,
+        NodeRecord::Data(offset) => node_count + SEPARATOR + offset as usize,
     };
     number as u32
 }
@@ -89,7 +89,7 @@ fn nodes_as_bytes(
 }
 
 // One node, which leads to the same for both bits.
-fn lone_node(alloc: Global, to: Record) -> Result<Vec<Node>, AllocError>
+fn lone_node(alloc: Global, to: NodeRecord) -> Result<Vec<Node>, AllocError>
     ensures { IfOk result (λ nodes. nodes.items ≡ (record { left = to; right = to }) ∷ []) }
 {
     let mut nodes = Vec::new(alloc);
@@ -104,7 +104,7 @@ fn lone_node(alloc: Global, to: Record) -> Result<Vec<Node>, AllocError>
 fn plant_tree(
     alloc: Global,
     version: IpVersion,
-    entries: &[Entry],
+    entries: &[NodeEntry],
     data_len: usize,
 ) -> Result<Vec<Node>, TreeError>
     requires ordered { IsOrdered entries.now }
@@ -116,7 +116,7 @@ fn plant_tree(
     let mut nodes = Vec::new(alloc);
     let root = plant(&mut nodes, entries, 0, version.width(), None)?;
     match root {
-        Record::Node(_) => Ok(nodes),
+        NodeRecord::Node(_) => Ok(nodes),
         _ => Ok(lone_node(alloc, root)?),
     }
 }
@@ -133,7 +133,7 @@ fn plant_tree(
 pub fn search_tree(
     alloc: Global,
     version: IpVersion,
-    entries: &[Entry],
+    entries: &[NodeEntry],
     data_len: usize,
     record_size: Option<RecordSize>,
 ) -> Result<SearchTree, TreeError>

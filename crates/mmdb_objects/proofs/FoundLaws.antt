@@ -8,8 +8,8 @@ use Rattle.json.specs.Word.{head}
 use Rattle.json.specs.Find.{later_or, get_member, get, as_str, as_object}
 use Rattle.std.specs.Borrow.{Bor}
 use Rattle.std.specs.Str.{bytes_eq}
-use Rattle.mmdb_objects.specs.declared.step.Step.{Step}
-use Rattle.mmdb_objects.specs.declared.step.Step.TheVariants.{Key}
+use Rattle.mmdb_objects.specs.declared.step.PathStep.{PathStep}
+use Rattle.mmdb_objects.specs.declared.step.PathStep.TheVariants.{Key}
 use Rattle.mmdb_objects.specs.declared.one_pass.Followed.{Followed}
 use Rattle.mmdb_objects.specs.Objects.{text_along, has_member}
 use Rattle.json.specs.Lex.{Lexeme, token, comma, between, in_string, lex, Place, fresh, after_value, after_comma, may_begin, begins_colon, punctuate}
@@ -136,26 +136,26 @@ no_member_of name (json.array js) e = refl
 no_member_of name (json.object ms) e = absurd (cc)
 
 -- no key leads into what is no object
-pub no_way : (name : Bor (List ℕ)) (path : List Step) (j : Json) → as_object j ≡ None → None ≡ text_along (Key name ∷ path) j
+pub no_way : (name : Bor (List ℕ)) (path : List PathStep) (j : Json) → as_object j ≡ None → None ≡ text_along (Key name ∷ path) j
 no_way name path j e = ap (option_and_then (text_along path)) (sym (no_member_of name.now j e))
 
 -- the text that a path leads to from a member, or that an earlier member gave
-abbrev pub text_or : List Step → Option Json → Option (List ℕ) → Option (List ℕ)
+abbrev pub text_or : List PathStep → Option Json → Option (List ℕ) → Option (List ℕ)
 text_or path None earlier = earlier
 text_or path (Some j) earlier = text_along path j
 
-text_or_none : (path : List Step) (o : Option Json) → text_or path o None ≡ option_and_then (text_along path) o
+text_or_none : (path : List PathStep) (o : Option Json) → text_or path o None ≡ option_and_then (text_along path) o
 text_or_none path None = refl
 text_or_none path (Some j) = refl
 
-text_of_later : (path : List Step) (o : Option Json) (j : Json) (b : Bool) (earlier : Option (List ℕ))
+text_of_later : (path : List PathStep) (o : Option Json) (j : Json) (b : Bool) (earlier : Option (List ℕ))
     → text_or path (later_or o (cond b (Some j) None)) earlier ≡ text_or path o (cond b (text_along path j) earlier)
 text_of_later path None j true earlier = refl
 text_of_later path None j false earlier = refl
 text_of_later path (Some i) j b earlier = refl
 
 -- the text where a path has come to a member, before other members
-pub text_goes_on : (path : List Step) (name k : List ℕ) (j : Json) (ms all : Members) (earlier now : Option (List ℕ)) (named : Bool) → named ≡ bytes_eq k name
+pub text_goes_on : (path : List PathStep) (name k : List ℕ) (j : Json) (ms all : Members) (earlier now : Option (List ℕ)) (named : Bool) → named ≡ bytes_eq k name
     → now ≡ cond named (text_along path j) earlier → text_or path (get_member name all) None ≡ text_or path (get_member name (member k j ms)) earlier
     → text_or path (get_member name all) None ≡ text_or path (get_member name ms) now
 text_goes_on path name k j ms all earlier now named same is so_far =
@@ -163,18 +163,18 @@ text_goes_on path name k j ms all earlier now named same is so_far =
     ∙ ap (text_or path (get_member name ms)) (sym (is ∙ ap (λ b. cond b (text_along path j) earlier) same))
 
 -- the same before no other
-pub text_found : (path : List Step) (name k : List ℕ) (j : Json) (all : Members) (earlier now : Option (List ℕ)) (named : Bool) → named ≡ bytes_eq k name
+pub text_found : (path : List PathStep) (name k : List ℕ) (j : Json) (all : Members) (earlier now : Option (List ℕ)) (named : Bool) → named ≡ bytes_eq k name
     → now ≡ cond named (text_along path j) earlier → text_or path (get_member name all) None ≡ text_or path (get_member name (member k j no_members)) earlier
     → now ≡ option_and_then (text_along path) (get_member name all)
 text_found path name k j all earlier now named same is so_far =
     sym (text_goes_on path name k j no_members all earlier now named same is so_far) ∙ text_or_none path (get_member name all)
 
-key_first : (path : List Step) (d : Step) (name : Bor (List ℕ)) → 0 < length path → get_or path 0 d ≡ Key name → path ≡ Key name ∷ take (length path - 1) (drop 1 path)
+key_first : (path : List PathStep) (d : PathStep) (name : Bor (List ℕ)) → 0 < length path → get_or path 0 d ≡ Key name → path ≡ Key name ∷ take (length path - 1) (drop 1 path)
 key_first [] d name some is = let never : ⊥ = omega arith in absurd never
 key_first (p ∷ ps) d name some is = ap₂ (λ x xs. x ∷ xs) is (sym (take_all (length (p ∷ ps) - 1) ps (omega arith)))
 
 -- an object into which a path was followed
-pub object_followed : (text : List ℕ) (from depth : ℕ) (path : List Step) (d : Step) (name : Bor (List ℕ)) (f : Option Followed) → 0 < length path → get_or path 0 d ≡ Key name
+pub object_followed : (text : List ℕ) (from depth : ℕ) (path : List PathStep) (d : PathStep) (name : Bor (List ℕ)) (f : Option Followed) → 0 < length path → get_or path 0 d ≡ Key name
     → head (drop from text) ≡ 123 → 0 < depth
     → IfSome f (λ f. (ms : Members) × HasMembers text (from + 1) f.end (depth - 1) ms × (option_map (λ s. s.now) f.text ≡ option_and_then (text_along (take (length path - 1) (drop 1 path))) (get_member name.now ms)))
     → IfSome f (λ f. (j : Json) × HasValue text from f.end depth j × (option_map (λ s. s.now) f.text ≡ text_along path j))
@@ -198,7 +198,7 @@ whole_object text from end last ms before first inside behind past =
     ap (option_and_then (λ p. if_last p.0 p.1)) all
 
 -- the text that a whole path leads to
-pub whole_path : (path : List Step) (d : Step) (name : Bor (List ℕ)) (ms : Members) (found : Option (List ℕ)) → 0 < length path → get_or path 0 d ≡ Key name
+pub whole_path : (path : List PathStep) (d : PathStep) (name : Bor (List ℕ)) (ms : Members) (found : Option (List ℕ)) → 0 < length path → get_or path 0 d ≡ Key name
     → found ≡ option_and_then (text_along (take (length path - 1) (drop 1 path))) (get_member name.now ms) → found ≡ text_along path (json.object ms)
 whole_path path d name ms found some is leads = leads ∙ ap (λ p. text_along p (json.object ms)) (sym (key_first path d name some is))
 

@@ -100,7 +100,7 @@ module _ (r : List ℕ) (clear : NoQuote r) where
   pub front : (a : List ℕ) → AllGood (lex between (a ++ r)) → Front between a
   front a good = fronts (length a) between a tt (omega arith) good
 
--- ---- behind a bracket and white space even a quote may stand
+-- ---- after a bracket and white space even a quote may come
 
 blank_byte : (c : Class) (x : ℕ) (xs z : List ℕ) → class x ≡ c → lex_byte between c x xs (λ n. lex n xs) ≡ [] → (lex between xs ≡ [] → lex between (xs ++ z) ≡ lex between z) → lex between (x ∷ (xs ++ z)) ≡ lex between z
 blank_byte quote x xs z c e next = absurd (cc)

@@ -87,7 +87,7 @@ items_none depth rest = record {
   reads = λ n le. items_end (value depth) n (Token.end_array ∷ punctuate after_value rest) (punctuate after_value rest) le refl;
 }
 
--- an item, and the items behind it
+-- an item, and the items after it
 one_item : (depth n : ℕ) (ts r end : List Token) (j : Json) (js : Items) → value depth ts ≡ Some (j, r) → ((m : ℕ) → length r ≤ m → items (value depth) m r ≡ Some (js, end))
     → length ts ≤ n → items (value depth) n ts ≡ Some (item j js, end)
 one_item depth n ts r end j js reads others le =
@@ -116,7 +116,7 @@ members_none depth rest = record {
   reads = λ n le. members_end (value depth) n (Token.end_object ∷ punctuate after_value rest) (punctuate after_value rest) le refl;
 }
 
--- a member, and the members behind it
+-- a member, and the members after it
 one_member : (depth n : ℕ) (k : List ℕ) (ts s r end : List Token) (j : Json) (ms : Members) → ts ≡ Token.key k ∷ s → value depth s ≡ Some (j, r)
     → ((m : ℕ) → length r ≤ m → members (value depth) m r ≡ Some (ms, end)) → length ts ≤ n → members (value depth) n ts ≡ Some (member k j ms, end)
 one_member depth n k ts s r end j ms is reads others le =

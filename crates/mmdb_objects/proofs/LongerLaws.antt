@@ -20,7 +20,7 @@ use Rattle.mmdb_objects.proofs.FrontLaws.{AllGood, front, behind_bracket}
 use Rattle.mmdb_objects.proofs.PlaceLaws.{AllNotBad, lexemes_of, ended_by, lexemes_of-append, good_lexemes, lexemes_from_tokens, tokens_from_lexemes}
 use Rattle.mmdb_objects.proofs.ObjectTokens.{not_bad, inner, inner-closed, and_last-tokens, ended_member, closing, depth_read, depth_and_last}
 
--- ---- a brace, and white space behind it
+-- ---- a brace, and white space after it
 
 abbrev pub AllSpace : List ℕ → Type 0
 AllSpace [] = ⊤

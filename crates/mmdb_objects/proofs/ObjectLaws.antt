@@ -4,7 +4,7 @@ use Rattle.std.specs.Str.{IsUtf8}
 use Rattle.json.specs.Find.{BeginsWith, Finds, InMembers, NextMember, as_object, get}
 use Rattle.json.specs.Json.{Json, object, Members, member, document}
 use Rattle.json.specs.Token.{Token}
-use Rattle.mmdb_objects.specs.declared.step.Step.{Step}
+use Rattle.mmdb_objects.specs.declared.step.PathStep.{PathStep}
 use Rattle.mmdb_objects.specs.Objects.{EndsWithBrace, has_member, is_empty}
 use Rattle.mmdb_addresses.specs.declared.readings.Reading.{Reading}
 use Rattle.mmdb_objects.specs.Objects.{ReadsLine}
@@ -28,13 +28,13 @@ next_is_none view old new (Some m) members next here =
     ap is_empty (sym is)
 
 -- a text that is some value
-pub text_read : (reading : Reading) (text : List ℕ) (path : List Step) (name : List ℕ) (j : Json) (behind : ℕ) (line : ReadLine) → IsUtf8 text → EndsWithBrace text behind → document text ≡ Some j → ReadsValue reading j behind path name line → ReadsLine reading text false path name line
+pub text_read : (reading : Reading) (text : List ℕ) (path : List PathStep) (name : List ℕ) (j : Json) (behind : ℕ) (line : ReadLine) → IsUtf8 text → EndsWithBrace text behind → document text ≡ Some j → ReadsValue reading j behind path name line → ReadsLine reading text false path name line
 text_read reading text path name j behind NoObject utf8 ends value reads = λ members at is. reads members (some_json j (object members) (sym value ∙ is.value))
 text_read reading text path name j behind (Object line) utf8 ends value reads =
     let (members, is, holds, same) = reads in
     (members, record { whole = refl; utf8 = utf8; value = value ∙ ap Some is; ends = subst (EndsWithBrace text) (sym same) ends }, holds)
 
-pub some_read : (reading : Reading) (text : List ℕ) (path : List Step) (name : List ℕ) (behind : ℕ) (line : ReadLine) (value : Option Json) → document text ≡ value → is_some value ≡ true → IsUtf8 text → EndsWithBrace text behind
+pub some_read : (reading : Reading) (text : List ℕ) (path : List PathStep) (name : List ℕ) (behind : ℕ) (line : ReadLine) (value : Option Json) → document text ≡ value → is_some value ≡ true → IsUtf8 text → EndsWithBrace text behind
     → ((j : Json) → document text ≡ Some j → ReadsValue reading j behind path name line) → ReadsLine reading text false path name line
 some_read reading text path name behind line None is some utf8 ends reads = absurd (cc)
 some_read reading text path name behind line (Some j) is some utf8 ends reads = text_read reading text path name j behind line utf8 ends is (reads j is)

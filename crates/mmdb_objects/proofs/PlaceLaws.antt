@@ -1,4 +1,4 @@
--- Lexemes whose commas and colons stand where the grammar wants them are those of their tokens.
+-- Lexemes whose commas and colons are where the grammar wants them are those of their tokens.
 use Rattle.std.proofs.Common.{◌≡◌, Bool, true, false, cond, ◌&&◌, ℕ, List, [], ◌∷◌, ◌++◌, fold, refl, sym, ap, ◌∙◌, subst, append_assoc}
 use Rattle.std.specs.Prelude.{⊤}
 use Rattle.json.specs.Token.{Token, begin_object, end_object, begin_array, end_array, key, string, number, boolean, null, bad}
@@ -14,7 +14,7 @@ abbrev token_lexemes : Token → List Lexeme
 token_lexemes (key s) = token (string s) ∷ colon ∷ []
 token_lexemes t = token t ∷ []
 
--- the lexemes of tokens, behind a value or not
+-- the lexemes of tokens, after a value or not
 abbrev pub lexemes_of : Bool → List Token → List Lexeme
 lexemes_of c [] = []
 lexemes_of c (t ∷ ts) = cond (c && begins t) (comma ∷ []) [] ++ (token_lexemes t ++ lexemes_of (ends t) ts)

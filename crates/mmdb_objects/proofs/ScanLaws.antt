@@ -1,4 +1,4 @@
--- The lexemes that stand at a byte of a text.
+-- The lexemes at a byte of a text.
 use Rattle.std.proofs.Common.{◌≡◌, ℕ, ◌+◌, ◌-◌, ◌*◌, ◌<◌, ◌≤◌, suc, Bool, true, false, cond, ◌&&◌, ◌||◌, ◌==◌, nat_eq, List, [], ◌∷◌, ◌++◌, nat_le, nat_lt, length, take, drop, get_or, Option, Some, None, option_and_then, ⊎_elim, refl, sym, ap, ap₂, ◌∙◌, subst, arith}
 use Rattle.std.proofs.lemmas.Bool.{true≢false, false≢true, false_from_ne_true, leb-true, lt-ltb, le-leb, ltb-true, eqb-true, eq-eqb, ne_eqb, or_parts, or_cases, and_parts, not-true}
 use Rattle.std.proofs.lemmas.List.{drop_more, drop-drop, length-drop}
@@ -15,7 +15,7 @@ use Rattle.mmdb_objects.specs.Scanned.{lexemes_at, bytes_between, is_plain, Ends
 use Rattle.mmdb_objects.proofs.WordLaws.{ends, each_space, each_operator, no_digit_ends, NoneEnds}
 use Rattle.mmdb_objects.proofs.StringLaws.{lex_plain, lex_backslash, lex_escaped, lex_unit}
 
--- ---- the byte that stands first
+-- ---- the byte that is first
 
 front : (c : ℕ) (xs : List ℕ) → (32 == c) ≡ false → head xs ≡ c → xs ≡ c ∷ drop 1 xs
 front c [] apart e = absurd (true≢false (sym (eq-eqb 32 c e) ∙ apart))
@@ -34,7 +34,7 @@ at_space text at below e =
     let spaced = each_space (λ x. lex between (x ∷ drop (at + 1) text) ≡ lex between (drop (at + 1) text)) refl refl refl refl (get_or text at 0) e in
     sym (ap (lex between) (drop_more text at 0 below) ∙ spaced)
 
--- the same behind one space
+-- the same after one space
 pub behind_space : (text : List ℕ) (at next : ℕ) → next ≡ at + 1 → at < length text → get_or text at 0 ≡ 32 → lexemes_at text next ≡ lexemes_at text at
 behind_space text at next same below e = ap (lexemes_at text) same ∙ at_space text at below (ap is_space e)
 
@@ -99,7 +99,7 @@ below : (c : ℕ) (xs : List ℕ) → (32 == c) ≡ false → head xs ≡ c → 
 below c [] apart e = absurd (true≢false (sym (eq-eqb 32 c e) ∙ apart))
 below c (x ∷ xs) apart e = omega arith
 
--- a quote stands at a byte of the text
+-- a quote is at a byte of the text
 pub inside : (text : List ℕ) (at : ℕ) → head (drop at text) ≡ 34 → at < length text
 inside text at e = omega (arith, below 34 (drop at text) refl e, length-drop at text)
 
@@ -223,7 +223,7 @@ five d i h =
     more i (i + 1) refl (omega arith) ∙ ap (λ l. get_or d i 0 ∷ l) (more (i + 1) (i + 2) (omega arith) (omega arith) ∙ ap (λ l. get_or d (i + 1) 0 ∷ l)
     (more (i + 2) (i + 3) (omega arith) (omega arith) ∙ ap (λ l. get_or d (i + 2) 0 ∷ l) (more (i + 3) (i + 4) (omega arith) (omega arith))))
 
--- an escape by the four digits behind a `u`
+-- an escape by the four digits after a `u`
 pub code_ends : (text : List ℕ) (from end : ℕ) → head (drop from text) ≡ 117 → IsCode text (from + 1) end → EndsEscape text from end
 code_ends text from end e code =
     let i = from + 1 in
@@ -548,7 +548,7 @@ pub if_code : (text : List ℕ) (from : ℕ) (end : Option ℕ) → head (drop f
 if_code text from None first is = tt
 if_code text from (Some e) first is = code_ends text from e first is
 
--- a string behind an escape
+-- a string after an escape
 pub string_goes_on : (text : List ℕ) (from stop at closing : ℕ) → stop ≡ from + prefix_len is_plain (drop from text) → head (drop stop text) ≡ 92 → EndsEscape text (stop + 1) at → EndsString text at closing → EndsString text from closing
 string_goes_on text from stop at closing is e escape closed =
     let so_far = past_escape text from stop at is e escape in

@@ -1,4 +1,4 @@
--- A string of JSON that is closed is the same whatever stands behind its quote.
+-- A string of JSON that is closed is the same whatever follows its quote.
 use Rattle.std.proofs.Common.{◌≡◌, ℕ, Bool, true, false, cond, ◌&&◌, ◌==◌, nat_lt, List, [], ◌∷◌, ◌++◌, Option, Some, None, option_map, option_and_then, refl, sym, ap, ◌∙◌, subst, append_assoc}
 use Rattle.std.proofs.lemmas.Bool.{false≢true, eqb-true, and_parts, cond_both}
 use Rattle.std.specs.Prelude.{⊤}
@@ -55,7 +55,7 @@ mode after_backslash = in_escape
 mode after_u = in_string
 mode (after_high h) = in_string
 
--- A text is closed by a quote: whatever stands behind that, the content is the same, and the lexer goes on there.
+-- A text is closed by a quote: whatever follows that, the content is the same, and the lexer goes on there.
 pub record Closed (w : Within) (xs s : List ℕ) : Type 0 where
   pub body : List ℕ
   pub behind : List ℕ
@@ -188,7 +188,7 @@ closes (after_high h) (s ∷ u ∷ a ∷ b ∷ c ∷ d ∷ xs) =
 pub closed : (xs s : List ℕ) → content plain xs ≡ Some s → Closed plain xs s
 closed xs s e = subst (Closes plain xs) e (closes plain xs)
 
--- ---- where its quote stands
+-- ---- where its quote is
 
 abbrev pub NoQuote : List ℕ → Type 0
 NoQuote [] = ⊤

@@ -83,7 +83,7 @@ pub twice_not : (b : Bool) → b ≡ not (not b)
 twice_not true = refl
 twice_not false = refl
 
--- ---- the lanes behind some
+-- ---- the lanes after some
 
 halved : (b : Bool) (m : ℕ) → (cond b 1 0 + 2 * m) / 2 ≡ m
 halved true m = omega arith

@@ -18,7 +18,7 @@ pub(crate) fn is_space(byte: u8) -> bool
     byte == b' ' || byte == b'\t' || byte == b'\n' || byte == b'\r'
 }
 
-/// The byte at an index, or a space behind the end.
+/// The byte at an index, or a space after the end.
 #[inline(always)]
 pub(crate) fn byte_at(text: &[u8], at: usize) -> u8
     ensures { result ≡ head (drop at text.now) }
@@ -26,14 +26,14 @@ pub(crate) fn byte_at(text: &[u8], at: usize) -> u8
     if at < text.len() { text[at] } else { b' ' }
 }
 
-/// A byte of a text, and where it stands.
+/// A byte of a text, and where it is.
 #[derive(Clone, Copy)]
 pub(crate) struct Stop {
     pub(crate) at: usize,
     pub(crate) byte: u8,
 }
 
-/// The byte at an index, or a space behind the end.
+/// The byte at an index, or a space after the end.
 #[inline(always)]
 pub(crate) fn stop_at(text: &[u8], at: usize) -> Stop
     ensures at { result.at ≡ at }
@@ -71,7 +71,7 @@ pub(crate) fn space_end(text: &[u8], from: usize) -> usize
 }
 
 // Which of these bytes do not stand for themselves in a string. A quote, with its second bit turned,
-// is the byte behind the control characters, which stay below it.
+// is the byte after the control characters, which stay below it.
 #[inline(always)]
 fn stops(bytes: u8x16) -> u64
     ensures { result ≡ mask_l (map is_stop bytes) }
@@ -158,7 +158,7 @@ fn plain_stop(text: &[u8], from: usize) -> Stop
     seen_at(text, from + found.trailing_zeros() as usize)
 }
 
-/// The quote that ends a string, from the byte behind its first quote on; none where a byte does
+/// The quote that ends a string, from the byte after its first quote on; none where a byte does
 /// not stand for itself.
 #[inline(always)]
 pub(crate) fn plain_string_end(text: &[u8], from: usize) -> Option<usize>
@@ -206,7 +206,7 @@ fn code_end(text: &[u8], from: usize) -> Option<usize>
     }
 }
 
-// Where an escape ends, from behind its backslash on.
+// Where an escape ends, from after its backslash on.
 #[inline(never)]
 fn escape_end(text: &[u8], from: usize) -> Option<usize>
     requires { from ≤ length text.now }
@@ -242,7 +242,7 @@ fn escaped_end(text: &[u8], from: usize) -> Option<usize>
     }
 }
 
-// The same from behind a backslash on.
+// The same from after a backslash on.
 #[inline(never)]
 fn behind_backslash(text: &[u8], from: usize) -> Option<usize>
     requires { from ≤ length text.now }
@@ -253,7 +253,7 @@ fn behind_backslash(text: &[u8], from: usize) -> Option<usize>
     escaped_end(text, at)
 }
 
-/// The quote that ends a string, from the byte behind its first quote on; none where an escape may
+/// The quote that ends a string, from the byte after its first quote on; none where an escape may
 /// be half of a pair.
 #[inline(always)]
 pub(crate) fn string_end(text: &[u8], from: usize) -> Option<usize>

@@ -1,4 +1,4 @@
-//! Lines that are objects of JSON, and the address that stands at a path in each.
+//! Lines that are objects of JSON, and the address at a path in each.
 #![tactic(auto)]
 
 mod lexemes;
@@ -7,4 +7,4 @@ mod one_pass;
 mod step;
 
 pub use objects::{Line, ReadLine, read_line};
-pub use step::Step;
+pub use step::PathStep;

@@ -8,7 +8,7 @@ ghost use Rattle.mmdb_addresses.specs.Addresses.{ReadsAddress};
 
 use crate::lexemes::is_space;
 use crate::one_pass::followed_object;
-use crate::step::Step;
+use crate::step::PathStep;
 use json::{Element, Error, Scratch, Tape};
 use mmdb_addresses::{Reading, address_in, address_of};
 use std::alloc::{AllocError, Global};
@@ -19,7 +19,7 @@ use std::net::IpAddr;
 pub struct Line {
     /// The address to which the path leads, if it leads to one.
     pub address: Option<IpAddr>,
-    /// How many bytes stand from the last brace on.
+    /// How many bytes there are from the last brace on.
     pub behind: usize,
     /// Whether the object has no member.
     pub is_empty: bool,
@@ -34,7 +34,7 @@ pub enum ReadLine {
     Object(Line),
 }
 
-// How many bytes stand from the last brace on, where behind it only white space stands.
+// How many bytes there are from the last brace on, where there is only white space after it.
 fn last_brace(text: &[u8]) -> Option<usize>
     ensures { MatchOption result ((behind : ℕ) → ¬ EndsWithBrace text.now behind)
         (EndsWithBrace text.now) }
@@ -53,17 +53,17 @@ fn last_brace(text: &[u8]) -> Option<usize>
 }
 
 // The value one step on.
-fn step_in<'t, 'a>(value: &Element<'t, 'a>, step: &Step<'_>) -> Option<Element<'t, 'a>>
+fn step_in<'t, 'a>(value: &Element<'t, 'a>, step: &PathStep<'_>) -> Option<Element<'t, 'a>>
     ensures { (j : Json) → BeginsWith value.now j → Finds result (spec_step_in step.now j) }
 {
     match step {
-        Step::Key(name) => value.get(name),
-        Step::Index(index) => value.at(*index),
+        PathStep::Key(name) => value.get(name),
+        PathStep::Index(index) => value.at(*index),
     }
 }
 
 // The text at the end of a path.
-fn text_along<'a>(value: &Element<'_, 'a>, path: &[Step<'_>]) -> Option<&'a str>
+fn text_along<'a>(value: &Element<'_, 'a>, path: &[PathStep<'_>]) -> Option<&'a str>
     ensures { (j : Json) → BeginsWith value.now j
         → option_map (λ s. s.now) result ≡ spec_text_along path.now j }
 {
@@ -77,7 +77,7 @@ fn text_along<'a>(value: &Element<'_, 'a>, path: &[Step<'_>]) -> Option<&'a str>
 }
 
 // The address that a path leads to.
-fn address_along(reading: Reading, value: &Element<'_, '_>, path: &[Step<'_>]) -> Option<IpAddr>
+fn address_along(reading: Reading, value: &Element<'_, '_>, path: &[PathStep<'_>]) -> Option<IpAddr>
     ensures { (j : Json) → BeginsWith value.now j
         → ReadsAddress reading (spec_text_along path.now j) result }
 {
@@ -87,11 +87,11 @@ fn address_along(reading: Reading, value: &Element<'_, '_>, path: &[Step<'_>]) -
     }
 }
 
-// What a value is of which so many bytes stand from the last brace on.
+// What a value is of which `behind` bytes are from the last brace on.
 fn line_of(
     reading: Reading,
     value: &Element<'_, '_>,
-    path: &[Step<'_>],
+    path: &[PathStep<'_>],
     name: &str,
     behind: usize,
 ) -> ReadLine
@@ -110,13 +110,13 @@ fn line_of(
     })
 }
 
-// What a text is of which so many bytes stand from the last brace on; none where one pass over it
+// What a text is of which `behind` bytes are from the last brace on; none where one pass over it
 // does not say that.
 #[inline(always)]
 fn read_in_one_pass(
     reading: Reading,
     text: &[u8],
-    path: &[Step<'_>],
+    path: &[PathStep<'_>],
     name: &str,
     behind: usize,
 ) -> Option<ReadLine>
@@ -132,13 +132,13 @@ fn read_in_one_pass(
     }))
 }
 
-// What a text is of which so many bytes stand from the last brace on, by the reader of the crate `json`.
+// What a text is of which `behind` bytes are from the last brace on, by the reader of the crate `json`.
 #[inline(never)]
 fn read_tape(
     alloc: Global,
     reading: Reading,
     text: &str,
-    path: &[Step<'_>],
+    path: &[PathStep<'_>],
     name: &str,
     behind: usize,
     scratch: &mut Scratch,
@@ -153,13 +153,13 @@ fn read_tape(
     }
 }
 
-// What a text is of which so many bytes stand from the last brace on.
+// What a text is of which `behind` bytes are from the last brace on.
 #[inline(always)]
 fn read_text(
     alloc: Global,
     reading: Reading,
     text: &[u8],
-    path: &[Step<'_>],
+    path: &[PathStep<'_>],
     name: &str,
     behind: usize,
     scratch: &mut Scratch,
@@ -183,7 +183,7 @@ pub fn read_line(
     reading: Reading,
     text: &[u8],
     goes_on: bool,
-    path: &[Step<'_>],
+    path: &[PathStep<'_>],
     name: &str,
     scratch: &mut Scratch,
 ) -> Result<ReadLine, AllocError>

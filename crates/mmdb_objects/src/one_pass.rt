@@ -15,17 +15,17 @@ use crate::lexemes::{
     Stop, byte_at, digits_word_end, is_integer_start, plain_string_end, seen_at, space_end,
     stop_at, string_end, word_end,
 };
-use crate::step::Step;
+use crate::step::PathStep;
 use json::MAX_DEPTH;
 
 // Where the text of a key ends, and its value with the byte that it begins with.
 #[derive(Clone, Copy)]
-struct Key {
+struct ObjectKey {
     quote: usize,
     value: Stop,
 }
 
-// What stands behind a key's colon, from the byte behind the key on. Mostly there is no white space,
+// What is after a key's colon, from the byte after the key on. Mostly there is no white space,
 // or a space.
 #[inline(always)]
 fn behind_colon(text: &[u8], from: usize) -> Option<Stop>
@@ -48,9 +48,9 @@ fn behind_colon(text: &[u8], from: usize) -> Option<Stop>
     Some(stop_at(text, space_end(text, colon + 1)))
 }
 
-// The key whose first quote stands at a byte.
+// The key whose first quote is at a byte.
 #[inline(always)]
-fn read_key(text: &[u8], from: usize) -> Option<Key>
+fn read_key(text: &[u8], from: usize) -> Option<ObjectKey>
     requires within { from < length text.now }
     requires first { head (drop from text.now) ≡ 34 }
     ensures key { IfSome result (λ key. HasKey text.now from key.quote key.value.at) }
@@ -58,17 +58,17 @@ fn read_key(text: &[u8], from: usize) -> Option<Key>
 {
     let quote = plain_string_end(text, from + 1)?;
     let value = behind_colon(text, quote + 1)?;
-    Some(Key { quote, value })
+    Some(ObjectKey { quote, value })
 }
 
-// Where the next key stands, or where the object ends.
+// Where the next key is, or where the object ends.
 #[derive(Clone, Copy)]
 struct Next {
     at: usize,
     is_end: bool,
 }
 
-// What stands behind a member of an object. Mostly there is no white space, or a space.
+// What is after a member of an object. Mostly there is no white space, or a space.
 #[inline(always)]
 fn behind_member(text: &[u8], from: usize) -> Option<Next>
     requires { from ≤ length text.now }
@@ -110,7 +110,7 @@ fn behind_member(text: &[u8], from: usize) -> Option<Next>
     }
 }
 
-// Where a value ends that stands at a byte, of which the first byte is given.
+// Where a value ends that begins at a byte, of which the first byte is given.
 #[cycle(scan)]
 #[inline(always)]
 fn value_end(text: &[u8], from: usize, byte: u8, depth: usize) -> Option<usize>
@@ -133,7 +133,7 @@ fn value_end(text: &[u8], from: usize, byte: u8, depth: usize) -> Option<usize>
     }
 }
 
-// Where an array ends, from behind its open bracket on.
+// Where an array ends, from after its open bracket on.
 #[cycle(scan)]
 #[inline(never)]
 fn items_end(text: &[u8], from: usize, depth: usize) -> Option<usize>
@@ -159,7 +159,7 @@ fn items_end(text: &[u8], from: usize, depth: usize) -> Option<usize>
     }
 }
 
-// Where an object ends, from behind its open brace on.
+// Where an object ends, from after its open brace on.
 #[cycle(scan)]
 #[inline(never)]
 fn members_end(text: &[u8], from: usize, depth: usize) -> Option<usize>
@@ -186,7 +186,7 @@ fn members_end(text: &[u8], from: usize, depth: usize) -> Option<usize>
     }
 }
 
-// Where a value ends that stands at a byte.
+// Where a value ends that begins at a byte.
 #[inline(never)]
 fn any_value_end(text: &[u8], from: usize, depth: usize) -> Option<usize>
     requires { from ≤ length text.now }
@@ -234,7 +234,12 @@ fn is_name(key: &[u8], name: &str) -> bool
 // Follows a path into a value.
 #[cycle(follow)]
 #[inline(never)]
-fn follow<'a>(text: &'a [u8], from: usize, path: &[Step<'_>], depth: usize) -> Option<Followed<'a>>
+fn follow<'a>(
+    text: &'a [u8],
+    from: usize,
+    path: &[PathStep<'_>],
+    depth: usize,
+) -> Option<Followed<'a>>
     requires { from ≤ length text.now }
     ensures bounds { IfSome result (λ f. (from ≤ f.end) × (f.end ≤ length text.now)) }
     ensures value { IfSome result (λ f. (j : Json) × HasValue text.now from f.end depth j
@@ -243,7 +248,7 @@ fn follow<'a>(text: &'a [u8], from: usize, path: &[Step<'_>], depth: usize) -> O
     if path.is_empty() {
         return follow_no_further(text, from, depth);
     }
-    let Step::Key(name) = &path[0] else {
+    let PathStep::Key(name) = &path[0] else {
         return None;
     };
     if byte_at(text, from) != b'{' {
@@ -264,7 +269,7 @@ fn follow_member<'a>(
     text: &'a [u8],
     is_named: bool,
     value: Stop,
-    path: &[Step<'_>],
+    path: &[PathStep<'_>],
     depth: usize,
     earlier: Option<&'a [u8]>,
 ) -> Option<Followed<'a>>
@@ -285,13 +290,13 @@ fn follow_member<'a>(
     Some(Followed { end, text: earlier })
 }
 
-// Follows a path into the last member of this name, from behind an object's open brace on.
+// Follows a path into the last member of this name, from after an object's open brace on.
 #[cycle(follow)]
 fn follow_members<'a>(
     text: &'a [u8],
     from: usize,
     name: &str,
-    path: &[Step<'_>],
+    path: &[PathStep<'_>],
     depth: usize,
 ) -> Option<Followed<'a>>
     requires { from ≤ length text.now }
@@ -341,14 +346,14 @@ pub(crate) struct Object<'a> {
     pub(crate) is_taken: bool,
 }
 
-// Follows a path into the last member of this name, from behind the open brace of a whole object on, and sees whether a
+// Follows a path into the last member of this name, from after the open brace of a whole object on, and sees whether a
 // member has another one.
 #[inline(never)]
 fn follow_object<'a>(
     text: &'a [u8],
     from: usize,
     name: &str,
-    path: &[Step<'_>],
+    path: &[PathStep<'_>],
     depth: usize,
     other: &str,
 ) -> Option<Object<'a>>
@@ -396,7 +401,7 @@ fn follow_object<'a>(
 /// does not say what it is.
 pub(crate) fn followed_object<'a>(
     text: &'a [u8],
-    path: &[Step<'_>],
+    path: &[PathStep<'_>],
     other: &str,
 ) -> Option<Object<'a>>
     ensures { IfSome result (λ f. (ms : Members) × (document text.now ≡ Some (object ms))
@@ -405,7 +410,7 @@ pub(crate) fn followed_object<'a>(
     if path.is_empty() {
         return None;
     }
-    let Step::Key(name) = &path[0] else {
+    let PathStep::Key(name) = &path[0] else {
         return None;
     };
     let from = space_end(text, 0);

@@ -2,7 +2,7 @@
 
 /// A step into a value of JSON.
 #[derive(Clone, Copy, Debug)]
-pub enum Step<'a> {
+pub enum PathStep<'a> {
     /// The last member with this key.
     Key(&'a str),
     /// The item at this index, from 0.

@@ -19,7 +19,7 @@ use Rattle.mmdb_tree.specs.declared.record.TreeRecord.TheVariants.{Data, Empty}
 use Rattle.mmdb_format.specs.Unfolding.{Tree, without_pointers}
 use Rattle.mmdb_format.proofs.UnfoldingLaws.{one_tree}
 use Rattle.mmdb_nodes.specs.declared.tree.SearchTree.{SearchTree}
-use Rattle.mmdb_nodes.specs.declared.entry.Entry.{Entry}
+use Rattle.mmdb_nodes.specs.declared.entry.NodeEntry.{NodeEntry}
 use Rattle.mmdb_nodes.specs.declared.entry.IpVersion.{IpVersion}
 use Rattle.mmdb_nodes.specs.declared.entry.IpVersion.TheVariants.{V4, V6}
 use Rattle.mmdb_nodes.specs.Entries.{width, block_of, Gives, offset_in}
@@ -30,7 +30,7 @@ use Rattle.mmdb_nodes.proofs.LongestLemmas.{last_is_longest}
 use Rattle.mmdb_section.specs.Sections.{Tile, SectionView, AreTiles, IsPart}
 use Rattle.mmdb_section.specs.Known.{HasEachOnce}
 use Rattle.mmdb_section.proofs.OnceLemmas.{none_twice}
-use Rattle.mmdb_section.specs.declared.value.Part.TheVariants.{At}
+use Rattle.mmdb_section.specs.declared.value.SectionPart.TheVariants.{At}
 use Rattle.mmdb_value.specs.declared.any_value.Value.{Value}
 use Rattle.mmdb_value.specs.Values.{value_tree}
 use Rattle.mmdb_value.specs.Standing.{WholeValue}
@@ -237,7 +237,7 @@ module _ (file : List ℕ) (options : Options) (tree : SearchTree) (section : Li
       ap for_lookup same ∙ for_leaf found
 
   module _ (values : List Value) (rows : List Row) (can : AllByRecursion (λ v. CanBeRead (value_tree v)) values) (tiles : List Tile) (view : SectionView) (once : HasEachOnce tiles view) (laid : AreTiles tiles section) (offsets : List ℕ)
-      (all : AllBegin tiles (map value_tree values) offsets) (given entries : List Entry) (of_rows : AllZip (IsEntryOf offsets) rows given)
+      (all : AllBegin tiles (map value_tree values) offsets) (given entries : List NodeEntry) (of_rows : AllZip (IsEntryOf offsets) rows given)
       (order : AreInOrder options.ip_version (length section) given entries) (leads : LeadsByPrefix options.ip_version (length section) entries tree) (split : HasSplitNodes options.ip_version entries tree) (one_way : HasOneWayToEach tree) where
     -- what is said of an address, and where it begins
     record IsSaid (bits : List Bool) (found : Option ℕ) : Type 0 where
@@ -272,7 +272,7 @@ module _ (file : List ℕ) (options : Options) (tree : SearchTree) (section : Li
         let there = value_there h.0.value found h.2 in
         record { v = there.v; says = inr (h.0, h.1, there.is); read = there.read; begun = there.begun }
 
-    blocks_are : (j : ℕ) (e : Entry) → slice_get given j ≡ Some e → IsBlock (block_of e)
+    blocks_are : (j : ℕ) (e : NodeEntry) → slice_get given j ≡ Some e → IsBlock (block_of e)
     blocks_are j e at = let r = zip_left (IsEntryOf offsets) rows given of_rows j e at in r.2.block
 
     below_widest : (version : IpVersion) (n : ℕ) → n < 2 ^ width version → n < 2 ^ 128

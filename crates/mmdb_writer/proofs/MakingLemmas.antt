@@ -5,8 +5,8 @@ use Rattle.std.specs.Map.{lookup}
 use Rattle.std.specs.Str.{bytes_eq}
 use Rattle.std.proofs.lemmas.List.{length-map, map-append}
 use Rattle.mmdb_format.specs.Unfolding.{Tree}
-use Rattle.mmdb_nodes.specs.declared.entry.Entry.{Entry}
-use Rattle.mmdb_section.specs.declared.value.Part.TheVariants.{At}
+use Rattle.mmdb_nodes.specs.declared.entry.NodeEntry.{NodeEntry}
+use Rattle.mmdb_section.specs.declared.value.SectionPart.TheVariants.{At}
 use Rattle.mmdb_section.specs.Known.{HasEachOnce}
 use Rattle.mmdb_section.specs.Bytes.{shape_bytes}
 use Rattle.mmdb_section.specs.Sections.{Tile, Shape}
@@ -62,7 +62,7 @@ still_offset : (offsets more : List ℕ) (value found : Option ℕ) → IsOffset
 still_offset offsets more None found h = h
 still_offset offsets more (Some index) found h = (h.0, at_front offsets more index h.0 h.1, h.2)
 
-still_entries : (offsets more : List ℕ) (rows : List Row) (entries : List Entry) → AllZip (IsEntryOf offsets) rows entries → AllZip (IsEntryOf (offsets ++ more)) rows entries
+still_entries : (offsets more : List ℕ) (rows : List Row) (entries : List NodeEntry) → AllZip (IsEntryOf offsets) rows entries → AllZip (IsEntryOf (offsets ++ more)) rows entries
 still_entries offsets more [] [] all = tt
 still_entries offsets more [] (e ∷ es) all = absurd all
 still_entries offsets more (r ∷ rs) [] all = absurd all
@@ -98,7 +98,7 @@ module _ (values : List Value) (rows : List Row) (options : Options) (old : Writ
             (subst (λ es. AllZip (IsEntryOf (old.offsets.items ++ offset ∷ [])) rows es.items) (sym kept) (still_entries old.offsets.items (offset ∷ []) rows old.entries.items made.entries_are));
       }
 
-  pub row_added : (row : Row) (new : Writer) (entry : Entry) → IsEntryOf old.offsets.items row entry
+  pub row_added : (row : Row) (new : Writer) (entry : NodeEntry) → IsEntryOf old.offsets.items row entry
       → new.options ≡ old.options → new.section ≡ old.section → new.offsets ≡ old.offsets → new.entries.items ≡ old.entries.items ++ entry ∷ [] → IsMadeOf values (rows ++ row ∷ []) options new
   row_added row new entry is same section offsets grown = record {
     options_are = same ∙ made.options_are;

@@ -11,7 +11,7 @@ use Rattle.mmdb_net.specs.Bits.{bits_of, IsPrefix}
 use Rattle.mmdb_net.proofs.AddressLaws.{same_first_bits}
 use Rattle.mmdb_net.proofs.BitLaws.{length-bits_of}
 use Rattle.mmdb_blocks.specs.Blocks.{IsBlock, end}
-use Rattle.mmdb_nodes.specs.declared.entry.Entry.{Entry}
+use Rattle.mmdb_nodes.specs.declared.entry.NodeEntry.{NodeEntry}
 use Rattle.mmdb_nodes.specs.Entries.{block_of, has, IsLongest, HasNone, Gives}
 use Rattle.mmdb_nodes.proofs.EntryLemmas.{has-true}
 use Rattle.mmdb_writer.specs.declared.row.Row.{Row}
@@ -22,17 +22,17 @@ use Rattle.mmdb_writer.proofs.LastLemmas.{IsLastAt, still_in, still_last}
 
 -- ---- blocks and the bits that their addresses begin with
 
-has-from : (e : Entry) (a : ℕ) → has e a ≡ true → e.first ≤ a
+has-from : (e : NodeEntry) (a : ℕ) → has e a ≡ true → e.first ≤ a
 has-from e a h = grind (arith, nat_tests)
 
-has-to : (e : Entry) (a : ℕ) → has e a ≡ true → a < end (block_of e)
+has-to : (e : NodeEntry) (a : ℕ) → has e a ≡ true → a < end (block_of e)
 has-to e a h = grind (arith, nat_tests)
 
 -- how many addresses an entry has
-abbrev size : Entry → ℕ
+abbrev size : NodeEntry → ℕ
 size e = 2 ^ (128 - e.prefix)
 
-module _ (e : Entry) (a : ℕ) (block : IsBlock (block_of e)) where
+module _ (e : NodeEntry) (a : ℕ) (block : IsBlock (block_of e)) where
   first_is : e.first / size e * size e ≡ e.first
   first_is = let parts = div-add-mod' e.first (size e) in let aligned = block.aligned in omega arith
 
@@ -54,7 +54,7 @@ module _ (e : Entry) (a : ℕ) (block : IsBlock (block_of e)) where
       let same : e.first / size e * size e ≡ a / size e * size e = ap (λ (n : ℕ). n * size e) q in
       has-true e a (omega arith) (omega arith)
 
-module _ (offsets : List ℕ) (row : Row) (e : Entry) (of : IsEntryOf offsets row e) (a : ℕ) (fits : a < 2 ^ 128) where
+module _ (offsets : List ℕ) (row : Row) (e : NodeEntry) (of : IsEntryOf offsets row e) (a : ℕ) (fits : a < 2 ^ 128) where
   sum : 128 ≡ e.prefix + (128 - e.prefix)
   sum = let p = of.block.prefix in omega arith
 
@@ -68,7 +68,7 @@ module _ (offsets : List ℕ) (row : Row) (e : Entry) (of : IsEntryOf offsets ro
       from_quotient e a of.block
       ((same_first_bits e.prefix (128 - e.prefix) 128 e.first a sum of.block.first fits).1 (subst (λ (bits : List Bool). IsPrefix bits (bits_of 128 a)) (sym of.bits) h))
 
-pub prefix_is : (offsets : List ℕ) (row : Row) (e : Entry) → IsEntryOf offsets row e → prefix_of row ≡ e.prefix
+pub prefix_is : (offsets : List ℕ) (row : Row) (e : NodeEntry) → IsEntryOf offsets row e → prefix_of row ≡ e.prefix
 prefix_is offsets row e of =
     let p = of.block.prefix in
     let l = length-bits_of 128 e.first in
@@ -96,38 +96,38 @@ zip_snoc R (w ∷ ws) (z ∷ zs) x y all last = (all.0, zip_snoc R ws zs x y all
 
 -- ---- entries in another order
 
-same_block : (e f : Entry) → is_same_block e f ≡ true → (e.first ≡ f.first) × (e.prefix ≡ f.prefix)
+same_block : (e f : NodeEntry) → is_same_block e f ≡ true → (e.first ≡ f.first) × (e.prefix ≡ f.prefix)
 same_block e f h =
     let parts = and_parts (eqb e.first f.first) (eqb e.prefix f.prefix) h in
     let first = parts.0 in let second = parts.1 in
     (grind (arith, nat_tests), grind (arith, nat_tests))
 
-block_same : (e f : Entry) → e.first ≡ f.first → e.prefix ≡ f.prefix → is_same_block e f ≡ true
+block_same : (e f : NodeEntry) → e.first ≡ f.first → e.prefix ≡ f.prefix → is_same_block e f ≡ true
 block_same e f h k = and_from (eqb e.first f.first) (eqb e.prefix f.prefix) (grind (arith, nat_tests)) (grind (arith, nat_tests))
 
 -- blocks with one address and one prefix are the same
-one_first : (e f : Entry) (a : ℕ) → IsBlock (block_of e) → IsBlock (block_of f) → e.prefix ≡ f.prefix → has e a ≡ true → has f a ≡ true → e.first ≡ f.first
+one_first : (e f : NodeEntry) (a : ℕ) → IsBlock (block_of e) → IsBlock (block_of f) → e.prefix ≡ f.prefix → has e a ≡ true → has f a ≡ true → e.first ≡ f.first
 one_first e f a block other same h k =
     let sizes : size e ≡ size f = ap (λ (p : ℕ). 2 ^ (128 - p)) same in
     let q : e.first / size e ≡ f.first / size f = same_quotient e a block h ∙ ap (λ (n : ℕ). a / n) sizes ∙ sym (same_quotient f a other k) in
     sym (first_is e a block) ∙ ap (λ (n : ℕ). n * size e) q ∙ ap (λ (n : ℕ). f.first / size f * n) sizes ∙ first_is f a other
 
-module _ (given sorted : List Entry) (a : ℕ) (stable : (e : Entry) → filter (is_same_block e) sorted ≡ filter (is_same_block e) given)
-    (blocks : (j : ℕ) (e : Entry) → slice_get given j ≡ Some e → IsBlock (block_of e)) where
-  in_sorted : (j : ℕ) (e : Entry) → slice_get given j ≡ Some e → (i : ℕ) × (slice_get sorted i ≡ Some e)
+module _ (given sorted : List NodeEntry) (a : ℕ) (stable : (e : NodeEntry) → filter (is_same_block e) sorted ≡ filter (is_same_block e) given)
+    (blocks : (j : ℕ) (e : NodeEntry) → slice_get given j ≡ Some e → IsBlock (block_of e)) where
+  in_sorted : (j : ℕ) (e : NodeEntry) → slice_get given j ≡ Some e → (i : ℕ) × (slice_get sorted i ≡ Some e)
   in_sorted j e at = still_in (is_same_block e) given sorted j e (sym (stable e)) at (block_same e e refl refl)
 
-  in_given : (j : ℕ) (e : Entry) → slice_get sorted j ≡ Some e → (i : ℕ) × (slice_get given i ≡ Some e)
+  in_given : (j : ℕ) (e : NodeEntry) → slice_get sorted j ≡ Some e → (i : ℕ) × (slice_get given i ≡ Some e)
   in_given j e at = still_in (is_same_block e) sorted given j e (stable e) at (block_same e e refl refl)
 
   none_given : HasNone sorted a → HasNone given a
   none_given none j e at = let k = in_sorted j e at in none k.0 e k.1
 
-  module _ (e : Entry) (longest : IsLongest sorted a e) where
+  module _ (e : NodeEntry) (longest : IsLongest sorted a e) where
     last_sorted : IsLastAt (is_same_block e) sorted longest.place e
     last_sorted = record { at = longest.at; holds = block_same e e refl refl; last = up }
       where
-        up : (j : ℕ) (f : Entry) → slice_get sorted j ≡ Some f → is_same_block e f ≡ true → j ≤ longest.place
+        up : (j : ℕ) (f : NodeEntry) → slice_get sorted j ≡ Some f → is_same_block e f ≡ true → j ≤ longest.place
         up j f at same =
             let parts = same_block e f same in
             let first = parts.0 in
@@ -167,7 +167,7 @@ module _ (given sorted : List Entry) (a : ℕ) (stable : (e : Entry) → filter 
 abbrev pub GivesRow : List Row → List ℕ → List Bool → Option ℕ → Type 0
 GivesRow rows offsets bits found = (HasNoRow rows bits × (found ≡ None)) ⊎ ((row : Row) × IsRowOf rows bits row × IsOffsetOf offsets row.value found)
 
-module _ (rows : List Row) (offsets : List ℕ) (given : List Entry) (all : AllZip (IsEntryOf offsets) rows given) (a : ℕ) (fits : a < 2 ^ 128) where
+module _ (rows : List Row) (offsets : List ℕ) (given : List NodeEntry) (all : AllZip (IsEntryOf offsets) rows given) (a : ℕ) (fits : a < 2 ^ 128) where
   no_row : HasNone given a → HasNoRow rows (bits_of 128 a)
   no_row none j row at h =
       let e = zip_right (IsEntryOf offsets) rows given all j row at in

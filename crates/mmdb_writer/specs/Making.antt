@@ -5,14 +5,14 @@ use Rattle.mmdb_net.specs.Bits.{bits_of}
 use Rattle.mmdb_blocks.specs.Blocks.{IsBlock}
 use Rattle.mmdb_blocks.specs.Networks.{network_bits}
 use Rattle.mmdb_format.specs.Unfolding.{Tree}
-use Rattle.mmdb_nodes.specs.declared.entry.Entry.{Entry}
+use Rattle.mmdb_nodes.specs.declared.entry.NodeEntry.{NodeEntry}
 use Rattle.mmdb_nodes.specs.Entries.{block_of, IsEntry, IsOrdered}
 use Rattle.mmdb_nodes.specs.Trees.{bits_in, most_numbers, numbers_of, nodes_for, LeadsByPrefix}
 use Rattle.mmdb_nodes.specs.declared.tree.SearchTree.{SearchTree}
 use Rattle.mmdb_reader.specs.File.{Database, data_length}
 use Rattle.mmdb_reader.specs.Source.{IsDatabaseOf}
 use Rattle.mmdb_reader.specs.Whole.{IsWhole}
-use Rattle.mmdb_section.specs.declared.value.Part.TheVariants.{At}
+use Rattle.mmdb_section.specs.declared.value.SectionPart.TheVariants.{At}
 use Rattle.mmdb_section.specs.Known.{HasEachOnce}
 use Rattle.mmdb_section.specs.Sections.{Tile, IsPart}
 use Rattle.mmdb_value.specs.declared.any_value.Value.{Value}
@@ -39,7 +39,7 @@ IsOffsetOf offsets None found = found ≡ None
 IsOffsetOf offsets (Some index) found = (offset : ℕ) × (slice_get offsets index ≡ Some offset) × (found ≡ Some offset)
 
 -- the entry has the addresses of the row's network, and the offset of its value
-pub record IsEntryOf (offsets : List ℕ) (row : Row) (entry : Entry) : Type 0 where
+pub record IsEntryOf (offsets : List ℕ) (row : Row) (entry : NodeEntry) : Type 0 where
   pub block : IsBlock (block_of entry)
   pub bits : take entry.prefix (bits_of 128 entry.first) ≡ network_bits row.network
   pub offset : IsOffsetOf offsets row.value entry.offset
@@ -63,13 +63,13 @@ abbrev pub AddsRow : Row → Writer → Writer → Type 0
 AddsRow row old new = (values : List Value) (rows : List Row) (options : Options) → IsMadeOf values rows options old → IsMadeOf values (rows ++ row ∷ []) options new
 
 -- both have the same addresses
-abbrev pub is_same_block : Entry → Entry → Bool
+abbrev pub is_same_block : NodeEntry → NodeEntry → Bool
 is_same_block e f = (e.first == f.first) && (e.prefix == f.prefix)
 
--- The entries in the order that a tree wants, in which those of one block stand in the order that was given.
-pub record AreOrdered (given entries : List Entry) : Type 0 where
+-- The entries in the order that a tree wants, in which those of one block are in the order that was given.
+pub record AreOrdered (given entries : List NodeEntry) : Type 0 where
   pub ordered : IsOrdered entries
-  pub stable : (e : Entry) → filter (is_same_block e) entries ≡ filter (is_same_block e) given
+  pub stable : (e : NodeEntry) → filter (is_same_block e) entries ≡ filter (is_same_block e) given
 
 -- the tree, as many bytes as a separator has, the data section, and others
 pub record BeginsWith (tree section file : List ℕ) : Type 0 where
@@ -82,7 +82,7 @@ pub record BeginsWith (tree section file : List ℕ) : Type 0 where
 abbrev pub asked_with : Options → SearchTree → MetadataDatum
 asked_with options tree = asked options tree.node_count (bits_in tree.record_size)
 
--- what reading back tells: a whole database with these metadata, and so many bytes of data
+-- what reading back tells: a whole database with these metadata, and `data_len` bytes of data
 pub record IsCertified (file : List ℕ) (options : Options) (tree : SearchTree) (data_len : ℕ) : Type 0 where
   pub db : Database
   pub database : IsDatabaseOf file db
@@ -91,7 +91,7 @@ pub record IsCertified (file : List ℕ) (options : Options) (tree : SearchTree)
   pub whole : IsWhole db
 
 -- A file that has a tree of the entries and the data section is not read back as it was meant.
-pub record IsUnread (options : Options) (section : List ℕ) (entries : List Entry) : Type 0 where
+pub record IsUnread (options : Options) (section : List ℕ) (entries : List NodeEntry) : Type 0 where
   pub tree : SearchTree
   pub leads : LeadsByPrefix options.ip_version (length section) entries tree
   pub file : List ℕ
@@ -99,18 +99,18 @@ pub record IsUnread (options : Options) (section : List ℕ) (entries : List Ent
   pub unread : ¬ IsCertified file options tree (length section)
 
 -- In the order that a tree wants they are no entries of the tree and the section, or a file of them is not read back.
-pub record IsNotMeant (options : Options) (section : List ℕ) (given : List Entry) : Type 0 where
-  pub entries : List Entry
+pub record IsNotMeant (options : Options) (section : List ℕ) (given : List NodeEntry) : Type 0 where
+  pub entries : List NodeEntry
   pub order : AreOrdered given entries
   pub why : ¬ AllByRecursion (IsEntry options.ip_version (length section)) entries ⊎ IsUnread options section entries
 
 -- Nodes, separator and offsets have more numbers than records can have, or the metadata are too large.
-pub record NeedsTooMany (options : Options) (section : List ℕ) (given : List Entry) : Type 0 where
-  pub entries : List Entry
+pub record NeedsTooMany (options : Options) (section : List ℕ) (given : List NodeEntry) : Type 0 where
+  pub entries : List NodeEntry
   pub order : AreOrdered given entries
   pub many : most_numbers options.record_size < numbers_of (nodes_for options.ip_version entries) (length section)
 
-abbrev pub DoesNotFit : Options → List ℕ → List Entry → Type 0
+abbrev pub DoesNotFit : Options → List ℕ → List NodeEntry → Type 0
 DoesNotFit options section given = NeedsTooMany options section given ⊎ AreMetadataLarge options
 
 -- nothing else was added

@@ -9,7 +9,7 @@ use crate::error::WriteError;
 use crate::row::{Row, RowError};
 use mmdb_blocks::Block;
 use mmdb_net::IpNetwork;
-use mmdb_nodes::{Entry, IpVersion, all_fit, are_ordered};
+use mmdb_nodes::{IpVersion, NodeEntry, all_fit, are_ordered};
 use std::alloc::AllocError;
 
 // Where the value of a row begins, if it has one.
@@ -27,7 +27,7 @@ fn offset_of(offsets: &[u32], value: Option<usize>) -> Result<Option<u32>, RowEr
 }
 
 // The entry of a row.
-pub(crate) fn entry_of(version: IpVersion, offsets: &[u32], row: Row) -> Result<Entry, RowError>
+pub(crate) fn entry_of(version: IpVersion, offsets: &[u32], row: Row) -> Result<NodeEntry, RowError>
     ensures ok { IfOk result (IsEntryOf offsets.now row) }
     ensures err { IfErr result (IsWrongRow version (length offsets.now) row) }
 {
@@ -35,13 +35,13 @@ pub(crate) fn entry_of(version: IpVersion, offsets: &[u32], row: Row) -> Result<
         return Err(RowError::Ipv6);
     }
     match offset_of(offsets, row.value) {
-        Ok(offset) => Ok(Entry::new(Block::of_network(row.network), offset)),
+        Ok(offset) => Ok(NodeEntry::new(Block::of_network(row.network), offset)),
         Err(error) => Err(error),
     }
 }
 
 // Sorts entries, unless they are in order.
-fn sort(entries: &mut Vec<Entry>) -> Result<(), AllocError>
+fn sort(entries: &mut Vec<NodeEntry>) -> Result<(), AllocError>
     ensures { OnOk result (AreOrdered entries.old.items entries.new.items) }
 {
     if !are_ordered(entries) {
@@ -54,7 +54,7 @@ fn sort(entries: &mut Vec<Entry>) -> Result<(), AllocError>
 pub(crate) fn put_in_order(
     version: IpVersion,
     data_len: usize,
-    entries: &mut Vec<Entry>,
+    entries: &mut Vec<NodeEntry>,
 ) -> Result<(), WriteError>
     ensures ok { OnOk result (AreInOrder version data_len entries.old.items entries.new.items) }
     ensures err { IfErr result IsGeneral }

@@ -9,15 +9,15 @@ use crate::entries::put_in_order;
 use crate::error::WriteError;
 use crate::metadata::metadata_bytes;
 use crate::options::Options;
-use mmdb_nodes::{Entry, SearchTree, search_tree};
+use mmdb_nodes::{NodeEntry, SearchTree, search_tree};
 use mmdb_section::SectionError;
 use mmdb_tree::SEPARATOR;
 use std::alloc::Global;
 
-/// What stands before the metadata.
+/// What is before the metadata.
 const MARKER: [u8; 14] = *b"\xAB\xCD\xEFMaxMind.com";
 
-// How many bytes a file has: so many are taken at once, since it may be large.
+// How many bytes a file has: that many are taken at once, since it may be large.
 fn file_len(tree: &SearchTree, section_len: usize, metadata_len: usize) -> usize {
     tree.bytes
         .len()
@@ -54,7 +54,7 @@ pub(crate) fn write_file(
     alloc: Global,
     options: &Options,
     section: &[u8],
-    entries: &mut Vec<Entry>,
+    entries: &mut Vec<NodeEntry>,
 ) -> Result<Vec<u8>, WriteError>
     ensures ok { IfOk result
         (λ file. IsFileOf options.now section.now entries.old.items file.items) }

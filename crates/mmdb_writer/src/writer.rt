@@ -15,7 +15,7 @@ use crate::options::Options;
 use crate::row::Row;
 use crate::values::put_value;
 use crate::write::write_file;
-use mmdb_nodes::Entry;
+use mmdb_nodes::NodeEntry;
 use mmdb_section::Section;
 use mmdb_value::Value;
 use std::alloc::Global;
@@ -28,7 +28,7 @@ pub struct Writer {
     /// Where the values begin.
     offsets: Vec<u32>,
     /// The entries of the rows.
-    entries: Vec<Entry>,
+    entries: Vec<NodeEntry>,
 }
 
 impl Writer {

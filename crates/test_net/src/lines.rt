@@ -1,9 +1,9 @@
 //! Addresses that texts spell, beside std's parser of them; lines of JSON; and what is kept of short answers.
 use json::Scratch;
 use mmdb_addresses::{AddressText, Reading, address_of, read_address};
-use mmdb_blocks::{Block, Kind, Kinds};
-use mmdb_cache::{Known, Table};
-use mmdb_objects::{Line, ReadLine, Step, read_line};
+use mmdb_blocks::{Block, BlockKind, Kinds};
+use mmdb_cache::{CacheTable, Memo};
+use mmdb_objects::{Line, PathStep, ReadLine, read_line};
 use std::alloc::{AllocError, Global};
 use std::net::{IpAddr, Ipv4Addr, Ipv6Addr};
 
@@ -134,7 +134,7 @@ fn text_of(line: &Line) -> &'static str {
 // What a line is, as a text.
 fn kind_of(alloc: Global, line: &str) -> Result<&'static str, AllocError> {
     let mut scratch = Scratch::new(alloc);
-    let path = [Step::Key("client"), Step::Key("ip")];
+    let path = [PathStep::Key("client"), PathStep::Key("ip")];
     Ok(
         match read_line(
             alloc,
@@ -160,12 +160,12 @@ fn objects_with_addresses(rt: HostRuntime) {
 }
 
 // A table of two sets, in which as many keys were put, each with whether it is even.
-fn table_of(alloc: Global, count: u32) -> Result<Table<u32, bool, 2>, AllocError> {
-    let none = Known {
+fn table_of(alloc: Global, count: u32) -> Result<CacheTable<u32, bool, 2>, AllocError> {
+    let none = Memo {
         key: u32::MAX,
         value: false,
     };
-    let mut table = Table::new(alloc, none)?;
+    let mut table = CacheTable::new(alloc, none)?;
     for key in 0..count {
         table.put(key, key % 2 == 0);
     }
@@ -191,23 +191,26 @@ fn tables_keep_the_last(rt: HostRuntime) {
     assert!(rt; kept_of(rt.alloc(), 1) == Ok(Some(1)));
     let kept = kept_of(rt.alloc(), 100);
     assert!(rt; matches!(kept, Ok(Some(1..=8))), "{kept:?}");
-    let empty: Table<u32, bool, 2> = Table::without_memory(rt.alloc());
+    let empty: CacheTable<u32, bool, 2> = CacheTable::without_memory(rt.alloc());
     assert!(rt; empty.get(1).is_none() && !empty.has(1));
 }
 
 #[test]
 fn networks_of_blocks(rt: HostRuntime) {
     let block = Block::of_numbers(0x0a00_0000, 32, 8);
-    let network = Kind::Ipv4.network_of(block);
+    let network = BlockKind::Ipv4.network_of(block);
     assert!(rt;
         network.is_ok_and(|it| it.ip() == IpAddr::V4(Ipv4Addr::new(10, 0, 0, 0))
             && it.prefix() == 8)
     );
     let block = Block::of_numbers(1 << 125, 128, 3);
-    let network = Kind::of_width(128).network_of(block);
+    let network = BlockKind::of_width(128).network_of(block);
     assert!(rt;
         network.is_ok_and(|it| it.ip() == IpAddr::V6(Ipv6Addr::from_bits(1 << 125))
             && it.prefix() == 3)
     );
-    assert!(rt; Kinds::Both.has(Kind::Ipv6) && !Kinds::One(Kind::Ipv4).has(Kind::of_width(128)));
+    assert!(rt;
+        Kinds::Both.has(BlockKind::Ipv6)
+            && !Kinds::One(BlockKind::Ipv4).has(BlockKind::of_width(128))
+    );
 }

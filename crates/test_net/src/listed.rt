@@ -1,7 +1,7 @@
 //! Lists of the fewest blocks of what is chosen or added, less what is taken away, beside what Python's `ipaddress` gives of
 //! the same blocks, which the rows have as data; and what one list has that another has not.
 use super::blocks::blocks_of;
-use mmdb_blocks::{Block, Range, Ranges, RangesError, blocks_without, listed_blocks};
+use mmdb_blocks::{Block, BlockRange, Ranges, RangesError, blocks_without, listed_blocks};
 use std::alloc::Global;
 
 /// Blocks with a space between them: what is chosen, added and taken away, and the blocks of the list.
@@ -108,7 +108,7 @@ fn lists_side_by_side(rt: HostRuntime) {
 fn are_added(alloc: Global) -> Result<bool, RangesError> {
     let mut ranges = Ranges::new(alloc);
     for (first, last) in [(7, 7), (9, 8), (9, 9)] {
-        ranges.add(Range { first, last })?;
+        ranges.add(BlockRange { first, last })?;
     }
     let none = Ranges::new(alloc);
     let blocks = listed_blocks(alloc, &ranges, &none, &none)?;

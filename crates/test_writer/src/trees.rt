@@ -4,7 +4,7 @@ use mmdb_blocks::Block;
 use mmdb_net::IpNetwork;
 use mmdb_nodes::laws::last_is_longest;
 use mmdb_nodes::{
-    Entry, IpVersion, RecordSize, SearchTree, TreeError, all_fit, are_ordered, search_tree,
+    IpVersion, NodeEntry, RecordSize, SearchTree, TreeError, all_fit, are_ordered, search_tree,
 };
 use mmdb_vectors::hoard::{Outcome, fail_in_turn};
 use std::alloc::{AllocError, Global};
@@ -132,13 +132,13 @@ const TOO_LARGE: &[(usize, Option<RecordSize>)] = &[
 ];
 
 // The entry of a network.
-fn entry_of(network: &str, offset: Option<u32>) -> Option<Entry> {
+fn entry_of(network: &str, offset: Option<u32>) -> Option<NodeEntry> {
     let network: Result<IpNetwork, _> = network.parse();
     let block = Block::of_network(network.ok()?);
-    Some(Entry::new(block, offset))
+    Some(NodeEntry::new(block, offset))
 }
 
-fn entries_of(alloc: Global, rows: &[(&str, Option<u32>)]) -> Result<Vec<Entry>, AllocError> {
+fn entries_of(alloc: Global, rows: &[(&str, Option<u32>)]) -> Result<Vec<NodeEntry>, AllocError> {
     let mut entries = Vec::new(alloc);
     for (network, offset) in rows {
         if let Some(entry) = entry_of(network, *offset) {
@@ -152,7 +152,7 @@ fn entries_of(alloc: Global, rows: &[(&str, Option<u32>)]) -> Result<Vec<Entry>,
 fn tree_of(
     alloc: Global,
     version: IpVersion,
-    entries: &[Entry],
+    entries: &[NodeEntry],
     data_len: usize,
     record_size: Option<RecordSize>,
 ) -> Option<Result<SearchTree, TreeError>> {
@@ -244,8 +244,8 @@ const FITTING: &[(Fitting, bool)] = &[
     ((0, 129, Some(0), IpVersion::V6, 1), false),
 ];
 
-fn entry(first: u128, prefix: u8, offset: Option<u32>) -> Entry {
-    Entry::new(Block { first, prefix }, offset)
+fn entry(first: u128, prefix: u8, offset: Option<u32>) -> NodeEntry {
+    NodeEntry::new(Block { first, prefix }, offset)
 }
 
 #[test]

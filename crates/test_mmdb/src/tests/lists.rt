@@ -430,13 +430,6 @@ const WITH_INPUT: &[InputRow<'static>] = &[
         2,
     ),
     (
-        &["export", "here.mmdb", "--format", "nft", "--name", "inet"],
-        "",
-        "",
-        &["inet: a word of nft itself; give another --name"],
-        2,
-    ),
-    (
         &["export", "here.mmdb", "--format", "iptables", "--name", "INPUT"],
         "",
         "",

@@ -1,7 +1,7 @@
 use Rattle.std.proofs.Common.{◌↔◌, List, subst, arith}
 use Rattle.std.proofs.lemmas.List.{take_all}
 use Rattle.mmdb_blocks.specs.Ranges.{IsAmong}
-use Rattle.mmdb_blocks.specs.declared.ranges.Range.{Range}
+use Rattle.mmdb_blocks.specs.declared.ranges.BlockRange.{BlockRange}
 use Rattle.mmdb_blocks.proofs.RangeLaws.{both-ways, both-same, either-none, other-way, among-taken, more-without}
 use Rattle.mmdb_blocks.proofs.except.without.Goals as goal
 
@@ -32,5 +32,5 @@ loop-range-preserved c =
 
 pub returns : goal.returns
 returns c = λ a.
-    let P : List Range → Type 0 = λ ys. IsAmong a c.loop-range.left.items ↔ (IsAmong a ys × ¬ IsAmong a c.args.others.now) in
+    let P : List BlockRange → Type 0 = λ ys. IsAmong a c.loop-range.left.items ↔ (IsAmong a ys × ¬ IsAmong a c.args.others.now) in
     subst P (take_all c.loop-range.range-index c.args.ranges.now c.loop-range-test.false) (c.loop-range.invariant.left a)

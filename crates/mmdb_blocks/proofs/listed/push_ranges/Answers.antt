@@ -3,7 +3,7 @@ use Rattle.std.proofs.lemmas.List.{take_all}
 use Rattle.mmdb_blocks.specs.Joining.{waiting_of}
 use Rattle.mmdb_blocks.specs.Ranges.{IsAmong}
 use Rattle.mmdb_blocks.specs.Working.{Takes}
-use Rattle.mmdb_blocks.specs.declared.ranges.Range.{Range}
+use Rattle.mmdb_blocks.specs.declared.ranges.BlockRange.{BlockRange}
 use Rattle.mmdb_blocks.proofs.RangeLaws.{other-way, among-taken}
 use Rattle.mmdb_blocks.proofs.ListedLaws.{takes-both}
 use Rattle.mmdb_blocks.proofs.listed.push_ranges.Goals as goal
@@ -16,5 +16,5 @@ loop-range-preserved c = λ kept.
 
 pub returns : goal.returns
 returns c = λ kept.
-    let P : List Range → Type 0 = λ ys. Takes c.args.blocks.now.items (waiting_of c.args.joiner.now) c.loop-range.blocks.items (waiting_of c.loop-range.joiner) (λ a. IsAmong a ys) in
+    let P : List BlockRange → Type 0 = λ ys. Takes c.args.blocks.now.items (waiting_of c.args.joiner.now) c.loop-range.blocks.items (waiting_of c.loop-range.joiner) (λ a. IsAmong a ys) in
     subst P (take_all c.loop-range.range-index c.args.ranges.now c.loop-range-test.false) (c.loop-range.invariant kept)

@@ -1,5 +1,5 @@
 use Rattle.std.proofs.Common.{sym, ap, ◌∙◌, arith}
-use Rattle.mmdb_filter.specs.declared.rows.Position.TheVariants.{Cell}
+use Rattle.mmdb_filter.specs.declared.rows.RowPosition.TheVariants.{Cell}
 use Rattle.mmdb_cmd_enrich.specs.Columns.{cell_length}
 use Rattle.mmdb_cmd_enrich.proofs.CellRunLaws.{line_cell, bare_cell}
 use Rattle.mmdb_cmd_enrich.proofs.columns.cell_length.Goals as goal

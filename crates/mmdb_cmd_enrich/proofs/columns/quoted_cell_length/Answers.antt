@@ -1,6 +1,6 @@
 use Rattle.std.proofs.Common.{◌≡◌, ◌+◌, drop, get_or, false, sym, ap, ◌∙◌, subst, arith, ◌==◌, ne_eqb}
 use Rattle.std.proofs.lemmas.List.{get_or-drop, drop_all}
-use Rattle.mmdb_filter.specs.declared.rows.Position.TheVariants.{Quoted}
+use Rattle.mmdb_filter.specs.declared.rows.RowPosition.TheVariants.{Quoted}
 use Rattle.mmdb_filter.specs.declared.rows.Rows.TheVariants.{Csv}
 use Rattle.mmdb_cmd_enrich.proofs.CellRunLaws.{opened, closed, bare_length}
 use Rattle.mmdb_cmd_enrich.proofs.ColumnLaws.{cell_ends}

@@ -1,5 +1,5 @@
 use Rattle.std.proofs.Common.{◌≡◌, ◌+◌, ◌-◌, ◌≤◌, length, drop}
-use Rattle.mmdb_filter.specs.declared.rows.Position.TheVariants.{Cell}
+use Rattle.mmdb_filter.specs.declared.rows.RowPosition.TheVariants.{Cell}
 use Rattle.mmdb_filter.specs.declared.rows.Rows.TheVariants.{Csv}
 use Rattle.mmdb_cmd_enrich.specs.Columns.{cell_length}
 use Rattle.mmdb_cmd_enrich.proofs.columns.quoted_cell_length.Given as goal

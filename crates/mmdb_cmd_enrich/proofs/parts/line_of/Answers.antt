@@ -2,7 +2,7 @@ use Rattle.std.proofs.Common.{◌≡◌, ◌||◌, take, get_or, refl, sym, ap, 
 use Rattle.std.specs.List.{prefix_len}
 use Rattle.std.proofs.lemmas.Bool.{ne_eqb}
 use Rattle.mmdb_filter.specs.Runs.{is_neither}
-use Rattle.mmdb_filter.specs.declared.rows.Position.TheVariants.{Cell}
+use Rattle.mmdb_filter.specs.declared.rows.RowPosition.TheVariants.{Cell}
 use Rattle.mmdb_filter.specs.declared.rows.Rows.TheVariants.{Lines}
 use Rattle.mmdb_addresses.specs.Cells.{first_word}
 use Rattle.mmdb_cmd_enrich.specs.Columns.{cell_length}

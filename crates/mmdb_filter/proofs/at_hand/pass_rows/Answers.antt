@@ -2,7 +2,7 @@ use Rattle.std.proofs.Common.{rules, ◌≡◌, ℕ, ◌+◌, ◌-◌, ◌<◌, 
 use Rattle.std.proofs.lemmas.List.{take_rest}
 use Rattle.mmdb_filter.specs.Rows.{Goes}
 use Rattle.mmdb_filter.specs.Working.{GoOn}
-use Rattle.mmdb_filter.specs.declared.rows.Position.TheVariants.{Cell, Ended}
+use Rattle.mmdb_filter.specs.declared.rows.RowPosition.TheVariants.{Cell, Ended}
 use Rattle.mmdb_filter.proofs.LineLaws.{go_row}
 use Rattle.mmdb_filter.proofs.at_hand.pass_rows.Goals as goal
 

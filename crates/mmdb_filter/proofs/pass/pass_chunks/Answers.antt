@@ -1,7 +1,7 @@
 use Rattle.std.proofs.Common.{rules, ◌≡◌, ◌≢◌, ◌≤◌, ◌-◌, ◌++◌, [], length, take, drop, OnSome, sym, ap, ◌∙◌, subst, arith, take-append-drop, append-nil, length-drop}
 use Rattle.std.specs.Io.KnownBytes.{Appends, IsAtEnd}
 use Rattle.mmdb_filter.specs.Lines.{row_with, AppendsFront}
-use Rattle.mmdb_filter.specs.declared.rows.Position.TheVariants as spec_position
+use Rattle.mmdb_filter.specs.declared.rows.RowPosition.TheVariants as spec_position
 use Rattle.mmdb_filter.proofs.FrontLaws.{on_any_err, front_whole, appends_kept}
 use Rattle.mmdb_filter.proofs.PassLaws.{passes_chunk, passed, stopped, stopped_in, at_end_too}
 use Rattle.mmdb_filter.proofs.pass.pass_chunks.Goals.{then-eq-via-then-eq, then-eq-via-else-eq+then-len-lt-CHUNK}
@@ -15,7 +15,7 @@ returns-then-eq-clause-whole g c = λ ready.
       | then-eq-via-else-eq+then-len-lt-CHUNK w ↦ λ not. c.loop.invariant.ready ready not (search rules)
     ] in
     let last : c.append_row.new.ready.items ≡ row_with c.loop.chunk.items c.args.added.now c.args.behind =
-    c.in_ok-append_row.ensures.whole ∙ ap (λ r. r ++ row_with c.as_slice.result.now c.args.added.now c.args.behind) c.loop.invariant.empty ∙ ap (λ r. row_with r c.args.added.now c.args.behind) c.as_slice.ensures.value in
+    c.in_ok-append_row.ensures.whole ∙ ap (λ r. r ++ row_with c.as_slice-then-eq.result.now c.args.added.now c.args.behind) c.loop.invariant.empty ∙ ap (λ r. row_with r c.args.added.now c.args.behind) c.as_slice-then-eq.ensures.value in
     passed c.args.rows c.args.position.now c.loop.now c.args.chunk.now.items c.loop.chunk.items c.args.added.now c.args.behind (g.R.Read.remaining c.args.input.now) (g.W.Write.contents c.args.out.now) (g.R.Read.remaining c.loop.input) (g.W.Write.contents c.loop.out) ending
     c.append_row.new.ready.items last c.loop.invariant.way
 

@@ -1,6 +1,6 @@
 use Rattle.std.proofs.Common.{◌≡◌, ◌≢◌, ◌<◌, ◌≤◌, [], length, OnSome}
 use Rattle.std.specs.Io.KnownBytes.{IsAtEnd}
-use Rattle.mmdb_filter.specs.declared.rows.Position.TheVariants as spec_position
+use Rattle.mmdb_filter.specs.declared.rows.RowPosition.TheVariants as spec_position
 use Rattle.mmdb_filter.proofs.PassLaws.{Passing}
 use Rattle.mmdb_filter.proofs.pass.pass_chunks.Given as goal
 

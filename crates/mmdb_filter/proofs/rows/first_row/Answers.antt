@@ -1,7 +1,7 @@
 use Rattle.std.proofs.Common.{rules, ◌≡◌, take, sym, ap, ◌∙◌}
 use Rattle.mmdb_filter.specs.Lines.{text_of}
 use Rattle.mmdb_filter.specs.Rows.{row_from}
-use Rattle.mmdb_filter.specs.declared.rows.Position.TheVariants.{Cell, Ended}
+use Rattle.mmdb_filter.specs.declared.rows.RowPosition.TheVariants.{Cell, Ended}
 use Rattle.mmdb_filter.proofs.RowLaws.{goes_within, first_ended, first_goes_on}
 use Rattle.mmdb_filter.proofs.rows.first_row.Goals as goal
 

@@ -1,6 +1,6 @@
 use Rattle.std.proofs.Common.{◌++◌, ◌+◌, length, take, drop, le_refl, sym, subst, arith}
 use Rattle.mmdb_filter.specs.Rows.{Goes}
-use Rattle.mmdb_filter.specs.declared.rows.Position.TheVariants as spec_position
+use Rattle.mmdb_filter.specs.declared.rows.RowPosition.TheVariants as spec_position
 use Rattle.mmdb_filter.proofs.RowLaws.{not_ended, goes_plain, goes_through}
 use Rattle.mmdb_filter.proofs.rows.scan.Goals as goal
 

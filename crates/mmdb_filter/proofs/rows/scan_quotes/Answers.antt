@@ -1,7 +1,7 @@
 use Rattle.std.proofs.Common.{rules, ◌≡◌, ◌≢◌, ◌++◌, ◌+◌, take, drop, get_or, refl, sym, ap, ◌∙◌, subst, arith}
 use Rattle.mmdb_filter.specs.Rows.{position_after, Goes}
 use Rattle.mmdb_filter.specs.Working.{position_behind}
-use Rattle.mmdb_filter.specs.declared.rows.Position.TheVariants as spec_position
+use Rattle.mmdb_filter.specs.declared.rows.RowPosition.TheVariants as spec_position
 use Rattle.mmdb_filter.specs.declared.rows.Rows.TheVariants.{Csv}
 use Rattle.mmdb_filter.proofs.RowLaws.{not_ended}
 use Rattle.mmdb_filter.proofs.QuoteLaws.{goes_behind, goes_quoted, goes_closed, goes_to, not_ended_behind, not_ended_by_quote, ended_behind, stopped_by_quote}

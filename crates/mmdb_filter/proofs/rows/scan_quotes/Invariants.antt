@@ -1,6 +1,6 @@
 use Rattle.std.proofs.Common.{◌≡◌, ◌≢◌, ◌≤◌, ◌-◌, ◌++◌, ℕ, List, take, drop, length}
 use Rattle.mmdb_filter.specs.Rows.{Goes}
-use Rattle.mmdb_filter.specs.declared.rows.Position.TheVariants as spec_position
+use Rattle.mmdb_filter.specs.declared.rows.RowPosition.TheVariants as spec_position
 use Rattle.mmdb_filter.specs.declared.rows.Rows.TheVariants.{Csv}
 use Rattle.mmdb_filter.proofs.rows.scan_quotes.Given as goal
 

@@ -1,12 +1,12 @@
 use Rattle.std.proofs.Common.{None, refl}
 use Rattle.std.proofs.lemmas.Bool.{false≢true}
 use Rattle.std.proofs.lemmas.List.Elements.{All-get_or, All-from_recursion}
-use Rattle.mmdb_nodes.specs.declared.entry.Entry.{Entry}
+use Rattle.mmdb_nodes.specs.declared.entry.NodeEntry.{NodeEntry}
 use Rattle.mmdb_nodes.specs.Entries.{IsEntry}
 use Rattle.mmdb_nodes.proofs.EntryLemmas.{one_more_holds}
 use Rattle.mmdb_nodes.proofs.entry.all_fit.Goals as goal
 
-abbrev none : Entry
+abbrev none : NodeEntry
 none = record { first = 0; prefix = 0; offset = None }
 
 pub returns-then-not-fits : goal.returns-then-not-fits

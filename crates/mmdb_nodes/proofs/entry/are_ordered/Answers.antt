@@ -1,14 +1,14 @@
 use Rattle.std.proofs.Common.{None, ◌≡◌, ◌≤◌, ◌<◌, ℕ, suc, ◌+◌, ◌-◌, List, refl, sym, subst, arith, length, take, get_or}
 use Rattle.std.proofs.lemmas.Bool.{false≢true}
-use Rattle.mmdb_nodes.specs.declared.entry.Entry.{Entry}
+use Rattle.mmdb_nodes.specs.declared.entry.NodeEntry.{NodeEntry}
 use Rattle.mmdb_nodes.specs.Entries.{ComesBefore, IsOrdered}
 use Rattle.mmdb_nodes.proofs.EntryLemmas.{one_more_ordered, neighbours}
 use Rattle.mmdb_nodes.proofs.entry.are_ordered.Goals as goal
 
-abbrev none : Entry
+abbrev none : NodeEntry
 none = record { first = 0; prefix = 0; offset = None }
 
-neighbours_at : (es : List Entry) (i : ℕ) → 1 ≤ i → i < length es → IsOrdered es → ComesBefore (get_or es (i - 1) none) (get_or es i none)
+neighbours_at : (es : List NodeEntry) (i : ℕ) → 1 ≤ i → i < length es → IsOrdered es → ComesBefore (get_or es (i - 1) none) (get_or es i none)
 neighbours_at es i some lt ordered =
     let next : suc (i - 1) ≡ i = omega arith in
     subst (λ (n : ℕ). ComesBefore (get_or es (i - 1) none) (get_or es n none)) next (neighbours es (i - 1) none ordered (omega arith))
@@ -19,7 +19,7 @@ returns-then-not-comes_before c = (
   λ ordered. c.if-not-comes_before.ensures.1 (neighbours_at c.args.entries.now c.loop-i.i c.loop-i.auto.i c.loop-i-test.true ordered),
 )
 
-more_ordered : (es : List Entry) (i : ℕ) → 1 ≤ i → i < length es → IsOrdered (take i es) → ComesBefore (get_or es (i - 1) none) (get_or es i none) → IsOrdered (take (i + 1) es)
+more_ordered : (es : List NodeEntry) (i : ℕ) → 1 ≤ i → i < length es → IsOrdered (take i es) → ComesBefore (get_or es (i - 1) none) (get_or es i none) → IsOrdered (take (i + 1) es)
 more_ordered es i some lt ordered next =
     let is : suc (i - 1) ≡ i = omega arith in
     let more : suc i ≡ i + 1 = omega arith in

@@ -1,12 +1,12 @@
 use Rattle.std.proofs.Common.{◌≡◌, ℕ, Option, Some, IsTrue, nat_eq, ap, sym, ◌∙◌, arith, eq-eqb}
 use Rattle.std.proofs.lemmas.Bool.Decides.{nat_tests}
-use Rattle.mmdb_nodes.specs.declared.node.Record.{Record}
-use Rattle.mmdb_nodes.specs.declared.node.Record.TheVariants.{Data}
+use Rattle.mmdb_nodes.specs.declared.node.NodeRecord.{NodeRecord}
+use Rattle.mmdb_nodes.specs.declared.node.NodeRecord.TheVariants.{Data}
 use Rattle.mmdb_nodes.specs.Working.{leaf}
 use Rattle.mmdb_nodes.proofs.LeadLemmas.{leaf_value}
 use Rattle.mmdb_nodes.proofs.node.are_same_leaf.Goals as goal
 
-equal_offsets : (one other : ℕ) (left right : Record) → left ≡ Data one → right ≡ Data other → (v : Option ℕ) × (left ≡ leaf v) × (right ≡ leaf v) → one ≡ other
+equal_offsets : (one other : ℕ) (left right : NodeRecord) → left ≡ Data one → right ≡ Data other → (v : Option ℕ) × (left ≡ leaf v) × (right ≡ leaf v) → one ≡ other
 equal_offsets one other left right l r (v, a, b) =
     let x : Some one ≡ v = leaf_value (Some one) v (sym l ∙ a) in
     let y : Some other ≡ v = leaf_value (Some other) v (sym r ∙ b) in

@@ -2,7 +2,7 @@ use Rattle.std.proofs.Common.{rules, arith, sym, ap, subst, ◌∙◌, ◌≡◌
 use Rattle.std.proofs.lemmas.Nat.{pow_pos}
 use Rattle.std.proofs.lemmas.Result.{IfOk-weaker, IfErr-weaker, err_from_is_err_and}
 use Rattle.std.proofs.lemmas.Bool.Decides.{nat_tests}
-use Rattle.mmdb_nodes.specs.declared.entry.Entry.{Entry}
+use Rattle.mmdb_nodes.specs.declared.entry.NodeEntry.{NodeEntry}
 use Rattle.mmdb_nodes.specs.declared.node.Node.{Node as SpecNode}
 use Rattle.mmdb_nodes.specs.Entries.{offset_after}
 use Rattle.mmdb_nodes.specs.Working.{IsJoined, HasFewEnds, HasAsMany, Leads}
@@ -13,7 +13,7 @@ use Rattle.mmdb_nodes.proofs.ForestLemmas.{own_forest, joined_forest}
 use Rattle.mmdb_nodes.proofs.SplitLemmas.{own_many, left_too_many, right_too_many, kept_too_many, joined_many}
 use Rattle.mmdb_nodes.proofs.plant.+plant.Goals as goal
 
-nothing_left : (v found : Option ℕ) (first free : ℕ) (rest es : List Entry) → eqb (length rest) 0 ≡ true → ((a : ℕ) → a < 2 ^ free → offset_after v rest (first + a) ≡ offset_after found es (first + a)) → (a : ℕ) → a < 2 ^ free → v ≡ offset_after found es (first + a)
+nothing_left : (v found : Option ℕ) (first free : ℕ) (rest es : List NodeEntry) → eqb (length rest) 0 ≡ true → ((a : ℕ) → a < 2 ^ free → offset_after v rest (first + a) ≡ offset_after found es (first + a)) → (a : ℕ) → a < 2 ^ free → v ≡ offset_after found es (first + a)
 nothing_left v found first free [] es test h a lt = h a lt
 nothing_left v found first free (x ∷ rest) es test h a lt = absurd (grind (arith, nat_tests))
 

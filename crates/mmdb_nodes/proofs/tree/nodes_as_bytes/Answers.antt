@@ -2,7 +2,7 @@ use Rattle.std.proofs.Common.{arith, ◌≡◌, ℕ, subst, length, get_or, Some
 use Rattle.std.specs.List.{slice_get}
 use Rattle.std.proofs.lemmas.Option.{slice_get-get_or}
 use Rattle.mmdb_nodes.specs.declared.node.Node.{Node as SpecNode}
-use Rattle.mmdb_nodes.specs.declared.node.Record.TheVariants.{Node}
+use Rattle.mmdb_nodes.specs.declared.node.NodeRecord.TheVariants.{Node}
 use Rattle.mmdb_nodes.specs.Working.{side, IsBelow, AddsNode, number_in}
 use Rattle.mmdb_nodes.specs.Trees.{bits_in}
 use Rattle.mmdb_nodes.proofs.ByteLemmas.{number_fits, one_more_node, is_size}

@@ -2,11 +2,11 @@ use Rattle.std.proofs.Common.{arith, ◌≡◌, inl, inr, ℕ, ◌<◌, ◌≤�
 use Rattle.std.proofs.Math.Nat.{pow-le-pow_right}
 use Rattle.std.proofs.lemmas.Result.{err_from_is_err_and}
 use Rattle.std.specs.List.{AllByRecursion}
-use Rattle.mmdb_nodes.specs.declared.entry.Entry.{Entry}
+use Rattle.mmdb_nodes.specs.declared.entry.NodeEntry.{NodeEntry}
 use Rattle.mmdb_nodes.specs.declared.entry.IpVersion.{IpVersion}
 use Rattle.mmdb_nodes.specs.declared.node.Node.{Node as SpecNode}
-use Rattle.mmdb_nodes.specs.declared.node.Record.{Record}
-use Rattle.mmdb_nodes.specs.declared.node.Record.TheVariants.{Node}
+use Rattle.mmdb_nodes.specs.declared.node.NodeRecord.{NodeRecord}
+use Rattle.mmdb_nodes.specs.declared.node.NodeRecord.TheVariants.{Node}
 use Rattle.mmdb_nodes.specs.Entries.{width}
 use Rattle.mmdb_nodes.specs.Working.{Leads, IsBelow, IsSound, IsInside, HasNoTwins, IsForest, HasFewEnds, HasAsMany, NeedsTooMany}
 use Rattle.mmdb_nodes.proofs.EntryLemmas.{all_inside, all_below}
@@ -25,8 +25,8 @@ plant-requires-clause-room c =
     let most : 2 ^ c.width.result ≤ 2 ^ 128 = pow-le-pow_right (omega arith) fits in
     omega arith
 
--- the clauses of what was planted behind no nodes
-planted : (version : IpVersion) (es : List Entry) (data_len : ℕ) (nodes old : List SpecNode) (r : Record) (free : ℕ) → old ≡ [] → free ≡ width version
+-- the clauses of what was planted after no nodes
+planted : (version : IpVersion) (es : List NodeEntry) (data_len : ℕ) (nodes old : List SpecNode) (r : NodeRecord) (free : ℕ) → old ≡ [] → free ≡ width version
     → Leads (length old) nodes r 0 free None es → IsSound (length old) data_len nodes → IsBelow (length nodes) data_len r
     → ((n : ℕ) → r ≡ Node n → (n ≡ length old) × (n < length nodes)) → HasFewEnds (length old) nodes r free → HasNoTwins (length old) nodes → IsForest (length old) nodes
     → HasAsMany (length old) (length nodes) r 0 free None es → IsPlanted version es data_len nodes r

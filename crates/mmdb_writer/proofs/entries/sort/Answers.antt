@@ -6,7 +6,7 @@ use Rattle.std.proofs.lemmas.Bool.Decides.{nat_tests}
 use Rattle.std.specs.List.{AllByRecursion, filter}
 use Rattle.std.specs.List.Sorted.{ties}
 use Rattle.std.proofs.lemmas.List.Sorted.{answers_always}
-use Rattle.mmdb_nodes.specs.declared.entry.Entry.{Entry}
+use Rattle.mmdb_nodes.specs.declared.entry.NodeEntry.{NodeEntry}
 use Rattle.mmdb_nodes.specs.Entries.{ComesBefore, IsOrdered}
 use Rattle.mmdb_writer.specs.Making.{is_same_block}
 use Rattle.mmdb_writer.proofs.entries.sort.Goals as goal
@@ -36,14 +36,14 @@ neither o r b p s d (inr (inl e)) (inl l) = rw (e.0, e.1, e.2, l.0, l.2) refl
 neither o r b p s d (inr (inl e)) (inr (inr g)) = rw (e.0, e.1, e.2, g.0, g.1, g.2) refl
 neither o r b p s d (inr (inl e)) (inr (inl f)) = rw (e.0, e.1, e.2, f.0, f.1, f.2) refl
 
-tied : (e f : Entry) → ties (λ (x y : Entry). is_lt (ordering_then (nat_cmp x.first y.first) (nat_cmp x.prefix y.prefix))) e f ≡ is_same_block e f
+tied : (e f : NodeEntry) → ties (λ (x y : NodeEntry). is_lt (ordering_then (nat_cmp x.first y.first) (nat_cmp x.prefix y.prefix))) e f ≡ is_same_block e f
 tied e f = neither (nat_cmp e.first f.first) (nat_cmp f.first e.first) (eqb e.first f.first) (nat_cmp e.prefix f.prefix) (nat_cmp f.prefix e.prefix) (eqb e.prefix f.prefix) (compared e.first f.first) (compared e.prefix f.prefix)
 
-abbrev key_of : Entry → ℕ × ℕ
+abbrev key_of : NodeEntry → ℕ × ℕ
 key_of e = (e.first, e.prefix)
 
 -- a key that is not less than another one comes not before it
-follows : (o : Ordering) (p : Ordering) (e f : Entry) → nat_cmp f.first e.first ≡ o → nat_cmp f.prefix e.prefix ≡ p → is_lt (ordering_then o p) ≡ false → ComesBefore e f
+follows : (o : Ordering) (p : Ordering) (e f : NodeEntry) → nat_cmp f.first e.first ≡ o → nat_cmp f.prefix e.prefix ≡ p → is_lt (ordering_then o p) ≡ false → ComesBefore e f
 follows o p e f first prefix none = elim (cases_lt e.first f.first) [
   | inl less ↦ inl less
   | inr rest ↦ elim (cases_lt f.first e.first) [
@@ -62,18 +62,18 @@ follows o p e f first prefix none = elim (cases_lt e.first f.first) [
   ]
 ]
 
-before_all : (d e f : Entry) → ComesBefore d e → ComesBefore e f → ComesBefore d f
+before_all : (d e f : NodeEntry) → ComesBefore d e → ComesBefore e f → ComesBefore d f
 before_all d e f (inl h) (inl k) = inl (omega arith)
 before_all d e f (inl h) (inr k) = inl (omega (arith, k.0))
 before_all d e f (inr h) (inl k) = inl (omega (arith, h.0))
 before_all d e f (inr h) (inr k) = inr (omega (arith, h.0, k.0), omega (arith, h.1, k.1))
 
-before_rest : (d e : Entry) (es : List Entry) → ComesBefore d e → AllByRecursion (ComesBefore e) es → AllByRecursion (ComesBefore d) es
+before_rest : (d e : NodeEntry) (es : List NodeEntry) → ComesBefore d e → AllByRecursion (ComesBefore e) es → AllByRecursion (ComesBefore d) es
 before_rest d e [] h all = tt
 before_rest d e (f ∷ fs) h all = (before_all d e f h all.0, before_rest d e fs h all.1)
 
 -- where no neighbours are turned, all entries are in order
-in_order : (es : List Entry) → ((k : ℕ) (d : Entry) → suc k < length es → ComesBefore (get_or es k d) (get_or es (suc k) d)) → IsOrdered es
+in_order : (es : List NodeEntry) → ((k : ℕ) (d : NodeEntry) → suc k < length es → ComesBefore (get_or es k d) (get_or es (suc k) d)) → IsOrdered es
 in_order [] h = tt
 in_order (e ∷ []) h = (tt, tt)
 in_order (e ∷ f ∷ es) h =
@@ -93,6 +93,6 @@ returns-in_ok-sort_by_key c = record {
       let stable = c.in_ok-sort_by_key.ensures.stable key_of (answers_always _ _ _ (λ f a r f' k. search rules)) in
       let old = c.args.entries.now.items in
       let new = c.sort_by_key.new.self.items in
-      let alike = λ (xs : List Entry). filter_alike (ties (λ (x y : Entry). is_lt (ordering_then (nat_cmp x.first y.first) (nat_cmp x.prefix y.prefix))) e) (is_same_block e) (tied e) xs in
+      let alike = λ (xs : List NodeEntry). filter_alike (ties (λ (x y : NodeEntry). is_lt (ordering_then (nat_cmp x.first y.first) (nat_cmp x.prefix y.prefix))) e) (is_same_block e) (tied e) xs in
       sym (alike new) ∙ stable e ∙ alike old;
 }

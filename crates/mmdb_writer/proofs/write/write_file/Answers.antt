@@ -5,7 +5,7 @@ use Rattle.mmdb_format.specs.declared.error.MaxMindDbError.{MaxMindDbError}
 use Rattle.mmdb_format.specs.declared.error.MaxMindDbError.TheVariants as readers
 use Rattle.mmdb_nodes.specs.declared.tree.SearchTree.{SearchTree}
 use Rattle.mmdb_writer.specs.declared.options.Options.{Options}
-use Rattle.mmdb_nodes.specs.declared.entry.Entry.{Entry}
+use Rattle.mmdb_nodes.specs.declared.entry.NodeEntry.{NodeEntry}
 use Rattle.mmdb_nodes.specs.Trees.{LeadsByPrefix, HasSplitNodes}
 use Rattle.mmdb_writer.specs.Making.{BeginsWith, IsCertified, IsNotMeant}
 use Rattle.mmdb_writer.specs.Working.{AreInOrder}
@@ -20,8 +20,8 @@ returns-then-is_certified-clause-ok c =
       entries = c.put_in_order.new.entries.items;
       order = c.in_ok-put_in_order.ensures.ok;
       tree = tree;
-      leads = subst (λ (es : List Entry). LeadsByPrefix options.ip_version len es tree) c.deref.ensures.value c.in_ok-tree.ensures.leads;
-      split = subst (λ (es : List Entry). HasSplitNodes options.ip_version es tree) c.deref.ensures.value c.in_ok-tree.ensures.split;
+      leads = subst (λ (es : List NodeEntry). LeadsByPrefix options.ip_version len es tree) c.deref.ensures.value c.in_ok-tree.ensures.leads;
+      split = subst (λ (es : List NodeEntry). HasSplitNodes options.ip_version es tree) c.deref.ensures.value c.in_ok-tree.ensures.split;
       one_way = c.in_ok-tree.ensures.one_way;
       serves = c.in_ok-tree.ensures.size;
       len = c.in_ok-tree.ensures.len;
@@ -40,7 +40,7 @@ apart_from_memory (readers.InvalidNetwork e) P h other = h
 apart_from_memory (readers.InvalidInput message) P h other = h
 
 -- a file that is not read back
-unread_file : (options : Options) (section : List ℕ) (given entries : List Entry) (tree : SearchTree) (file : List ℕ) → AreInOrder options.ip_version (length section) given entries → LeadsByPrefix options.ip_version (length section) entries tree → BeginsWith tree.bytes.items section file
+unread_file : (options : Options) (section : List ℕ) (given entries : List NodeEntry) (tree : SearchTree) (file : List ℕ) → AreInOrder options.ip_version (length section) given entries → LeadsByPrefix options.ip_version (length section) entries tree → BeginsWith tree.bytes.items section file
     → ¬ IsCertified file options tree (length section) → IsNotMeant options section given
 unread_file options section given entries tree file order leads begins unread = record {
   entries = entries;
@@ -54,7 +54,7 @@ returns-in_err-is_certified-clause-not_meant c =
     let tree = c.in_ok-tree.tree in
     let len : ℕ = length c.args.section.now in
     let p = err_from_is_err_and c.from_residual-in_err-is_certified.result c.from_residual-in_err-is_certified.ensures.1 in
-    let leads = subst (λ (es : List Entry). LeadsByPrefix options.ip_version len es tree) c.deref.ensures.value c.in_ok-tree.ensures.leads in
+    let leads = subst (λ (es : List NodeEntry). LeadsByPrefix options.ip_version len es tree) c.deref.ensures.value c.in_ok-tree.ensures.leads in
     rw p.1 (λ is.
     let unread = apart_from_memory c.in_err-is_certified.field-0.0 (¬ IsCertified c.deref-2.result.now options tree len) c.in_err-is_certified.ensures.unread (p.2.unread is) in
     unread_file options c.args.section.now c.args.entries.now.items c.put_in_order.new.entries.items tree c.in_ok-file.file.items c.in_ok-put_in_order.ensures.ok leads c.in_ok-file.ensures.ok
@@ -65,6 +65,6 @@ returns-clause-not_meant c = λ is.
     let options = c.args.options.now in
     let tree = c.in_ok-tree.tree in
     let len : ℕ = length c.args.section.now in
-    let leads = subst (λ (es : List Entry). LeadsByPrefix options.ip_version len es tree) c.deref.ensures.value c.in_ok-tree.ensures.leads in
+    let leads = subst (λ (es : List NodeEntry). LeadsByPrefix options.ip_version len es tree) c.deref.ensures.value c.in_ok-tree.ensures.leads in
     unread_file options c.args.section.now c.args.entries.now.items c.put_in_order.new.entries.items tree c.in_ok-file.file.items c.in_ok-put_in_order.ensures.ok leads c.in_ok-file.ensures.ok
     (subst (λ (f : List ℕ). ¬ IsCertified f options tree len) c.deref-2.ensures.value (c.in_ok-is_certified.ensures.rejected c.if-is_certified.false))

@@ -1,7 +1,7 @@
 //! Rows of CSV with quotes at all places.
 use super::cells::{CSV, enriched, file};
 use super::streams::{Chopped, assert_at};
-use mmdb_filter::{Position, Rows};
+use mmdb_filter::{RowPosition, Rows};
 use mmdb_reader::Reader;
 use mmdb_vectors::section::section_of;
 use std::alloc::Global;
@@ -167,18 +167,18 @@ fn read_plainly(alloc: Global, delimiter: u8, column: usize, input: &[u8]) -> Ve
     let mut out: Vec<u8> = Vec::new(alloc);
     let mut cell: Vec<u8> = Vec::new(alloc);
     let mut passed = 0usize;
-    let mut position = Position::Cell;
+    let mut position = RowPosition::Cell;
     for byte in input {
         let next = position.after(rows, *byte);
-        if next == Position::Ended {
+        if next == RowPosition::Ended {
             put_added(delimiter, cell.as_slice(), &mut out);
             let _ = out.push(*byte);
             cell.clear();
             passed = 0;
-            position = Position::Cell;
+            position = RowPosition::Cell;
             continue;
         }
-        if *byte == delimiter && position != Position::Quoted {
+        if *byte == delimiter && position != RowPosition::Quoted {
             passed = passed.saturating_add(1);
         } else if passed == column {
             let _ = cell.push(*byte);

@@ -1,6 +1,6 @@
 use Rattle.std.proofs.Common.{rules, ◌≡◌, ◌+◌, ◌-◌, true, refl, sym, ap, subst, arith, ◌∙◌}
 use Rattle.std.specs.Option.{is_some}
-use Rattle.mmdb_cache.specs.declared.table.Known.{Known}
+use Rattle.mmdb_cache.specs.declared.table.Memo.{Memo}
 use Rattle.mmdb_compare.specs.declared.equality.KnownMap.{KnownMap}
 use Rattle.mmdb_compare.specs.declared.pairs.Offsets.{Offsets}
 use Rattle.mmdb_compare.specs.declared.place.PairPosition.{PairPosition}
@@ -65,7 +65,7 @@ has_same_shared-returns-then-map-depth-clause-pairs t c = λ yes.
     let i = c.self.inside in
     let offsets = c.in-Some.offsets in
     let map = c.in-Some-get.map in
-    let known : Known Offsets KnownMap = record { key = offsets; value = map } in
+    let known : Memo Offsets KnownMap = record { key = offsets; value = map } in
     let is : Sections = record { in_old = i.in_old.now; in_new = i.in_new.now } in
     let at = c.in-Some.ensures in
     let left = c.takes.new.self.left in

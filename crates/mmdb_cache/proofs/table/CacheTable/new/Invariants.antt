@@ -1,6 +1,6 @@
 use Rattle.std.specs.List.{All}
 use Rattle.mmdb_cache.specs.Table.{IsKnown}
-use Rattle.mmdb_cache.proofs.table.Table.new.Given as goal
+use Rattle.mmdb_cache.proofs.table.CacheTable.new.Given as goal
 
 abbrev pub invariant-loop : goal.invariant-loop
 invariant-loop g l = All (IsKnown l.known) l.kept.items
