@@ -80,12 +80,24 @@ fn values_of<'a>(
     }
 }
 
+// What is wrong with a text that spells no condition.
+fn fault_of(wanted: Requirement) -> &'static str {
+    match wanted {
+        Requirement::Part => "not PATH=TEXT",
+        _ => "not PATH=VALUE",
+    }
+}
+
 // The path and the value of a text `PATH=VALUE`.
-fn parts_of<'a>(alloc: Global, text: &'a str) -> Result<(&'a str, &'a str), NoRequest> {
+fn parts_of<'a>(
+    alloc: Global,
+    text: &'a str,
+    wanted: Requirement,
+) -> Result<(&'a str, &'a str), NoRequest> {
     match split_condition(text) {
         Some((_, "@")) => Err(NoRequest::bad_argument(alloc, text, "no file behind the @")),
         Some(parts) => Ok(parts),
-        None => Err(NoRequest::bad_argument(alloc, text, "not PATH=VALUE")),
+        None => Err(NoRequest::bad_argument(alloc, text, fault_of(wanted))),
     }
 }
 
@@ -97,7 +109,7 @@ fn add_condition<'a>(
     files: &'a [ValueFile<'a>],
     conditions: &mut Vec<Condition<'a>>,
 ) -> Result<(), NoRequest> {
-    let (path, value) = parts_of(alloc, text)?;
+    let (path, value) = parts_of(alloc, text, wanted)?;
     let Some(path) = path_of(alloc, path)? else {
         return Err(NoRequest::bad_argument(alloc, text, "not a path before the ="));
     };
@@ -146,10 +158,11 @@ pub(crate) struct NamedValue<'a> {
 }
 
 impl NamedValue<'_> {
-    /// Whether another value is named of the same path, of which the same is asked.
-    pub(crate) fn has_path_of(&self, other: &NamedValue<'_>) -> bool {
-        self.condition.wanted == other.condition.wanted
-            && self.condition.path.as_slice() == other.condition.path.as_slice()
+    /// Whether a network with the value is chosen by it, whatever else of which this is wanted at this path.
+    pub(crate) fn serves(&self, path: &[PathElement<'_>], wanted: Requirement) -> bool {
+        self.is_alternative
+            && self.condition.wanted == wanted
+            && self.condition.path.as_slice() == path
     }
 }
 
@@ -168,7 +181,7 @@ fn add_named<'a>(
     all: &mut Vec<NamedValue<'a>>,
 ) -> Result<(), NoRequest> {
     for text in texts {
-        let (path, value) = parts_of(alloc, *text)?;
+        let (path, value) = parts_of(alloc, *text, wanted)?;
         let Named::Value(value) = named_by(value) else {
             continue;
         };

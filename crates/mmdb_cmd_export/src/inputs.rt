@@ -3,7 +3,7 @@ use crate::gathering::{Addresses, Adjustment};
 use crate::spelling::{Spelt, block_in};
 use mmdb_arguments::{ExportArguments, ListArguments, NoRequest};
 use mmdb_console::{Console, ProgramError, line_of};
-use mmdb_layout::split_condition;
+use mmdb_layout::{Requirement, split_condition};
 use std::alloc::{AllocError, Global};
 use std::fs::File;
 use std::io::{self, BufRead, Read, Write};
@@ -11,6 +11,25 @@ use std::rt::Files;
 
 /// What stands for standard input in the place of a file.
 const STANDARD_INPUT: &str = "-";
+
+/// What some editors put before a text.
+const BYTE_ORDER_MARK: &[u8] = b"\xEF\xBB\xBF";
+
+/// How many characters of a line of a file are shown at most.
+const MOST_SHOWN: usize = 100;
+
+/// The beginning of a line of a file as it is shown, and what stands for the rest.
+pub(crate) fn shown_start(line: &str) -> (&str, &'static str) {
+    match line.char_indices().nth(MOST_SHOWN) {
+        Some((place, _)) => (line.get(..place).unwrap_or(""), ".."),
+        None => (line, ""),
+    }
+}
+
+// A text without a byte order mark before it.
+fn without_mark(bytes: &[u8]) -> &[u8] {
+    bytes.strip_prefix(BYTE_ORDER_MARK).unwrap_or(bytes)
+}
 
 /// A value as it is written in a condition.
 #[derive(Clone, Copy)]
@@ -35,6 +54,8 @@ pub(crate) fn named_by(value: &str) -> Named<'_> {
 pub(crate) struct ValueFile<'a> {
     /// The condition as it is written.
     pub(crate) condition: &'a str,
+    /// What is wanted of the values.
+    pub(crate) wanted: Requirement,
     pub(crate) text: String,
 }
 
@@ -163,8 +184,9 @@ fn note_spelling<O: Write, E: Write>(
 ) {
     if let Some(network) = spelt.read_as {
         let (network, prefix) = (network.network(), network.prefix());
+        let (start, rest) = shown_start(text);
         let text = format!(in console.alloc;
-            "mmdb: {file}:{line}: {text} is read as {network}/{prefix}"
+            "mmdb: {file}:{line}: {start}{rest} is read as {network}/{prefix}"
         );
         console.note(line_of(console.alloc, text));
     }
@@ -196,7 +218,8 @@ fn add_line<O: Write, E: Write>(
             Ok(true)
         }
         Err(wrong) => {
-            let text: String = format!(in console.alloc; "{text}: {wrong}")?;
+            let (start, rest) = shown_start(text);
+            let text: String = format!(in console.alloc; "{start}{rest}: {wrong}")?;
             report_line(file, line, text.as_str(), console);
             Ok(false)
         }
@@ -211,7 +234,7 @@ fn add_lines<O: Write, E: Write>(
     console: &mut Console<'_, O, E>,
 ) -> Result<bool, ProgramError> {
     let mut line = 0usize;
-    for bytes in bytes.split(|byte| *byte == b'\n') {
+    for bytes in without_mark(bytes).split(|byte| *byte == b'\n') {
         line = line.saturating_add(1);
         let Ok(text) = str::from_utf8(bytes) else {
             report_line(file, line, "not valid UTF-8", console);
@@ -263,6 +286,18 @@ pub(crate) fn read_adjustment<R: Files, I: BufRead, O: Write, E: Write>(
     Ok(Some(Adjustment { also, except }))
 }
 
+// The first line of a text that is not valid UTF-8.
+fn line_with_fault(bytes: &[u8]) -> usize {
+    let mut line = 0usize;
+    for bytes in bytes.split(|byte| *byte == b'\n') {
+        line = line.saturating_add(1);
+        if str::from_utf8(bytes).is_err() {
+            break;
+        }
+    }
+    line
+}
+
 // The text of a file; none where it can't be read, which is reported.
 fn read_text<R: Files, I: BufRead, O: Write, E: Write>(
     rt: &R,
@@ -273,13 +308,11 @@ fn read_text<R: Files, I: BufRead, O: Write, E: Write>(
     let Some(bytes) = read_input(rt, file, input, console)? else {
         return Ok(None);
     };
-    match str::from_utf8(bytes.as_slice()) {
+    let bytes = without_mark(bytes.as_slice());
+    match str::from_utf8(bytes) {
         Ok(text) => Ok(Some(String::from_str(console.alloc, text)?)),
         Err(_) => {
-            console.note(line_of(
-                console.alloc,
-                format!(in console.alloc; "mmdb: {file}: not valid UTF-8"),
-            ));
+            report_line(file, line_with_fault(bytes), "not valid UTF-8", console);
             Ok(None)
         }
     }
@@ -289,6 +322,7 @@ fn read_text<R: Files, I: BufRead, O: Write, E: Write>(
 fn read_values<'a, R: Files, I: BufRead, O: Write, E: Write>(
     rt: &R,
     conditions: &[&'a str],
+    wanted: Requirement,
     files: &mut Vec<ValueFile<'a>>,
     input: &mut I,
     console: &mut Console<'_, O, E>,
@@ -302,6 +336,7 @@ fn read_values<'a, R: Files, I: BufRead, O: Write, E: Write>(
         };
         files.push(ValueFile {
             condition: *condition,
+            wanted,
             text,
         })?;
     }
@@ -316,22 +351,22 @@ pub(crate) fn read_value_files<'a, R: Files, I: BufRead, O: Write, E: Write>(
     console: &mut Console<'_, O, E>,
 ) -> Result<Option<Vec<ValueFile<'a>>>, ProgramError> {
     let conditions = &arguments.conditions;
+    let (wheres, where_nots) = (
+        conditions.wheres.as_slice(),
+        conditions.where_nots.as_slice(),
+    );
+    let parts = conditions.contains.as_slice();
     let mut files = Vec::new(console.alloc);
-    let is_read = read_values(rt, conditions.wheres.as_slice(), &mut files, input, console)?
+    let is_read = read_values(rt, wheres, Requirement::OneOf, &mut files, input, console)?
         && read_values(
             rt,
-            conditions.where_nots.as_slice(),
+            where_nots,
+            Requirement::NoneOf,
             &mut files,
             input,
             console,
         )?
-        && read_values(
-            rt,
-            conditions.contains.as_slice(),
-            &mut files,
-            input,
-            console,
-        )?;
+        && read_values(rt, parts, Requirement::Part, &mut files, input, console)?;
     if !is_read {
         return Ok(None);
     }

@@ -11,6 +11,7 @@ mod gathering;
 mod inputs;
 mod listed_values;
 mod missing;
+mod names;
 mod networks;
 mod rows;
 mod sink;

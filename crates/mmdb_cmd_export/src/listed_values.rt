@@ -1,9 +1,9 @@
 //! Values of files that no network has.
-use crate::inputs::{ValueFile, values_in};
+use crate::inputs::{ValueFile, shown_start, values_in};
 use mmdb_arguments::NoRequest;
 use mmdb_console::{Console, ProgramError, line_of, wanted_path};
 use mmdb_json::compact;
-use mmdb_layout::{Found, split_condition};
+use mmdb_layout::{Found, Requirement, split_condition};
 use mmdb_reader::{MaxMindDbError, PathElement};
 use mmdb_value::Value;
 use std::alloc::{AllocError, Global};
@@ -18,7 +18,8 @@ const MOST_NAMED: usize = 10;
 pub(crate) struct FileSearch<'a> {
     /// The condition as it is written.
     condition: &'a str,
-    path: Vec<PathElement<'a>>,
+    pub(crate) path: Vec<PathElement<'a>>,
+    pub(crate) wanted: Requirement,
     values: Vec<&'a str>,
     /// The values that no network has so far.
     left: HashSet<String>,
@@ -41,6 +42,7 @@ fn search_of<'a>(alloc: Global, file: &'a ValueFile<'a>) -> Result<FileSearch<'a
     Ok(FileSearch {
         condition: file.condition,
         path,
+        wanted: file.wanted,
         values,
         left,
         count,
@@ -70,12 +72,26 @@ impl FileSearch<'_> {
         !self.is_done() && self.left.len() == self.count
     }
 
+    /// Whether some network has one of the values, of those of which this is wanted at this path.
+    pub(crate) fn serves(&self, path: &[PathElement<'_>], wanted: Requirement) -> bool {
+        self.left.len() < self.count && self.wanted == wanted && self.path.as_slice() == path
+    }
+
+    // Takes out the text that a record has, or what is in it.
+    fn take_text(&mut self, text: &str) {
+        if self.wanted == Requirement::Part {
+            self.left.retain(|part| !text.contains(part.as_str()));
+        } else {
+            self.left.remove(text);
+        }
+    }
+
     // Takes out the value that a record has.
     fn take_value(&mut self, alloc: Global, value: &Value<'_>) -> Result<(), AllocError> {
         match value {
-            Value::String(text) => {
-                self.left.remove(*text);
-            }
+            Value::String(text) => self.take_text(*text),
+            // no other value has a text in it
+            _ if self.wanted == Requirement::Part => {}
             Value::Map(_) | Value::Array(_) => {}
             value => {
                 let json = compact(alloc, value)?;
@@ -110,32 +126,43 @@ impl FileSearch<'_> {
                 break;
             }
             if self.left.contains(*value) {
+                let (start, rest) = shown_start(*value);
                 names.push_str(if count == 0 { " " } else { ", " })?;
-                names.push_str(value)?;
+                names.push_str(start)?;
+                names.push_str(rest)?;
                 count = count.saturating_add(1);
             }
         }
         Ok(names)
     }
 
+    // What the lines of the file are called.
+    fn name_of_lines(&self) -> &'static str {
+        match self.wanted {
+            Requirement::Part => "texts",
+            _ => "values",
+        }
+    }
+
     // What is said of the values that no network has.
-    fn line(&self, alloc: Global, is_of_part: bool) -> Result<String, AllocError> {
+    fn line(&self, alloc: Global, is_of_part: bool, hint: &str) -> Result<String, AllocError> {
         let (missing, count, condition) = (self.left.len(), self.count, self.condition);
         let of = if is_of_part { " that is asked for" } else { "" };
-        let names = self.names(alloc)?;
+        let (lines, names) = (self.name_of_lines(), self.names(alloc)?);
         format!(in alloc;
-            "mmdb: {condition}: no network{of} has {missing} of the {count} values:{names}"
+            "mmdb: {condition}: no network{of} has {missing} of the {count} {lines}:{names}{hint}"
         )
     }
 
-    /// Reports the values that no network has, the first of them by name.
+    /// Reports the values that no network has, the first of them by name, and what lets a list be written without them.
     pub(crate) fn report<O: Write, E: Write>(
         &self,
         is_of_part: bool,
+        hint: &str,
         console: &mut Console<'_, O, E>,
     ) {
         if !self.is_done() {
-            let line = self.line(console.alloc, is_of_part);
+            let line = self.line(console.alloc, is_of_part, hint);
             console.note(line_of(console.alloc, line));
         }
     }

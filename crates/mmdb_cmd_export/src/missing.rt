@@ -6,18 +6,58 @@ use crate::task::ExportTask;
 use mmdb_blocks::Kinds;
 use mmdb_console::{Console, ProgramError, Similar, line_of};
 use mmdb_json::compact;
-use mmdb_layout::{Choice, Database, Found, Networks, networks_in};
-use mmdb_reader::MaxMindDbError;
+use mmdb_layout::{Choice, Database, Found, Networks, Requirement, networks_in, split_condition};
+use mmdb_reader::{MaxMindDbError, PathElement};
 use mmdb_value::Value;
 use std::alloc::{AllocError, Global};
 use std::collections::HashSet;
 use std::io::Write;
 
-/// How many values are named at most that no network has.
-const MOST_NAMED: usize = 10;
+/// For how many values at most that no network has it is looked for what was meant.
+const MOST_SOUGHT: usize = 100;
 
 /// Among how many records at most what was meant is looked for.
 const MOST_RECORDS: usize = 1 << 16;
+
+/// What lets a list be written without a value.
+const GOES_ON: &str = "; --allow-missing goes on without it";
+
+/// What lets a list be written without the values of a file.
+const GO_ON: &str = "; --allow-missing goes on without them";
+
+/// What becomes of a list where no network has a value.
+#[derive(Clone, Copy)]
+enum Lack {
+    /// It is written, and nothing is said.
+    Passed,
+    /// It is written, and what no network has is said.
+    Noted,
+    /// It is not written without what is said here.
+    Refused(&'static str),
+}
+
+// What becomes of a list that may lack networks, or else needs an argument.
+fn refused_unless(may_lack: bool, hint: &'static str) -> Lack {
+    if may_lack {
+        Lack::Noted
+    } else {
+        Lack::Refused(hint)
+    }
+}
+
+// What becomes of a list of which no network is chosen: it has the blocks that are added, or none.
+fn lack_of_all(task: &ExportTask<'_>, hint: &'static str) -> Lack {
+    if task.allow_empty {
+        Lack::Passed
+    } else if task.allow_missing {
+        // a list without any block is not written for all that
+        Lack::Noted
+    } else if task.has_more {
+        refused_unless(task.may_lack(), hint)
+    } else {
+        refused_unless(task.may_lack(), "; --allow-empty writes an empty list")
+    }
+}
 
 /// Which of the values that conditions name some network has.
 #[derive(Drop)]
@@ -94,30 +134,41 @@ impl<'t, 'a> Search<'t, 'a> {
         Ok(())
     }
 
-    // Whether no network has any of the values of this path that serve as well as this one.
-    fn is_without_alternative(&self, value: &NamedValue<'_>) -> bool {
-        value.is_alternative
-            && self.named.iter().zip(&self.are_met).all(|(other, is_met)| {
-                !(*is_met && other.is_alternative && other.has_path_of(value))
-            })
+    // Whether some network has one of the values of which this is wanted at this path.
+    fn is_served(&self, path: &[PathElement<'_>], wanted: Requirement) -> bool {
+        let mut all = self.named.iter().zip(&self.are_met);
+        all.any(|(named, is_met)| *is_met && named.serves(path, wanted))
+            || self.files.iter().any(|file| file.serves(path, wanted))
     }
 
-    // What lets the list be written without a value that no network has, unless it is given.
-    fn hint_for(
-        &self,
-        value: &NamedValue<'_>,
-        is_met: bool,
-        task: &ExportTask<'_>,
-    ) -> Option<&'static str> {
-        if is_met {
-            None
-        } else if self.is_without_alternative(value) {
-            (!task.allow_empty).then_some("; --allow-empty writes an empty list")
-        } else if task.is_of_part() {
-            // it may be elsewhere in the database
-            None
+    // Whether no network has any of the values that serve as well as this one.
+    fn is_without_alternative(&self, value: &NamedValue<'_>) -> bool {
+        let condition = &value.condition;
+        value.is_alternative && !self.is_served(condition.path.as_slice(), condition.wanted)
+    }
+
+    // What becomes of the list where no network has a value.
+    fn lack_of(&self, value: &NamedValue<'_>, task: &ExportTask<'_>) -> Lack {
+        if self.is_without_alternative(value) {
+            lack_of_all(task, GOES_ON)
+        } else if task.is_of_part() || task.allow_missing {
+            // within a part it may be elsewhere in the database
+            Lack::Passed
         } else {
-            (!task.allow_missing).then_some("; --allow-missing goes on without it")
+            refused_unless(task.may_lack(), GOES_ON)
+        }
+    }
+
+    // What becomes of the list where no network has any of the values of a file.
+    fn lack_of_file(&self, file: &FileSearch<'_>, task: &ExportTask<'_>) -> Lack {
+        if task.allow_empty || task.allow_missing || !file.is_all_missing() {
+            Lack::Noted
+        } else if file.wanted != Requirement::NoneOf
+            && !self.is_served(file.path.as_slice(), file.wanted)
+        {
+            lack_of_all(task, GO_ON)
+        } else {
+            refused_unless(task.may_lack(), GO_ON)
         }
     }
 }
@@ -165,79 +216,134 @@ fn offer_all(
     Ok(())
 }
 
-// Reports a value that no network has, with one that may be meant.
-fn report_missing<O: Write, E: Write>(
+// The value that is most like one that no network has.
+fn similar_value(
     database: &Database,
     task: &ExportTask<'_>,
     named: &NamedValue<'_>,
-    hint: &str,
-    console: &mut Console<'_, O, E>,
-) -> Result<(), ProgramError> {
-    let alloc = console.alloc;
+    alloc: Global,
+) -> Result<Option<String>, ProgramError> {
     let mut similar = Similar::new(alloc, named.value)?;
     let networks = networks_in(alloc, database, task.range)?;
     offer_all(alloc, networks, named, &mut similar)?;
+    match similar.best() {
+        Some(best) => Ok(Some(String::from_str(alloc, best)?)),
+        None => Ok(None),
+    }
+}
+
+// What may be meant in place of what no network has: another value, or one where a path is asked for.
+fn meant_by(
+    database: &Database,
+    task: &ExportTask<'_>,
+    named: &NamedValue<'_>,
+    alloc: Global,
+) -> Result<Option<String>, ProgramError> {
+    if named.condition.wanted != Requirement::Present {
+        return similar_value(database, task, named, alloc);
+    }
+    match split_condition(named.text) {
+        Some((path, value)) => Ok(Some(format!(in alloc; "--where {path}={value}")?)),
+        None => Ok(None),
+    }
+}
+
+// What no network has, as what it stands in its option.
+fn missing_text(alloc: Global, named: &NamedValue<'_>) -> Result<String, AllocError> {
     let text = named.text;
+    match named.condition.wanted {
+        Requirement::Present => format!(in alloc; "the PATH of --where-has {text}"),
+        Requirement::Part => format!(in alloc; "the TEXT of --where-contains {text}"),
+        Requirement::OneOf | Requirement::NoneOf => String::from_str(alloc, text),
+    }
+}
+
+// What is said of a value that no network has, with what may be meant.
+fn missing_line(
+    alloc: Global,
+    task: &ExportTask<'_>,
+    named: &NamedValue<'_>,
+    meant: Option<&str>,
+    hint: &str,
+) -> Result<String, AllocError> {
     let of = if task.is_of_part() {
         " that is asked for"
     } else {
         ""
     };
-    let line = match similar.best() {
-        Some(best) => {
-            format!(in alloc; "mmdb: no network{of} has {text} (did you mean {best}?){hint}")
+    let missing = missing_text(alloc, named)?;
+    match meant {
+        Some(meant) => {
+            format!(in alloc; "mmdb: no network{of} has {missing} (did you mean {meant}?){hint}")
         }
-        None => format!(in alloc; "mmdb: no network{of} has {text}{hint}"),
+        None => format!(in alloc; "mmdb: no network{of} has {missing}{hint}"),
+    }
+}
+
+// Reports a value that no network has, with what may be meant, where that is looked for.
+fn report_missing<O: Write, E: Write>(
+    database: &Database,
+    task: &ExportTask<'_>,
+    named: &NamedValue<'_>,
+    is_sought: bool,
+    hint: &str,
+    console: &mut Console<'_, O, E>,
+) -> Result<(), ProgramError> {
+    let alloc = console.alloc;
+    let meant = if is_sought {
+        meant_by(database, task, named, alloc)?
+    } else {
+        None
     };
+    let line = missing_line(alloc, task, named, meant.as_deref(), hint);
     console.note(line_of(alloc, line));
     Ok(())
 }
 
-// Says how many values more are not named.
-fn note_more<O: Write, E: Write>(count: usize, console: &mut Console<'_, O, E>) {
-    let more = count.saturating_sub(MOST_NAMED);
-    if more > 0 {
-        console.note(format!(in console.alloc; "mmdb: and {more} values more\n"));
-    }
-}
-
-// Reports the values that no network has and without which the list is not written, the first of them by name, and answers
-// how many there are.
-fn report_refused<O: Write, E: Write>(
+// Reports the values that no network has, and answers how many there are without which the list is not written.
+fn report_named<O: Write, E: Write>(
     database: &Database,
     task: &ExportTask<'_>,
     search: &Search<'_, '_>,
     console: &mut Console<'_, O, E>,
 ) -> Result<usize, ProgramError> {
-    let mut count = 0usize;
+    let (mut count, mut refused) = (0usize, 0usize);
     for (named, is_met) in search.named.iter().zip(&search.are_met) {
-        let Some(hint) = search.hint_for(named, *is_met, task) else {
+        if *is_met {
             continue;
+        }
+        let hint = match search.lack_of(named, task) {
+            Lack::Passed => continue,
+            Lack::Noted => "",
+            Lack::Refused(hint) => {
+                refused = refused.saturating_add(1);
+                hint
+            }
         };
         count = count.saturating_add(1);
-        if count <= MOST_NAMED {
-            let hint = if task.may_lack() { "" } else { hint };
-            report_missing(database, task, named, hint, console)?;
-        }
+        report_missing(database, task, named, count <= MOST_SOUGHT, hint, console)?;
     }
-    note_more(count, console);
-    Ok(count)
+    Ok(refused)
 }
 
-// Reports the values of files that no network has, and answers how many files have none that one has.
+// Reports the values of files that no network has, and answers for how many files the list is not written.
 fn report_files<O: Write, E: Write>(
     task: &ExportTask<'_>,
     search: &Search<'_, '_>,
     console: &mut Console<'_, O, E>,
 ) -> usize {
-    let mut count = 0usize;
+    let mut refused = 0usize;
     for file in &search.files {
-        file.report(task.is_of_part(), console);
-        if file.is_all_missing() && !task.allow_missing && !task.allow_empty {
-            count = count.saturating_add(1);
-        }
+        let hint = match search.lack_of_file(file, task) {
+            Lack::Refused(hint) => {
+                refused = refused.saturating_add(1);
+                hint
+            }
+            Lack::Passed | Lack::Noted => "",
+        };
+        file.report(task.is_of_part(), hint, console);
     }
-    count
+    refused
 }
 
 /// Whether networks of a range have all the values that a list's conditions name, or may lack them. Those that none has are
@@ -252,7 +358,7 @@ pub(crate) fn are_values_met<O: Write, E: Write>(
     let mut search = Search::new(console.alloc, task.named.as_slice(), files)?;
     let networks = networks_in(console.alloc, database, task.range)?;
     search.meet_all(networks, task.kinds, choice)?;
-    let refused = report_refused(database, task, &search, console)?;
-    let missing = report_files(task, &search, console);
-    Ok((refused == 0 && missing == 0) || task.may_lack())
+    let named = report_named(database, task, &search, console)?;
+    let files = report_files(task, &search, console);
+    Ok(named == 0 && files == 0)
 }

@@ -14,6 +14,27 @@ pub(crate) struct Spelt {
     pub(crate) read_as: Option<IpNetwork>,
 }
 
+/// The addresses of `::ffff:0:0/96`, each of which is one of IPv4.
+const MAPPED: BlockRange = BlockRange {
+    first: 0xffff_0000_0000,
+    last: 0xffff_ffff_ffff,
+};
+
+/// The bits of an IPv4 address.
+const IPV4_BITS: u128 = 0xffff_ffff;
+
+// The addresses that a range means: those of IPv4 where each of its addresses is one of `::ffff:0:0/96`.
+fn meant_by(kind: BlockKind, range: BlockRange) -> (BlockKind, BlockRange) {
+    if kind == BlockKind::Ipv4 || range.first < MAPPED.first || range.last > MAPPED.last {
+        return (kind, range);
+    }
+    let range = BlockRange {
+        first: range.first & IPV4_BITS,
+        last: range.last & IPV4_BITS,
+    };
+    (BlockKind::Ipv4, range)
+}
+
 // The kind and the number of an address.
 fn number_of(address: IpAddr) -> (BlockKind, u128) {
     match address {
@@ -37,9 +58,10 @@ fn range_between(first: &str, last: &str) -> Result<Spelt, &'static str> {
     if first > last {
         return Err("the last address is below the first");
     }
+    let (kind, range) = meant_by(kind, BlockRange { first, last });
     Ok(Spelt {
         kind,
-        range: BlockRange { first, last },
+        range,
         read_as: None,
     })
 }
@@ -52,12 +74,16 @@ fn of_network(network: IpNetwork) -> Spelt {
     };
     let block = Block::of_network(network);
     let is_exact = network.ip() == network.network();
-    Spelt {
+    let (kind, range) = meant_by(
         kind,
-        range: BlockRange {
+        BlockRange {
             first: block.first,
             last: block.last(),
         },
+    );
+    Spelt {
+        kind,
+        range,
         read_as: (!is_exact).then_some(network),
     }
 }

@@ -1,8 +1,9 @@
 //! What `export` is asked for.
 use crate::conditions::{NamedValue, conditions_of, named_values};
 use crate::inputs::ValueFile;
+use crate::names::{fault_of_name, fault_of_table};
 use mmdb_arguments::{ExportArguments, Format, ListArguments, NoRequest};
-use mmdb_blocks::{BlockKind, Kinds, Syntax, is_list_value, is_set_name, is_variable_name};
+use mmdb_blocks::{BlockKind, Kinds, Syntax, is_list_value, is_set_name};
 use mmdb_console::range_of;
 use mmdb_layout::{Condition, Layout, layout_of};
 use mmdb_reader::IpNetwork;
@@ -28,6 +29,8 @@ pub(crate) struct ExportTask<'a> {
     pub(crate) files: &'a [ValueFile<'a>],
     pub(crate) kinds: Kinds,
     pub(crate) shape: Shape<'a>,
+    /// Whether blocks are added to the list.
+    pub(crate) has_more: bool,
     /// Whether a list may have no networks.
     pub(crate) allow_empty: bool,
     /// Whether a list is written even where no network has a value of a condition.
@@ -66,11 +69,7 @@ fn text_of<'a>(
 
 // How sets, a chain or a variable are named, in a format that has some.
 fn name_of<'a>(alloc: Global, format: Format, name: Option<&'a str>) -> Result<&'a str, NoRequest> {
-    let text = name.unwrap_or("");
-    let (is_right, not) = match format {
-        Format::Nginx => (is_variable_name(text), "not a variable's name"),
-        _ => (is_set_name(text), "not the beginning of a set's name"),
-    };
+    let fault = fault_of_name(format, name.unwrap_or(""));
     let is_taken = matches!(
         format,
         Format::Nft | Format::Ipset | Format::Iptables | Format::Nginx
@@ -78,9 +77,9 @@ fn name_of<'a>(alloc: Global, format: Format, name: Option<&'a str>) -> Result<&
     let wrong = [
         "--name",
         "needs --format nft, ipset, iptables or nginx",
-        not,
+        fault.unwrap_or(""),
     ];
-    text_of(alloc, name, "mmdb", is_taken, is_right, wrong)
+    text_of(alloc, name, "mmdb", is_taken, fault.is_none(), wrong)
 }
 
 // The table of nft that has the sets.
@@ -89,14 +88,14 @@ fn table_of<'a>(
     format: Format,
     table: Option<&'a str>,
 ) -> Result<&'a str, NoRequest> {
-    let is_right = is_set_name(table.unwrap_or(""));
-    let wrong = ["--table", "needs --format nft", "not a table's name"];
+    let fault = fault_of_table(table.unwrap_or(""));
+    let wrong = ["--table", "needs --format nft", fault.unwrap_or("")];
     text_of(
         alloc,
         table,
         "mmdb",
         matches!(format, Format::Nft),
-        is_right,
+        fault.is_none(),
         wrong,
     )
 }
@@ -227,6 +226,7 @@ pub(crate) fn export_task<'a>(
         files,
         kinds: kinds_of(arguments.list.ipv4, arguments.list.ipv6),
         shape: shape_of(alloc, arguments)?,
+        has_more: !arguments.list.also.is_empty(),
         allow_empty: arguments.list.allow_empty,
         allow_missing: arguments.list.allow_missing,
     })

@@ -1,6 +1,6 @@
 //! Networks chosen by their records, and lists of the fewest blocks.
 use super::exports::{file_of_nodes, is_as_wanted, lines_hold};
-use super::program::{assert_of, run_of};
+use super::program::{assert_of, run_of, run_over, two_files};
 use mmdb_vectors::builder::{Field, changed_file, nodes_24};
 use std::alloc::Global;
 use std::process::Abort;
@@ -278,8 +278,199 @@ const WITH_INPUT: &[InputRow<'static>] = &[
         &["export", "here.mmdb", "--where-has", "x", "--format", "pf"],
         "",
         "",
-        &["no network has x; --allow-empty writes an empty list"],
+        &["mmdb: no network has the PATH of --where-has x; --allow-empty writes an empty list"],
         1,
+    ),
+    // a path with a value, which is none
+    (
+        &["export", "here.mmdb", "--where-has", "c.i=AT", "--format", "pf"],
+        "",
+        "",
+        &["has the PATH of --where-has c.i=AT (did you mean --where c.i=AT?); --allow-empty writes an empty list"],
+        1,
+    ),
+    (
+        &["export", "here.mmdb", "--where-contains", "c.i=ATT", "--format", "pf"],
+        "",
+        "",
+        &["has the TEXT of --where-contains c.i=ATT (did you mean AT?); --allow-empty writes an empty list"],
+        1,
+    ),
+    (
+        &["export", "here.mmdb", "--where-contains", "c.i", "--format", "pf"],
+        "",
+        "",
+        &["c.i: not PATH=TEXT"],
+        2,
+    ),
+    // a text of a file is in a value, and need not be one
+    (
+        &["export", "here.mmdb", "--where-contains", "c.i=@-", "--format", "pf"],
+        "A\nXX\n",
+        "64.0.0.0/3\n",
+        &["c.i=@-: no network has 1 of the 2 texts: XX"],
+        0,
+    ),
+    // each of several values is named
+    (
+        &["export", "here.mmdb", "--where", "c.i=de", "--where", "c.i=at", "--format", "pf"],
+        "",
+        "",
+        &[
+            "no network has c.i=de (did you mean DE?); --allow-empty writes an empty list",
+            "no network has c.i=at (did you mean AT?); --allow-empty writes an empty list",
+        ],
+        1,
+    ),
+    // a value beside those of a file, one of which some network has
+    (
+        &["export", "here.mmdb", "--where", "c.i=de", "--where", "c.i=@-", "--format", "pf"],
+        "AT\n",
+        "",
+        &["no network has c.i=de (did you mean DE?); --allow-missing goes on without it"],
+        1,
+    ),
+    (
+        &["export", "here.mmdb", "--where", "c.i=de", "--where", "c.i=@-", "--format", "pf", "--allow-missing"],
+        "AT\n",
+        "64.0.0.0/3\n",
+        &[],
+        0,
+    ),
+    // values that no network has beside one that some network has
+    (
+        &["export", "here.mmdb", "--where", "c.i=AT", "--where", "c.i=@-", "--format", "pf"],
+        "FR\n",
+        "",
+        &["c.i=@-: no network has 1 of the 1 values: FR; --allow-missing goes on without them"],
+        1,
+    ),
+    (
+        &["export", "here.mmdb", "--where", "c.i=AT", "--where", "c.i=@-", "--format", "pf", "--allow-missing"],
+        "FR\n",
+        "64.0.0.0/3\n",
+        &["c.i=@-: no network has 1 of the 1 values: FR"],
+        0,
+    ),
+    // without any value there is a list only of what is added
+    (
+        &["export", "here.mmdb", "--where", "c.i=FR", "--where", "c.i=XX", "--format", "pf", "--also", "-", "--allow-missing"],
+        "10.0.0.0/8\n",
+        "10.0.0.0/8\n",
+        &["mmdb: no network has c.i=FR", "mmdb: no network has c.i=XX"],
+        0,
+    ),
+    (
+        &["export", "here.mmdb", "--where", "c.i=FR", "--format", "pf", "--also", "-"],
+        "10.0.0.0/8\n",
+        "",
+        &["no network has c.i=FR; --allow-missing goes on without it"],
+        1,
+    ),
+    (
+        &["export", "here.mmdb", "--where", "c.i=FR", "--format", "pf", "--allow-missing"],
+        "",
+        "",
+        &[
+            "mmdb: no network has c.i=FR",
+            "no network is chosen; --allow-empty writes an empty list",
+        ],
+        1,
+    ),
+    // a byte order mark is passed, at the beginning alone
+    (
+        &["export", "here.mmdb", "--where", "c.i=@-", "--format", "pf"],
+        "\u{feff}AT\n",
+        "64.0.0.0/3\n",
+        &[],
+        0,
+    ),
+    (
+        &["export", "here.mmdb", "--where", "c.i=AT", "--format", "pf", "--also", "-"],
+        "\u{feff}10.0.0.0/8\n",
+        "10.0.0.0/8\n64.0.0.0/3\n",
+        &[],
+        0,
+    ),
+    (
+        &["export", "here.mmdb", "--where", "c.i=AT", "--format", "pf", "--also", "-"],
+        "\u{feff}10.0.0.0/8\n\u{feff}11.0.0.0/8\n",
+        "",
+        &["-:2: \u{feff}11.0.0.0/8: not a network, an address or FIRST-LAST"],
+        1,
+    ),
+    // IPv4 addresses as IPv6 has them, where all of a block are
+    (
+        &["export", "here.mmdb", "--where", "c.i=AT", "--format", "pf", "--except", "-"],
+        "::ffff:64.0.0.0/100\n::ffff:80.0.0.0-::ffff:87.255.255.255\n",
+        "88.0.0.0/5\n",
+        &[],
+        0,
+    ),
+    (
+        &["export", "here.mmdb", "--where", "c.i=AT", "--format", "pf", "--also", "-"],
+        "::ffff:1.2.3.0/120\n::ffff:1.2.4.7\n::fffe:ffff:ffff\n::1:0:0:0\n",
+        "1.2.3.0/24\n1.2.4.7/32\n64.0.0.0/3\n::fffe:ffff:ffff/128\n::1:0:0:0/128\n",
+        &[],
+        0,
+    ),
+    (
+        &["export", "here.mmdb", "--where", "c.i=AT", "--format", "pf", "--also", "-"],
+        "::fffe:0:0/95\n::fffe:ffff:ffff-::ffff:0:1\n",
+        "64.0.0.0/3\n::fffe:0:0/95\n",
+        &[],
+        0,
+    ),
+    // names that are the formats' own
+    (
+        &["export", "here.mmdb", "--format", "nft", "--table", "table"],
+        "",
+        "",
+        &["table: a word of nft itself; give another --table"],
+        2,
+    ),
+    (
+        &["export", "here.mmdb", "--format", "iptables", "--name", "INPUT"],
+        "",
+        "",
+        &["INPUT: a chain or a target of iptables itself; give another --name"],
+        2,
+    ),
+    (
+        &["export", "here.mmdb", "--format", "iptables", "--name", "!a"],
+        "",
+        "",
+        &["!a: not a chain's name: 1 to 28 letters, digits, _, - and ., the first a letter or _"],
+        2,
+    ),
+    (
+        &["export", "here.mmdb", "--format", "iptables", "--name", "a1234567890123456789012345678"],
+        "",
+        "",
+        &["a1234567890123456789012345678: not a chain's name: 1 to 28 letters"],
+        2,
+    ),
+    (
+        &["export", "here.mmdb", "--where", "c.i=AT", "--format", "iptables", "--name", "a123456789012345678901234567"],
+        "",
+        "*filter\n:a123456789012345678901234567 - [0:0]\n-A a123456789012345678901234567 -4 -s 64.0.0.0/3 -j DROP\nCOMMIT\n",
+        &[],
+        0,
+    ),
+    (
+        &["export", "here.mmdb", "--format", "nginx", "--name", "Remote_Addr"],
+        "",
+        "",
+        &["Remote_Addr: a variable of nginx itself; give another --name"],
+        2,
+    ),
+    // a name of one format is none of another one's own
+    (
+        &["export", "here.mmdb", "--where", "c.i=AT", "--format", "nginx", "--name", "table"],
+        "",
+        "geo $table {\n    64.0.0.0/3 1;\n}\n",
+        &[],
+        0,
     ),
     (
         &["export", "here.mmdb", "--where", "c.i=@@x", "--format", "pf"],
@@ -383,6 +574,54 @@ fn assert_input_rows(rt: &impl Abort, alloc: Global, bytes: &[u8], rows: &[Input
             && lines_hold(run.err(), message);
         assert_of(rt, words, &run, holds);
     }
+}
+
+/// A line of 101 characters, each of two bytes, and its first 100.
+#[rattlefmt::skip]
+const LONG_LINE: &str = "ääääääääääääääääääääääääääääääääääääääääääääääääääääääääääääääääääääääääääääääääääääääääääääääääääää\u{e4}";
+
+#[rattlefmt::skip]
+const LONG_START: &str = "ääääääääääääääääääääääääääääääääääääääääääääääääääääääääääääääääääääääääääääääääääääääääääääääääääää";
+
+// What is said of a long line shows its beginning, and of one of 100 characters all.
+#[test]
+fn long_lines_of_files(rt: HostRuntime) {
+    let bytes = file_of_nodes(&rt, rt.alloc(), WHOLE, b"\xC1\x07", DATA);
+    for (option, value) in [("--also", "-"), ("--where", "c.i=@-")] {
+        for (line, behind) in [(LONG_LINE, ".."), (LONG_START, "")] {
+            let words = ["export", "here.mmdb", "--format", "pf", option, value];
+            let run = run_of(rt.alloc(), bytes.as_slice(), &words, line);
+            let wanted: String = format!(in rt.alloc(); " {LONG_START}{behind}").expect(
+                &rt, "a text",
+            );
+            let shown: String = format!(in rt.alloc(); " {LONG_LINE}").expect(&rt, "a text");
+            let holds = run.err().contains(wanted.as_str()) && !run.err().contains(shown.as_str());
+            assert_of(&rt, &words, &run, holds && run.status == 1);
+        }
+    }
+}
+
+// The line of a file of values is named that is not UTF-8.
+#[test]
+fn values_that_are_not_utf8(rt: HostRuntime) {
+    let bytes = file_of_nodes(&rt, rt.alloc(), WHOLE, b"\xC1\x07", DATA);
+    let files = two_files(bytes.as_slice(), b"AT\nx\xFFy\n");
+    let words = [
+        "export",
+        "here.mmdb",
+        "--where",
+        "c.i=@new.mmdb",
+        "--format",
+        "pf",
+    ];
+    let run = run_over(rt.alloc(), &files, &words, "", false);
+    let is_named = lines_hold(run.err(), &["mmdb: new.mmdb:2: not valid UTF-8"]);
+    assert_of(
+        &rt,
+        &words,
+        &run,
+        is_named && run.status == 1 && run.out().is_empty(),
+    );
 }
 
 #[test]
