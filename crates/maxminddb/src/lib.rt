@@ -7,9 +7,8 @@ mod path;
 pub use mmdb_geoip2 as geoip2;
 pub use mmdb_reader::{
     FoundLeaf, IpNetwork, IpNetworkError, Ipv4Network, Ipv6Network, LookupMany, LookupResult,
-    MaxMindDbError, Metadata, PathElement, Reader, StepCounter, Within, WithinOptions,
-    geonet as geonet, mask_ip, metadata as metadata, read_node, reader as reader, render_path,
-    tree as tree,
+    MaxMindDbError, Metadata, PathElement, Reader, Steps, Within, WithinOptions, geonet as geonet,
+    mask_ip, metadata as metadata, read_node, reader as reader, render_path, tree as tree,
 };
 pub use mmdb_value as values;
 pub use mmdb_value::{

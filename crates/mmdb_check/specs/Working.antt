@@ -24,7 +24,7 @@ pub record Grown (m m' : List ℕ) (reached : ℕ → Bool) : Type 0 where
   pub kept : (q : ℕ) → 1 ≤ mark m q → mark m' q ≡ mark m q
   pub under : (q : ℕ) → mark m' q ≡ 1 → mark m q ≡ 1
 
--- n values below d nesting reach from p to e and have h nesting; the memory grew by what they reach, and the work left
+-- n values below d nesting lie from p to e and have h nesting; the memory grew by what they reach, and the work left
 -- went down by theirs and that of the offsets that became good
 pub record Passed (s m : List ℕ) (l n p d : ℕ) (m' : List ℕ) (l' e h : ℕ) : Type 0 where
   pub f : Values

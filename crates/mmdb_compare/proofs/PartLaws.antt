@@ -68,7 +68,7 @@ reached_stretch before at next old new block has_old has_new is_even stretch r c
   left_of_new = left_on before.new new at (start_of next) (omega (arith, e, c.begins)) r.left_of_new;
 }
 
--- behind a leaf that can't be read
+-- after a leaf that can't be read
 behind_left : (stand : Stand) (s : Standing) → s.stand ≡ Nowhere → s.is_unknown ≡ true → left_of s ≡ coming s.leaves true
 behind_left stand s e u = rw (e, u) refl
 
@@ -92,11 +92,11 @@ reached_unread before at New old new old_after new_after r met = record {
   past = (past before.new at (coming_from at (left_of new)) new_after met.0 r.left_of_new, gone_left before.old at old old_after met.1 r.left_of_old);
 }
 
--- a leaf that comes behind one network that both stand at
+-- a leaf that comes after one network that both are at
 unread_first : (at : ℕ) (c : Coming) (s : Standing) → IsMet c s → coming_from at c ≡ c
 unread_first at c s met = rw met.met refl
 
--- what comes behind a network of which nothing is left
+-- what comes after a network of which nothing is left
 done_left : (at : ℕ) (s : Standing) → IsDone s at → coming_from at (left_of s) ≡ coming_from at (behind_of s)
 done_left at s d = behind_is at s (rw d.stands d.ends)
 
@@ -118,7 +118,7 @@ shared_unread at New old new old_after new_after done_old done_new met = record 
   );
 }
 
--- a comparison that stands behind a block
+-- a comparison that is after a block
 pub behind_block : (at from : ℕ) (next : Option ℕ) (old new : Standing) (block : Block) (has_old has_new is_even : Bool) → IsComparedAt old new at block has_old has_new is_even → start_of next ≡ end block → IsComparing next is_even old new
 behind_block at from next old new block has_old has_new is_even c e h = let d = c.even h in (record { stands = d.0.stands; ends = omega (arith, d.0.ends, e) }, record { stands = d.1.stands; ends = omega (arith, d.1.ends, e) })
 

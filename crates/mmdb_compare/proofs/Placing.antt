@@ -1,4 +1,4 @@
--- What stands behind a header, and where the header is.
+-- What is after a header, and where the header is.
 use Rattle.std.proofs.Common.{◌≡◌, ◌≤◌, ◌-◌, ◌*◌, ℕ, List, length, Option, Some, None, true, refl, arith, nat_eq}
 use Rattle.std.specs.Option.{IfSome}
 use Rattle.std.specs.Str.{is_utf8}
@@ -18,7 +18,7 @@ abbrev behind_pointer : Option ℕ → Tree → Tree
 behind_pointer None t = t
 behind_pointer (Some to) t = pointer to t
 
--- what unfolds wherever a header stands unfolds where it was found, maybe behind a pointer
+-- what unfolds wherever a header is unfolds where it was found, maybe through a pointer
 abbrev Placed : List ℕ → ℕ → Direct → Type 0
 Placed s p x = (to : Option ℕ) × ((t : Tree) (q : ℕ) → ((here : ℕ) → header_at s here ≡ Some x.header → Unfolds s here t q) → Unfolds s p (behind_pointer to t) (end_of x q))
 
@@ -38,7 +38,7 @@ behind_it : (s : List ℕ) (p q depth : ℕ) (to : Option ℕ) (value : Tree) (m
 behind_it s p q depth None value m t unfolds keyed texts levels is count bytes = record { tree = t; unfolds = unfolds; keyed = keyed; texts = texts; levels = omega (arith, levels); value = is; count = count; bytes = bytes }
 behind_it s p q depth (Some to) value m t unfolds keyed texts levels is count bytes = record { tree = pointer to t; unfolds = unfolds; keyed = keyed; texts = texts; levels = omega (arith, levels); value = is; count = count; bytes = bytes }
 
--- a value that stands behind a header
+-- a value that is after a header
 pub value_behind : (s : List ℕ) (p q depth : ℕ) (x : Direct) (value : Tree) (m : Measure) (t : Tree) → direct_at s p 0 ≡ Some x → ((here : ℕ) → header_at s here ≡ Some x.header → Unfolds s here t q) → is_keyed t ≡ true → has_texts t ≡ true → levels_without_key_pointers t ≤ 2 * depth → value ≡ without_pointers t → value_count t ≡ m.count → payload t ≡ m.bytes → IsValue s p (end_of x q) value m depth
 value_behind s p q depth x value m t found each keyed texts levels is count bytes =
     let w = if_is (direct_at s p 0) (Placed s p) x (placed s p) found in

@@ -54,7 +54,7 @@ pair_more s p q r e n depth key value values k m rest a b c = record {
   bytes = rw (a.bytes, b.bytes, c.bytes) refl;
 }
 
--- whatever pairs are the same behind this place, all of them are
+-- whatever pairs are the same after this place, all of them are
 abbrev pub PairsGoOn : Sections → PairPosition → PairPosition → ℕ → ℕ → ℕ → Type 0
 PairsGoOn s before now n left depth = (after : PairPosition) → AreSamePairs s now after left depth → AreSamePairs s before after n depth
 
@@ -130,7 +130,7 @@ elements_end s before now n left depth on none = on now (subst (λ l. AreSameEle
 
 -- ---- containers
 
--- a value behind a pointer ends where the pointer does
+-- a value that a pointer leads to ends where the pointer does
 pub end_any : (o : Option ℕ) (x y : ℕ) → is_some o ≡ true → unwrap_or o x ≡ unwrap_or o y
 end_any None x y some = absurd (cc)
 end_any (Some end) x y some = refl

@@ -11,7 +11,7 @@ use Rattle.mmdb_compare.specs.Parts.{IsAnswered}
 use Rattle.mmdb_compare.proofs.BlockLaws.{inside, one_block}
 use Rattle.mmdb_compare.proofs.ComingLaws.{stays, goes, answer_inside}
 
--- what is left behind a network that ends there is what comes behind it
+-- what is left after a network that ends there is what comes after it
 pub passed_behind : (stand : Stand) (at : ℕ) (block : Block) (offset : Option ℕ) (leaves : List Leaf) (u : Bool) → IsBehindAt stand at block → coming_from at (left_at stand block offset leaves u) ≡ coming_from at (behind_at stand leaves u)
 passed_behind Nowhere at block offset leaves u h = refl
 passed_behind AtNetwork at block offset leaves u h = goes at block offset leaves u h
@@ -50,7 +50,7 @@ around_at AtNetwork wide block offset leaves u e f first prefix w b address inn 
 pub around : (s : Standing) (block : Block) (at : ℕ) → block.first ≡ at → IsFrom at s → StandsAround s block → IsBlock block → IsAnswered (left_of s) block true s.offset
 around s block at begins f a b = around_at s.stand s.block block s.offset s.leaves s.is_unknown a.stands (rw begins f) a.first a.prefix a.is_block b
 
--- where it has no shorter prefix, nothing is left of the network behind the block
+-- where it has no shorter prefix, nothing is left of the network after the block
 done_at : (stand : Stand) (wide block : Block) (leaves : List Leaf) → stand ≡ AtNetwork → IsFromAt stand block.first wide leaves → wide.first ≤ block.first → wide.prefix ≡ block.prefix → IsBlock wide → IsBlock block → end wide ≤ end block
 done_at Nowhere wide block leaves e f first prefix w b = absurd f
 done_at AtEnd wide block leaves e f first prefix w b = cc

@@ -29,7 +29,7 @@ passed at (Network block offset ∷ leaves) is_unknown =
 abbrev pub coming_from : ℕ → Coming → Coming
 coming_from at c = passed at c.leaves c.is_unknown
 
--- What a database answers for an address: a record, and where it is; none; what is not known, behind a leaf that can't
+-- What a database answers for an address: a record, and where it is; none; what is not known, after a leaf that can't
 -- be read; or such a leaf comes first.
 pub data Answer : Type 0 where
   Record : Option ℕ → Answer
@@ -52,7 +52,7 @@ abbrev pub answer_at : ℕ → Coming → Answer
 answer_at at c = let left = coming_from at c in answer_of at left.leaves left.is_unknown
 
 -- A comparison: the address up to which all is compared, or 2 ^ 128 where that is each address; what is left to come of
--- both databases from there on; and where the record is of the network that each of them stands at.
+-- both databases from there on; and where the record is of the network that each of them is at.
 pub record Comparing : Type 0 where
   pub at : ℕ
   pub old : Coming

@@ -1,5 +1,5 @@
 -- What comes of a range of a database: what the reader lists of it, as blocks of addresses. Addresses have 128 bits: before
--- those of IPv4 stand 96 zeros.
+-- those of IPv4 are 96 zeros.
 use Rattle.std.specs.Prelude.{◌-◌, Bool, List, ◌++◌, map, false, if◌then◌else◌, nat_lt}
 use Rattle.mmdb_net.specs.Bits.{zero_bits}
 use Rattle.mmdb_net.specs.declared.network.IpNetwork.{IpNetwork}

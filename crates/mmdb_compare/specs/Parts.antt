@@ -11,7 +11,7 @@ use Rattle.mmdb_compare.specs.declared.comparison.Stretch.{Stretch}
 use Rattle.mmdb_compare.specs.declared.comparison.Side.{Side}
 use Rattle.mmdb_compare.specs.declared.comparison.Side.TheVariants.{Old, New}
 
--- the address that a comparison stands at: behind all addresses where none is left
+-- the address that a comparison is at: after all addresses where none is left
 abbrev pub start_of : Option ℕ → ℕ
 start_of (Some at) = at
 start_of None = 2 ^ 128
@@ -26,7 +26,7 @@ IsSkipped Nothing Nothing = Unit {0}
 IsSkipped old Unknown = Unit {0}
 IsSkipped old new = ⊥
 
--- so at each address from the one where a comparison stands to another one
+-- so at each address from the one where a comparison is to another one
 abbrev pub IsSkippedTo : ℕ → Comparing → Type 0
 IsSkippedTo to c = (address : ℕ) → c.at ≤ address → address < to → IsSkipped (answer_at address c.old) (answer_at address c.new)
 
@@ -35,8 +35,8 @@ abbrev pub IsAnswered : Coming → Block → Bool → Option ℕ → Type 0
 IsAnswered c block has offset =
     (address : ℕ) → IsWithin address block → answer_at address c ≡ (if has then Record offset else Nothing)
 
--- The next stretch is a block behind addresses that are skipped, in which each database has one answer, and one of them
--- has a record. The call goes behind its last address, and past it nothing is left out of either database.
+-- The next stretch is a block after addresses that are skipped, in which each database has one answer, and one of them
+-- has a record. The call goes past its last address, and after it nothing is left out of either database.
 pub record IsNextStretch (before after : Comparing) (stretch : Stretch) : Type 0 where
   pub block : IsBlock stretch.block
   pub behind : before.at ≤ stretch.block.first
@@ -60,7 +60,7 @@ abbrev pub IsPastIn : Side → Comparing → Comparing → Type 0
 IsPastIn Old before after = IsPast after.at before.old after.old × (after.new ≡ coming_from after.at before.new)
 IsPastIn New before after = IsPast after.at before.new after.new × (after.old ≡ coming_from after.at before.old)
 
--- The next leaf that can't be read comes behind addresses that are skipped.
+-- The next leaf that can't be read comes after addresses that are skipped.
 pub record IsNextUnread (before after : Comparing) (side : Side) : Type 0 where
   pub behind : before.at ≤ after.at
   pub skipped : IsSkippedTo after.at before

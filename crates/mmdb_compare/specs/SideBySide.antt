@@ -9,8 +9,8 @@ use Rattle.mmdb_compare.specs.declared.pairs.Offsets.{Offsets}
 use Rattle.mmdb_compare.specs.declared.place.PairPosition.{PairPosition}
 use Rattle.mmdb_compare.specs.Same.{Sections}
 
--- how many levels a value may have whose containers nest at most so deep: each of them, and the last value, may be behind a
--- pointer
+-- how many levels a value may have whose containers nest at most `depth` deep: each of them, and the last value, may be reached
+-- through a pointer
 abbrev pub most_levels_at : ℕ → ℕ
 most_levels_at depth = 2 * depth + 1
 
@@ -19,7 +19,7 @@ pub record Measure : Type 0 where
   pub count : ℕ
   pub bytes : ℕ
 
--- A value stands at an offset and ends before another one.
+-- A value is at an offset and ends before another one.
 pub record IsValue (s : List ℕ) (p q : ℕ) (v : Tree) (m : Measure) (depth : ℕ) : Type 0 where
   pub tree : Tree
   pub unfolds : Unfolds s p tree q
@@ -41,7 +41,7 @@ pub record IsKey (s : List ℕ) (p q : ℕ) (k : List ℕ) (m : Measure) : Type 
   pub count : value_count tree ≡ m.count
   pub bytes : payload tree ≡ m.bytes
 
--- so many values, one behind another
+-- `n` values, one after another
 pub record AreValues (s : List ℕ) (p n q : ℕ) (vs : Trees) (m : Measure) (depth : ℕ) : Type 0 where
   pub trees : Trees
   pub unfolds : AllUnfold s p n trees q
@@ -52,7 +52,7 @@ pub record AreValues (s : List ℕ) (p n q : ℕ) (vs : Trees) (m : Measure) (de
   pub count : trees_count trees ≡ m.count
   pub bytes : trees_payload trees ≡ m.bytes
 
--- so many pairs
+-- `n` pairs
 pub record ArePairs (s : List ℕ) (p n q : ℕ) (vs : Pairs) (m : Measure) (depth : ℕ) : Type 0 where
   pub pairs : Pairs
   pub unfolds : PairsUnfold s p n pairs q
@@ -67,7 +67,7 @@ pub record ArePairs (s : List ℕ) (p n q : ℕ) (vs : Pairs) (m : Measure) (dep
 abbrev pub IsPaid : Measure → ℕ → ℕ → Type 0
 IsPaid m left rest = 32 * m.count + m.bytes + rest ≤ left
 
--- From one place to another one the same stands in both sections: a value, a key, so many values or pairs.
+-- From one place to another one the same is in both sections: a value, a key, `n` values or pairs.
 pub record IsSame (s : Sections) (before after : PairPosition) (depth : ℕ) : Type 0 where
   pub value : Tree
   pub measure : Measure
@@ -96,7 +96,7 @@ pub record AreSamePairs (s : Sections) (before after : PairPosition) (n depth : 
   pub in_new : ArePairs s.in_new before.in_new n after.in_new values measure depth
   pub paid : IsPaid measure before.left after.left
 
--- so many pairs, wherever they end
+-- `n` pairs, wherever they end
 abbrev pub AreSamePairsUpTo : Sections → PairPosition → ℕ → ℕ → ℕ → Type 0
 AreSamePairsUpTo s before left n depth = (after : PairPosition) × AreSamePairs s before after n depth × (left ≤ after.left)
 

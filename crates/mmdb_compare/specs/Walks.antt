@@ -1,4 +1,4 @@
--- Where a walk stands, and what it says.
+-- Where a walk is, and what it says.
 use Rattle.std.specs.Prelude.{◌≡◌, ℕ, ◌+◌, ◌*◌, ◌^◌, length, ◌<◌, ◌≤◌, ◌⊎◌, Bool, true, false, List, [], ◌∷◌, ◌||◌, Option}
 use Rattle.mmdb_blocks.specs.declared.block.Block.{Block}
 use Rattle.mmdb_blocks.specs.Blocks.{IsBlock, end}
@@ -15,7 +15,7 @@ use Rattle.mmdb_compare.specs.Coming.Leaf.{Network, Unread}
 use Rattle.mmdb_compare.specs.Coming.Answer.{Record, Nothing, Unknown}
 use Rattle.mmdb_compare.specs.Parts.{start_of, IsAnswered, IsSkipped, IsSkippedTo}
 
--- A walk: where it stands, the block and the offset of the network that it stands at, the leaves behind it, and whether it
+-- A walk: where it is, the block and the offset of the network that it is at, the leaves after it, and whether it
 -- is not known what comes before the network.
 pub record Standing : Type 0 where
   pub stand : Stand
@@ -28,7 +28,7 @@ abbrev pub standing : Stand → ℕ → ℕ → Option ℕ → List Leaf → Boo
 standing stand first prefix offset leaves is_unknown =
     record { stand = stand; block = record { first = first; prefix = prefix }; offset = offset; leaves = leaves; is_unknown = is_unknown }
 
--- what comes with the network that it stands at
+-- what comes with the network that it is at
 abbrev pub left_at : Stand → Block → Option ℕ → List Leaf → Bool → Coming
 left_at Nowhere block offset leaves is_unknown = coming leaves is_unknown
 left_at AtNetwork block offset leaves is_unknown = coming (Network block offset ∷ leaves) is_unknown
@@ -37,7 +37,7 @@ left_at AtEnd block offset leaves is_unknown = coming leaves is_unknown
 abbrev pub left_of : Standing → Coming
 left_of s = left_at s.stand s.block s.offset s.leaves s.is_unknown
 
--- what comes behind the network that it stands at
+-- what comes after the network that it is at
 abbrev pub behind_at : Stand → List Leaf → Bool → Coming
 behind_at Nowhere leaves is_unknown = coming leaves is_unknown
 behind_at AtNetwork leaves is_unknown = coming leaves false
@@ -46,7 +46,7 @@ behind_at AtEnd leaves is_unknown = coming leaves is_unknown
 abbrev pub behind_of : Standing → Coming
 behind_of s = behind_at s.stand s.leaves s.is_unknown
 
--- A leaf that can't be read came first, and the walk stands behind it.
+-- A leaf that can't be read came first, and the walk is after it.
 pub record IsMet (before : Coming) (after : Standing) : Type 0 where
   pub is_unknown : Bool
   pub met : before ≡ coming (Unread ∷ after.leaves) is_unknown
@@ -95,7 +95,7 @@ pub record IsGone (at : ℕ) (before after : Standing) : Type 0 where
   pub left : left_of after ≡ coming_from at (left_of before)
   pub «from» : IsFrom at after
 
--- What holds of each walk: it stands in blocks, and behind all networks none comes.
+-- What holds of each walk: it is in blocks, and after all networks none comes.
 pub record IsStanding (range : Block) (s : Standing) : Type 0 where
   pub within : IsBlock range
   pub block : IsBlock s.block
@@ -152,14 +152,14 @@ abbrev pub IsMetOn : Side → Standing → Standing → Standing → Standing �
 IsMetOn Old old_before new_before old new = IsMet (behind_of old_before) old × (new ≡ new_before)
 IsMetOn New old_before new_before old new = IsMet (behind_of new_before) new × IsTaken (behind_of old_before) old
 
--- it stands at a network in which a block begins, with no longer prefix
+-- it is at a network in which a block begins, with no longer prefix
 pub record StandsAround (s : Standing) (block : Block) : Type 0 where
   pub stands : s.stand ≡ AtNetwork
   pub first : s.block.first ≤ block.first
   pub prefix : s.block.prefix ≤ block.prefix
   pub is_block : IsBlock s.block
 
--- it stands at a network of which nothing is left at an address
+-- it is at a network of which nothing is left at an address
 pub record IsDone (s : Standing) (at : ℕ) : Type 0 where
   pub stands : s.stand ≡ AtNetwork
   pub ends : end s.block ≤ at
@@ -190,7 +190,7 @@ abbrev pub IsBoth : Standing → Standing → ℕ → BothAt → Type 0
 IsBoth old new at (Compared block has_old has_new is_even) = IsComparedAt old new at block has_old has_new is_even
 IsBoth old new at (Skipped last) = IsSkippedAt old new at last
 
--- both stand at the network that is the block, at an address or behind it
+-- both are at the network that is the block, at an address or after it
 pub record IsShared (old new : Standing) (at : ℕ) (block : Block) : Type 0 where
   pub is_block : IsBlock block
   pub behind : at ≤ block.first

@@ -46,7 +46,7 @@ pub struct Comparison<'a, S: AsSlice<u8> + Drop> {
     is_ipv4: bool,
     /// The address up to which all is compared, if there is one left.
     at: Option<u128>,
-    /// Whether both stand at one network, of which nothing is left.
+    /// Whether both are at one network, of which nothing is left.
     are_even: bool,
 }
 
@@ -61,7 +61,7 @@ impl<'a, S: AsSlice<u8> + Drop> Model for Comparison<'a, S> {
     ghost invariant = { λ c. IsComparing c.at c.are_even c.walks.old c.walks.new };
 }
 
-// The address behind another one, if there is one.
+// The address after another one, if there is one.
 #[inline(always)]
 fn next_to(last: u128) -> Option<u128>
     ensures { start_of result ≡ last + 1 }
@@ -69,7 +69,7 @@ fn next_to(last: u128) -> Option<u128>
     last.checked_add(1)
 }
 
-// The address behind a block, if there is one.
+// The address after a block, if there is one.
 #[inline(always)]
 fn behind(block: Block) -> Option<u128>
     requires { IsBlock block }

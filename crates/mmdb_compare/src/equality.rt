@@ -17,7 +17,7 @@ use mmdb_format::utf8::is_utf8;
 use std::alloc::{AllocError, Global};
 use std::marker::Model;
 
-/// How deep maps and arrays may stand in one another, and what a record may cost. What is larger than this or costs more is
+/// How deep maps and arrays may be in one another, and what a record may cost. What is larger than this or costs more is
 /// not read: both are far below the limits within which a value can be read.
 const MOST_LEVELS: usize = 32;
 
@@ -127,7 +127,7 @@ impl<'r> SideBySide<'r> {
         direct_at(self.in_new, place.in_new, 0).ok()
     }
 
-    // The content behind two headers, where it is the same, and text.
+    // The content after two headers, where it is the same, and text.
     #[inline(always)]
     fn content_in_both(&self, place: PairPosition, old: Direct, new: Direct) -> Option<Content<'r>>
         requires old { spec_direct_at self.now.in_old place.in_old 0 ≡ Some old }
@@ -170,7 +170,7 @@ impl<'r> SideBySide<'r> {
         true
     }
 
-    // Passes the contents behind two headers, which hold no others. Whether they are the same.
+    // Passes the contents after two headers, which hold no others. Whether they are the same.
     #[inline(always)]
     fn has_same_content(&self, place: &mut PairPosition, old: Direct, new: Direct) -> bool
         requires old { spec_direct_at self.now.in_old place.old.in_old 0 ≡ Some old }
@@ -189,7 +189,7 @@ impl<'r> SideBySide<'r> {
         true
     }
 
-    // Passes so many pairs of both. Whether they are the same.
+    // Passes `count` pairs of both. Whether they are the same.
     #[cycle(equality)]
     fn has_same_pairs(&mut self, place: &mut PairPosition, depth: usize, count: usize) -> bool
         ensures pairs { result ≡ true → AreSamePairs self.old place.old place.new count depth }
@@ -239,7 +239,7 @@ impl<'r> SideBySide<'r> {
         true
     }
 
-    // Passes the maps behind two headers. Whether they are the same.
+    // Passes the maps after two headers. Whether they are the same.
     #[cycle(equality)]
     fn has_same_map(
         &mut self,
@@ -269,7 +269,7 @@ impl<'r> SideBySide<'r> {
         is_same
     }
 
-    // Passes so many elements of both. Whether they are the same.
+    // Passes `count` elements of both. Whether they are the same.
     #[cycle(equality)]
     fn has_same_elements(&mut self, place: &mut PairPosition, depth: usize, count: usize) -> bool
         ensures elements { result ≡ true
@@ -284,7 +284,7 @@ impl<'r> SideBySide<'r> {
         true
     }
 
-    // Passes the arrays behind two headers. Whether they are the same.
+    // Passes the arrays after two headers. Whether they are the same.
     #[cycle(equality)]
     fn has_same_array(
         &mut self,

@@ -27,7 +27,7 @@ impl PairPosition {
         true
     }
 
-    /// Goes to the contents behind two headers.
+    /// Goes to the contents after two headers.
     #[inline(always)]
     pub(crate) fn enter(&mut self, old: Direct, new: Direct)
         ensures { self.new ≡ record self.old {
@@ -39,7 +39,7 @@ impl PairPosition {
         self.in_new = new.header.body;
     }
 
-    /// Leaves two contents whose ends are reached: a pointer that led to one is what is behind.
+    /// Leaves two contents whose ends are reached: a pointer that led to one is what was passed.
     #[inline(always)]
     pub(crate) fn leave(&mut self, old: Direct, new: Direct)
         ensures { self.new ≡ record self.old {

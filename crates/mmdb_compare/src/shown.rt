@@ -41,7 +41,7 @@ impl ShownPair {
 }
 
 impl ShownPairs {
-    /// None yet. At most so many bytes are kept.
+    /// None yet. At most `most` bytes are kept.
     pub fn new(alloc: Global, most: usize) -> ShownPairs {
         ShownPairs {
             kept: Cache::new(alloc, most),

@@ -15,25 +15,25 @@ use std::convert::AsSlice;
 use std::marker::Model;
 use std::net::{IpAddr, Ipv4Addr, Ipv6Addr};
 
-/// A leaf that can't be read, and the network behind which it comes, if there is one.
+/// A leaf that can't be read, and the network after which it comes, if there is one.
 #[derive(Drop)]
 pub struct UnreadLeaf {
     pub behind: Option<IpNetwork>,
     pub error: MaxMindDbError,
 }
 
-// Where a walk stands.
+// Where a walk is.
 #[derive(Clone, Copy)]
 pub(crate) enum Stand {
-    /// At no network: before the first one, or behind a leaf that can't be read.
+    /// At no network: before the first one, or after a leaf that can't be read.
     Nowhere,
     AtNetwork,
-    /// Behind all networks.
+    /// After all networks.
     AtEnd,
 }
 
-/// The networks of one database, one at a time. What it stands at are numbers side by side, since a network or a result
-/// of a lookup would be copied in pieces.
+/// The networks of one database, one at a time. The network that it is at is kept as numbers side by side, since a
+/// network or a result of a lookup would be copied in pieces.
 #[derive(Drop)]
 pub(crate) struct Walk<'a, S: AsSlice<u8> + Drop> {
     reader: &'a Reader<S>,
@@ -42,13 +42,13 @@ pub(crate) struct Walk<'a, S: AsSlice<u8> + Drop> {
     range_first: u128,
     range_prefix: u8,
     stand: Stand,
-    /// Of the network that it stands at, as much as lies in the range: the first address, and the prefix.
+    /// Of the network that it is at, as much as lies in the range: the first address, and the prefix.
     first: u128,
     prefix: u8,
     is_ipv4: bool,
     /// Where its record is, if it has one.
     offset: Option<usize>,
-    /// The network behind which the last leaf came that can't be read.
+    /// The network after which the last leaf came that can't be read.
     behind: Option<IpNetwork>,
     /// That leaf, until it is asked for.
     unread: Option<UnreadLeaf>,
@@ -129,7 +129,7 @@ impl<'a, S: AsSlice<u8> + Drop> Walk<'a, S> {
         })
     }
 
-    // Keeps a leaf behind the network that it stands at, which can't be read.
+    // Keeps a leaf after the network that it is at, which can't be read.
     #[cold]
     #[inline(never)]
     fn give(&mut self, error: MaxMindDbError)
@@ -178,7 +178,7 @@ impl<'a, S: AsSlice<u8> + Drop> Walk<'a, S> {
         }
     }
 
-    // The last address of the network that it stands at.
+    // The last address of the network that it is at.
     #[inline(always)]
     fn last(&self) -> u128
         ensures { result + 1 ≡ end self.now.block }
@@ -190,7 +190,7 @@ impl<'a, S: AsSlice<u8> + Drop> Walk<'a, S> {
         block.last()
     }
 
-    // Whether the network that it stands at ends before an address, or there is none yet.
+    // Whether the network that it is at ends before an address, or there is none yet.
     #[inline(always)]
     fn is_behind(&self, at: u128) -> bool
         ensures { MatchBool result (IsBehind at self.now) (IsFrom at self.now) }
@@ -202,7 +202,7 @@ impl<'a, S: AsSlice<u8> + Drop> Walk<'a, S> {
         }
     }
 
-    /// Goes on from where it stands. Says whether the next leaf can be read; `take_unread` has it, if not.
+    /// Goes on from where it is. Says whether the next leaf can be read; `take_unread` has it, if not.
     #[inline(always)]
     pub(crate) fn pass(&mut self) -> bool
         ensures { let before = behind_of self.old in
@@ -247,7 +247,7 @@ impl<'a, S: AsSlice<u8> + Drop> Walk<'a, S> {
         }
     }
 
-    /// Whether it stands at a network that begins at an address or before.
+    /// Whether it is at a network that begins at an address or before.
     #[inline(always)]
     pub(crate) fn has_begun(&self, at: u128) -> bool
         ensures { IsTrue result
@@ -256,7 +256,7 @@ impl<'a, S: AsSlice<u8> + Drop> Walk<'a, S> {
         self.is_at_network() && self.first <= at
     }
 
-    /// Whether the network that it stands at has the addresses of another walk's.
+    /// Whether the network that it is at has the addresses of another walk's.
     #[inline(always)]
     pub(crate) fn has_same_addresses(&self, other: &Walk<'_, S>) -> bool
         ensures { IsTrue result ↔ (self.now.block ≡ other.now.block) }
@@ -264,7 +264,7 @@ impl<'a, S: AsSlice<u8> + Drop> Walk<'a, S> {
         self.first == other.first && self.prefix == other.prefix
     }
 
-    /// Whether it stands at a network.
+    /// Whether it is at a network.
     #[inline(always)]
     pub(crate) fn is_at_network(&self) -> bool
         ensures { IsTrue result ↔ (self.now.stand ≡ Stand.AtNetwork) }
@@ -272,7 +272,7 @@ impl<'a, S: AsSlice<u8> + Drop> Walk<'a, S> {
         matches!(self.stand, Stand::AtNetwork)
     }
 
-    /// The block of the network that it stands at.
+    /// The block of the network that it is at.
     #[inline(always)]
     pub(crate) fn block(&self) -> Block
         ensures value { result ≡ self.now.block }
@@ -284,7 +284,7 @@ impl<'a, S: AsSlice<u8> + Drop> Walk<'a, S> {
         }
     }
 
-    /// The prefix of the network that it stands at.
+    /// The prefix of the network that it is at.
     #[inline(always)]
     pub(crate) fn prefix(&self) -> u8
         ensures value { result ≡ self.now.block.prefix }
@@ -293,7 +293,7 @@ impl<'a, S: AsSlice<u8> + Drop> Walk<'a, S> {
         self.prefix
     }
 
-    /// Where the record of the network is that it stands at, if there is one.
+    /// Where the record is of the network that it is at, if there is one.
     #[inline(always)]
     pub(crate) fn offset(&self) -> Option<usize>
         ensures { result ≡ self.now.offset }
@@ -318,7 +318,7 @@ impl<'a, S: AsSlice<u8> + Drop> Walk<'a, S> {
         reader.lookup(address).ok()
     }
 
-    // What the database has for the network that it stands at.
+    // What the database has for the network that it is at.
     fn found(&self) -> Option<LookupResult<'a, S>> {
         match self.stand {
             Stand::AtNetwork => self.found_at(self.first, self.is_ipv4),

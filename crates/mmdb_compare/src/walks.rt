@@ -17,8 +17,8 @@ pub(crate) struct Walks<'a, S: AsSlice<u8> + Drop> {
 /// What both databases have at an address.
 #[derive(Clone, Copy)]
 pub(crate) enum BothAt {
-    /// A block that begins there, and in which of them there is a record. `is_even` says that both stand at one network, of
-    /// which nothing is left behind the block.
+    /// A block that begins there, and in which of them there is a record. `is_even` says that both are at one network, of which
+    /// nothing is left after the block.
     Compared {
         block: Block,
         has_old: bool,
@@ -71,7 +71,7 @@ impl<'a, S: AsSlice<u8> + Drop> Walks<'a, S> {
         }
     }
 
-    // The narrower one of the networks that both stand at, where it begins at an address and the other one holds that.
+    // The narrower one of the networks that both are at, where it begins at an address and the other one holds that.
     #[inline(always)]
     fn narrower_at(&self, at: u128) -> Option<Block>
         ensures { MatchOption result Unit (λ block. IsNarrower self.now.old self.now.new at block) }
@@ -114,7 +114,7 @@ impl<'a, S: AsSlice<u8> + Drop> Walks<'a, S> {
         }
     }
 
-    /// Goes on from where both stand, or names the side of a leaf that can't be read.
+    /// Goes on from where both are, or names the side of a leaf that can't be read.
     #[inline(always)]
     pub(crate) fn go_on(&mut self) -> Option<Side>
         ensures { MatchOption result
@@ -131,7 +131,7 @@ impl<'a, S: AsSlice<u8> + Drop> Walks<'a, S> {
         }
     }
 
-    /// The block of the networks that both stand at, where that is one network, at an address or behind it.
+    /// The block of the networks that both are at, where that is one network, at an address or after it.
     #[inline(always)]
     pub(crate) fn shared_behind(&self, at: u128) -> Option<Block>
         ensures { MatchOption result Unit (λ block. IsShared self.now.old self.now.new at block) }

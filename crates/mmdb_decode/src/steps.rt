@@ -12,7 +12,7 @@ use crate::failed::Failed;
 use mmdb_format::header::Header;
 
 /// The steps that a decoder takes over pointers and into containers.
-pub trait Steps: Sized {
+pub trait Stepping: Sized {
     ghost state: { Self → State };
 
     /// The header at the offset.

@@ -15,7 +15,7 @@ use crate::counts::Outcome;
 use crate::filter::{Additions, Progress};
 use crate::put::append_row;
 use crate::rows::{RowPosition, Rows, scan};
-use crate::text::seen;
+use crate::text::{seen, text_length};
 use std::alloc::AllocError;
 use std::io::{self, BufRead, ErrorKind};
 
@@ -44,7 +44,7 @@ pub(crate) enum AtHand {
 
 /// What was taken of bytes at hand.
 #[derive(Clone, Copy)]
-struct TakenRows {
+struct TakenAtHand {
     /// How many bytes of them passed.
     bytes: usize,
     at_hand: AtHand,
@@ -86,9 +86,10 @@ fn pass_row<A: Additions>(
     ensures fits { A.fits additions.now memory.new }
 {
     added.clear();
-    let (text, is_long) = seen(row);
+    let len = text_length(row);
+    let (text, is_long) = seen(row, len);
     let addition = additions.add(memory, text, is_long, added)?;
-    append_row(ready, row, added.as_slice(), addition.behind)?;
+    append_row(ready, row, len, added.as_slice(), addition.behind)?;
     Ok(addition.outcome)
 }
 
@@ -102,7 +103,7 @@ fn pass_rows<A: Additions, P: Progress>(
     until: u64,
     batch: &mut Batch,
     progress: &mut P,
-) -> TakenRows
+) -> TakenAtHand
     requires fits { A.fits additions.now memory.old }
     requires few { total batch.old.counts ≡ batch.old.passed }
     ensures within { result.bytes ≤ length bytes.now }
@@ -117,7 +118,7 @@ fn pass_rows<A: Additions, P: Progress>(
     for passed in batch.passed..until {
         let rest = &bytes[at..];
         if batch.ready.len() >= READY {
-            return TakenRows {
+            return TakenAtHand {
                 bytes: at,
                 at_hand: AtHand::Rows,
             };
@@ -126,7 +127,7 @@ fn pass_rows<A: Additions, P: Progress>(
             additions.foresee(memory, rest);
         }
         let Some(len) = whole_row(rows, rest) else {
-            return TakenRows {
+            return TakenAtHand {
                 bytes: at,
                 at_hand: if at > 0 { AtHand::Rows } else { AtHand::Part },
             };
@@ -134,7 +135,7 @@ fn pass_rows<A: Additions, P: Progress>(
         let row = &rest[..len];
         let Ok(outcome) = pass_row(additions, memory, row, &mut batch.added, &mut batch.ready)
         else {
-            return TakenRows {
+            return TakenAtHand {
                 bytes: at,
                 at_hand: AtHand::OutOfMemory,
             };
@@ -146,7 +147,7 @@ fn pass_rows<A: Additions, P: Progress>(
         batch.passed = passed + 1;
         at += len;
     }
-    TakenRows {
+    TakenAtHand {
         bytes: at,
         at_hand: AtHand::Rows,
     }

@@ -15,7 +15,7 @@ use crate::live::{Live, flush_before_read};
 use crate::pass::pass_chunks;
 use crate::put::put_ready;
 use crate::rows::{RowPosition, Rows};
-use crate::text::seen;
+use crate::text::{seen, text_length};
 use std::alloc::{AllocError, Global};
 use std::io::{self, ErrorKind, Write};
 
@@ -135,7 +135,8 @@ fn pass_read<A: Additions, R: Live, W: Write, P: Progress>(
         return Ok(false);
     }
     batch.added.clear();
-    let (text, is_long) = seen(batch.chunk.as_slice());
+    let len = text_length(batch.chunk.as_slice());
+    let (text, is_long) = seen(batch.chunk.as_slice(), len);
     let addition = additions.add(memory, text, is_long, &mut batch.added)?;
     let is_quoted = position == RowPosition::Quoted;
     pass_chunks(

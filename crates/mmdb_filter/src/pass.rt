@@ -9,6 +9,7 @@ use crate::chunk::{CHUNK, read_live};
 use crate::live::Live;
 use crate::put::{append_row, put_all};
 use crate::rows::{RowPosition, Rows};
+use crate::text::text_length;
 use std::io::{self, ErrorKind, Write};
 
 // Writes all of a chunk but the last two bytes, in which the row's end may begin, and keeps those.
@@ -58,7 +59,8 @@ pub(crate) fn pass_chunks<R: Live, W: Write>(
     let mut now = *position;
     for _ in 0..u64::MAX {
         if now == RowPosition::Ended || chunk.len() < CHUNK {
-            append_row(ready, chunk.as_slice(), added, behind)?;
+            let len = text_length(chunk.as_slice());
+            append_row(ready, chunk.as_slice(), len, added, behind)?;
             return Ok(());
         }
         put_front(out, chunk)?;

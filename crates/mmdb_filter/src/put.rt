@@ -1,10 +1,9 @@
 //! Writing all of a text.
-ghost use Rattle.std.specs.Prelude.{◌≡◌, ◌++◌, [], OnOk, OnErr};
+ghost use Rattle.std.specs.Prelude.{◌≡◌, ◌≤◌, ◌++◌, [], OnOk, OnErr, length};
 ghost use Rattle.std.specs.Io.KnownBytes.{Appends};
 ghost use Rattle.std.specs.Io.{StartsWith};
-ghost use Rattle.mmdb_filter.specs.Lines.{AppendsFront, row_with};
+ghost use Rattle.mmdb_filter.specs.Lines.{AppendsFront, row_with, text_length as spec_text_length};
 
-use crate::text::text_length;
 use std::alloc::AllocError;
 use std::io::{self, ErrorKind, Write};
 
@@ -63,20 +62,24 @@ fn append_three(
     ready.extend_from_slice(third)
 }
 
-/// Appends a row, with what is added before its end and `behind` bytes of its text, or nothing where memory runs out.
+/// Appends a row whose text has `len` bytes, with what is added before its end and `behind` bytes of its text, or nothing
+/// where memory runs out.
 #[inline(always)]
 pub(crate) fn append_row(
     ready: &mut Vec<u8>,
     row: &[u8],
+    len: usize,
     added: &[u8],
     behind: usize,
 ) -> Result<(), AllocError>
+    requires text { len ≡ spec_text_length row.now }
+    requires within { len ≤ length row.now }
     ensures whole { OnOk result
         (ready.new.items ≡ ready.old.items ++ row_with row.now added.now behind) }
     ensures none { OnErr result (ready.new.items ≡ ready.old.items) }
 {
     let before = ready.len();
-    let (front, back) = row.split_at(text_length(row).saturating_sub(behind));
+    let (front, back) = row.split_at(len.saturating_sub(behind));
     let appended = append_three(ready, front, added, back);
     if appended.is_err() {
         ready.truncate(before);

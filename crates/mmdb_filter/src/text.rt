@@ -24,12 +24,13 @@ pub(crate) fn text_length(row: &[u8]) -> usize
     }
 }
 
-/// What additions see of a row: its text or, of a longer one, its front, and whether it is longer.
-pub(crate) fn seen(row: &[u8]) -> (&[u8], bool)
+/// What additions see of a row whose text has `len` bytes: the text or, of a longer one, its front, and whether it is longer.
+pub(crate) fn seen(row: &[u8], len: usize) -> (&[u8], bool)
+    requires text { len ≡ spec_text_length row.now }
+    requires within { len ≤ length row.now }
     ensures text { result.0.now ≡ seen_of row.now }
     ensures long { result.1 ≡ spec_is_long row.now }
 {
-    let len = text_length(row);
     let most = len.min(MOST_SEEN);
     (&row[..most], len > MOST_SEEN)
 }

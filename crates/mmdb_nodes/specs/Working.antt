@@ -71,7 +71,7 @@ Keeps from nodes all = (k : ℕ) → from ≤ k → k < length nodes → slice_g
 pub record Leads (from : ℕ) (nodes : List SpecNode) (r : NodeRecord) (first free : ℕ) (found : Option ℕ) (entries : List NodeEntry) : Type 0 where
   pub to : (all : List SpecNode) → Keeps from nodes all → (a : ℕ) → a < 2 ^ free → lead all r (bits_of free a) ≡ leaf (offset_after found entries (first + a))
 
--- it leads to one of a number of nodes, or to an offset below a bound
+-- it leads to one of `count` nodes, or to an offset below a bound
 abbrev pub IsBelow : ℕ → ℕ → NodeRecord → Type 0
 IsBelow count bound (Node n) = n < count
 IsBelow count bound Empty = Unit {0}
@@ -114,7 +114,7 @@ IsJoined place left right old new r = IsSame place left right old new r ⊎ IsNo
 
 -- ---- how many leaves and nodes
 
--- the leaves below a record, a number of bits at most
+-- the leaves below a record, at most a number of bits down
 abbrev pub ends : List SpecNode → NodeRecord → ℕ → ℕ
 ends nodes r zero = 1
 ends nodes Empty (suc left) = 1
@@ -159,7 +159,7 @@ pub record AddsNode (record_size left right : ℕ) (old new : List ℕ) : Type 0
   pub left_is : child more record_size 0 false ≡ left
   pub right_is : child more record_size 0 true ≡ right
 
--- The number of a record, in a tree of a number of nodes.
+-- The number of a record, in a tree of `count` nodes.
 abbrev pub number_in : ℕ → NodeRecord → ℕ
 number_in count (Node n) = n
 number_in count Empty = count

@@ -36,5 +36,5 @@ pub use options::WithinOptions;
 pub use path::{PathElement, render_path};
 pub use reader::Reader;
 pub use sections::Sections;
-pub use steps::StepCounter;
+pub use steps::Steps;
 pub use within::Within;

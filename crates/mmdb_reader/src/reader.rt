@@ -8,7 +8,7 @@ use crate::file_layout::FileLayout;
 use crate::lookup_result::{LookupResult, NumberedAddress};
 use crate::marker::MARKER;
 use crate::metadata::Metadata;
-use crate::steps::StepCounter;
+use crate::steps::Steps;
 use mmdb_format::error::MaxMindDbError;
 use mmdb_format::message::{Message, Text};
 use mmdb_tree::{Nodes, SEPARATOR, Table, TreeRecord};
@@ -202,7 +202,7 @@ impl<S: AsSlice<u8> + Drop> Reader<S> {
     // The leaf on an address's bits, or none where IPv6 is asked of an IPv4 database. Where the first
     // sixteen bits lead is read from a table.
     #[inline(always)]
-    fn find_leaf(&self, address: &IpAddr, steps: &mut StepCounter) -> Option<Leaf>
+    fn find_leaf(&self, address: &IpAddr, steps: &mut Steps) -> Option<Leaf>
         requires room { steps.old + 128 < 2 ^ 64 }
         ensures found { MatchOption result
             (¬ (CanAsk self.now address.now))
@@ -308,7 +308,7 @@ impl<S: AsSlice<u8> + Drop> Reader<S> {
     pub fn lookup_counted(
         &self,
         address: IpAddr,
-        steps: &mut StepCounter,
+        steps: &mut Steps,
     ) -> Result<LookupResult<'_, S>, MaxMindDbError>
         requires room { steps.old + 128 < 2 ^ 64 }
         ensures answered { IfOk result
@@ -339,6 +339,6 @@ impl<S: AsSlice<u8> + Drop> Reader<S> {
         ensures of_database { FailsAs OfDatabase result ↔ IsInvalidAt self.now address }
         ensures no_other { IfErr result (λ e. (kind_of e ≡ OfInput) ⊎ (kind_of e ≡ OfDatabase)) }
     {
-        self.lookup_counted(address, &mut StepCounter::new())
+        self.lookup_counted(address, &mut Steps::new())
     }
 }

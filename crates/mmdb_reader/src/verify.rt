@@ -11,7 +11,7 @@ ghost use Rattle.mmdb_reader.specs.WholeLaws.{AnswersAll};
 
 use crate::offsets::counted_from_start;
 use crate::reader::Reader;
-use crate::steps::StepCounter;
+use crate::steps::Steps;
 use crate::within::invalid;
 use mmdb_check::checked::{Checked, check_offsets};
 use mmdb_check::fuzzing;
@@ -120,7 +120,7 @@ impl<S: AsSlice<u8> + Drop> Reader<S> {
         &self,
         alloc: Global,
         node_count: usize,
-        steps: &mut StepCounter,
+        steps: &mut Steps,
     ) -> Result<OffsetSet, MaxMindDbError>
         requires count { node_count ≡ self.now.metadata.node_count }
         requires few { node_count < 2 ^ 32 }
@@ -179,7 +179,7 @@ impl<S: AsSlice<u8> + Drop> Reader<S> {
         &self,
         alloc: Global,
         node_count: usize,
-        steps: &mut StepCounter,
+        steps: &mut Steps,
     ) -> Result<OffsetSet, MaxMindDbError>
         requires count { node_count ≡ self.now.metadata.node_count }
         requires few { node_count < 2 ^ 32 }
@@ -209,11 +209,7 @@ impl<S: AsSlice<u8> + Drop> Reader<S> {
     /// it does not go. Where the metadata are whole, or `verify` succeeds, they are exactly those up to the last leaf or
     /// alias, or up to the one at which it fails. The tree is walked in order, once, and each position that is looked at
     /// is counted. `verify` sweeps the tree, which is faster.
-    pub fn verify_counted(
-        &self,
-        alloc: Global,
-        steps: &mut StepCounter,
-    ) -> Result<(), MaxMindDbError>
+    pub fn verify_counted(&self, alloc: Global, steps: &mut Steps) -> Result<(), MaxMindDbError>
         requires { steps.old + (6 * self.now.metadata.node_count + 130) < 2 ^ 64 }
         ensures whole { OnOk result (IsWhole self.now) }
         ensures answers { OnOk result (AnswersAll self.now) }
@@ -244,7 +240,7 @@ impl<S: AsSlice<u8> + Drop> Reader<S> {
         ensures rejected { IfErr result (λ e. MemoryApart e (¬ IsWhole self.now)) }
     {
         let node_count = self.nodes().node_count;
-        let _offsets = self.verify_whole::<true>(alloc, node_count, &mut StepCounter::new())?;
+        let _offsets = self.verify_whole::<true>(alloc, node_count, &mut Steps::new())?;
         Ok(())
     }
 
@@ -276,7 +272,7 @@ impl<S: AsSlice<u8> + Drop> Reader<S> {
             (λ e. MemoryApart e (IsWhole self.now → ¬ HasReadableRecords self.now)) }
     {
         let node_count = self.nodes().node_count;
-        let set = self.verify_whole::<true>(alloc, node_count, &mut StepCounter::new())?;
+        let set = self.verify_whole::<true>(alloc, node_count, &mut Steps::new())?;
         self.verify_readable(alloc, &set)
     }
 }

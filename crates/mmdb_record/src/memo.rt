@@ -38,7 +38,7 @@ pub fn read_part_noting<'de, R: Fields<'de>>(
     read_part_into::<R, true>(alloc, d, name, met, part, place)
 }
 
-// Goes past a map whose pairs are where those of a known record do, and says whether it did.
+// Goes past a map whose pairs are where those of a known record are, and says whether it did.
 #[inline(always)]
 fn reuse<'de, R: Fields<'de>>(d: &mut Decoder<'de>, known: &R, place: &Option<Place<'de>>) -> bool
     requires { IsPlaceOf R.table place.now known.now d.old.section }

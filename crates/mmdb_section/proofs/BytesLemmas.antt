@@ -3,10 +3,10 @@ use Rattle.std.proofs.Common.{◌≡◌, ℕ, zero, suc, ◌+◌, ◌-◌, ◌*�
 use Rattle.std.specs.Result.{is_ok}
 use Rattle.std.proofs.lemmas.List.{take_all}
 use Rattle.std.proofs.lemmas.Bool.{lt-ltb, le-ltb}
-use Rattle.mmdb_section.specs.declared.value.Part.{Part}
+use Rattle.mmdb_section.specs.declared.value.SectionPart.{SectionPart}
 use Rattle.mmdb_section.specs.Bytes.{control_bytes, size_bytes, pointer_bytes, significant_of, part_bytes, parts_bytes, pairs_bytes}
 
--- ---- bytes that are put behind others
+-- ---- bytes that are put after others
 
 pub these_put : {E : Type 0} (r : Result (Unit {0}) E) (old xs ys new : List ℕ) → new ≡ cond (is_ok r) (old ++ xs) old → xs ≡ ys → OnOk r (new ≡ old ++ ys)
 these_put (Ok x) old xs ys new is same = is ∙ ap (λ (zs : List ℕ). old ++ zs) same
@@ -77,12 +77,12 @@ no_bytes (x ∷ xs) none = absurd (omega arith)
 
 -- ---- parts
 
-pub parts_end : (parts : List Part) (part : Part) → parts_bytes (parts ++ part ∷ []) ≡ parts_bytes parts ++ part_bytes part
+pub parts_end : (parts : List SectionPart) (part : SectionPart) → parts_bytes (parts ++ part ∷ []) ≡ parts_bytes parts ++ part_bytes part
 unfolding parts_bytes
 parts_end [] part = append-nil (part_bytes part)
 parts_end (p ∷ ps) part = ap (λ (xs : List ℕ). part_bytes p ++ xs) (parts_end ps part) ∙ sym (append_assoc (part_bytes p) (parts_bytes ps) (part_bytes part))
 
-pub pairs_end : (pairs : List (Part × Part)) (p : Part × Part) → pairs_bytes (pairs ++ p ∷ []) ≡ pairs_bytes pairs ++ (part_bytes p.0 ++ part_bytes p.1)
+pub pairs_end : (pairs : List (SectionPart × SectionPart)) (p : SectionPart × SectionPart) → pairs_bytes (pairs ++ p ∷ []) ≡ pairs_bytes pairs ++ (part_bytes p.0 ++ part_bytes p.1)
 unfolding pairs_bytes
 pairs_end [] p = ap (λ (xs : List ℕ). part_bytes p.0 ++ xs) (append-nil (part_bytes p.1))
 pairs_end (q ∷ qs) p =
@@ -99,14 +99,14 @@ pub no_pairs_put : (xs : List ℕ) → xs ≡ xs ++ pairs_bytes []
 unfolding pairs_bytes
 no_pairs_put xs = sym (append-nil xs)
 
-pub part_put : (parts : List Part) (p : Part) (more : List Part) (old mid new : List ℕ) → more ≡ parts ++ p ∷ [] → mid ≡ old ++ parts_bytes parts → new ≡ mid ++ part_bytes p → new ≡ old ++ parts_bytes more
+pub part_put : (parts : List SectionPart) (p : SectionPart) (more : List SectionPart) (old mid new : List ℕ) → more ≡ parts ++ p ∷ [] → mid ≡ old ++ parts_bytes parts → new ≡ mid ++ part_bytes p → new ≡ old ++ parts_bytes more
 part_put parts p more old mid new is first second =
     second ∙ ap (λ (xs : List ℕ). xs ++ part_bytes p) first ∙ append_assoc old (parts_bytes parts) (part_bytes p)
-    ∙ ap (λ (xs : List ℕ). old ++ xs) (sym (parts_end parts p)) ∙ ap (λ (ps : List Part). old ++ parts_bytes ps) (sym is)
+    ∙ ap (λ (xs : List ℕ). old ++ xs) (sym (parts_end parts p)) ∙ ap (λ (ps : List SectionPart). old ++ parts_bytes ps) (sym is)
 
-pub pair_put : (pairs : List (Part × Part)) (p : Part × Part) (more : List (Part × Part)) (old mid key new : List ℕ) → more ≡ pairs ++ p ∷ []
+pub pair_put : (pairs : List (SectionPart × SectionPart)) (p : SectionPart × SectionPart) (more : List (SectionPart × SectionPart)) (old mid key new : List ℕ) → more ≡ pairs ++ p ∷ []
     → mid ≡ old ++ pairs_bytes pairs → key ≡ mid ++ part_bytes p.0 → new ≡ key ++ part_bytes p.1 → new ≡ old ++ pairs_bytes more
 pair_put pairs p more old mid key new is first second third =
     third ∙ ap (λ (xs : List ℕ). xs ++ part_bytes p.1) second ∙ append_assoc mid (part_bytes p.0) (part_bytes p.1)
     ∙ ap (λ (xs : List ℕ). xs ++ (part_bytes p.0 ++ part_bytes p.1)) first ∙ append_assoc old (pairs_bytes pairs) (part_bytes p.0 ++ part_bytes p.1)
-    ∙ ap (λ (xs : List ℕ). old ++ xs) (sym (pairs_end pairs p)) ∙ ap (λ (ps : List (Part × Part)). old ++ pairs_bytes ps) (sym is)
+    ∙ ap (λ (xs : List ℕ). old ++ xs) (sym (pairs_end pairs p)) ∙ ap (λ (ps : List (SectionPart × SectionPart)). old ++ pairs_bytes ps) (sym is)

@@ -5,8 +5,8 @@ use Rattle.mmdb_format.specs.Contents.{Scalar, text, bytes, boolean, signed32, n
 use Rattle.mmdb_format.specs.Unfolding.{Tree, scalar, array, table, pointer, Trees, no_trees, tree, Pairs, no_pairs, pair, without_pointers}
 use Rattle.mmdb_section.specs.declared.value.Number.{Number as SpecNumber}
 use Rattle.mmdb_section.specs.declared.value.Number.TheVariants as numbers
-use Rattle.mmdb_section.specs.declared.value.Part.{Part}
-use Rattle.mmdb_section.specs.declared.value.Part.TheVariants.{Number, At}
+use Rattle.mmdb_section.specs.declared.value.SectionPart.{SectionPart}
+use Rattle.mmdb_section.specs.declared.value.SectionPart.TheVariants.{Number, At}
 use Rattle.mmdb_section.specs.Sections.{Tile, IsTile, SectionView, start_of, Shape, plain, elements, entries, scalar_of, IsSection, IsFor, HoldsAt}
 use Rattle.mmdb_section.specs.Known.{IsNumber, IsDirect, IsKnown, AreKnown, PairsAreKnown, IsKnownPart, KnowsAll, IsKnownTile, HasEachOnce, KnownAtOneOffset, NoneStandsTwice}
 use Rattle.mmdb_section.proofs.WriteLemmas.{laid_tile}
@@ -51,7 +51,7 @@ same_number n m same = sym (own_number n) ∙ ap (λ (v : Tree). number_of (scal
 some_same : (a b : ℕ) → Some a ≡ Some b → a ≡ b
 some_same a b h = cc
 
-same_part : (v : Tree) (Begins : ℕ → Type 0) → ((a b : ℕ) → Begins a → Begins b → a ≡ b) → (p q : Part) → IsDirect v Begins p → IsDirect v Begins q → p ≡ q
+same_part : (v : Tree) (Begins : ℕ → Type 0) → ((a b : ℕ) → Begins a → Begins b → a ≡ b) → (p q : SectionPart) → IsDirect v Begins p → IsDirect v Begins q → p ≡ q
 same_part v Begins one (Number n) (Number m) h k = ap Number (same_number n m (sym h ∙ k))
 same_part v Begins one (Number n) (At b) h k = absurd (k.1 (n, h))
 same_part v Begins one (At a) (Number m) h k = absurd (h.1 (m, k))
@@ -61,31 +61,31 @@ mutual
   pub one_offset : (s : SectionView) (v : Tree) (a b : ℕ) → IsKnown s v a → IsKnown s v b → a ≡ b
   one_offset s (scalar c) a b h k = some_same a b (sym h ∙ k)
   one_offset s (array vs) a b h k =
-      some_same a b (sym h.2 ∙ ap (λ (ps : List Part). start_of s (elements ps)) (one_list s vs h.0 k.0 h.1 k.1) ∙ k.2)
+      some_same a b (sym h.2 ∙ ap (λ (ps : List SectionPart). start_of s (elements ps)) (one_list s vs h.0 k.0 h.1 k.1) ∙ k.2)
   one_offset s (table vs) a b h k =
-      some_same a b (sym h.2 ∙ ap (λ (ps : List (Part × Part)). start_of s (entries ps)) (one_list_of_pairs s vs h.0 k.0 h.1 k.1) ∙ k.2)
+      some_same a b (sym h.2 ∙ ap (λ (ps : List (SectionPart × SectionPart)). start_of s (entries ps)) (one_list_of_pairs s vs h.0 k.0 h.1 k.1) ∙ k.2)
   one_offset s (pointer at v) a b h k = absurd h
 
-  one_list : (s : SectionView) (vs : Trees) (ps qs : List Part) → AreKnown s vs ps → AreKnown s vs qs → ps ≡ qs
+  one_list : (s : SectionView) (vs : Trees) (ps qs : List SectionPart) → AreKnown s vs ps → AreKnown s vs qs → ps ≡ qs
   one_list s no_trees [] [] h k = refl
   one_list s no_trees [] (q ∷ qs) h k = absurd k
   one_list s no_trees (p ∷ ps) qs h k = absurd h
   one_list s (tree v vs) [] qs h k = absurd h
   one_list s (tree v vs) (p ∷ ps) [] h k = absurd k
   one_list s (tree v vs) (p ∷ ps) (q ∷ qs) h k =
-      ap (λ (x : Part). x ∷ ps) (same_part v (λ offset. IsKnown s v offset) (one_offset s v) p q h.0 k.0)
-      ∙ ap (λ (xs : List Part). q ∷ xs) (one_list s vs ps qs h.1 k.1)
+      ap (λ (x : SectionPart). x ∷ ps) (same_part v (λ offset. IsKnown s v offset) (one_offset s v) p q h.0 k.0)
+      ∙ ap (λ (xs : List SectionPart). q ∷ xs) (one_list s vs ps qs h.1 k.1)
 
-  one_list_of_pairs : (s : SectionView) (vs : Pairs) (ps qs : List (Part × Part)) → PairsAreKnown s vs ps → PairsAreKnown s vs qs → ps ≡ qs
+  one_list_of_pairs : (s : SectionView) (vs : Pairs) (ps qs : List (SectionPart × SectionPart)) → PairsAreKnown s vs ps → PairsAreKnown s vs qs → ps ≡ qs
   one_list_of_pairs s no_pairs [] [] h k = refl
   one_list_of_pairs s no_pairs [] (q ∷ qs) h k = absurd k
   one_list_of_pairs s no_pairs (p ∷ ps) qs h k = absurd h
   one_list_of_pairs s (pair key v vs) [] qs h k = absurd h
   one_list_of_pairs s (pair key v vs) (p ∷ ps) [] h k = absurd k
   one_list_of_pairs s (pair key v vs) (p ∷ ps) (q ∷ qs) h k =
-      ap (λ (x : Part). (x, p.1) ∷ ps) (same_part key (λ offset. IsKnown s key offset) (one_offset s key) p.0 q.0 h.0 k.0)
-      ∙ ap (λ (x : Part). (q.0, x) ∷ ps) (same_part v (λ offset. IsKnown s v offset) (one_offset s v) p.1 q.1 h.1 k.1)
-      ∙ ap (λ (xs : List (Part × Part)). q ∷ xs) (one_list_of_pairs s vs ps qs h.2 k.2)
+      ap (λ (x : SectionPart). (x, p.1) ∷ ps) (same_part key (λ offset. IsKnown s key offset) (one_offset s key) p.0 q.0 h.0 k.0)
+      ∙ ap (λ (x : SectionPart). (q.0, x) ∷ ps) (same_part v (λ offset. IsKnown s v offset) (one_offset s v) p.1 q.1 h.1 k.1)
+      ∙ ap (λ (xs : List (SectionPart × SectionPart)). q ∷ xs) (one_list_of_pairs s vs ps qs h.2 k.2)
 
 pub none_twice : NoneStandsTwice
 none_twice tiles section t u once here there same =
@@ -95,7 +95,7 @@ none_twice tiles section t u once here there same =
 
 -- ---- what stays known
 
-direct_map : (v : Tree) (P Q : ℕ → Type 0) → ((a : ℕ) → P a → Q a) → (p : Part) → IsDirect v P p → IsDirect v Q p
+direct_map : (v : Tree) (P Q : ℕ → Type 0) → ((a : ℕ) → P a → Q a) → (p : SectionPart) → IsDirect v P p → IsDirect v Q p
 direct_map v P Q f (Number n) h = h
 direct_map v P Q f (At a) h = (f a h.0, h.1)
 
@@ -107,13 +107,13 @@ module _ (old new : SectionView) (all : KnowsAll old new) where
     still_known (table vs) a h = (h.0, still_list_of_pairs vs h.0 h.1, all (entries h.0) a h.2)
     still_known (pointer at v) a h = absurd h
 
-    pub still_list : (vs : Trees) (ps : List Part) → AreKnown old vs ps → AreKnown new vs ps
+    pub still_list : (vs : Trees) (ps : List SectionPart) → AreKnown old vs ps → AreKnown new vs ps
     still_list no_trees [] h = tt
     still_list no_trees (p ∷ ps) h = absurd h
     still_list (tree v vs) [] h = absurd h
     still_list (tree v vs) (p ∷ ps) h = (direct_map v (λ offset. IsKnown old v offset) (λ offset. IsKnown new v offset) (still_known v) p h.0, still_list vs ps h.1)
 
-    pub still_list_of_pairs : (vs : Pairs) (ps : List (Part × Part)) → PairsAreKnown old vs ps → PairsAreKnown new vs ps
+    pub still_list_of_pairs : (vs : Pairs) (ps : List (SectionPart × SectionPart)) → PairsAreKnown old vs ps → PairsAreKnown new vs ps
     still_list_of_pairs no_pairs [] h = tt
     still_list_of_pairs no_pairs (p ∷ ps) h = absurd h
     still_list_of_pairs (pair k v vs) [] h = absurd h
@@ -123,7 +123,7 @@ module _ (old new : SectionView) (all : KnowsAll old new) where
       still_list_of_pairs vs ps h.2,
     )
 
-  pub still_part : (v : Tree) (p : Part) → IsKnownPart old v p → IsKnownPart new v p
+  pub still_part : (v : Tree) (p : SectionPart) → IsKnownPart old v p → IsKnownPart new v p
   still_part v p h = direct_map v (λ offset. IsKnown old v offset) (λ offset. IsKnown new v offset) (still_known v) p h
 
   still_tiles : (ts : List Tile) → AllByRecursion (IsKnownTile old) ts → AllByRecursion (IsKnownTile new) ts

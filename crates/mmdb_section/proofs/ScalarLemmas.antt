@@ -1,4 +1,4 @@
--- Values that hold no others, wherever they stand.
+-- Values that hold no others, wherever they are.
 use Rattle.std.proofs.Common.{◌≡◌, ℕ, zero, suc, ◌+◌, ◌*◌, ◌/◌, ◌%◌, ◌^◌, ◌<◌, ◌≤◌, leb, eqb, Bool, true, false, cond, List, ◌++◌, length, Some, Result, OnOk, ℤ, refl, ap, sym, ◌∙◌, subst, arith, length-append}
 use Rattle.std.specs.Int.{w16, w32, w64, w128, byte_at, bytes_high_first, to_be_bytes, cast_signed}
 use Rattle.std.proofs.Math.Nat.{pow-suc, mod-eq_of_lt}

@@ -1,4 +1,4 @@
--- Sections with one value more, and values that stand in them already.
+-- Sections with one value more, and values that are in them already.
 use Rattle.std.proofs.Common.{◌≡◌, inl, inr, ℕ, zero, suc, ◌+◌, eqb, Bool, true, false, cond, List, [], ◌∷◌, ◌++◌, length, Some, arith, refl, ap, sym, ◌∙◌, subst, append-nil, append_assoc, length-append}
 use Rattle.std.specs.Prelude.{◌||◌}
 use Rattle.std.specs.List.{AllByRecursion}
@@ -6,7 +6,7 @@ use Rattle.std.specs.Str.{bytes_eq}
 use Rattle.std.proofs.lemmas.Bool.{false≢true}
 use Rattle.mmdb_format.specs.Unfolding.{Tree, Unfolds, levels, without_pointers}
 use Rattle.mmdb_format.proofs.UnfoldingLaws.{one_tree}
-use Rattle.mmdb_section.specs.declared.value.Part.TheVariants.{At}
+use Rattle.mmdb_section.specs.declared.value.SectionPart.TheVariants.{At}
 use Rattle.mmdb_section.specs.Bytes.{shape_bytes}
 use Rattle.mmdb_section.specs.Sections.{Tile, IsChain, IsTile, is_start, IsLaid, AreTiles, Shape, SectionView, start_of, IsSection, IsPart, HoldsAt}
 use Rattle.mmdb_section.specs.Working.{Grows, IsWrittenDirect, StandAt}
@@ -94,7 +94,7 @@ module _ (tiles : List Tile) (v : Tree) (old new : SectionView) (start : ℕ) (x
     only = ((sym at, w.written.value), tt);
   }
 
--- ---- a value that stands in the section already
+-- ---- a value that is in the section already
 
 record IsAmong (tiles : List Tile) (start : ℕ) : Type 0 where
   tile : Tile

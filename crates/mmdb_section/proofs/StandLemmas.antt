@@ -1,4 +1,4 @@
--- Bytes, wherever they stand.
+-- Bytes, wherever they are.
 use Rattle.std.proofs.Common.{◌≡◌, ℕ, ◌+◌, leb, cond, true, List, [], ◌∷◌, ◌++◌, length, take, drop, Option, Some, Result, Ok, Err, OnOk, refl, ap, sym, ◌∙◌, subst, arith, append_assoc, length-append}
 use Rattle.std.specs.Result.{is_ok}
 use Rattle.std.specs.List.{slice_get}
@@ -7,12 +7,12 @@ use Rattle.std.proofs.Math.Seq.{take-append_seam, drop-append_seam}
 use Rattle.mmdb_format.specs.Header.{◌>>=◌, big_endian, bytes_at, number_at}
 use Rattle.mmdb_section.specs.Working.{Appends, Stands}
 
--- what was put behind others
+-- what was put after others
 pub put : {E : Type 0} (r : Result (Unit {0}) E) (P : List ℕ → Type 0) (old xs new : List ℕ) → new ≡ cond (is_ok r) (old ++ xs) old → P xs → OnOk r (Appends P old new)
 put (Ok x) P old xs new is h = record { more = xs; grown = is; is = h }
 put (Err e) P old xs new is h = tt
 
--- two of them, one behind the other
+-- two of them, one after the other
 pub both : (P Q R : List ℕ → Type 0) (old mid new : List ℕ) → ((xs ys : List ℕ) → P xs → Q ys → R (xs ++ ys)) → Appends P old mid → Appends Q mid new → Appends R old new
 both P Q R old mid new f a b = record { more = a.more ++ b.more; grown = b.grown ∙ ap (λ (xs : List ℕ). xs ++ b.more) a.grown ∙ append_assoc old a.more b.more; is = f a.more b.more a.is b.is }
 
@@ -71,6 +71,6 @@ byte_after c d xs before behind =
     subst (λ (s : List ℕ). slice_get s (length before + 1) ≡ Some d) whole
     (subst (λ (n : ℕ). slice_get ((before ++ c ∷ []) ++ (d ∷ (xs ++ behind))) n ≡ Some d) from (get_behind (before ++ c ∷ []) (xs ++ behind) d))
 
--- the number in the bytes behind the first one
+-- the number in the bytes after the first one
 pub number_after : (c : ℕ) (xs : List ℕ) → Stands (λ s p q. number_at s (p + 1) (length xs) ≡ Some (big_endian xs)) (c ∷ xs)
 number_after c xs before behind = second_of (λ s p q. number_at s p (length xs) ≡ Some (big_endian xs)) (c ∷ []) xs (number_here xs) before behind

@@ -1,4 +1,4 @@
--- Parts and values, wherever they stand in what begins with a section.
+-- Parts and values, wherever they are in what begins with a section.
 use Rattle.std.proofs.Common.{◌≡◌, ◌⊎◌, inl, inr, ℕ, suc, ◌+◌, eqb, Bool, true, false, List, [], ◌∷◌, ◌++◌, length, refl, ap, sym, ◌∙◌, subst, arith, Some, length-append}
 use Rattle.std.specs.Prelude.{◌&&◌, ◌||◌, max}
 use Rattle.std.specs.List.{AllByRecursion}
@@ -10,9 +10,9 @@ use Rattle.mmdb_format.specs.Unfolding.{Tree, scalar, array, table, pointer, Tre
 use Rattle.mmdb_check.specs.Checking.{leads_to, trees_lead_to, pairs_lead_to}
 use Rattle.mmdb_section.specs.declared.value.Number.{Number as SpecNumber}
 use Rattle.mmdb_section.specs.declared.value.Number.TheVariants as numbers
-use Rattle.mmdb_section.specs.declared.value.Part.{Part}
-use Rattle.mmdb_section.specs.declared.value.Value.{Value}
-use Rattle.mmdb_section.specs.declared.value.Part.TheVariants.{Number, At}
+use Rattle.mmdb_section.specs.declared.value.SectionPart.{SectionPart}
+use Rattle.mmdb_section.specs.declared.value.WrittenValue.{WrittenValue}
+use Rattle.mmdb_section.specs.declared.value.SectionPart.TheVariants.{Number, At}
 use Rattle.mmdb_section.specs.Sections.{Tile, IsTile, is_start, IsClosed, IsLaid, AreTiles, scalar_of, IsPart, AreParts, ArePairs, IsValue}
 use Rattle.mmdb_section.specs.Working.{Grows, Stands, IsHeader, IsPointer, IsScalar, IsWritten, IsWrittenDirect, AreWritten, ArePairsWritten, WritesPart, WritesParts, WritesPairs, WritesArray, WritesMap, WritesValue}
 use Rattle.mmdb_section.proofs.StandLemmas.{first_of, second_of}
@@ -130,14 +130,14 @@ trees_closed-snoc tiles (tree a ts) v h i q lead = elim (or_cases (leads_to a q)
 ]
 
 -- all parts but the last, and the last one
-record EndsInPart (tiles : List Tile) (ps : List Part) (p : Part) (vs : Trees) : Type 0 where
+record EndsInPart (tiles : List Tile) (ps : List SectionPart) (p : SectionPart) (vs : Trees) : Type 0 where
   front : Trees
   value : Tree
   whole : vs ≡ snoc_tree front value
   before : AreParts tiles ps front
   value_is : IsPart tiles p value
 
-ends_in_part : (tiles : List Tile) (ps : List Part) (p : Part) (vs : Trees) → AreParts tiles (ps ++ p ∷ []) vs → EndsInPart tiles ps p vs
+ends_in_part : (tiles : List Tile) (ps : List SectionPart) (p : SectionPart) (vs : Trees) → AreParts tiles (ps ++ p ∷ []) vs → EndsInPart tiles ps p vs
 unfolding snoc_tree
 ends_in_part tiles [] p no_trees h = absurd h
 ends_in_part tiles [] p (tree v no_trees) h = record { front = no_trees; value = v; whole = refl; before = tt; value_is = h.0 }
@@ -176,13 +176,13 @@ one_more_part tiles section n vs v xs ys a w = record {
       omega arith;
 }
 
-pub more_parts : (ps : List Part) (p : Part) (xs ys : List ℕ) → WritesParts ps xs → WritesPart p ys → WritesParts (ps ++ p ∷ []) (xs ++ ys)
+pub more_parts : (ps : List SectionPart) (p : SectionPart) (xs ys : List ℕ) → WritesParts ps xs → WritesPart p ys → WritesParts (ps ++ p ∷ []) (xs ++ ys)
 more_parts ps p xs ys a w tiles section vs are parts =
     let e = ends_in_part tiles ps p vs parts in
     let one = one_more_part tiles section (length ps) e.front e.value xs ys (a tiles section e.front are e.before) (w tiles section e.value are e.value_is) in
     subst (λ (n : ℕ). AreWritten tiles section n vs (xs ++ ys)) (count_snoc ps p) (subst (λ (us : Trees). AreWritten tiles section (suc (length ps)) us (xs ++ ys)) (sym e.whole) one)
 
-pub array_written : (ps : List Part) (xs ys : List ℕ) → IsHeader 11 (length ps) xs → WritesParts ps ys → WritesArray ps (xs ++ ys)
+pub array_written : (ps : List SectionPart) (xs ys : List ℕ) → IsHeader 11 (length ps) xs → WritesParts ps ys → WritesArray ps (xs ++ ys)
 array_written ps xs ys header a tiles section vs are parts =
     let w = a tiles section vs are parts in
     record {
@@ -246,7 +246,7 @@ pairs_closed-snoc tiles (pair a b ps) k v h i j q lead = elim (or_cases (leads_t
 ]
 
 -- all pairs but the last, and the last one
-record EndsInPair (tiles : List Tile) (ps : List (Part × Part)) (p : Part × Part) (vs : Pairs) : Type 0 where
+record EndsInPair (tiles : List Tile) (ps : List (SectionPart × SectionPart)) (p : SectionPart × SectionPart) (vs : Pairs) : Type 0 where
   front : Pairs
   key : Tree
   value : Tree
@@ -255,7 +255,7 @@ record EndsInPair (tiles : List Tile) (ps : List (Part × Part)) (p : Part × Pa
   key_is : IsPart tiles p.0 key
   value_is : IsPart tiles p.1 value
 
-ends_in_pair : (tiles : List Tile) (ps : List (Part × Part)) (p : Part × Part) (vs : Pairs) → ArePairs tiles (ps ++ p ∷ []) vs → EndsInPair tiles ps p vs
+ends_in_pair : (tiles : List Tile) (ps : List (SectionPart × SectionPart)) (p : SectionPart × SectionPart) (vs : Pairs) → ArePairs tiles (ps ++ p ∷ []) vs → EndsInPair tiles ps p vs
 unfolding snoc_pair
 ends_in_pair tiles [] p no_pairs h = absurd h
 ends_in_pair tiles [] p (pair k v no_pairs) h = record { front = no_pairs; key = k; value = v; whole = refl; before = tt; key_is = h.0; value_is = h.1 }
@@ -305,13 +305,13 @@ one_more_pair_written tiles section n vs k v xs ys zs a key value = record {
 }
 
 -- the pairs so far and a key, in their bytes
-abbrev pub WritesKey : List (Part × Part) → Part → List ℕ → Type 0
+abbrev pub WritesKey : List (SectionPart × SectionPart) → SectionPart → List ℕ → Type 0
 WritesKey ps k zs = (xs : List ℕ) × (ys : List ℕ) × (zs ≡ xs ++ ys) × WritesPairs ps xs × WritesPart k ys
 
-pub more_key : (ps : List (Part × Part)) (k : Part) (xs ys : List ℕ) → WritesPairs ps xs → WritesPart k ys → WritesKey ps k (xs ++ ys)
+pub more_key : (ps : List (SectionPart × SectionPart)) (k : SectionPart) (xs ys : List ℕ) → WritesPairs ps xs → WritesPart k ys → WritesKey ps k (xs ++ ys)
 more_key ps k xs ys a w = (xs, ys, refl, a, w)
 
-pub more_pairs : (ps : List (Part × Part)) (p : Part × Part) (xs zs : List ℕ) → WritesKey ps p.0 xs → WritesPart p.1 zs → WritesPairs (ps ++ p ∷ []) (xs ++ zs)
+pub more_pairs : (ps : List (SectionPart × SectionPart)) (p : SectionPart × SectionPart) (xs zs : List ℕ) → WritesKey ps p.0 xs → WritesPart p.1 zs → WritesPairs (ps ++ p ∷ []) (xs ++ zs)
 more_pairs ps p xs zs key w tiles section vs are pairs =
     let e = ends_in_pair tiles ps p vs pairs in
     let one = one_more_pair_written tiles section (length ps) e.front e.key e.value key.0 key.1 zs (key.3 tiles section e.front are e.before) (key.4 tiles section e.key are e.key_is) (w tiles section e.value are e.value_is) in
@@ -320,7 +320,7 @@ more_pairs ps p xs zs key w tiles section vs are pairs =
     (subst (λ (n : ℕ). ArePairsWritten tiles section n vs ((key.0 ++ key.1) ++ zs)) (count_snoc ps p)
     (subst (λ (us : Pairs). ArePairsWritten tiles section (suc (length ps)) us ((key.0 ++ key.1) ++ zs)) (sym e.whole) one))
 
-pub map_written : (ps : List (Part × Part)) (xs ys : List ℕ) → IsHeader 7 (length ps) xs → WritesPairs ps ys → WritesMap ps (xs ++ ys)
+pub map_written : (ps : List (SectionPart × SectionPart)) (xs ys : List ℕ) → IsHeader 7 (length ps) xs → WritesPairs ps ys → WritesMap ps (xs ++ ys)
 map_written ps xs ys header a tiles section vs are pairs =
     let w = a tiles section vs are pairs in
     record {
@@ -344,15 +344,15 @@ value_written : (tiles : List Tile) (section : List ℕ) (c : Scalar) (v : Tree)
 unfolding scalar_written
 value_written tiles section c v xs utf8 is same = subst (λ (w : Tree). IsWrittenDirect tiles section w xs) (sym same) (record { written = scalar_written tiles section c xs utf8 is; direct = refl; levels = omega arith })
 
-pub scalar_value : (value : Value) (c : Scalar) (xs : List ℕ) → ((tiles : List Tile) (v : Tree) → IsValue tiles value v → v ≡ scalar c) → scalar_is_text c ≡ true → IsScalar c xs → WritesValue value xs
+pub scalar_value : (value : WrittenValue) (c : Scalar) (xs : List ℕ) → ((tiles : List Tile) (v : Tree) → IsValue tiles value v → v ≡ scalar c) → scalar_is_text c ≡ true → IsScalar c xs → WritesValue value xs
 scalar_value value c xs f utf8 is tiles section v are stands = value_written tiles section c v xs utf8 is (f tiles v stands)
 
-pub array_value : (value : Value) (parts : List Part) (xs : List ℕ) → ((tiles : List Tile) (v : Tree) → IsValue tiles value v → (vs : Trees) × AreParts tiles parts vs × (v ≡ array vs)) → WritesArray parts xs → WritesValue value xs
+pub array_value : (value : WrittenValue) (parts : List SectionPart) (xs : List ℕ) → ((tiles : List Tile) (v : Tree) → IsValue tiles value v → (vs : Trees) × AreParts tiles parts vs × (v ≡ array vs)) → WritesArray parts xs → WritesValue value xs
 array_value value parts xs f w tiles section v are stands =
     let e = f tiles v stands in
     subst (λ (u : Tree). IsWrittenDirect tiles section u xs) (sym e.2) (w tiles section e.0 are e.1)
 
-pub map_value : (value : Value) (pairs : List (Part × Part)) (xs : List ℕ) → ((tiles : List Tile) (v : Tree) → IsValue tiles value v → (vs : Pairs) × ArePairs tiles pairs vs × (v ≡ table vs)) → WritesMap pairs xs → WritesValue value xs
+pub map_value : (value : WrittenValue) (pairs : List (SectionPart × SectionPart)) (xs : List ℕ) → ((tiles : List Tile) (v : Tree) → IsValue tiles value v → (vs : Pairs) × ArePairs tiles pairs vs × (v ≡ table vs)) → WritesMap pairs xs → WritesValue value xs
 map_value value pairs xs f w tiles section v are stands =
     let e = f tiles v stands in
     subst (λ (u : Tree). IsWrittenDirect tiles section u xs) (sym e.2) (w tiles section e.0 are e.1)

@@ -3,8 +3,8 @@
 use Rattle.std.specs.Prelude.{ℕ, zero, suc, ◌+◌, ◌-◌, ◌*◌, ◌/◌, ◌%◌, List, [], ◌∷◌, ◌++◌, length, if◌then◌else◌, nat_lt}
 use Rattle.std.specs.Int.{w16, w32, w64, w128, to_be_bytes, cast_unsigned}
 use Rattle.mmdb_format.specs.Contents.{Scalar, text, bytes, boolean, signed32, number16, number32, number64, number128, double_bits, float_bits}
-use Rattle.mmdb_section.specs.declared.value.Part.{Part}
-use Rattle.mmdb_section.specs.declared.value.Part.TheVariants.{Number, At}
+use Rattle.mmdb_section.specs.declared.value.SectionPart.{SectionPart}
+use Rattle.mmdb_section.specs.declared.value.SectionPart.TheVariants.{Number, At}
 use Rattle.mmdb_section.specs.Shapes.{scalar_of, Shape, plain, elements, entries}
 
 -- the five bits of a control byte that say a size, or how many bytes say it
@@ -56,15 +56,15 @@ scalar_bytes (number128 n) = integer_bytes 10 (to_be_bytes w128 n)
 scalar_bytes (double_bits n) = sized_bytes 3 (to_be_bytes w64 n)
 scalar_bytes (float_bits n) = sized_bytes 15 (to_be_bytes w32 n)
 
-abbrev pub part_bytes : Part → List ℕ
+abbrev pub part_bytes : SectionPart → List ℕ
 part_bytes (Number n) = scalar_bytes (scalar_of n)
 part_bytes (At offset) = pointer_bytes offset
 
-unfoldable pub parts_bytes : List Part → List ℕ
+unfoldable pub parts_bytes : List SectionPart → List ℕ
 parts_bytes [] = []
 parts_bytes (part ∷ parts) = part_bytes part ++ parts_bytes parts
 
-unfoldable pub pairs_bytes : List (Part × Part) → List ℕ
+unfoldable pub pairs_bytes : List (SectionPart × SectionPart) → List ℕ
 pairs_bytes [] = []
 pairs_bytes (p ∷ pairs) = part_bytes p.0 ++ (part_bytes p.1 ++ pairs_bytes pairs)
 

@@ -1,4 +1,4 @@
--- Values as bytes that are put behind others, wherever those stand ("Data Field Format" of the MaxMind DB File Format
+-- Values as bytes that are put after others, wherever those are ("Data Field Format" of the MaxMind DB File Format
 -- Specification 2.0).
 use Rattle.std.specs.Prelude.{◌≡◌, ℕ, ◌+◌, List, ◌++◌, length, true, Some}
 use Rattle.std.specs.Str.{is_utf8}
@@ -6,13 +6,13 @@ use Rattle.mmdb_format.specs.Header.{header_at}
 use Rattle.mmdb_format.specs.Contents.{Scalar, text}
 use Rattle.mmdb_format.specs.Unfolding.{scalar, Unfolds}
 
--- bytes of which something holds were put behind others
+-- bytes of which something holds were put after others
 pub record Appends (P : List ℕ → Type 0) (old new : List ℕ) : Type 0 where
   pub more : List ℕ
   pub grown : new ≡ old ++ more
   pub is : P more
 
--- It holds of the section, the offset of these bytes and the offset after them, whatever stands before and behind them.
+-- It holds of the section, the offset of these bytes and the offset after them, whatever is before and after them.
 abbrev pub Stands : (List ℕ → ℕ → ℕ → Type 0) → List ℕ → Type 0
 Stands P bytes = (before behind : List ℕ) → P (before ++ (bytes ++ behind)) (length before) (length before + length bytes)
 

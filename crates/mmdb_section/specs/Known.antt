@@ -3,15 +3,15 @@ use Rattle.std.specs.Prelude.{◌≡◌, ℕ, List, [], ◌∷◌, Some}
 use Rattle.std.specs.List.{AllByRecursion}
 use Rattle.mmdb_format.specs.Unfolding.{Tree, scalar, array, table, pointer, Trees, no_trees, tree, Pairs, no_pairs, pair, without_pointers}
 use Rattle.mmdb_section.specs.declared.value.Number.{Number as SpecNumber}
-use Rattle.mmdb_section.specs.declared.value.Part.{Part}
-use Rattle.mmdb_section.specs.declared.value.Part.TheVariants.{Number, At}
+use Rattle.mmdb_section.specs.declared.value.SectionPart.{SectionPart}
+use Rattle.mmdb_section.specs.declared.value.SectionPart.TheVariants.{Number, At}
 use Rattle.mmdb_section.specs.Sections.{Tile, IsTile, SectionView, start_of, Shape, plain, elements, entries, scalar_of, IsSection}
 
 abbrev pub IsNumber : Tree → Type 0
 IsNumber v = (n : SpecNumber) × (v ≡ scalar (scalar_of n))
 
--- a number stands in its place, and any other value where it begins
-abbrev pub IsDirect : Tree → (ℕ → Type 0) → Part → Type 0
+-- a number is in its place, and any other value where it begins
+abbrev pub IsDirect : Tree → (ℕ → Type 0) → SectionPart → Type 0
 IsDirect v Begins (Number n) = v ≡ scalar (scalar_of n)
 IsDirect v Begins (At offset) = Begins offset × ¬ IsNumber v
 
@@ -19,24 +19,24 @@ IsDirect v Begins (At offset) = Begins offset × ¬ IsNumber v
 abbrev mutual
   pub IsKnown : SectionView → Tree → ℕ → Type 0
   IsKnown section (scalar c) offset = start_of section (plain c) ≡ Some offset
-  IsKnown section (array vs) offset = (parts : List Part) × AreKnown section vs parts × (start_of section (elements parts) ≡ Some offset)
-  IsKnown section (table vs) offset = (pairs : List (Part × Part)) × PairsAreKnown section vs pairs × (start_of section (entries pairs) ≡ Some offset)
+  IsKnown section (array vs) offset = (parts : List SectionPart) × AreKnown section vs parts × (start_of section (elements parts) ≡ Some offset)
+  IsKnown section (table vs) offset = (pairs : List (SectionPart × SectionPart)) × PairsAreKnown section vs pairs × (start_of section (entries pairs) ≡ Some offset)
   IsKnown section (pointer a v) offset = ⊥
 
-  pub AreKnown : SectionView → Trees → List Part → Type 0
+  pub AreKnown : SectionView → Trees → List SectionPart → Type 0
   AreKnown section no_trees [] = Unit {0}
   AreKnown section no_trees (p ∷ ps) = ⊥
   AreKnown section (tree v vs) [] = ⊥
   AreKnown section (tree v vs) (p ∷ ps) = IsDirect v (λ offset. IsKnown section v offset) p × AreKnown section vs ps
 
-  pub PairsAreKnown : SectionView → Pairs → List (Part × Part) → Type 0
+  pub PairsAreKnown : SectionView → Pairs → List (SectionPart × SectionPart) → Type 0
   PairsAreKnown section no_pairs [] = Unit {0}
   PairsAreKnown section no_pairs (p ∷ ps) = ⊥
   PairsAreKnown section (pair k v vs) [] = ⊥
   PairsAreKnown section (pair k v vs) (p ∷ ps) =
       IsDirect k (λ offset. IsKnown section k offset) p.0 × IsDirect v (λ offset. IsKnown section v offset) p.1 × PairsAreKnown section vs ps
 
-abbrev pub IsKnownPart : SectionView → Tree → Part → Type 0
+abbrev pub IsKnownPart : SectionView → Tree → SectionPart → Type 0
 IsKnownPart section v part = IsDirect v (λ offset. IsKnown section v offset) part
 
 -- what the one knows, the other knows too

@@ -1,5 +1,5 @@
--- A data section as values that stand one behind the other, whose pointers lead to the beginnings of values ("Output Data
--- Section" of the MaxMind DB File Format Specification 2.0).
+-- A data section as values that follow one another, whose pointers lead to the beginnings of values ("Output Data Section" of
+-- the MaxMind DB File Format Specification 2.0).
 pub use Rattle.mmdb_section.specs.Shapes.{scalar_of, Shape, plain, elements, entries, shape_of}
 use Rattle.std.specs.Prelude.{◌≡◌, ℕ, ◌*◌, ◌<◌, ◌≤◌, ◌^◌, ◌⊎◌, ◌==◌, ◌||◌, Bool, true, false, List, [], ◌∷◌, ◌++◌, length, Option, Some}
 use Rattle.std.specs.List.{AllByRecursion}
@@ -8,10 +8,10 @@ use Rattle.std.specs.Str.{bytes_eq}
 use Rattle.mmdb_format.specs.Contents.{Scalar, text, bytes}
 use Rattle.mmdb_format.specs.Unfolding.{Tree, scalar, array, table, pointer, Trees, no_trees, tree, Pairs, no_pairs, pair, Unfolds, levels, has_texts, without_pointers}
 use Rattle.mmdb_check.specs.Checking.{leads_to}
-use Rattle.mmdb_section.specs.declared.value.Part.{Part}
-use Rattle.mmdb_section.specs.declared.value.Part.TheVariants.{Number, At}
-use Rattle.mmdb_section.specs.declared.value.Value.{Value}
-use Rattle.mmdb_section.specs.declared.value.Value.TheVariants as values
+use Rattle.mmdb_section.specs.declared.value.SectionPart.{SectionPart}
+use Rattle.mmdb_section.specs.declared.value.SectionPart.TheVariants.{Number, At}
+use Rattle.mmdb_section.specs.declared.value.WrittenValue.{WrittenValue}
+use Rattle.mmdb_section.specs.declared.value.WrittenValue.TheVariants as values
 use Rattle.mmdb_section.specs.Bytes.{shape_bytes}
 
 -- ---- values of a section
@@ -45,8 +45,8 @@ is_pointer (scalar c) = false
 is_pointer (array ts) = false
 is_pointer (table ps) = false
 
--- The value stands there, whatever comes behind the bytes. It is no pointer, its texts are UTF-8, its pointers lead to where
--- values begin, and with them it is at most twice as deep.
+-- The value is there, whatever comes after the bytes. It is no pointer, its texts are UTF-8, its pointers lead to where values
+-- begin, and with them it is at most twice as deep.
 pub record IsLaid (tiles : List Tile) (bytes : List ℕ) (t : Tile) : Type 0 where
   pub unfolds : (behind : List ℕ) → Unfolds (bytes ++ behind) t.start t.tree t.end
   pub direct : is_pointer t.tree ≡ false
@@ -76,24 +76,24 @@ pub record IsSection (tiles : List Tile) (section : SectionView) : Type 0 where
 -- ---- values that are put into a section
 
 -- a part stands for a number, or for the value that begins at its offset, pointers dropped
-abbrev pub IsPart : List Tile → Part → Tree → Type 0
+abbrev pub IsPart : List Tile → SectionPart → Tree → Type 0
 IsPart tiles (Number n) v = v ≡ scalar (scalar_of n)
 IsPart tiles (At offset) v = (t : Tile) × IsTile t tiles × (t.start ≡ offset) × (without_pointers t.tree ≡ v)
 
-abbrev pub AreParts : List Tile → List Part → Trees → Type 0
+abbrev pub AreParts : List Tile → List SectionPart → Trees → Type 0
 AreParts tiles [] no_trees = Unit {0}
 AreParts tiles [] (tree v vs) = ⊥
 AreParts tiles (p ∷ ps) no_trees = ⊥
 AreParts tiles (p ∷ ps) (tree v vs) = IsPart tiles p v × AreParts tiles ps vs
 
-abbrev pub ArePairs : List Tile → List (Part × Part) → Pairs → Type 0
+abbrev pub ArePairs : List Tile → List (SectionPart × SectionPart) → Pairs → Type 0
 ArePairs tiles [] no_pairs = Unit {0}
 ArePairs tiles [] (pair k v vs) = ⊥
 ArePairs tiles (p ∷ ps) no_pairs = ⊥
 ArePairs tiles (p ∷ ps) (pair k v vs) = IsPart tiles p.0 k × IsPart tiles p.1 v × ArePairs tiles ps vs
 
 -- the tree of a value whose parts stand for these of the section
-abbrev pub IsValue : List Tile → Value → Tree → Type 0
+abbrev pub IsValue : List Tile → WrittenValue → Tree → Type 0
 IsValue tiles (values.Text x) v = v ≡ scalar (text x.now)
 IsValue tiles (values.Bytes x) v = v ≡ scalar (bytes x.now)
 IsValue tiles (values.Number n) v = v ≡ scalar (scalar_of n)
@@ -105,7 +105,7 @@ abbrev pub IsFor : Tree → ℕ → Tile → Type 0
 IsFor v offset t = (t.start ≡ offset) × (without_pointers t.tree ≡ v)
 
 -- The section has these values, and perhaps more, and the part stands for the tree.
-pub record Holds (tiles : List Tile) (v : Tree) (section : SectionView) (part : Part) : Type 0 where
+pub record Holds (tiles : List Tile) (v : Tree) (section : SectionView) (part : SectionPart) : Type 0 where
   pub more : List Tile
   pub has : IsSection (tiles ++ more) section
   pub is_part : IsPart (tiles ++ more) part v
@@ -122,7 +122,7 @@ abbrev pub most_size : ℕ
 most_size = 16843036
 
 -- how many bytes, parts or pairs a value has
-abbrev pub size_of : Value → ℕ
+abbrev pub size_of : WrittenValue → ℕ
 size_of (values.Text x) = length x.now
 size_of (values.Bytes x) = length x.now
 size_of (values.Number n) = 0
@@ -130,5 +130,5 @@ size_of (values.Array parts) = length parts.now
 size_of (values.Map pairs) = length pairs.now
 
 -- a header cannot have its size, or a pointer cannot have its offset
-abbrev pub IsTooLarge : SectionView → Value → Type 0
+abbrev pub IsTooLarge : SectionView → WrittenValue → Type 0
 IsTooLarge section value = (most_size < size_of value) ⊎ (2 ^ 32 ≤ length section.bytes)

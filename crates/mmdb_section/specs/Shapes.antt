@@ -3,9 +3,9 @@ use Rattle.std.specs.Prelude.{ℕ, List}
 use Rattle.mmdb_format.specs.Contents.{Scalar, text, bytes, boolean, signed32, number16, number32, number64, number128, double_bits, float_bits}
 use Rattle.mmdb_section.specs.declared.value.Number.{Number as SpecNumber}
 use Rattle.mmdb_section.specs.declared.value.Number.TheVariants.{Bool as BoolNumber, I32, U16, U32, U64, U128, Double, Float}
-use Rattle.mmdb_section.specs.declared.value.Part.{Part}
-use Rattle.mmdb_section.specs.declared.value.Value.{Value}
-use Rattle.mmdb_section.specs.declared.value.Value.TheVariants as values
+use Rattle.mmdb_section.specs.declared.value.SectionPart.{SectionPart}
+use Rattle.mmdb_section.specs.declared.value.WrittenValue.{WrittenValue}
+use Rattle.mmdb_section.specs.declared.value.WrittenValue.TheVariants as values
 
 abbrev pub scalar_of : SpecNumber → Scalar
 scalar_of (BoolNumber b) = boolean b
@@ -20,10 +20,10 @@ scalar_of (Float x) = float_bits x.bits
 -- a value by what it is made of: a scalar, or the parts of an array or a map
 pub data Shape : Type 0 where
   plain : Scalar → Shape
-  elements : List Part → Shape
-  entries : List (Part × Part) → Shape
+  elements : List SectionPart → Shape
+  entries : List (SectionPart × SectionPart) → Shape
 
-abbrev pub shape_of : Value → Shape
+abbrev pub shape_of : WrittenValue → Shape
 shape_of (values.Text x) = plain (text x.now)
 shape_of (values.Bytes x) = plain (bytes x.now)
 shape_of (values.Number n) = plain (scalar_of n)

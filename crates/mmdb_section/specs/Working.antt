@@ -9,21 +9,21 @@ use Rattle.mmdb_format.specs.Header.{big_endian, bytes_at, size_at, sized_header
 use Rattle.mmdb_format.specs.Pointer.{pointer_at}
 use Rattle.mmdb_format.specs.Unfolding.{Tree, array, table, Trees, Pairs, Unfolds, AllUnfold, PairsUnfold, levels, trees_all_levels, pairs_all_levels, has_texts, trees_texts, pairs_texts, without_pointers, trees_without, pairs_without}
 use Rattle.mmdb_check.specs.Checking.{trees_lead_to, pairs_lead_to}
-use Rattle.mmdb_section.specs.declared.value.Part.{Part}
-use Rattle.mmdb_section.specs.declared.value.Value.{Value}
+use Rattle.mmdb_section.specs.declared.value.SectionPart.{SectionPart}
+use Rattle.mmdb_section.specs.declared.value.WrittenValue.{WrittenValue}
 use Rattle.mmdb_section.specs.Sections.{Tile, IsClosed, is_start, is_pointer, AreTiles, IsPart, AreParts, ArePairs, IsValue}
 
 -- new is old with more at its end
 abbrev pub Grows : List ℕ → List ℕ → Type 0
 Grows old new = (more : List ℕ) × (new ≡ old ++ more)
 
--- ---- bytes, wherever they stand
+-- ---- bytes, wherever they are
 
 -- they are the control byte of this type with these low bits, and the byte of an extended type
 abbrev pub IsControl : ℕ → ℕ → List ℕ → Type 0
 IsControl kind low bytes = Stands (λ s p q. header_at s p ≡ sized_header s q kind low) bytes
 
--- they are this size, behind a control byte with these low bits
+-- they are this size, after a control byte with these low bits
 abbrev pub IsSize : ℕ → ℕ → List ℕ → Type 0
 IsSize low size bytes = Stands (λ s p q. size_at s p low ≡ Some (size, q)) bytes
 
@@ -44,7 +44,7 @@ IsSized kind content bytes = Stands (SizedAt kind content) bytes
 abbrev pub IsInteger : ℕ → List ℕ → List ℕ → Type 0
 IsInteger kind wide bytes = (content : List ℕ) × IsSized kind content bytes × (big_endian content ≡ big_endian wide) × (length content ≤ length wide)
 
--- Behind the bytes of a section, at any distance, and in them, they are a value whose pointers lead into the section.
+-- After the bytes of a section, at any distance, and in them, they are a value whose pointers lead into the section.
 pub record IsWritten (tiles : List Tile) (section : List ℕ) (v : Tree) (bytes : List ℕ) : Type 0 where
   pub t : Tree
   pub unfolds : (before behind : List ℕ) → Grows section (before ++ (bytes ++ behind)) → Unfolds (before ++ (bytes ++ behind)) (length before) t (length before + length bytes)
@@ -59,10 +59,10 @@ pub record IsWrittenDirect (tiles : List Tile) (section : List ℕ) (v : Tree) (
   pub direct : is_pointer written.t ≡ false
   pub levels : levels written.t ≤ 2 * levels v
 
-abbrev pub WritesPart : Part → List ℕ → Type 0
+abbrev pub WritesPart : SectionPart → List ℕ → Type 0
 WritesPart part bytes = (tiles : List Tile) (section : List ℕ) (v : Tree) → AreTiles tiles section → IsPart tiles part v → IsWritten tiles section v bytes
 
--- The same of values one behind the other, and of pairs.
+-- The same of values one after the other, and of pairs.
 pub record AreWritten (tiles : List Tile) (section : List ℕ) (n : ℕ) (vs : Trees) (bytes : List ℕ) : Type 0 where
   pub ts : Trees
   pub unfolds : (before behind : List ℕ) → Grows section (before ++ (bytes ++ behind)) → AllUnfold (before ++ (bytes ++ behind)) (length before) n ts (length before + length bytes)
@@ -79,24 +79,24 @@ pub record ArePairsWritten (tiles : List Tile) (section : List ℕ) (n : ℕ) (v
   pub texts : pairs_texts ps ≡ true
   pub closed : (q : ℕ) → pairs_lead_to ps q ≡ true → is_start tiles q ≡ true
 
-abbrev pub WritesParts : List Part → List ℕ → Type 0
+abbrev pub WritesParts : List SectionPart → List ℕ → Type 0
 WritesParts parts bytes = (tiles : List Tile) (section : List ℕ) (vs : Trees) → AreTiles tiles section → AreParts tiles parts vs → AreWritten tiles section (length parts) vs bytes
 
-abbrev pub WritesPairs : List (Part × Part) → List ℕ → Type 0
+abbrev pub WritesPairs : List (SectionPart × SectionPart) → List ℕ → Type 0
 WritesPairs pairs bytes = (tiles : List Tile) (section : List ℕ) (vs : Pairs) → AreTiles tiles section → ArePairs tiles pairs vs → ArePairsWritten tiles section (length pairs) vs bytes
 
-abbrev pub WritesArray : List Part → List ℕ → Type 0
+abbrev pub WritesArray : List SectionPart → List ℕ → Type 0
 WritesArray parts bytes = (tiles : List Tile) (section : List ℕ) (vs : Trees) → AreTiles tiles section → AreParts tiles parts vs → IsWrittenDirect tiles section (array vs) bytes
 
-abbrev pub WritesMap : List (Part × Part) → List ℕ → Type 0
+abbrev pub WritesMap : List (SectionPart × SectionPart) → List ℕ → Type 0
 WritesMap pairs bytes = (tiles : List Tile) (section : List ℕ) (vs : Pairs) → AreTiles tiles section → ArePairs tiles pairs vs → IsWrittenDirect tiles section (table vs) bytes
 
-abbrev pub WritesValue : Value → List ℕ → Type 0
+abbrev pub WritesValue : WrittenValue → List ℕ → Type 0
 WritesValue value bytes = (tiles : List Tile) (section : List ℕ) (v : Tree) → AreTiles tiles section → IsValue tiles value v → IsWrittenDirect tiles section v bytes
 
--- ---- values that stand in a section already
+-- ---- values that are in a section already
 
--- The bytes stand among others from an offset on.
+-- The bytes are among others from an offset on.
 pub record StandAt (bytes : List ℕ) (start : ℕ) (value : List ℕ) : Type 0 where
   pub before : List ℕ
   pub behind : List ℕ

@@ -30,7 +30,7 @@ fn low_bits(size: usize) -> u8
     }
 }
 
-// The control byte of a type, and the byte behind it of an extended type.
+// The control byte of a type, and the byte after it of an extended type.
 fn push_control(out: &mut Vec<u8>, kind: u16, low: u8) -> Result<(), AllocError>
     requires no_pointer { 1 < kind }
     requires kind { kind < 16 }
@@ -45,7 +45,7 @@ fn push_control(out: &mut Vec<u8>, kind: u16, low: u8) -> Result<(), AllocError>
     }
 }
 
-// The bytes behind a control byte that say a larger size.
+// The bytes after a control byte that say a larger size.
 fn push_size(out: &mut Vec<u8>, low: u8, size: usize) -> Result<(), AllocError>
     requires own { size < 29 → low ≡ size }
     requires one { 29 ≤ size → size < 285 → low ≡ 29 }
@@ -74,7 +74,7 @@ fn push_size(out: &mut Vec<u8>, low: u8, size: usize) -> Result<(), AllocError>
 
 /// Appends the header of a value that is no pointer ("Data Field Format" of the MaxMind DB File Format Specification 2.0): a
 /// control byte, the byte of an extended type, and up to three bytes of a larger size. An array's size is how many values come
-/// behind it, a map's how many pairs.
+/// after it, a map's how many pairs.
 pub fn push_header(out: &mut Vec<u8>, kind: u16, size: usize) -> Result<(), AllocError>
     requires no_pointer { 1 < kind }
     requires kind { kind < 16 }

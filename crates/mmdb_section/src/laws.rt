@@ -2,8 +2,8 @@
 ghost use Rattle.mmdb_section.specs.Known.{KnownAtOneOffset, NoneStandsTwice};
 ghost use Rattle.mmdb_section.specs.Laws.{AtMostTwiceAsDeep, SectionsAreGood};
 
-/// A value of a section is with its pointers at most twice as deep as without: each container and each text may stand behind
-/// a pointer, and no pointer leads to another.
+/// A value of a section is with its pointers at most twice as deep as without: each container and each text may be reached
+/// through a pointer, and no pointer leads to another.
 pub fn at_most_twice_as_deep()
     ensures { AtMostTwiceAsDeep }
 {}

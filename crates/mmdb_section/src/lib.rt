@@ -1,5 +1,5 @@
-//! The data section of a MaxMind DB file, made value by value: equal values are written once, one behind the other, and
-//! pointers lead to them.
+//! The data section of a MaxMind DB file, made value by value: equal values are written once, one after the other, and pointers
+//! lead to them.
 #![tactic(auto)]
 
 mod header;
@@ -13,4 +13,4 @@ mod write;
 pub use header::{MOST_SIZE, push_header};
 pub use scalar::{push_number, push_text};
 pub use section::{Section, SectionError};
-pub use value::{Number, Part, Value};
+pub use value::{Number, SectionPart, WrittenValue};

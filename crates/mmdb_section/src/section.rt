@@ -7,7 +7,7 @@ ghost use Rattle.mmdb_section.specs.Working.{StandAt};
 ghost use Rattle.mmdb_format.specs.Unfolding.{Tree};
 
 use crate::header::MOST_SIZE;
-use crate::value::Value;
+use crate::value::WrittenValue;
 use crate::write::push_value;
 use std::alloc::{AllocError, AllocFailed, Global};
 use std::collections::BTreeMap;
@@ -83,7 +83,7 @@ impl Section {
         self.known.get(bytes).copied()
     }
 
-    // Puts the bytes of a value behind the others.
+    // Puts the bytes of a value after the others.
     fn put(&mut self, start: u32, bytes: Vec<u8>) -> Result<(), AllocError>
         requires { start ≡ length self.old.bytes }
         ensures bytes { OnOk result (self.new.bytes ≡ self.old.bytes ++ bytes.items) }
@@ -101,7 +101,7 @@ impl Section {
     }
 
     /// Adds a value, unless it was added before, and answers the offset at which it begins. An error changes nothing.
-    pub fn add(&mut self, alloc: Global, value: Value<'_>) -> Result<u32, SectionError>
+    pub fn add(&mut self, alloc: Global, value: WrittenValue<'_>) -> Result<u32, SectionError>
         ensures value { IfOk result (λ offset. (tiles : List Tile) (v : Tree)
             → IsSection tiles self.old → IsValue tiles value.entry v
             → HoldsAt tiles v self.new offset) }

@@ -1,7 +1,7 @@
 //! Values that are put into a section.
 use mmdb_format::content::{Double, Float};
 
-/// A number, or a truth value: it stands in its place.
+/// A number, or a truth value: it is in its place.
 #[derive(Clone, Copy, Debug, PartialEq, Eq)]
 pub enum Number {
     Bool(bool),
@@ -14,24 +14,24 @@ pub enum Number {
     Float(Float),
 }
 
-/// A part of a value: a number, or the offset of a value that stands in the section already.
+/// A part of a value: a number, or the offset of a value that is in the section already.
 #[derive(Clone, Copy, Debug, PartialEq, Eq)]
-pub enum Part {
+pub enum SectionPart {
     Number(Number),
     At(u32),
 }
 
-/// A value, the parts of which stand in the section already. A map has pairs of a key and a value.
+/// A value, the parts of which are in the section already. A map has pairs of a key and a value.
 #[derive(Clone, Copy)]
-pub enum Value<'a> {
+pub enum WrittenValue<'a> {
     Text(&'a str),
     Bytes(&'a [u8]),
     Number(Number),
-    Array(&'a [Part]),
-    Map(&'a [(Part, Part)]),
+    Array(&'a [SectionPart]),
+    Map(&'a [(SectionPart, SectionPart)]),
 }
 
-impl Value<'_> {
+impl WrittenValue<'_> {
     ghost use Rattle.std.specs.Prelude.{◌≡◌};
     ghost use Rattle.mmdb_section.specs.Sections.{size_of};
 
@@ -40,11 +40,11 @@ impl Value<'_> {
         ensures { result ≡ size_of self.now }
     {
         match self {
-            Value::Text(text) => text.len(),
-            Value::Bytes(bytes) => bytes.len(),
-            Value::Number(_) => 0,
-            Value::Array(parts) => parts.len(),
-            Value::Map(pairs) => pairs.len(),
+            WrittenValue::Text(text) => text.len(),
+            WrittenValue::Bytes(bytes) => bytes.len(),
+            WrittenValue::Number(_) => 0,
+            WrittenValue::Array(parts) => parts.len(),
+            WrittenValue::Map(pairs) => pairs.len(),
         }
     }
 }

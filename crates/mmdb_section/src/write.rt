@@ -7,23 +7,23 @@ ghost use Rattle.mmdb_section.specs.Working.{Appends, WritesPart, WritesParts, W
 use crate::header::push_header;
 use crate::pointer::push_pointer;
 use crate::scalar::{push_bytes, push_number, push_text};
-use crate::value::{Part, Value};
+use crate::value::{SectionPart, WrittenValue};
 use mmdb_format::kind::{ARRAY, MAP};
 use std::alloc::AllocError;
 
 // A part: a number, or a pointer to a value.
-fn push_part(out: &mut Vec<u8>, part: Part) -> Result<(), AllocError>
+fn push_part(out: &mut Vec<u8>, part: SectionPart) -> Result<(), AllocError>
     ensures says { OnOk result (Appends (WritesPart part) out.old.items out.new.items) }
     ensures bytes { OnOk result (out.new.items ≡ out.old.items ++ part_bytes part) }
 {
     match part {
-        Part::Number(number) => push_number(out, number),
-        Part::At(offset) => push_pointer(out, offset),
+        SectionPart::Number(number) => push_number(out, number),
+        SectionPart::At(offset) => push_pointer(out, offset),
     }
 }
 
 // The elements of an array.
-fn push_parts(out: &mut Vec<u8>, parts: &[Part]) -> Result<(), AllocError>
+fn push_parts(out: &mut Vec<u8>, parts: &[SectionPart]) -> Result<(), AllocError>
     ensures says { OnOk result (Appends (WritesParts parts.now) out.old.items out.new.items) }
     ensures bytes { OnOk result (out.new.items ≡ out.old.items ++ parts_bytes parts.now) }
 {
@@ -34,7 +34,7 @@ fn push_parts(out: &mut Vec<u8>, parts: &[Part]) -> Result<(), AllocError>
 }
 
 // The pairs of a map.
-fn push_pairs(out: &mut Vec<u8>, pairs: &[(Part, Part)]) -> Result<(), AllocError>
+fn push_pairs(out: &mut Vec<u8>, pairs: &[(SectionPart, SectionPart)]) -> Result<(), AllocError>
     ensures says { OnOk result (Appends (WritesPairs pairs.now) out.old.items out.new.items) }
     ensures bytes { OnOk result (out.new.items ≡ out.old.items ++ pairs_bytes pairs.now) }
 {
@@ -45,7 +45,7 @@ fn push_pairs(out: &mut Vec<u8>, pairs: &[(Part, Part)]) -> Result<(), AllocErro
     Ok(())
 }
 
-fn push_array(out: &mut Vec<u8>, parts: &[Part]) -> Result<(), AllocError>
+fn push_array(out: &mut Vec<u8>, parts: &[SectionPart]) -> Result<(), AllocError>
     requires { length parts.now ≤ most_size }
     ensures says { OnOk result (Appends (WritesArray parts.now) out.old.items out.new.items) }
     ensures bytes { let shape = elements parts.now in
@@ -55,7 +55,7 @@ fn push_array(out: &mut Vec<u8>, parts: &[Part]) -> Result<(), AllocError>
     push_parts(out, parts)
 }
 
-fn push_map(out: &mut Vec<u8>, pairs: &[(Part, Part)]) -> Result<(), AllocError>
+fn push_map(out: &mut Vec<u8>, pairs: &[(SectionPart, SectionPart)]) -> Result<(), AllocError>
     requires { length pairs.now ≤ most_size }
     ensures says { OnOk result (Appends (WritesMap pairs.now) out.old.items out.new.items) }
     ensures bytes { let shape = entries pairs.now in
@@ -66,17 +66,17 @@ fn push_map(out: &mut Vec<u8>, pairs: &[(Part, Part)]) -> Result<(), AllocError>
 }
 
 // A value, which begins with no pointer.
-pub(crate) fn push_value(out: &mut Vec<u8>, value: Value<'_>) -> Result<(), AllocError>
+pub(crate) fn push_value(out: &mut Vec<u8>, value: WrittenValue<'_>) -> Result<(), AllocError>
     requires { size_of value ≤ most_size }
     ensures says { OnOk result (Appends (WritesValue value.entry) out.old.items out.new.items) }
     ensures bytes { let shape = shape_of value.entry in
         OnOk result (out.new.items ≡ out.old.items ++ shape_bytes shape) }
 {
     match value {
-        Value::Text(text) => push_text(out, text),
-        Value::Bytes(bytes) => push_bytes(out, bytes),
-        Value::Number(number) => push_number(out, number),
-        Value::Array(parts) => push_array(out, parts),
-        Value::Map(pairs) => push_map(out, pairs),
+        WrittenValue::Text(text) => push_text(out, text),
+        WrittenValue::Bytes(bytes) => push_bytes(out, bytes),
+        WrittenValue::Number(number) => push_number(out, number),
+        WrittenValue::Array(parts) => push_array(out, parts),
+        WrittenValue::Map(pairs) => push_map(out, pairs),
     }
 }

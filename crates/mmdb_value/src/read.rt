@@ -10,7 +10,7 @@ ghost use Rattle.mmdb_decode.specs.State.{Within, GivenUp, decoded};
 ghost use Rattle.mmdb_value.specs.AnyValue.{value_at, key_at, pair_at, scalar_of, array_of as spec_array_of, table_of as spec_table_of};
 
 use mmdb_decode::failed::Failed;
-use mmdb_decode::steps::Steps;
+use mmdb_decode::steps::Stepping;
 use mmdb_format::header::Header;
 use mmdb_format::kind::{ARRAY, MAP, POINTER, TEXT};
 use std::alloc::Global;
@@ -20,7 +20,7 @@ use std::alloc::Global;
 const FEW: usize = 16;
 
 /// A decoder that takes texts in the way that `K` names.
-pub(crate) trait Source<K>: Steps {
+pub(crate) trait Source<K>: Stepping {
     type Text: Copy;
 
     type Value: Drop;

@@ -30,7 +30,7 @@ use Rattle.mmdb_nodes.proofs.LongestLemmas.{last_is_longest}
 use Rattle.mmdb_section.specs.Sections.{Tile, SectionView, AreTiles, IsPart}
 use Rattle.mmdb_section.specs.Known.{HasEachOnce}
 use Rattle.mmdb_section.proofs.OnceLemmas.{none_twice}
-use Rattle.mmdb_section.specs.declared.value.Part.TheVariants.{At}
+use Rattle.mmdb_section.specs.declared.value.SectionPart.TheVariants.{At}
 use Rattle.mmdb_value.specs.declared.any_value.Value.{Value}
 use Rattle.mmdb_value.specs.Values.{value_tree}
 use Rattle.mmdb_value.specs.Standing.{WholeValue}

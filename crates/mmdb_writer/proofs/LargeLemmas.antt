@@ -3,8 +3,8 @@ use Rattle.std.proofs.Common.{◌≡◌, ◌⊎◌, inl, inr, ℕ, zero, suc, �
 use Rattle.mmdb_format.specs.Contents.{text, bytes}
 use Rattle.mmdb_format.specs.Unfolding.{Tree, scalar, array, table, pointer, value_count, payload, trees_count, trees_payload, pairs_count, pairs_payload}
 use Rattle.mmdb_section.specs.declared.value.Number.{Number as SpecNumber}
-use Rattle.mmdb_section.specs.declared.value.Part.{Part}
-use Rattle.mmdb_section.specs.declared.value.Value.TheVariants as values
+use Rattle.mmdb_section.specs.declared.value.SectionPart.{SectionPart}
+use Rattle.mmdb_section.specs.declared.value.WrittenValue.TheVariants as values
 use Rattle.mmdb_section.specs.Known.{AreKnown, PairsAreKnown}
 use Rattle.mmdb_section.specs.Sections.{SectionView, IsTooLarge}
 use Rattle.mmdb_value.specs.AnyValue.{trees_of, pairs_of}
@@ -69,13 +69,13 @@ count_pairs : (xs : List (Bor (List ℕ) × Value)) → length xs ≤ pairs_coun
 count_pairs [] = omega arith
 count_pairs (x ∷ xs) = let a = some_count (value_tree x.1) in let b = count_pairs xs in omega arith
 
-as_many_parts : (section : SectionView) (vs : List Tree) (ps : List Part) → AreKnown section (trees_of vs) ps → length ps ≡ length vs
+as_many_parts : (section : SectionView) (vs : List Tree) (ps : List SectionPart) → AreKnown section (trees_of vs) ps → length ps ≡ length vs
 as_many_parts section [] [] h = refl
 as_many_parts section [] (p ∷ ps) h = absurd h
 as_many_parts section (v ∷ vs) [] h = absurd h
 as_many_parts section (v ∷ vs) (p ∷ ps) h = ap suc (as_many_parts section vs ps h.1)
 
-as_many_pairs : (section : SectionView) (vs : List (List ℕ × Tree)) (ps : List (Part × Part)) → PairsAreKnown section (pairs_of vs) ps → length ps ≡ length vs
+as_many_pairs : (section : SectionView) (vs : List (List ℕ × Tree)) (ps : List (SectionPart × SectionPart)) → PairsAreKnown section (pairs_of vs) ps → length ps ≡ length vs
 as_many_pairs section [] [] h = refl
 as_many_pairs section [] (p ∷ ps) h = absurd h
 as_many_pairs section (v ∷ vs) [] h = absurd h
@@ -101,7 +101,7 @@ pub full_number : (n : SpecNumber) (old new : SectionView) → new ≡ old → I
 full_number n old new same (inl long) = absurd (omega arith)
 full_number n old new same (inr full) = full_after old new same full
 
-pub full_array : (xs : List Value) (parts : List Part) (all : Bor (List Part)) (v : Tree) (old new : SectionView) → v ≡ array (trees_of (map value_tree xs)) → all.now ≡ parts → AreKnown old (trees_of (map value_tree xs)) parts
+pub full_array : (xs : List Value) (parts : List SectionPart) (all : Bor (List SectionPart)) (v : Tree) (old new : SectionView) → v ≡ array (trees_of (map value_tree xs)) → all.now ≡ parts → AreKnown old (trees_of (map value_tree xs)) parts
     → length (map value_tree xs) ≡ length xs → new ≡ old → IsTooLarge old (values.Array all) → IsWithin v → IsFull new
 full_array xs parts all v old new is same known maps kept (inl long) h =
     let w : IsWithin (array (trees_of (map value_tree xs))) = subst IsWithin is h in
@@ -112,7 +112,7 @@ full_array xs parts all v old new is same known maps kept (inl long) h =
     absurd (omega arith)
 full_array xs parts all v old new is same known maps kept (inr full) h = full_after old new kept full
 
-pub full_map : (xs : List (Bor (List ℕ) × Value)) (pairs : List (Part × Part)) (all : Bor (List (Part × Part))) (v : Tree) (old new : SectionView) → v ≡ table (pairs_of (map shown xs)) → all.now ≡ pairs → PairsAreKnown old (pairs_of (map shown xs)) pairs
+pub full_map : (xs : List (Bor (List ℕ) × Value)) (pairs : List (SectionPart × SectionPart)) (all : Bor (List (SectionPart × SectionPart))) (v : Tree) (old new : SectionView) → v ≡ table (pairs_of (map shown xs)) → all.now ≡ pairs → PairsAreKnown old (pairs_of (map shown xs)) pairs
     → length (map shown xs) ≡ length xs → new ≡ old → IsTooLarge old (values.Map all) → IsWithin v → IsFull new
 full_map xs pairs all v old new is same known maps kept (inl long) h =
     let w : IsWithin (table (pairs_of (map shown xs))) = subst IsWithin is h in

@@ -6,7 +6,7 @@ use Rattle.std.specs.Str.{bytes_eq}
 use Rattle.std.proofs.lemmas.List.{length-map, map-append}
 use Rattle.mmdb_format.specs.Unfolding.{Tree}
 use Rattle.mmdb_nodes.specs.declared.entry.NodeEntry.{NodeEntry}
-use Rattle.mmdb_section.specs.declared.value.Part.TheVariants.{At}
+use Rattle.mmdb_section.specs.declared.value.SectionPart.TheVariants.{At}
 use Rattle.mmdb_section.specs.Known.{HasEachOnce}
 use Rattle.mmdb_section.specs.Bytes.{shape_bytes}
 use Rattle.mmdb_section.specs.Sections.{Tile, Shape}

@@ -6,7 +6,7 @@ use Rattle.mmdb_format.specs.Unfolding.{Tree, scalar, array, table, pointer, Tre
 use Rattle.mmdb_format.proofs.UnfoldingLaws.{one_tree}
 use Rattle.mmdb_check.specs.Checking.{leads_to, trees_lead_to, pairs_lead_to}
 use Rattle.mmdb_section.specs.Sections.{Tile, is_start, is_pointer, IsLaid, AreTiles, IsPart}
-use Rattle.mmdb_section.specs.declared.value.Part.TheVariants.{At}
+use Rattle.mmdb_section.specs.declared.value.SectionPart.TheVariants.{At}
 use Rattle.mmdb_section.proofs.WriteLemmas.{laid_tile, and_first, and_second, or_true, same_start}
 use Rattle.mmdb_section.proofs.AllowanceLemmas.{tile_at, unfolds_here}
 use Rattle.mmdb_value.specs.Standing.{WholeValue}

@@ -19,13 +19,13 @@ use Rattle.mmdb_writer.specs.declared.row.RowError.{RowError}
 use Rattle.mmdb_writer.specs.declared.row.RowError.TheVariants.{Ipv6, NoValue}
 use Rattle.mmdb_writer.specs.Limits.{Exceeds}
 
--- A type and a description must stand, and a reader takes times of at most 63 bits ("Database Metadata").
+-- There must be a type and a description, and a reader takes times of at most 63 bits ("Database Metadata").
 abbrev pub IsWrongOption : Options → OptionsError → Type 0
 IsWrongOption options NoType = string_bytes options.database_type ≡ []
 IsWrongOption options NoDescription = options.description.entries ≡ []
 IsWrongOption options TooLate = 2 ^ 63 ≤ options.build_epoch
 
--- A database of IPv4 has no networks of IPv6, and each row has one of so many values, or none.
+-- A database of IPv4 has no networks of IPv6, and each row has one of `count` values, or none.
 abbrev pub IsWrongRow : IpVersion → ℕ → Row → RowError → Type 0
 IsWrongRow version count row Ipv6 = (version ≡ V4) × (address_width (ip_of row.network) ≡ 128)
 IsWrongRow version count row NoValue = (index : ℕ) × (row.value ≡ Some index) × (count ≤ index)

@@ -18,7 +18,7 @@ abbrev pub IsKeyIn : Tree → Pairs → Type 0
 IsKeyIn k no_pairs = ⊥
 IsKeyIn k (pair l v ps) = (k ≡ l) ⊎ IsKeyIn k ps
 
--- in some map of the value a key stands twice
+-- in some map of the value a key occurs twice
 abbrev mutual
   pub HasKeyTwice : Tree → Type 0
   HasKeyTwice (scalar c) = ⊥
@@ -34,12 +34,12 @@ abbrev mutual
   PairsHaveKeyTwice no_pairs = ⊥
   PairsHaveKeyTwice (pair k v ps) = IsKeyIn k ps ⊎ (HasKeyTwice v ⊎ PairsHaveKeyTwice ps)
 
--- it is within the limits, and in its maps each key stands once
+-- it is within the limits, and in its maps each key occurs once
 pub record CanBeRead (v : Tree) : Type 0 where
   pub within : IsWithinLimits v
   pub once : ¬ HasKeyTwice v
 
--- which limit a value exceeds, or that a key stands twice
+-- which limit a value exceeds, or that a key occurs twice
 abbrev pub Exceeds : ValueError → Tree → Type 0
 Exceeds TooManyValues v = most_values < value_count v
 Exceeds TooManyBytes v = most_bytes < payload v

@@ -12,7 +12,7 @@ use Rattle.mmdb_nodes.specs.declared.tree.SearchTree.{SearchTree}
 use Rattle.mmdb_reader.specs.File.{Database, data_length}
 use Rattle.mmdb_reader.specs.Source.{IsDatabaseOf}
 use Rattle.mmdb_reader.specs.Whole.{IsWhole}
-use Rattle.mmdb_section.specs.declared.value.Part.TheVariants.{At}
+use Rattle.mmdb_section.specs.declared.value.SectionPart.TheVariants.{At}
 use Rattle.mmdb_section.specs.Known.{HasEachOnce}
 use Rattle.mmdb_section.specs.Sections.{Tile, IsPart}
 use Rattle.mmdb_value.specs.declared.any_value.Value.{Value}
@@ -66,7 +66,7 @@ AddsRow row old new = (values : List Value) (rows : List Row) (options : Options
 abbrev pub is_same_block : NodeEntry → NodeEntry → Bool
 is_same_block e f = (e.first == f.first) && (e.prefix == f.prefix)
 
--- The entries in the order that a tree wants, in which those of one block stand in the order that was given.
+-- The entries in the order that a tree wants, in which those of one block are in the order that was given.
 pub record AreOrdered (given entries : List NodeEntry) : Type 0 where
   pub ordered : IsOrdered entries
   pub stable : (e : NodeEntry) → filter (is_same_block e) entries ≡ filter (is_same_block e) given
@@ -82,7 +82,7 @@ pub record BeginsWith (tree section file : List ℕ) : Type 0 where
 abbrev pub asked_with : Options → SearchTree → MetadataDatum
 asked_with options tree = asked options tree.node_count (bits_in tree.record_size)
 
--- what reading back tells: a whole database with these metadata, and so many bytes of data
+-- what reading back tells: a whole database with these metadata, and `data_len` bytes of data
 pub record IsCertified (file : List ℕ) (options : Options) (tree : SearchTree) (data_len : ℕ) : Type 0 where
   pub db : Database
   pub database : IsDatabaseOf file db

@@ -1,4 +1,4 @@
--- What rows say of an address, which is 128 bits: before those of IPv4 stand 96 zeros ("IPv4 addresses in an IPv6 tree" of the
+-- What rows say of an address, which is 128 bits: before those of IPv4 are 96 zeros ("IPv4 addresses in an IPv6 tree" of the
 -- MaxMind DB File Format Specification 2.0).
 use Rattle.std.specs.Prelude.{◌≡◌, ℕ, ◌-◌, ◌<◌, ◌≤◌, ◌⊎◌, Bool, List, ◌++◌, length, Option, Some, None, slice_get}
 use Rattle.std.specs.declared.net.ip_addr.IpAddr.{IpAddr}

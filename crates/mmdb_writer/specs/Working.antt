@@ -1,7 +1,7 @@
 -- What contracts of private functions and proofs name.
 use Rattle.std.specs.Prelude.{◌≡◌, ◌≤◌, ◌<◌, ◌+◌, ◌==◌, ◌&&◌, ◌⊎◌, Bool, ℕ, true, List, [], ◌∷◌, ◌++◌, ◌*◌, length, Option, Some, ⊤}
 use Rattle.mmdb_format.specs.Unfolding.{Tree, Pairs, is_keyed, value_count, payload, levels}
-use Rattle.mmdb_section.specs.declared.value.Part.{Part}
+use Rattle.mmdb_section.specs.declared.value.SectionPart.{SectionPart}
 use Rattle.mmdb_section.specs.Known.{AreKnown, PairsAreKnown, IsKnownPart, KnowsAll, HasEachOnce}
 use Rattle.mmdb_section.specs.Sections.{Tile, IsPart, AreParts, ArePairs, SectionView, most_size}
 use Rattle.mmdb_value.specs.AnyValue.{trees_of, pairs_of}
@@ -31,17 +31,17 @@ use Rattle.mmdb_section.specs.declared.section.SectionError.TheVariants as secti
 -- ---- values that are put into a section
 
 -- The section has these values, and perhaps more, each once, and the part stands for the tree.
-pub record HoldsOnce (tiles : List Tile) (v : Tree) (section : SectionView) (part : Part) : Type 0 where
+pub record HoldsOnce (tiles : List Tile) (v : Tree) (section : SectionView) (part : SectionPart) : Type 0 where
   pub more : List Tile
   pub once : HasEachOnce (tiles ++ more) section
   pub is_part : IsPart (tiles ++ more) part v
 
 -- whatever values it had
-abbrev pub HoldsBeside : Tree → SectionView → SectionView → Part → Type 0
+abbrev pub HoldsBeside : Tree → SectionView → SectionView → SectionPart → Type 0
 HoldsBeside v old new part = (tiles : List Tile) → HasEachOnce tiles old → HoldsOnce tiles v new part
 
 -- The part stands for the tree, which is known now.
-pub record Puts (v : Tree) (old new : SectionView) (part : Part) : Type 0 where
+pub record Puts (v : Tree) (old new : SectionView) (part : SectionPart) : Type 0 where
   pub known : IsKnownPart new v part
   pub stay : KnowsAll old new
   pub holds : HoldsBeside v old new part
@@ -51,23 +51,23 @@ abbrev pub Keeps : SectionView → SectionView → Type 0
 Keeps old new = (tiles : List Tile) → HasEachOnce tiles old → (more : List Tile) × HasEachOnce (tiles ++ more) new
 
 -- The section has these values, and perhaps more, each once, and the parts stand for the trees, or pairs of them.
-pub record HoldsParts (tiles : List Tile) (vs : List Tree) (section : SectionView) (parts : List Part) : Type 0 where
+pub record HoldsParts (tiles : List Tile) (vs : List Tree) (section : SectionView) (parts : List SectionPart) : Type 0 where
   pub more : List Tile
   pub once : HasEachOnce (tiles ++ more) section
   pub are : AreParts (tiles ++ more) parts (trees_of vs)
 
-pub record HoldsPairs (tiles : List Tile) (vs : List (List ℕ × Tree)) (section : SectionView) (parts : List (Part × Part)) : Type 0 where
+pub record HoldsPairs (tiles : List Tile) (vs : List (List ℕ × Tree)) (section : SectionView) (parts : List (SectionPart × SectionPart)) : Type 0 where
   pub more : List Tile
   pub once : HasEachOnce (tiles ++ more) section
   pub are : ArePairs (tiles ++ more) parts (pairs_of vs)
 
 -- The parts stand for the trees, or pairs of them, which are known now.
-pub record PutsParts (vs : List Tree) (old new : SectionView) (parts : List Part) : Type 0 where
+pub record PutsParts (vs : List Tree) (old new : SectionView) (parts : List SectionPart) : Type 0 where
   pub known : AreKnown new (trees_of vs) parts
   pub stay : KnowsAll old new
   pub holds : (tiles : List Tile) → HasEachOnce tiles old → HoldsParts tiles vs new parts
 
-pub record PutsPairs (vs : List (List ℕ × Tree)) (old new : SectionView) (parts : List (Part × Part)) : Type 0 where
+pub record PutsPairs (vs : List (List ℕ × Tree)) (old new : SectionView) (parts : List (SectionPart × SectionPart)) : Type 0 where
   pub known : PairsAreKnown new (pairs_of vs) parts
   pub stay : KnowsAll old new
   pub holds : (tiles : List Tile) → HasEachOnce tiles old → HoldsPairs tiles vs new parts
@@ -78,7 +78,7 @@ IsWithin v = (value_count v ≤ most_size) × (payload v ≤ most_size)
 
 -- ---- limits of values
 
--- A value of at most so many levels, whose values and bytes were taken.
+-- A value of at most `most` levels, whose values and bytes were taken.
 pub record TakesRoom (most : ℕ) (v : Tree) (old new : Room) : Type 0 where
   pub keyed : is_keyed v ≡ true
   pub values : value_count v + new.values ≡ old.values
@@ -106,11 +106,11 @@ pub record AreLeft (all : Pairs) (seen : List ℕ → Bool) (left : List (List �
 
 -- ---- entries of rows
 
--- it has an index that is none of so many
+-- it has an index that is none of `count`
 abbrev pub IsMissing : ℕ → Option ℕ → Type 0
 IsMissing count value = (index : ℕ) × (value ≡ Some index) × (count ≤ index)
 
--- Entries in the order that a tree wants, in which those of one block stand in the order that was given.
+-- Entries in the order that a tree wants, in which those of one block are in the order that was given.
 pub record AreInOrder (version : IpVersion) (data_len : ℕ) (given entries : List NodeEntry) : Type 0 where
   pub ordered : IsOrdered entries
   pub fit : AllByRecursion (IsEntry version data_len) entries

@@ -30,7 +30,7 @@ abbrev pub version_number : IpVersion → ℕ
 version_number V4 = 4
 version_number V6 = 6
 
--- The metadata that options ask for, of a tree with so many nodes and records of that size.
+-- The metadata that options ask for, of a tree with `node_count` nodes and records of that size.
 abbrev pub asked : Options → ℕ → ℕ → MetadataDatum
 asked options node_count record_size = record {
   binary_format_major_version = 2;
@@ -61,7 +61,7 @@ abbrev pub LookupsAgree : Database → List Value → List Row → Type 0
 LookupsAgree db values rows = (address : IpAddr) → CanAsk db address →
     (leaf : List Bool) × (found : Option ℕ) × (v : Option Tree) × Answers db address leaf (outcome_at found) × Says values rows (wide_bits address) v × IsRead db found v
 
--- Two addresses with data are answered with one offset exactly where they have one value: equal values stand once.
+-- Two addresses with data are answered with one offset exactly where they have one value: equal values occur once.
 abbrev pub SharesEqualValues : Database → Type 0
 SharesEqualValues db = (a b : IpAddr) (p q : List Bool) (x y : ℕ) (v w : Tree) → Answers db a p (Data x) → Answers db b q (Data y)
     → WholeValue true (data_section db) x v → WholeValue true (data_section db) y w → (x ≡ y) ↔ (v ≡ w)

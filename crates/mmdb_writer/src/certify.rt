@@ -58,7 +58,7 @@ fn say_what_was_asked(metadata: &Metadata, options: &Options, tree: &SearchTree)
     metadata.record_size == tree.record_size.bits()
 }
 
-// Whether the file is read as a database with these metadata and so many bytes of data, and is whole.
+// Whether the file is read as a database with these metadata and `data_len` bytes of data, and is whole.
 pub(crate) fn certify(
     alloc: Global,
     file: &[u8],

@@ -1,4 +1,4 @@
-//! Keys of maps, each of which stands once.
+//! Keys of maps, each of which occurs once.
 ghost use Rattle.std.specs.Prelude.{◌≡◌, false, IfOk, IsTrue};
 ghost use Rattle.mmdb_value.specs.Values.{value_tree};
 ghost use Rattle.mmdb_writer.specs.Limits.{HasKeyTwice};
@@ -7,7 +7,7 @@ use mmdb_value::Value;
 use std::alloc::{AllocError, Global};
 use std::collections::BTreeMap;
 
-// Whether in no map of a value a key stands twice.
+// Whether in no map of a value a key occurs twice.
 pub(crate) fn has_keys_once(alloc: Global, value: &Value<'_>) -> Result<bool, AllocError>
     ensures once { IfOk result (λ once. IsTrue once → ¬ HasKeyTwice (value_tree value.now)) }
     ensures twice { IfOk result (λ once. once ≡ false → HasKeyTwice (value_tree value.now)) }

@@ -16,15 +16,15 @@ pub enum ValueError {
     /// Its texts, keys included, and byte strings have more than 2,097,152 bytes.
     #[error("more than 2,097,152 bytes of texts and byte strings")]
     TooManyBytes,
-    /// More than 64 arrays and maps stand in one another.
+    /// More than 64 arrays and maps are in one another.
     #[error("more than 64 arrays and maps in one another")]
     TooDeep,
-    /// In a map a key stands twice.
+    /// In a map a key occurs twice.
     #[error("a key stands twice in a map")]
     KeyTwice,
 }
 
-/// How many arrays and maps may stand in one another: each may stand behind a pointer, and a verification takes 128 levels.
+/// How many arrays and maps may be in one another: each may be reached through a pointer, and a verification takes 128 levels.
 const MOST_LEVELS: u8 = 64;
 
 // What a value may still have.
@@ -35,7 +35,7 @@ struct Room {
 }
 
 impl Room {
-    // Takes the room of a value, without its parts, and of so many bytes of content.
+    // Takes the room of a value, without its parts, and of `bytes` bytes of content.
     fn take(&mut self, bytes: usize) -> Result<(), ValueError>
         ensures values { OnOk result (self.new.values + 1 ≡ self.old.values) }
         ensures bytes { OnOk result (self.new.bytes + bytes ≡ self.old.bytes) }
@@ -57,7 +57,7 @@ impl Room {
     }
 }
 
-// Takes the room of a value whose arrays and maps may stand in one another so often.
+// Takes the room of a value whose arrays and maps may be in one another at most `levels` deep.
 fn take_room(room: &mut Room, levels: u8, value: &Value<'_>) -> Result<(), ValueError>
     ensures ok { OnOk result (TakesRoom levels (value_tree value.now) room.old room.new) }
     ensures err { IfErr result (ExceedsRoom levels (value_tree value.now) room.old) }

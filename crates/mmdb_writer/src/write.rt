@@ -14,10 +14,10 @@ use mmdb_section::SectionError;
 use mmdb_tree::SEPARATOR;
 use std::alloc::Global;
 
-/// What stands before the metadata.
+/// What is before the metadata.
 const MARKER: [u8; 14] = *b"\xAB\xCD\xEFMaxMind.com";
 
-// How many bytes a file has: so many are taken at once, since it may be large.
+// How many bytes a file has: that many are taken at once, since it may be large.
 fn file_len(tree: &SearchTree, section_len: usize, metadata_len: usize) -> usize {
     tree.bytes
         .len()

@@ -2,7 +2,7 @@
 //! "Output Data Section" of the MaxMind DB File Format Specification 2.0. Each public call runs once.
 use mmdb_format::content::{Double, Float};
 use mmdb_section::laws::{at_most_twice_as_deep, equal_values_stand_once, sections_are_good};
-use mmdb_section::{Number, Part, Section, SectionError, Value};
+use mmdb_section::{Number, Section, SectionError, SectionPart, WrittenValue};
 use mmdb_vectors::hoard::{Outcome, fail_in_turn};
 use std::alloc::{AllocError, Global};
 
@@ -10,8 +10,8 @@ use std::alloc::{AllocError, Global};
 #[derive(Clone, Copy)]
 struct Row {
     name: &'static str,
-    values: &'static [Value<'static>],
-    parts: &'static [Part],
+    values: &'static [WrittenValue<'static>],
+    parts: &'static [SectionPart],
     bytes: &'static [u8],
 }
 
@@ -24,139 +24,139 @@ const ROWS: &[Row] = &[
     },
     Row {
         name: "true",
-        values: &[Value::Number(Number::Bool(true))],
-        parts: &[Part::At(0)],
+        values: &[WrittenValue::Number(Number::Bool(true))],
+        parts: &[SectionPart::At(0)],
         bytes: &[0x01, 0x07],
     },
     Row {
         name: "false",
-        values: &[Value::Number(Number::Bool(false))],
-        parts: &[Part::At(0)],
+        values: &[WrittenValue::Number(Number::Bool(false))],
+        parts: &[SectionPart::At(0)],
         bytes: &[0x00, 0x07],
     },
     Row {
         name: "an unsigned number of 16 bits that is 0",
-        values: &[Value::Number(Number::U16(0))],
-        parts: &[Part::At(0)],
+        values: &[WrittenValue::Number(Number::U16(0))],
+        parts: &[SectionPart::At(0)],
         bytes: &[0xA0],
     },
     Row {
         name: "one of a byte",
-        values: &[Value::Number(Number::U16(255))],
-        parts: &[Part::At(0)],
+        values: &[WrittenValue::Number(Number::U16(255))],
+        parts: &[SectionPart::At(0)],
         bytes: &[0xA1, 0xFF],
     },
     Row {
         name: "one of two bytes",
-        values: &[Value::Number(Number::U16(256))],
-        parts: &[Part::At(0)],
+        values: &[WrittenValue::Number(Number::U16(256))],
+        parts: &[SectionPart::At(0)],
         bytes: &[0xA2, 0x01, 0x00],
     },
     Row {
         name: "an unsigned number of 32 bits",
-        values: &[Value::Number(Number::U32(0x01_00_00))],
-        parts: &[Part::At(0)],
+        values: &[WrittenValue::Number(Number::U32(0x01_00_00))],
+        parts: &[SectionPart::At(0)],
         bytes: &[0xC3, 0x01, 0x00, 0x00],
     },
     Row {
         name: "the greatest of 32 bits",
-        values: &[Value::Number(Number::U32(u32::MAX))],
-        parts: &[Part::At(0)],
+        values: &[WrittenValue::Number(Number::U32(u32::MAX))],
+        parts: &[SectionPart::At(0)],
         bytes: &[0xC4, 0xFF, 0xFF, 0xFF, 0xFF],
     },
     Row {
         name: "a signed number that is 0",
-        values: &[Value::Number(Number::I32(0))],
-        parts: &[Part::At(0)],
+        values: &[WrittenValue::Number(Number::I32(0))],
+        parts: &[SectionPart::At(0)],
         bytes: &[0x00, 0x01],
     },
     Row {
         name: "a signed number of a byte",
-        values: &[Value::Number(Number::I32(200))],
-        parts: &[Part::At(0)],
+        values: &[WrittenValue::Number(Number::I32(200))],
+        parts: &[SectionPart::At(0)],
         bytes: &[0x01, 0x01, 0xC8],
     },
     Row {
         name: "a negative number",
-        values: &[Value::Number(Number::I32(-2))],
-        parts: &[Part::At(0)],
+        values: &[WrittenValue::Number(Number::I32(-2))],
+        parts: &[SectionPart::At(0)],
         bytes: &[0x04, 0x01, 0xFF, 0xFF, 0xFF, 0xFE],
     },
     Row {
         name: "an unsigned number of 64 bits",
-        values: &[Value::Number(Number::U64(1 << 56))],
-        parts: &[Part::At(0)],
+        values: &[WrittenValue::Number(Number::U64(1 << 56))],
+        parts: &[SectionPart::At(0)],
         bytes: &[0x08, 0x02, 0x01, 0x00, 0x00, 0x00, 0x00, 0x00, 0x00, 0x00],
     },
     Row {
         name: "an unsigned number of 128 bits",
-        values: &[Value::Number(Number::U128(1 << 64))],
-        parts: &[Part::At(0)],
+        values: &[WrittenValue::Number(Number::U128(1 << 64))],
+        parts: &[SectionPart::At(0)],
         bytes: &[
             0x09, 0x03, 0x01, 0x00, 0x00, 0x00, 0x00, 0x00, 0x00, 0x00, 0x00,
         ],
     },
     Row {
         name: "a number of double precision",
-        values: &[Value::Number(Number::Double(Double {
+        values: &[WrittenValue::Number(Number::Double(Double {
             bits: 0x4008_0000_0000_0000,
         }))],
-        parts: &[Part::At(0)],
+        parts: &[SectionPart::At(0)],
         bytes: &[0x68, 0x40, 0x08, 0x00, 0x00, 0x00, 0x00, 0x00, 0x00],
     },
     Row {
         name: "a number of single precision",
-        values: &[Value::Number(Number::Float(Float { bits: 0x3F8C_CCCD }))],
-        parts: &[Part::At(0)],
+        values: &[WrittenValue::Number(Number::Float(Float { bits: 0x3F8C_CCCD }))],
+        parts: &[SectionPart::At(0)],
         bytes: &[0x04, 0x08, 0x3F, 0x8C, 0xCC, 0xCD],
     },
     Row {
         name: "a text",
-        values: &[Value::Text("foo")],
-        parts: &[Part::At(0)],
+        values: &[WrittenValue::Text("foo")],
+        parts: &[SectionPart::At(0)],
         bytes: &[0x43, 0x66, 0x6F, 0x6F],
     },
     Row {
         name: "no bytes",
-        values: &[Value::Bytes(&[])],
-        parts: &[Part::At(0)],
+        values: &[WrittenValue::Bytes(&[])],
+        parts: &[SectionPart::At(0)],
         bytes: &[0x80],
     },
     Row {
         name: "a string of bytes",
-        values: &[Value::Bytes(&[0x2A, 0])],
-        parts: &[Part::At(0)],
+        values: &[WrittenValue::Bytes(&[0x2A, 0])],
+        parts: &[SectionPart::At(0)],
         bytes: &[0x82, 0x2A, 0x00],
     },
     Row {
         name: "an empty array",
-        values: &[Value::Array(&[])],
-        parts: &[Part::At(0)],
+        values: &[WrittenValue::Array(&[])],
+        parts: &[SectionPart::At(0)],
         bytes: &[0x00, 0x04],
     },
     Row {
         name: "an array of numbers",
-        values: &[Value::Array(&[
-            Part::Number(Number::U16(1)),
-            Part::Number(Number::Bool(true)),
+        values: &[WrittenValue::Array(&[
+            SectionPart::Number(Number::U16(1)),
+            SectionPart::Number(Number::Bool(true)),
         ])],
-        parts: &[Part::At(0)],
+        parts: &[SectionPart::At(0)],
         bytes: &[0x02, 0x04, 0xA1, 0x01, 0x01, 0x07],
     },
     Row {
         name: "an empty map",
-        values: &[Value::Map(&[])],
-        parts: &[Part::At(0)],
+        values: &[WrittenValue::Map(&[])],
+        parts: &[SectionPart::At(0)],
         bytes: &[0xE0],
     },
     Row {
         name: "a map whose key and value are texts behind pointers",
         values: &[
-            Value::Text("en"),
-            Value::Text("foo"),
-            Value::Map(&[(Part::At(0), Part::At(3))]),
+            WrittenValue::Text("en"),
+            WrittenValue::Text("foo"),
+            WrittenValue::Map(&[(SectionPart::At(0), SectionPart::At(3))]),
         ],
-        parts: &[Part::At(0), Part::At(3), Part::At(7)],
+        parts: &[SectionPart::At(0), SectionPart::At(3), SectionPart::At(7)],
         bytes: &[
             0x42, 0x65, 0x6E, 0x43, 0x66, 0x6F, 0x6F, 0xE1, 0x20, 0x00, 0x20, 0x03,
         ],
@@ -164,28 +164,40 @@ const ROWS: &[Row] = &[
     Row {
         name: "equal values stand once",
         values: &[
-            Value::Text("en"),
-            Value::Array(&[Part::At(0)]),
-            Value::Text("en"),
-            Value::Array(&[Part::At(0)]),
+            WrittenValue::Text("en"),
+            WrittenValue::Array(&[SectionPart::At(0)]),
+            WrittenValue::Text("en"),
+            WrittenValue::Array(&[SectionPart::At(0)]),
         ],
-        parts: &[Part::At(0), Part::At(3), Part::At(0), Part::At(3)],
+        parts: &[
+            SectionPart::At(0),
+            SectionPart::At(3),
+            SectionPart::At(0),
+            SectionPart::At(3),
+        ],
         bytes: &[0x42, 0x65, 0x6E, 0x01, 0x04, 0x20, 0x00],
     },
     Row {
         name: "the same bytes as a text and as bytes",
-        values: &[Value::Text("a"), Value::Bytes(b"a"), Value::Text("a")],
-        parts: &[Part::At(0), Part::At(2), Part::At(0)],
+        values: &[
+            WrittenValue::Text("a"),
+            WrittenValue::Bytes(b"a"),
+            WrittenValue::Text("a"),
+        ],
+        parts: &[SectionPart::At(0), SectionPart::At(2), SectionPart::At(0)],
         bytes: &[0x41, 0x61, 0x81, 0x61],
     },
     Row {
         name: "the beginning of another value",
         values: &[
-            Value::Array(&[Part::Number(Number::U16(0))]),
-            Value::Array(&[Part::Number(Number::U16(0)), Part::Number(Number::U16(0))]),
-            Value::Array(&[Part::Number(Number::U16(0))]),
+            WrittenValue::Array(&[SectionPart::Number(Number::U16(0))]),
+            WrittenValue::Array(&[
+                SectionPart::Number(Number::U16(0)),
+                SectionPart::Number(Number::U16(0)),
+            ]),
+            WrittenValue::Array(&[SectionPart::Number(Number::U16(0))]),
         ],
-        parts: &[Part::At(0), Part::At(3), Part::At(0)],
+        parts: &[SectionPart::At(0), SectionPart::At(3), SectionPart::At(0)],
         bytes: &[0x01, 0x04, 0xA0, 0x02, 0x04, 0xA0, 0xA0],
     },
 ];
@@ -194,12 +206,12 @@ const ROWS: &[Row] = &[
 fn parts_of(
     alloc: Global,
     section: &mut Section,
-    values: &[Value<'_>],
-) -> Result<Vec<Part>, SectionError> {
+    values: &[WrittenValue<'_>],
+) -> Result<Vec<SectionPart>, SectionError> {
     let mut parts = Vec::new(alloc);
     for value in values {
         let offset = section.add(alloc, *value)?;
-        parts.push(Part::At(offset))?;
+        parts.push(SectionPart::At(offset))?;
     }
     Ok(parts)
 }
@@ -232,7 +244,7 @@ const SIZES: &[(usize, &[u8])] = &[
 // Adds so many bytes.
 fn add_zeros(alloc: Global, section: &mut Section, len: usize) -> Result<u32, SectionError> {
     let zeros = zeros(alloc, len)?;
-    section.add(alloc, Value::Bytes(&zeros))
+    section.add(alloc, WrittenValue::Bytes(&zeros))
 }
 
 fn zeros(alloc: Global, len: usize) -> Result<Vec<u8>, AllocError> {
@@ -278,8 +290,8 @@ fn has_pointer(
 ) -> Result<bool, SectionError> {
     let mut section = Section::new(alloc);
     add_zeros(alloc, &mut section, len)?;
-    let text = section.add(alloc, Value::Text("en"))?;
-    section.add(alloc, Value::Array(&[Part::At(text)]))?;
+    let text = section.add(alloc, WrittenValue::Text("en"))?;
+    section.add(alloc, WrittenValue::Array(&[SectionPart::At(text)]))?;
     let start = len.saturating_add(header);
     Ok(Some(text) == u32::try_from(start).ok() && section.bytes().ends_with(pointer))
 }
@@ -295,7 +307,7 @@ fn pointers_of_sizes(rt: HostRuntime) {
 // What comes of two values that are added, the last of this many bytes.
 fn outcome_of(alloc: Global, len: usize) -> Outcome {
     let mut section = Section::new(alloc);
-    let text = section.add(alloc, Value::Text("en"));
+    let text = section.add(alloc, WrittenValue::Text("en"));
     match text.and_then(|_| add_zeros(alloc, &mut section, len)) {
         Ok(_) => Outcome::Value,
         Err(SectionError::Memory) => Outcome::Memory,

@@ -9,7 +9,7 @@ use super::Decoder;
 use super::try_reads::step_of;
 use crate::budget::{spent, spent_bytes};
 use crate::failed::{Failed, Step};
-use crate::steps::Steps;
+use crate::steps::Stepping;
 use mmdb_format::content::{Content, content_at, content_end};
 use mmdb_format::decode_error_kind::DecodeErrorKind;
 use mmdb_format::header::{Header, MAX_LEVELS, pointer_at};
@@ -84,7 +84,7 @@ impl<'de> Decoder<'de> {
     }
 }
 
-impl<'de> Steps for Decoder<'de> {
+impl<'de> Stepping for Decoder<'de> {
     ghost state = { λ d. d };
 
     #[inline(always)]

@@ -1,6 +1,6 @@
 //! Lookups that begin from a table, and the nodes that they read.
 use super::answers::{File, address, found_text, reader_of};
-use mmdb_reader::{MaxMindDbError, Reader, StepCounter};
+use mmdb_reader::{MaxMindDbError, Reader, Steps};
 use mmdb_vectors::answer::{OK, is_ok, reported};
 use mmdb_vectors::builder::{BASE_DATA, Field};
 use mmdb_vectors::failures::Failures;
@@ -59,7 +59,7 @@ const COUNTED: &[Counted] = &[
 fn expect_count(failures: &mut Failures, alloc: Global, reader: &Reader<Vec<u8>>, row: &Counted) {
     let (_, text, wanted, nodes) = row;
     let address = address(text);
-    let mut steps = StepCounter::new();
+    let mut steps = Steps::new();
     let counted = reader.lookup_counted(address, &mut steps);
     failures.expect_text(text, found_text(alloc, counted), wanted);
     failures.expect(&(*text, steps.count()), steps.count() == *nodes);
@@ -102,7 +102,7 @@ const AT_MOST: &[AtMost] = &[
 // Whether a lookup reads no more nodes, and is answered or not.
 fn is_at_most(reader: &Reader<Vec<u8>>, row: &AtMost) -> bool {
     let (_, text, most, is_answered) = row;
-    let mut steps = StepCounter::new();
+    let mut steps = Steps::new();
     let found = is_ok(reader.lookup_counted(address(text), &mut steps));
     found == *is_answered && steps.count() <= *most
 }

@@ -4,7 +4,7 @@ use super::constructors::{CONSTRUCTORS, made};
 use super::growths::{Outcome, error_met};
 use super::reads::{PAIRS, is_done, of_decoders, of_types};
 use mmdb_reader::{
-    IpNetwork, Ipv4Network, Ipv6Network, Metadata, PathElement, Reader, StepCounter, WithinOptions,
+    IpNetwork, Ipv4Network, Ipv6Network, Metadata, PathElement, Reader, Steps, WithinOptions,
     render_path,
 };
 use mmdb_report::report_on;
@@ -61,7 +61,7 @@ fn renders_path(alloc: Global) -> bool {
 }
 
 fn of_lookups(rt: &impl Abort, alloc: Global, reader: &Reader<&[u8]>) {
-    let mut steps = StepCounter::new();
+    let mut steps = Steps::new();
     let counted = is_done(reader.lookup_counted(high(), &mut steps));
     assert_holds(rt, counted, "lookup_counted");
     let found = reader.lookup(high()).expect(rt, "lookup");
@@ -81,7 +81,7 @@ fn of_metadata(rt: &impl Abort, alloc: Global, metadata: &Metadata) {
 
 // Whether a file is verified, with a count of its nodes.
 fn verifies_counted(alloc: Global, reader: &Reader<&[u8]>) -> bool {
-    let mut steps = StepCounter::new();
+    let mut steps = Steps::new();
     reader.metadata().node_count <= 1000 && is_done(reader.verify_counted(alloc, &mut steps))
 }
 

@@ -3,7 +3,7 @@
 //! It is that of the value asked for where its header, its size or its type is wrong, behind a pointer too. Where the
 //! bytes of a text, or the size of an array, are read and then found wrong, it is the offset after them.
 use mmdb_decode::failed::Failed;
-use mmdb_decode::steps::Steps;
+use mmdb_decode::steps::Stepping;
 use mmdb_value::{DecodeResult, Decoder, MaxMindDbError, empty_container};
 use mmdb_vectors::answer::reported;
 use mmdb_vectors::failures::Failures;

@@ -50,7 +50,7 @@ pub pass_chunks-requires-clause-front : goal.pass_chunks-requires-clause-front
 pass_chunks-requires-clause-front g c = λ full.
     let chunk = c.read_live.new.chunk.items in
     let enough : most_seen + 3 ≤ length chunk = omega (arith, most) in
-    let yes : c.seen-is_long.result.1 ≡ true = c.seen-is_long.ensures.long ∙ ap is_long c.as_slice.ensures.value ∙ long chunk enough in
+    let yes : c.seen-is_long.result.1 ≡ true = c.seen-is_long.ensures.long ∙ ap is_long c.as_slice-2.ensures.value ∙ long chunk enough in
     c.in_ok-addition.ensures.behind.1 yes
 
 pub returns-in_err-pass_chunks-clause-begun : goal.returns-in_err-pass_chunks-clause-begun
@@ -67,10 +67,10 @@ returns-in_err-pass_chunks-clause-begun g c =
     let some : 0 < length chunk = search rules in
     let (extra, added, is_extra) = c.in_ok-addition.ensures.added in
     let addition = c.in_ok-addition.addition in
-    let cells = c.as_slice-2.result.now in
-    let cells_are : cells ≡ extra = c.as_slice-2.ensures.value ∙ is_extra ∙ ap (λ l. l ++ extra) c.clear-2.ensures.items in
-    let text : c.seen-is_long.result.0.now ≡ seen_of chunk = c.seen-is_long.ensures.text ∙ ap seen_of c.as_slice.ensures.value in
-    let is_long_is : c.seen-is_long.result.1 ≡ is_long chunk = c.seen-is_long.ensures.long ∙ ap is_long c.as_slice.ensures.value in
+    let cells = c.as_slice-3.result.now in
+    let cells_are : cells ≡ extra = c.as_slice-3.ensures.value ∙ is_extra ∙ ap (λ l. l ++ extra) c.clear-2.ensures.items in
+    let text : c.seen-is_long.result.0.now ≡ seen_of chunk = c.seen-is_long.ensures.text ∙ ap seen_of c.as_slice-2.ensures.value in
+    let is_long_is : c.seen-is_long.result.1 ≡ is_long chunk = c.seen-is_long.ensures.long ∙ ap is_long c.as_slice-2.ensures.value in
     let may : IsAdded adds chunk cells addition.behind addition.outcome =
     subst (λ t. adds t (is_long chunk) cells addition.behind addition.outcome × StandsBehind t (is_long chunk) addition.behind) text
     (subst (λ b. adds c.seen-is_long.result.0.now b cells addition.behind addition.outcome × StandsBehind c.seen-is_long.result.0.now b addition.behind) is_long_is
@@ -95,10 +95,10 @@ returns-clause-on g c = λ all old before way.
     let some : 0 < length chunk = search rules in
     let (extra, added, is_extra) = c.in_ok-addition.ensures.added in
     let addition = c.in_ok-addition.addition in
-    let cells = c.as_slice-2.result.now in
-    let cells_are : cells ≡ extra = c.as_slice-2.ensures.value ∙ is_extra ∙ ap (λ l. l ++ extra) c.clear-2.ensures.items in
-    let text : c.seen-is_long.result.0.now ≡ seen_of chunk = c.seen-is_long.ensures.text ∙ ap seen_of c.as_slice.ensures.value in
-    let is_long_is : c.seen-is_long.result.1 ≡ is_long chunk = c.seen-is_long.ensures.long ∙ ap is_long c.as_slice.ensures.value in
+    let cells = c.as_slice-3.result.now in
+    let cells_are : cells ≡ extra = c.as_slice-3.ensures.value ∙ is_extra ∙ ap (λ l. l ++ extra) c.clear-2.ensures.items in
+    let text : c.seen-is_long.result.0.now ≡ seen_of chunk = c.seen-is_long.ensures.text ∙ ap seen_of c.as_slice-2.ensures.value in
+    let is_long_is : c.seen-is_long.result.1 ≡ is_long chunk = c.seen-is_long.ensures.long ∙ ap is_long c.as_slice-2.ensures.value in
     let may : IsAdded adds chunk cells addition.behind addition.outcome =
     subst (λ t. adds t (is_long chunk) cells addition.behind addition.outcome × StandsBehind t (is_long chunk) addition.behind) text
     (subst (λ b. adds c.seen-is_long.result.0.now b cells addition.behind addition.outcome × StandsBehind c.seen-is_long.result.0.now b addition.behind) is_long_is

@@ -15,7 +15,7 @@ returns-then-eq-clause-whole g c = λ ready.
       | then-eq-via-else-eq+then-len-lt-CHUNK w ↦ λ not. c.loop.invariant.ready ready not (search rules)
     ] in
     let last : c.append_row.new.ready.items ≡ row_with c.loop.chunk.items c.args.added.now c.args.behind =
-    c.in_ok-append_row.ensures.whole ∙ ap (λ r. r ++ row_with c.as_slice.result.now c.args.added.now c.args.behind) c.loop.invariant.empty ∙ ap (λ r. row_with r c.args.added.now c.args.behind) c.as_slice.ensures.value in
+    c.in_ok-append_row.ensures.whole ∙ ap (λ r. r ++ row_with c.as_slice-then-eq.result.now c.args.added.now c.args.behind) c.loop.invariant.empty ∙ ap (λ r. row_with r c.args.added.now c.args.behind) c.as_slice-then-eq.ensures.value in
     passed c.args.rows c.args.position.now c.loop.now c.args.chunk.now.items c.loop.chunk.items c.args.added.now c.args.behind (g.R.Read.remaining c.args.input.now) (g.W.Write.contents c.args.out.now) (g.R.Read.remaining c.loop.input) (g.W.Write.contents c.loop.out) ending
     c.append_row.new.ready.items last c.loop.invariant.way
 

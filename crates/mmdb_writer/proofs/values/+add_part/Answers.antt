@@ -3,9 +3,9 @@ use Rattle.std.proofs.lemmas.List.{take_more, take_all, map-append, length-map}
 use Rattle.mmdb_format.specs.Contents.{text, bytes}
 use Rattle.mmdb_format.specs.Unfolding.{Tree, scalar, array, table}
 use Rattle.mmdb_section.specs.declared.section.SectionError.TheVariants.{TooLarge}
-use Rattle.mmdb_section.specs.declared.value.Part.{Part}
-use Rattle.mmdb_section.specs.declared.value.Part.TheVariants.{At}
-use Rattle.mmdb_section.specs.declared.value.Value.TheVariants as values
+use Rattle.mmdb_section.specs.declared.value.SectionPart.{SectionPart}
+use Rattle.mmdb_section.specs.declared.value.SectionPart.TheVariants.{At}
+use Rattle.mmdb_section.specs.declared.value.WrittenValue.TheVariants as values
 use Rattle.mmdb_section.specs.Known.{KnowsAll}
 use Rattle.mmdb_section.specs.Sections.{SectionView, start_of, plain}
 use Rattle.mmdb_value.specs.AnyValue.{trees_of, pairs_of}
@@ -25,7 +25,7 @@ loop-value-preserved t c =
     let at : take (i + 1) xs ≡ take i xs ++ x ∷ [] = take_more xs i x c.loop-value-test.true ∙ ap (λ (y : Value). take i xs ++ y ∷ []) (sym c.value-item.is) in
     let trees : map value_tree (take (i + 1) xs) ≡ map value_tree (take i xs) ++ value_tree x ∷ [] = ap (map value_tree) at ∙ map-append value_tree (take i xs) (x ∷ []) in
     subst (λ (vs : List Tree). PutsParts vs c.args.section.now c.add_part.new.section c.push.new.self.items) (sym trees)
-    (subst (λ (ps : List Part). PutsParts (map value_tree (take i xs) ++ value_tree x ∷ []) c.args.section.now c.add_part.new.section ps) (sym c.in_ok-push-in-Array.ensures.items)
+    (subst (λ (ps : List SectionPart). PutsParts (map value_tree (take i xs) ++ value_tree x ∷ []) c.args.section.now c.add_part.new.section ps) (sym c.in_ok-push-in-Array.ensures.items)
     (one_part_more (map value_tree (take i xs)) (value_tree x) c.args.section.now c.loop-value.section c.add_part.new.section c.loop-value.parts.items c.in_ok-part-in-Array.part c.loop-value.invariant c.in_ok-part-in-Array.ensures.ok))
 
 abbrev shown : Bor (List ℕ) × Value → List ℕ × Tree
@@ -45,7 +45,7 @@ loop-pair-preserved t c =
     let key : Puts (scalar (text x.0.now)) c.loop-pair.section c.add-in-loop-pair.new.self (At c.in_ok-key-in-Map.key) =
     key_put x.0 c.loop-pair.section c.add-in-loop-pair.new.self c.in_ok-key-in-Map.key c.in_ok-key-in-Map.ensures.value c.in_ok-key-in-Map.ensures.known c.in_ok-key-in-Map.ensures.stays_known in
     subst (λ (vs : List (List ℕ × Tree)). PutsPairs vs c.args.section.now c.add_part-in-loop-pair.new.section c.push-in-loop-pair.new.self.items) (sym trees)
-    (subst (λ (ps : List (Part × Part)). PutsPairs (map shown (take i xs) ++ shown x ∷ []) c.args.section.now c.add_part-in-loop-pair.new.section ps) (sym c.in_ok-push-in-Map.ensures.items)
+    (subst (λ (ps : List (SectionPart × SectionPart)). PutsPairs (map shown (take i xs) ++ shown x ∷ []) c.args.section.now c.add_part-in-loop-pair.new.section ps) (sym c.in_ok-push-in-Map.ensures.items)
     (one_pair_more (map shown (take i xs)) x.0.now (value_tree x.1) c.args.section.now c.loop-pair.section c.add-in-loop-pair.new.self c.add_part-in-loop-pair.new.section c.loop-pair.parts.items (At c.in_ok-key-in-Map.key) c.in_ok-part-in-Map.part c.loop-pair.invariant
     key c.in_ok-part-in-Map.ensures.ok))
 

@@ -187,6 +187,81 @@ fn many_rows_are_reported(rt: HostRuntime) {
     assert_holds(&rt, bytes == 131_073 * 7, "what is written");
 }
 
+/// An output that counts its writes, and those that end inside a row.
+#[derive(Drop)]
+struct Whole {
+    bytes: u64,
+    writes: u64,
+    inside: u64,
+}
+
+impl Write for Whole {
+    fn write(&mut self, bytes: &[u8]) -> io::Result<usize> {
+        self.bytes = self.bytes.saturating_add(bytes.len() as u64);
+        self.writes = self.writes.wrapping_add(1);
+        if bytes.last() != Some(&b'\n') {
+            self.inside = self.inside.wrapping_add(1);
+        }
+        Ok(bytes.len())
+    }
+
+    fn flush(&mut self) -> io::Result<()> {
+        Ok(())
+    }
+}
+
+/// How long rows are without their ends, and how many there are.
+const MANY: &[(usize, usize)] = &[
+    (1, 200_000),
+    (90, 5_000),
+    (3_000, 300),
+    (20_000, 40),
+    (65_000, 12),
+    (65_530, 12),
+];
+
+// What is written of rows of this length that are read 65,536 bytes at a time.
+fn written_whole(rt: &impl Abort, alloc: Global, len: usize, count: usize) -> Whole {
+    let row = section_of(alloc, &[(b"x", len), (b"\n", 1)]);
+    let input = section_of(alloc, &[(row.as_slice(), count)]);
+    let mut input = BufReader::with_capacity(alloc, 65_536, input.as_slice()).expect(
+        rt, "a buffer",
+    );
+    let mut out = Whole {
+        bytes: 0,
+        writes: 0,
+        inside: 0,
+    };
+    let filtered = filter_rows(
+        alloc,
+        Rows::Lines { delimiter: b'\t' },
+        &Lengths,
+        &mut (),
+        Counts::new(),
+        &mut input,
+        &mut out,
+        &mut Seen(0),
+    );
+    let _ = filtered.expect(rt, "counts");
+    out
+}
+
+// Rows are written whole, also those that a read cuts, and in no more writes than 64 KiB at a time take.
+#[test]
+fn rows_are_written_whole(rt: HostRuntime) {
+    for (len, count) in MANY {
+        let out = written_whole(&rt, rt.alloc(), *len, *count);
+        let bytes = (*len as u64 + 7).saturating_mul(*count as u64);
+        assert!(rt; out.bytes == bytes, "{len}: {} bytes", out.bytes);
+        assert!(rt; out.inside == 0, "{len}: {} inside rows", out.inside);
+        assert!(rt;
+            out.writes <= bytes / 65_536 + 1,
+            "{len}: {} writes",
+            out.writes
+        );
+    }
+}
+
 #[test]
 fn laws_are_called() {
     counts_equal_where_same();

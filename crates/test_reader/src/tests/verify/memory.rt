@@ -2,7 +2,7 @@
 ghost use Rattle.std.specs.Prelude.{◌<◌};
 
 use super::files::{ladder, opened};
-use mmdb_reader::{MaxMindDbError, Reader, StepCounter};
+use mmdb_reader::{MaxMindDbError, Reader, Steps};
 use mmdb_vectors::builder::base_file;
 use mmdb_vectors::hoard::Hoard;
 use std::alloc::{AllocError, Global};
@@ -37,7 +37,7 @@ fn verdict_on(
     is_counted: bool,
 ) -> Result<(), MaxMindDbError> {
     if is_counted && reader.metadata().node_count <= 1000 {
-        let mut steps = StepCounter::new();
+        let mut steps = Steps::new();
         return reader.verify_counted(alloc, &mut steps);
     }
     reader.verify(alloc)

@@ -4,7 +4,7 @@ use super::files::{
     undescribed, with_data,
 };
 use mmdb_reader::laws::{aliases_lead_to_ipv4, few_positions_wait, walk_stops, whole_file_answers};
-use mmdb_reader::{MaxMindDbError, StepCounter};
+use mmdb_reader::{MaxMindDbError, Steps};
 use mmdb_vectors::builder::{
     BASE_DATA, BASE_NODE, Changes, Field, base_file, base_with_node, changed_file, file_with_alias,
     file_without_subtree,
@@ -52,7 +52,7 @@ fn assert_verdict(
 ) -> u64 {
     let reader = opened(rt, alloc, file);
     assert!(rt; reader.metadata().node_count <= 1000);
-    let mut steps = StepCounter::new();
+    let mut steps = Steps::new();
     assert_found(rt, alloc, reader.verify_counted(alloc, &mut steps), text);
     assert_found(rt, alloc, reader.verify(alloc), text);
     steps.count()

@@ -6,11 +6,11 @@ use Rattle.mmdb_section.proofs.KnownLemmas.{known_new, stays_known, is_new}
 use Rattle.mmdb_section.proofs.SectionLemmas.{value_added, value_found}
 use Rattle.mmdb_section.proofs.section.Section.add.Goals as goal
 
--- what was put behind no bytes
+-- what was put after no bytes
 alone : (P : List ℕ → Type 0) (old new : List ℕ) → old ≡ [] → Appends P old new → P new
 alone P old new none a = subst P (sym (a.grown ∙ ap (λ (xs : List ℕ). xs ++ a.more) none)) a.is
 
--- the bytes that were put behind none
+-- the bytes that were put after none
 alone_are : (old new xs : List ℕ) → old ≡ [] → new ≡ old ++ xs → new ≡ xs
 alone_are old new xs none is = is ∙ ap (λ (ys : List ℕ). ys ++ xs) none
 

@@ -6,7 +6,7 @@ use Rattle.mmdb_writer.proofs.MakingLemmas.{values_so_far, value_added, value_er
 use Rattle.mmdb_writer.specs.Making.{Stays}
 use Rattle.mmdb_writer.specs.Working.{Keeps}
 use Rattle.mmdb_writer.proofs.SectionLemmas.{put_kept}
-use Rattle.mmdb_section.specs.declared.value.Part.TheVariants.{At}
+use Rattle.mmdb_section.specs.declared.value.SectionPart.TheVariants.{At}
 use Rattle.mmdb_writer.proofs.writer.Writer.add_value.Goals as goal
 
 pub returns-in-Err-clause-explained : goal.returns-in-Err-clause-explained
