@@ -281,23 +281,52 @@ const WITH_INPUT: &[InputRow<'static>] = &[
         &["mmdb: no network has the PATH of --where-has x; --allow-empty writes an empty list"],
         1,
     ),
+];
+
+/// What is said of values that no network has, or of which there are several.
+const OF_VALUES: &[InputRow<'static>] = &[
     // a path with a value, which is none
     (
-        &["export", "here.mmdb", "--where-has", "c.i=AT", "--format", "pf"],
+        &[
+            "export",
+            "here.mmdb",
+            "--where-has",
+            "c.i=AT",
+            "--format",
+            "pf",
+        ],
         "",
         "",
-        &["has the PATH of --where-has c.i=AT (did you mean --where c.i=AT?); --allow-empty writes an empty list"],
+        &[
+            "has the PATH of --where-has c.i=AT (did you mean --where c.i=AT?); --allow-empty writes an empty list",
+        ],
         1,
     ),
     (
-        &["export", "here.mmdb", "--where-contains", "c.i=ATT", "--format", "pf"],
+        &[
+            "export",
+            "here.mmdb",
+            "--where-contains",
+            "c.i=ATT",
+            "--format",
+            "pf",
+        ],
         "",
         "",
-        &["has the TEXT of --where-contains c.i=ATT (did you mean AT?); --allow-empty writes an empty list"],
+        &[
+            "has the TEXT of --where-contains c.i=ATT (did you mean AT?); --allow-empty writes an empty list",
+        ],
         1,
     ),
     (
-        &["export", "here.mmdb", "--where-contains", "c.i", "--format", "pf"],
+        &[
+            "export",
+            "here.mmdb",
+            "--where-contains",
+            "c.i",
+            "--format",
+            "pf",
+        ],
         "",
         "",
         &["c.i: not PATH=TEXT"],
@@ -305,7 +334,14 @@ const WITH_INPUT: &[InputRow<'static>] = &[
     ),
     // a text of a file is in a value, and need not be one
     (
-        &["export", "here.mmdb", "--where-contains", "c.i=@-", "--format", "pf"],
+        &[
+            "export",
+            "here.mmdb",
+            "--where-contains",
+            "c.i=@-",
+            "--format",
+            "pf",
+        ],
         "A\nXX\n",
         "64.0.0.0/3\n",
         &["c.i=@-: no network has 1 of the 2 texts: XX"],
@@ -313,7 +349,16 @@ const WITH_INPUT: &[InputRow<'static>] = &[
     ),
     // each of several values is named
     (
-        &["export", "here.mmdb", "--where", "c.i=de", "--where", "c.i=at", "--format", "pf"],
+        &[
+            "export",
+            "here.mmdb",
+            "--where",
+            "c.i=de",
+            "--where",
+            "c.i=at",
+            "--format",
+            "pf",
+        ],
         "",
         "",
         &[
@@ -324,14 +369,33 @@ const WITH_INPUT: &[InputRow<'static>] = &[
     ),
     // a value beside those of a file, one of which some network has
     (
-        &["export", "here.mmdb", "--where", "c.i=de", "--where", "c.i=@-", "--format", "pf"],
+        &[
+            "export",
+            "here.mmdb",
+            "--where",
+            "c.i=de",
+            "--where",
+            "c.i=@-",
+            "--format",
+            "pf",
+        ],
         "AT\n",
         "",
         &["no network has c.i=de (did you mean DE?); --allow-missing goes on without it"],
         1,
     ),
     (
-        &["export", "here.mmdb", "--where", "c.i=de", "--where", "c.i=@-", "--format", "pf", "--allow-missing"],
+        &[
+            "export",
+            "here.mmdb",
+            "--where",
+            "c.i=de",
+            "--where",
+            "c.i=@-",
+            "--format",
+            "pf",
+            "--allow-missing",
+        ],
         "AT\n",
         "64.0.0.0/3\n",
         &[],
@@ -339,14 +403,33 @@ const WITH_INPUT: &[InputRow<'static>] = &[
     ),
     // values that no network has beside one that some network has
     (
-        &["export", "here.mmdb", "--where", "c.i=AT", "--where", "c.i=@-", "--format", "pf"],
+        &[
+            "export",
+            "here.mmdb",
+            "--where",
+            "c.i=AT",
+            "--where",
+            "c.i=@-",
+            "--format",
+            "pf",
+        ],
         "FR\n",
         "",
         &["c.i=@-: no network has 1 of the 1 values: FR; --allow-missing goes on without them"],
         1,
     ),
     (
-        &["export", "here.mmdb", "--where", "c.i=AT", "--where", "c.i=@-", "--format", "pf", "--allow-missing"],
+        &[
+            "export",
+            "here.mmdb",
+            "--where",
+            "c.i=AT",
+            "--where",
+            "c.i=@-",
+            "--format",
+            "pf",
+            "--allow-missing",
+        ],
         "FR\n",
         "64.0.0.0/3\n",
         &["c.i=@-: no network has 1 of the 1 values: FR"],
@@ -354,21 +437,50 @@ const WITH_INPUT: &[InputRow<'static>] = &[
     ),
     // without any value there is a list only of what is added
     (
-        &["export", "here.mmdb", "--where", "c.i=FR", "--where", "c.i=XX", "--format", "pf", "--also", "-", "--allow-missing"],
+        &[
+            "export",
+            "here.mmdb",
+            "--where",
+            "c.i=FR",
+            "--where",
+            "c.i=XX",
+            "--format",
+            "pf",
+            "--also",
+            "-",
+            "--allow-missing",
+        ],
         "10.0.0.0/8\n",
         "10.0.0.0/8\n",
         &["mmdb: no network has c.i=FR", "mmdb: no network has c.i=XX"],
         0,
     ),
     (
-        &["export", "here.mmdb", "--where", "c.i=FR", "--format", "pf", "--also", "-"],
+        &[
+            "export",
+            "here.mmdb",
+            "--where",
+            "c.i=FR",
+            "--format",
+            "pf",
+            "--also",
+            "-",
+        ],
         "10.0.0.0/8\n",
         "",
         &["no network has c.i=FR; --allow-missing goes on without it"],
         1,
     ),
     (
-        &["export", "here.mmdb", "--where", "c.i=FR", "--format", "pf", "--allow-missing"],
+        &[
+            "export",
+            "here.mmdb",
+            "--where",
+            "c.i=FR",
+            "--format",
+            "pf",
+            "--allow-missing",
+        ],
         "",
         "",
         &[
@@ -377,6 +489,10 @@ const WITH_INPUT: &[InputRow<'static>] = &[
         ],
         1,
     ),
+];
+
+/// Lines of files, and names that the formats have themselves.
+const OF_LINES_AND_NAMES: &[InputRow<'static>] = &[
     // a byte order mark is passed, at the beginning alone
     (
         &["export", "here.mmdb", "--where", "c.i=@-", "--format", "pf"],
@@ -386,14 +502,32 @@ const WITH_INPUT: &[InputRow<'static>] = &[
         0,
     ),
     (
-        &["export", "here.mmdb", "--where", "c.i=AT", "--format", "pf", "--also", "-"],
+        &[
+            "export",
+            "here.mmdb",
+            "--where",
+            "c.i=AT",
+            "--format",
+            "pf",
+            "--also",
+            "-",
+        ],
         "\u{feff}10.0.0.0/8\n",
         "10.0.0.0/8\n64.0.0.0/3\n",
         &[],
         0,
     ),
     (
-        &["export", "here.mmdb", "--where", "c.i=AT", "--format", "pf", "--also", "-"],
+        &[
+            "export",
+            "here.mmdb",
+            "--where",
+            "c.i=AT",
+            "--format",
+            "pf",
+            "--also",
+            "-",
+        ],
         "\u{feff}10.0.0.0/8\n\u{feff}11.0.0.0/8\n",
         "",
         &["-:2: \u{feff}11.0.0.0/8: not a network, an address or FIRST-LAST"],
@@ -401,21 +535,48 @@ const WITH_INPUT: &[InputRow<'static>] = &[
     ),
     // IPv4 addresses as IPv6 has them, where all of a block are
     (
-        &["export", "here.mmdb", "--where", "c.i=AT", "--format", "pf", "--except", "-"],
+        &[
+            "export",
+            "here.mmdb",
+            "--where",
+            "c.i=AT",
+            "--format",
+            "pf",
+            "--except",
+            "-",
+        ],
         "::ffff:64.0.0.0/100\n::ffff:80.0.0.0-::ffff:87.255.255.255\n",
         "88.0.0.0/5\n",
         &[],
         0,
     ),
     (
-        &["export", "here.mmdb", "--where", "c.i=AT", "--format", "pf", "--also", "-"],
+        &[
+            "export",
+            "here.mmdb",
+            "--where",
+            "c.i=AT",
+            "--format",
+            "pf",
+            "--also",
+            "-",
+        ],
         "::ffff:1.2.3.0/120\n::ffff:1.2.4.7\n::fffe:ffff:ffff\n::1:0:0:0\n",
         "1.2.3.0/24\n1.2.4.7/32\n64.0.0.0/3\n::fffe:ffff:ffff/128\n::1:0:0:0/128\n",
         &[],
         0,
     ),
     (
-        &["export", "here.mmdb", "--where", "c.i=AT", "--format", "pf", "--also", "-"],
+        &[
+            "export",
+            "here.mmdb",
+            "--where",
+            "c.i=AT",
+            "--format",
+            "pf",
+            "--also",
+            "-",
+        ],
         "::fffe:0:0/95\n::fffe:ffff:ffff-::ffff:0:1\n",
         "64.0.0.0/3\n::fffe:0:0/95\n",
         &[],
@@ -430,50 +591,107 @@ const WITH_INPUT: &[InputRow<'static>] = &[
         2,
     ),
     (
-        &["export", "here.mmdb", "--format", "iptables", "--name", "INPUT"],
+        &[
+            "export",
+            "here.mmdb",
+            "--format",
+            "iptables",
+            "--name",
+            "INPUT",
+        ],
         "",
         "",
         &["INPUT: a chain or a target of iptables itself; give another --name"],
         2,
     ),
     (
-        &["export", "here.mmdb", "--format", "iptables", "--name", "!a"],
+        &[
+            "export",
+            "here.mmdb",
+            "--format",
+            "iptables",
+            "--name",
+            "!a",
+        ],
         "",
         "",
         &["!a: not a chain's name: 1 to 28 letters, digits, _, - and ., the first a letter or _"],
         2,
     ),
     (
-        &["export", "here.mmdb", "--format", "iptables", "--name", "a1234567890123456789012345678"],
+        &[
+            "export",
+            "here.mmdb",
+            "--format",
+            "iptables",
+            "--name",
+            "a1234567890123456789012345678",
+        ],
         "",
         "",
         &["a1234567890123456789012345678: not a chain's name: 1 to 28 letters"],
         2,
     ),
     (
-        &["export", "here.mmdb", "--where", "c.i=AT", "--format", "iptables", "--name", "a123456789012345678901234567"],
+        &[
+            "export",
+            "here.mmdb",
+            "--where",
+            "c.i=AT",
+            "--format",
+            "iptables",
+            "--name",
+            "a123456789012345678901234567",
+        ],
         "",
         "*filter\n:a123456789012345678901234567 - [0:0]\n-A a123456789012345678901234567 -4 -s 64.0.0.0/3 -j DROP\nCOMMIT\n",
         &[],
         0,
     ),
     (
-        &["export", "here.mmdb", "--format", "nginx", "--name", "Remote_Addr"],
+        &[
+            "export",
+            "here.mmdb",
+            "--format",
+            "nginx",
+            "--name",
+            "Remote_Addr",
+        ],
         "",
         "",
         &["Remote_Addr: a variable of nginx itself; give another --name"],
         2,
     ),
+];
+
+/// Other names and values of formats, and changes of a list.
+const OF_OTHER_NAMES: &[InputRow<'static>] = &[
     // a name of one format is none of another one's own
     (
-        &["export", "here.mmdb", "--where", "c.i=AT", "--format", "nginx", "--name", "table"],
+        &[
+            "export",
+            "here.mmdb",
+            "--where",
+            "c.i=AT",
+            "--format",
+            "nginx",
+            "--name",
+            "table",
+        ],
         "",
         "geo $table {\n    64.0.0.0/3 1;\n}\n",
         &[],
         0,
     ),
     (
-        &["export", "here.mmdb", "--where", "c.i=@@x", "--format", "pf"],
+        &[
+            "export",
+            "here.mmdb",
+            "--where",
+            "c.i=@@x",
+            "--format",
+            "pf",
+        ],
         "",
         "",
         &["no network has c.i=@@x; --allow-empty writes an empty list"],
@@ -487,35 +705,84 @@ const WITH_INPUT: &[InputRow<'static>] = &[
         2,
     ),
     (
-        &["export", "here.mmdb", "--where", "c.i=AT", "--format", "iptables", "--name", "geo", "--jump", "REJECT"],
+        &[
+            "export",
+            "here.mmdb",
+            "--where",
+            "c.i=AT",
+            "--format",
+            "iptables",
+            "--name",
+            "geo",
+            "--jump",
+            "REJECT",
+        ],
         "",
         "*filter\n:geo - [0:0]\n-A geo -4 -s 64.0.0.0/3 -j REJECT\nCOMMIT\n",
         &[],
         0,
     ),
     (
-        &["export", "here.mmdb", "--where", "c.i=AT", "--format", "nginx", "--name", "geo", "--value", "at"],
+        &[
+            "export",
+            "here.mmdb",
+            "--where",
+            "c.i=AT",
+            "--format",
+            "nginx",
+            "--name",
+            "geo",
+            "--value",
+            "at",
+        ],
         "",
         "geo $geo {\n    64.0.0.0/3 at;\n}\n",
         &[],
         0,
     ),
     (
-        &["export", "here.mmdb", "--where", "c.i=AT", "--format", "haproxy"],
+        &[
+            "export",
+            "here.mmdb",
+            "--where",
+            "c.i=AT",
+            "--format",
+            "haproxy",
+        ],
         "",
         "64.0.0.0/3 1\n",
         &[],
         0,
     ),
     (
-        &["export", "here.mmdb", "--where", "c.i=FR", "--format", "iptables", "--allow-empty"],
+        &[
+            "export",
+            "here.mmdb",
+            "--where",
+            "c.i=FR",
+            "--format",
+            "iptables",
+            "--allow-empty",
+        ],
         "",
         "*filter\n:mmdb - [0:0]\nCOMMIT\n",
         &[],
         0,
     ),
     (
-        &["export", "here.mmdb", "--where", "c.i=AT", "--format", "nft", "--ipv4", "--table", "t", "--family", "ip"],
+        &[
+            "export",
+            "here.mmdb",
+            "--where",
+            "c.i=AT",
+            "--format",
+            "nft",
+            "--ipv4",
+            "--table",
+            "t",
+            "--family",
+            "ip",
+        ],
         "",
         "add table ip t
 add set ip t mmdb_ipv4 { type ipv4_addr; flags interval; }
@@ -543,14 +810,31 @@ add element ip t mmdb_ipv4 {
     ),
     // what changes: nothing, where both files are one
     (
-        &["diff", "here.mmdb", "here.mmdb", "--where", "c.i=AT", "--format", "cidr", "--exit-code"],
+        &[
+            "diff",
+            "here.mmdb",
+            "here.mmdb",
+            "--where",
+            "c.i=AT",
+            "--format",
+            "cidr",
+            "--exit-code",
+        ],
         "",
         "",
         &[],
         0,
     ),
     (
-        &["diff", "here.mmdb", "here.mmdb", "--where", "c.i=FR", "--format", "nft"],
+        &[
+            "diff",
+            "here.mmdb",
+            "here.mmdb",
+            "--where",
+            "c.i=FR",
+            "--format",
+            "nft",
+        ],
         "",
         "",
         &["no network has c.i=FR; --allow-empty writes an empty list"],
@@ -628,6 +912,24 @@ fn values_that_are_not_utf8(rt: HostRuntime) {
 fn lists_with_standard_input(rt: HostRuntime) {
     let bytes = file_of_nodes(&rt, rt.alloc(), WHOLE, b"\xC1\x07", DATA);
     assert_input_rows(&rt, rt.alloc(), bytes.as_slice(), WITH_INPUT);
+}
+
+#[test]
+fn lists_without_some_values(rt: HostRuntime) {
+    let bytes = file_of_nodes(&rt, rt.alloc(), WHOLE, b"\xC1\x07", DATA);
+    assert_input_rows(&rt, rt.alloc(), bytes.as_slice(), OF_VALUES);
+}
+
+#[test]
+fn lists_of_lines_and_names(rt: HostRuntime) {
+    let bytes = file_of_nodes(&rt, rt.alloc(), WHOLE, b"\xC1\x07", DATA);
+    assert_input_rows(&rt, rt.alloc(), bytes.as_slice(), OF_LINES_AND_NAMES);
+}
+
+#[test]
+fn lists_of_other_names(rt: HostRuntime) {
+    let bytes = file_of_nodes(&rt, rt.alloc(), WHOLE, b"\xC1\x07", DATA);
+    assert_input_rows(&rt, rt.alloc(), bytes.as_slice(), OF_OTHER_NAMES);
 }
 
 // Asserts what the rows say of exports from a file.
