@@ -1,8 +1,8 @@
 pub mod NumberLaws
-pub mod UniqueLaws
-pub mod FewestLaws
-pub mod JoinLaws
+mod UniqueLaws
+mod FewestLaws
+mod JoinLaws
 pub mod NetworkLaws
-pub mod RangeLaws
-pub mod ListedLaws
-pub mod DeltaLaws
+mod RangeLaws
+mod ListedLaws
+mod DeltaLaws

@@ -108,6 +108,12 @@ fn push_text(text: &str, line: &mut Vec<u8>) -> Result<(), AllocError> {
     line.extend_from_slice(text.as_bytes())
 }
 
+// Adds a network and the end of its line.
+fn push_whole(network: IpNetwork, line: &mut Vec<u8>) -> Result<(), AllocError> {
+    network.push_text(line)?;
+    line.push(b'\n')
+}
+
 // Adds a network between two texts.
 fn push_between(
     before: &str,
@@ -206,12 +212,12 @@ impl Action {
         }
     }
 
-    // What comes before a network of a line of its own.
-    fn of_line(self) -> &'static str {
+    // Adds what comes before a network of a line of its own.
+    fn push_sign(self, line: &mut Vec<u8>) -> Result<(), AllocError> {
         match self {
-            Action::Fill => "",
-            Action::Remove => "-",
-            Action::Add => "+",
+            Action::Fill => Ok(()),
+            Action::Remove => line.push(b'-'),
+            Action::Add => line.push(b'+'),
         }
     }
 }
@@ -324,8 +330,11 @@ impl Syntax<'_> {
         line: &mut Vec<u8>,
     ) -> Result<(), AllocError> {
         match self {
-            Syntax::Cidr => push_between(action.of_line(), network, "\n", line),
-            Syntax::Nft { .. } | Syntax::Pf => push_between("", network, "\n", line),
+            Syntax::Cidr => {
+                action.push_sign(line)?;
+                push_whole(network, line)
+            }
+            Syntax::Nft { .. } | Syntax::Pf => push_whole(network, line),
             Syntax::Ipset { name } => push_member(action, *name, kind, network, line),
             Syntax::Iptables { chain, target } => push_rule(*chain, kind, network, *target, line),
             Syntax::Nginx { value, .. } => push_with_value("    ", network, *value, ";\n", line),
@@ -344,7 +353,11 @@ impl Syntax<'_> {
     ) -> Result<(), AllocError> {
         match self {
             Syntax::Nft { .. } if is_first => network.push_text(line),
-            Syntax::Nft { .. } => push_between(",\n", network, "", line),
+            Syntax::Nft { .. } => {
+                line.push(b',')?;
+                line.push(b'\n')?;
+                network.push_text(line)
+            }
             _ => self.push_line(kind, action, network, line),
         }
     }

@@ -7,7 +7,7 @@ use memchr::memmem;
 use mmdb_format::error::DecodeResult;
 use mmdb_format::message::{Message, Text};
 use mmdb_reader::{MaxMindDbError, Metadata};
-use mmdb_record::fuzzing;
+use mmdb_record::first_value;
 use std::alloc::Global;
 
 /// What comes before the metadata.
@@ -138,7 +138,7 @@ impl Cause {
 fn metadata_of(alloc: Global, file: &[u8]) -> DecodeResult<Metadata> {
     let at = memmem::rfind(file, MARKER).unwrap_or(file.len());
     let section = file.get(at..).unwrap_or(&[]).get(MARKER.len()..);
-    fuzzing::decode(alloc, section.unwrap_or(&[]))
+    first_value::decode(alloc, section.unwrap_or(&[]))
 }
 
 /// The code for an error of the reader about the bytes of a file. It is not 5 unless memory ran out.

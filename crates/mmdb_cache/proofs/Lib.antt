@@ -1,1 +1,1 @@
-pub mod Keeping
+mod Keeping

@@ -1,15 +1,15 @@
 pub mod Inlines
-pub mod Trees
-pub mod Unfoldings
-pub mod Owned
-pub mod Sums
-pub mod Marks
-pub mod Passing
-pub mod Accepting
-pub mod Steps
-pub mod Costs
-pub mod Checks
-pub mod Several
+mod Trees
+mod Unfoldings
+mod Owned
+mod Sums
+mod Marks
+mod Passing
+mod Accepting
+mod Steps
+mod Costs
+mod Checks
+mod Several
 pub mod Members
-pub mod LawLemmas
-pub mod Halting
+mod LawLemmas
+mod Halting

@@ -3,7 +3,7 @@
 
 pub mod checked;
 /// The check of a section's first value.
-pub mod fuzzing;
+pub mod first_value;
 mod inline;
 pub mod laws;
 mod work;

@@ -1,10 +1,10 @@
-pub mod CellLaws
-pub mod CellRunLaws
-pub mod KeptLaws
-pub mod ColumnLaws
-pub mod AddedLaws
-pub mod AheadLaws
+mod CellLaws
+mod CellRunLaws
+mod KeptLaws
+mod ColumnLaws
+mod AddedLaws
+mod AheadLaws
 mod AskedLaws
-pub mod MemberLaws
+mod MemberLaws
 mod PartLaws
-pub mod GainLaws
+mod GainLaws

@@ -1,8 +1,8 @@
-pub mod BlockLaws
-pub mod ComingLaws
-pub mod WalkLaws
-pub mod PartLaws
-pub mod ListedLaws
-pub mod Placing
-pub mod Same
-pub mod Known
+mod BlockLaws
+mod ComingLaws
+mod WalkLaws
+mod PartLaws
+mod ListedLaws
+mod Placing
+mod Same
+mod Known

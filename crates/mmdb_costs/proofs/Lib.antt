@@ -1,2 +1,2 @@
-pub mod Adding
-pub mod Reading
+mod Adding
+mod Reading

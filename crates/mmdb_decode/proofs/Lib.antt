@@ -1,17 +1,17 @@
 pub mod Options
-pub mod Texts
+mod Texts
 pub mod ReadingLaws
 pub mod StepLaws
 pub mod SmallLaws
 pub mod Lists
 pub mod MapLaws
-pub mod LevelLaws
+mod LevelLaws
 pub mod SkipLaws
-pub mod ShortLaws
-pub mod SelectLaws
+mod ShortLaws
+mod SelectLaws
 pub mod PassingLaws
 pub mod DirectLaws
 pub mod ContentLaws
 pub mod ScalarLaws
-pub mod SmallNumberLaws
+mod SmallNumberLaws
 pub mod KeyLaws

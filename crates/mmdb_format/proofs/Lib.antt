@@ -1,4 +1,4 @@
-pub mod Numbers
+mod Numbers
 pub mod UnfoldingLaws
-pub mod ShortChars
-pub mod Texts
+mod ShortChars
+mod Texts

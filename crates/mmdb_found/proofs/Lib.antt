@@ -1,1 +1,1 @@
-pub mod FoundLaws
+mod FoundLaws

@@ -1,10 +1,10 @@
-pub mod ShownLaws
-pub mod ReadingBack
-pub mod WideDecimals
-pub mod Drafting
-pub mod Escaping
-pub mod Printing
-pub mod Measuring
-pub mod Containers
-pub mod ScalarTexts
-pub mod Keeping
+mod ShownLaws
+mod ReadingBack
+mod WideDecimals
+mod Drafting
+mod Escaping
+mod Printing
+mod Measuring
+mod Containers
+mod ScalarTexts
+mod Keeping

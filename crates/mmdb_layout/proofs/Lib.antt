@@ -1,3 +1,3 @@
-pub mod TextLaws
-pub mod ConditionLaws
-pub mod SignLaws
+mod TextLaws
+mod ConditionLaws
+mod SignLaws

@@ -1,5 +1,5 @@
 pub mod BitLaws
 pub mod AddressLaws
-pub mod SlashLaws
-pub mod TextLaws
+mod SlashLaws
+mod TextLaws
 pub mod NetworkLaws

@@ -1,9 +1,9 @@
 pub mod EntryLemmas
-pub mod LeadLemmas
-pub mod ByteLemmas
+mod LeadLemmas
+mod ByteLemmas
 pub mod LongestLemmas
-pub mod DifferLemmas
-pub mod CountLemmas
-pub mod SplitLemmas
-pub mod ForestLemmas
+mod DifferLemmas
+mod CountLemmas
+mod SplitLemmas
+mod ForestLemmas
 pub mod TreeLemmas

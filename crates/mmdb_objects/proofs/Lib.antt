@@ -1,13 +1,13 @@
-pub mod ObjectLaws
-pub mod WordLaws
-pub mod StringLaws
-pub mod FrontLaws
-pub mod PlaceLaws
-pub mod ReadingBack
+mod ObjectLaws
+mod WordLaws
+mod StringLaws
+mod FrontLaws
+mod PlaceLaws
+mod ReadingBack
 pub mod ObjectTokens
 pub mod LongerLaws
-pub mod ScanLaws
-pub mod GrammarLaws
-pub mod FoundLaws
-pub mod VectorLaws
-pub mod RunEndLaws
+mod ScanLaws
+mod GrammarLaws
+mod FoundLaws
+mod VectorLaws
+mod RunEndLaws

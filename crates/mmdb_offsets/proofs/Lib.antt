@@ -1,2 +1,2 @@
-pub mod Words
+mod Words
 pub mod Members

@@ -1,30 +1,30 @@
-pub mod NumberedLemmas
+mod NumberedLemmas
 pub mod LeafLemmas
-pub mod ManyLemmas
+mod ManyLemmas
 pub mod LawLemmas
-pub mod CountLemmas
-pub mod Markers
+mod CountLemmas
+mod Markers
 pub mod Sources
-pub mod NetworkLemmas
-pub mod Clones
+mod NetworkLemmas
+mod Clones
 pub mod NumberLemmas
-pub mod PositionLemmas
-pub mod ShownLemmas
-pub mod ListingSteps
-pub mod StackLemmas
-pub mod RangeLemmas
-pub mod ItemLemmas
-pub mod EmptyLemmas
+mod PositionLemmas
+mod ShownLemmas
+mod ListingSteps
+mod StackLemmas
+mod RangeLemmas
+mod ItemLemmas
+mod EmptyLemmas
 pub mod FindingLemmas
-pub mod AliasLemmas
+mod AliasLemmas
 pub mod ListingLemmas
-pub mod AgreementLemmas
+mod AgreementLemmas
 pub mod EqualityLemmas
-pub mod StopLemmas
-pub mod WholeLemmas
-pub mod AliasedLookups
-pub mod RecordLemmas
-pub mod PathLemmas
+mod StopLemmas
+mod WholeLemmas
+mod AliasedLookups
+mod RecordLemmas
+mod PathLemmas
 pub mod PartLemmas
-pub mod WayLemmas
-pub mod MetadataNames
+mod WayLemmas
+mod MetadataNames

@@ -13,7 +13,7 @@ use crate::metadata::Metadata;
 use crate::offsets::counted_from_start;
 use mmdb_format::error::{DecodeResult, MaxMindDbError};
 use mmdb_format::message::{Message, Text};
-use mmdb_record::fuzzing;
+use mmdb_record::first_value;
 use mmdb_tree::{Nodes, SEPARATOR};
 use std::alloc::Global;
 
@@ -33,7 +33,7 @@ fn read_metadata(alloc: Global, section: &[u8], start: usize) -> DecodeResult<Me
     ensures ok { IfOk result (λ m. metadata_read section.now ≡ Some (metadata_datum m)) }
     ensures err { IfErr result (λ e. Fails false e (metadata_read section.now)) }
 {
-    match fuzzing::decode::<Metadata>(alloc, section) {
+    match first_value::decode::<Metadata>(alloc, section) {
         Ok(metadata) => Ok(metadata),
         Err(error) => Err(counted_from_start(error, start)),
     }

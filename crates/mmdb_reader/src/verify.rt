@@ -14,7 +14,7 @@ use crate::reader::Reader;
 use crate::steps::Steps;
 use crate::within::invalid;
 use mmdb_check::checked::{Checked, check_offsets};
-use mmdb_check::fuzzing;
+use mmdb_check::first_value;
 use mmdb_costs::check_records;
 use mmdb_format::error::MaxMindDbError;
 use mmdb_format::message::{Message, Text};
@@ -52,7 +52,7 @@ impl<S: AsSlice<u8> + Drop> Reader<S> {
         ensures err { IfErr result (λ e. MemoryApart e (¬ HasWholeMetadata self.now)) }
     {
         let section = self.metadata_section();
-        match fuzzing::verify(alloc, section) {
+        match first_value::verify(alloc, section) {
             Ok(()) => {}
             Err(error) => return Err(counted_from_start(error, self.metadata_start())),
         }

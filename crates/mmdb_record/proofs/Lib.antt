@@ -1,12 +1,12 @@
-pub mod RecordLaws
+mod RecordLaws
 pub mod LimitLaws
-pub mod PairLaws
+mod PairLaws
 pub mod ContainerLaws
-pub mod ListLaws
-pub mod TextMapLaws
+mod ListLaws
+mod TextMapLaws
 pub mod RecordStandingLaws
-pub mod OneLaws
-pub mod ContainerTrees
+mod OneLaws
+mod ContainerTrees
 pub mod TableLaws
 pub mod FieldNameLaws
-pub mod MemoLaws
+mod MemoLaws

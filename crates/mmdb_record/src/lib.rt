@@ -5,7 +5,7 @@ pub mod decode;
 pub mod fields;
 
 /// Decoding from the beginning of a section.
-pub mod fuzzing;
+pub mod first_value;
 pub mod laws;
 pub mod memo;
 pub mod record;

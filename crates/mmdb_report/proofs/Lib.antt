@@ -1,3 +1,3 @@
-pub mod CountLemmas
-pub mod AddLemmas
-pub mod TallyLemmas
+mod CountLemmas
+mod AddLemmas
+mod TallyLemmas

@@ -1,10 +1,10 @@
-pub mod StandLemmas
-pub mod HeaderLemmas
-pub mod ScalarLemmas
-pub mod BytesLemmas
+mod StandLemmas
+mod HeaderLemmas
+mod ScalarLemmas
+mod BytesLemmas
 pub mod WriteLemmas
-pub mod CostLemmas
+mod CostLemmas
 pub mod AllowanceLemmas
-pub mod KnownLemmas
-pub mod SectionLemmas
+mod KnownLemmas
+mod SectionLemmas
 pub mod OnceLemmas

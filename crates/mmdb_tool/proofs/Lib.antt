@@ -1,2 +1,2 @@
-pub mod LineLemmas
-pub mod ListLemmas
+mod LineLemmas
+mod ListLemmas

@@ -2,13 +2,13 @@ pub mod WalkLemmas
 pub mod DescentLemmas
 pub mod TableLemmas
 pub mod GroupLemmas
-pub mod RecordLemmas
+mod RecordLemmas
 pub mod LeadLemmas
 pub mod HighBits
 pub mod Visits
-pub mod Points
-pub mod Progress
-pub mod Sweeps
+mod Points
+mod Progress
+mod Sweeps
 pub mod StopLemmas
 pub mod Narrow
-pub mod LevelLemmas
+mod LevelLemmas

@@ -1,12 +1,12 @@
-pub mod Readings
-pub mod AnyLaws
-pub mod AnySteps
-pub mod Started
+mod Readings
+mod AnyLaws
+mod AnySteps
+mod Started
 pub mod Grammar
-pub mod GrammarWhole
+mod GrammarWhole
 pub mod StandingLaws
 pub mod ValueTrees
-pub mod RawTrees
+mod RawTrees
 mod TreeTests
 mod ValueEquality
 mod RawEquality

@@ -5,12 +5,13 @@
 pub mod any_value;
 
 /// Decoding from the beginning of a section, and the check of its first value.
-pub mod fuzzing;
+pub mod first_value;
 pub mod laws;
 pub mod raw_value;
 mod read;
 
 pub use any_value::Value;
+pub use first_value as fuzzing;
 pub use mmdb_check::checked::{Checked, check_value};
 pub use mmdb_decode::decoder::Decoder;
 pub use mmdb_decode::items::{Entries, Items};

@@ -1,9 +1,9 @@
-pub mod SectionLemmas
-pub mod LargeLemmas
-pub mod KeyLemmas
-pub mod ReadLemmas
-pub mod LastLemmas
-pub mod RowLemmas
-pub mod NetworkLemmas
-pub mod FileLemmas
-pub mod MakingLemmas
+mod SectionLemmas
+mod LargeLemmas
+mod KeyLemmas
+mod ReadLemmas
+mod LastLemmas
+mod RowLemmas
+mod NetworkLemmas
+mod FileLemmas
+mod MakingLemmas

@@ -10,7 +10,7 @@ use mmdb_decode::decoder::Decoder;
 use mmdb_decode::items::Entries;
 use mmdb_format::error::DecodeResult;
 use mmdb_record::decode::Decode;
-use mmdb_record::fuzzing;
+use mmdb_record::first_value;
 use mmdb_record::record::{named, read_once};
 use std::alloc::Global;
 
@@ -100,5 +100,5 @@ pub fn read_probe<'de>(alloc: Global, section: &'de [u8]) -> DecodeResult<Probe<
         ≡ Some (fields_of v)) }
     ensures err { IfErr result (λ e. Fails true e (answer true probe_at section.now 0)) }
 {
-    fuzzing::decode::<Probe<'de>>(alloc, section)
+    first_value::decode::<Probe<'de>>(alloc, section)
 }

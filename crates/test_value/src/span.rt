@@ -8,7 +8,7 @@ ghost use Rattle.test_value.specs.Span.{IsSpanOf};
 use mmdb_decode::decoder::Decoder;
 use mmdb_format::error::DecodeResult;
 use mmdb_record::decode::Decode;
-use mmdb_record::fuzzing;
+use mmdb_record::first_value;
 use std::alloc::Global;
 
 /// The offsets at which a value begins and ends.
@@ -49,6 +49,6 @@ pub fn first_end(alloc: Global, section: &[u8]) -> DecodeResult<usize>
     ensures { IfOk result (λ end. (after : State)
         × IsRead true skip_at (begin section.now 0) tt after × (end ≡ after.offset)) }
 {
-    let span = fuzzing::decode::<Span>(alloc, section)?;
+    let span = first_value::decode::<Span>(alloc, section)?;
     Ok(span.end)
 }

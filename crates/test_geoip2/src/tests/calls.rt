@@ -2,7 +2,7 @@
 use super::parts::rejected;
 use mmdb_geoip2::{City, Enterprise};
 use mmdb_record::decode::Decode;
-use mmdb_record::fuzzing::decode;
+use mmdb_record::first_value::decode;
 use mmdb_vectors::answer::is_ok;
 use std::alloc::Global;
 

@@ -2,7 +2,7 @@
 use super::parts::{Empty, Parts, rejected};
 use mmdb_geoip2::{City, Country, Enterprise, city, country};
 use mmdb_record::decode::Decode;
-use mmdb_record::fuzzing::decode;
+use mmdb_record::first_value::decode;
 use mmdb_vectors::equality::equality;
 use mmdb_vectors::failures::Failures;
 use std::alloc::{AllocError, Global};

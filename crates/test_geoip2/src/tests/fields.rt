@@ -9,7 +9,7 @@ use mmdb_geoip2::{
     city, country, enterprise,
 };
 use mmdb_record::decode::Decode;
-use mmdb_record::fuzzing::decode;
+use mmdb_record::first_value::decode;
 use mmdb_vectors::answer::shown;
 use mmdb_vectors::failures::Failures;
 use std::fmt::Debug;

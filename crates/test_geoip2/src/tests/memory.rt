@@ -6,7 +6,7 @@ use super::section::{Row, with_unknown};
 use mmdb_format::error::MaxMindDbError;
 use mmdb_geoip2::{City, Country, Domain, Enterprise};
 use mmdb_record::decode::Decode;
-use mmdb_record::fuzzing::decode;
+use mmdb_record::first_value::decode;
 use mmdb_vectors::answer::reported;
 use mmdb_vectors::failures::Failures;
 use mmdb_vectors::hoard::{Hoard, Outcome, fail_in_turn};

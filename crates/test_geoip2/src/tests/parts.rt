@@ -1,7 +1,7 @@
 //! Records that have parts, and what is asked of them.
 use mmdb_geoip2::{City, Country, Enterprise, city, country, enterprise};
 use mmdb_record::decode::Decode;
-use mmdb_record::fuzzing::decode;
+use mmdb_record::first_value::decode;
 use mmdb_vectors::answer::reported;
 use std::alloc::{AllocError, Global};
 

@@ -2,7 +2,7 @@
 use super::parts::{Parts, parts_reported, rejected};
 use mmdb_geoip2::{City, Country, Domain, Enterprise, MAX_SUBDIVISIONS};
 use mmdb_record::decode::Decode;
-use mmdb_record::fuzzing::decode;
+use mmdb_record::first_value::decode;
 use mmdb_vectors::answer::{OK, reported};
 use mmdb_vectors::failures::Failures;
 use mmdb_vectors::section::section_of;

@@ -1,7 +1,7 @@
 use Rattle.std.proofs.Common.{true}
 use Rattle.mmdb_value.specs.Values.{value_tree}
 use Rattle.mmdb_value.proofs.StandingLaws.{decoded_whole, rejected_whole}
-use Rattle.mmdb_value.proofs.fuzzing.decode_value.Goals as goal
+use Rattle.mmdb_value.proofs.first_value.decode_value.Goals as goal
 
 pub returns-clause-ok : goal.returns-clause-ok
 returns-clause-ok c = decoded_whole true value_tree c.args.section.now c.decode.result c.decode.ensures.ok

@@ -8,9 +8,9 @@ ghost use Rattle.mmdb_value.specs.RawValues.{raw_tree};
 
 use crate::any_value::Value;
 use crate::raw_value::RawValue;
-pub use mmdb_check::fuzzing::verify;
+pub use mmdb_check::first_value::verify;
 use mmdb_format::error::DecodeResult;
-pub use mmdb_record::fuzzing::decode;
+pub use mmdb_record::first_value::decode;
 use std::alloc::Global;
 
 /// The value at the beginning of a section, in the words of the format: the tree that unfolds there, with

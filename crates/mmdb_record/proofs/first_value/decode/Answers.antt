@@ -2,7 +2,7 @@ use Rattle.std.proofs.Common.{◌≡◌, Some, true}
 use Rattle.mmdb_decode.specs.Errors.{Fails, answer}
 use Rattle.mmdb_decode.specs.State.{decoded}
 use Rattle.mmdb_decode.proofs.StepLaws.{answer_ok, answer_none, if_ok_weaker, if_err_weaker, fails_more}
-use Rattle.mmdb_record.proofs.fuzzing.decode.Goals as goal
+use Rattle.mmdb_record.proofs.first_value.decode.Goals as goal
 
 pub returns-clause-ok : goal.returns-clause-ok
 returns-clause-ok g c = if_ok_weaker c.decode.result _ (λ v. g.T.Decode.exact ≡ true → answer g.T.Decode.starts g.T.Decode.meaning c.args.section.now 0 ≡ Some (g.T.Decode.datum v)) (λ v h e. answer_ok g.T.Decode.starts g.T.Decode.meaning c.args.section.now 0 c.new-d.result c.decode.new.d (g.T.Decode.datum v) c.new-d.ensures (h e)) c.decode.ensures.ok
