@@ -117,7 +117,7 @@ fn may_replace<R: Files, O: Write, E: Pace>(
 }
 
 // Learns types and makes the file.
-fn build_file<R: Files + Clock, I: BufRead, O: Write, E: Pace>(
+fn build_file<R: Files + Env + Clock, I: BufRead, O: Write, E: Pace>(
     rt: &R,
     task: &BuildTask<'_>,
     options: Options,

@@ -10,7 +10,7 @@ use mmdb_arguments::Reserved;
 use mmdb_blocks::{Block, BlockKind};
 use mmdb_console::{Console, DONE, FAILED, ProgramError};
 use mmdb_files::{MadeFile, make_file};
-use mmdb_layout::{Database, open_database};
+use mmdb_layout::{Database, open_at};
 use mmdb_writer::{WriteError, Writer};
 use std::alloc::{AllocError, Global};
 use std::io::Write;
@@ -125,7 +125,7 @@ fn check<R: Files, O: Write, E: Write>(
 ) -> Result<bool, ProgramError> {
     let mut kept = kept;
     kept.sort()?;
-    match open_database(rt, made.path(), console) {
+    match open_at(rt, made.path(), console) {
         Some(database) => {
             let is_right = is_as_said(task, &database, &kept, console);
             drop(database);

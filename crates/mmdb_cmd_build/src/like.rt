@@ -8,6 +8,7 @@ use mmdb_reader::{MaxMindDbError, WithinOptions};
 use mmdb_value::Value;
 use std::alloc::{AllocError, Global};
 use std::collections::HashSet;
+use std::env::Env;
 use std::io::Write;
 use std::rt::Files;
 
@@ -65,7 +66,7 @@ fn note_several<O: Write, E: Write>(file: &str, types: &Types, console: &mut Con
 }
 
 // Learns the types of a file, and says whether it could be read. Why it could not is reported.
-fn learn_file<R: Files, O: Write, E: Write>(
+fn learn_file<R: Files + Env, O: Write, E: Write>(
     rt: &R,
     file: &str,
     types: &mut Types,
@@ -91,7 +92,7 @@ fn learn_file<R: Files, O: Write, E: Write>(
 }
 
 /// Learns the types that are asked for, and says whether the file of which they are could be read. Why it could not is reported.
-pub(crate) fn learn_types<R: Files, O: Write, E: Write>(
+pub(crate) fn learn_types<R: Files + Env, O: Write, E: Write>(
     rt: &R,
     task: &BuildTask<'_>,
     types: &mut Types,

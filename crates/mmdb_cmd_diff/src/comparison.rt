@@ -13,6 +13,7 @@ use mmdb_layout::{Database, FieldsMet, Layout, Networks, layout_of, networks_in}
 use mmdb_reader::{IpNetwork, MaxMindDbError};
 use std::alloc::{AllocError, Global};
 use std::collections::HashSet;
+use std::env::Env;
 use std::io::Write;
 use std::net::{IpAddr, Ipv4Addr, Ipv6Addr};
 use std::rt::Files;
@@ -501,7 +502,7 @@ fn diff_databases<'a, O: Write, E: Pace>(
 }
 
 // Opens two files and writes what changed between them, and answers the status.
-fn diff_files<'a, R: Files, O: Write, E: Pace>(
+fn diff_files<'a, R: Files + Env, O: Write, E: Pace>(
     rt: &R,
     task: &'a DiffTask<'a>,
     console: &mut Console<'_, O, E>,
@@ -519,7 +520,7 @@ fn diff_files<'a, R: Files, O: Write, E: Pace>(
 /// Writes what changed between two files, reports what of them can't be read, and answers the status. An `Err` where an
 /// argument is not what is wanted in its place, before a file is opened; where standard output can't be written, the
 /// networks of a database do not ascend, or out of memory.
-pub fn diff<R: Files, O: Write, E: Pace>(
+pub fn diff<R: Files + Env, O: Write, E: Pace>(
     rt: &R,
     arguments: &DiffArguments<'_>,
     console: &mut Console<'_, O, E>,

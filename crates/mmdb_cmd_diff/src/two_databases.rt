@@ -1,7 +1,8 @@
 //! Two databases that are read from files.
-use mmdb_console::{Console, opened};
-use mmdb_layout::{Database, open_database};
+use mmdb_console::{Console, opened, path_elsewhere};
+use mmdb_layout::{Database, open_database, path_or};
 use mmdb_reader::{MaxMindDbError, Reader};
+use std::env::Env;
 use std::io::Write;
 use std::rt::Files;
 
@@ -48,15 +49,37 @@ fn with_other<R: Files, O: Write, E: Write>(
     }
 }
 
+// The database of a name beside another one, or none where there is an error, which is reported.
+fn with_newer<R: Files + Env, O: Write, E: Write>(
+    rt: &R,
+    name: &str,
+    old: Database,
+    console: &mut Console<'_, O, E>,
+) -> Option<TwoDatabases> {
+    let mut other = Reader::open_unless_same(rt, console.alloc, name, &old);
+    let path = match path_elsewhere(rt, name, &other, console) {
+        Ok(path) => path,
+        Err(error) => {
+            other = Err(error);
+            None
+        }
+    };
+    if let Some(path) = &path {
+        other = Reader::open_unless_same(rt, console.alloc, path.as_str(), &old);
+    }
+    let both = with_other(rt, path_or(&path, name), old, other, console);
+    drop(path);
+    both
+}
+
 /// The databases of two files, or none if one of them has an error, which is reported: that of the old one, where both
 /// have one.
-pub(crate) fn open_two<R: Files, O: Write, E: Write>(
+pub(crate) fn open_two<R: Files + Env, O: Write, E: Write>(
     rt: &R,
     old_file: &str,
     new_file: &str,
     console: &mut Console<'_, O, E>,
 ) -> Option<TwoDatabases> {
     let old = open_database(rt, old_file, console)?;
-    let other = Reader::open_unless_same(rt, console.alloc, new_file, &old);
-    with_other(rt, new_file, old, other, console)
+    with_newer(rt, new_file, old, console)
 }

@@ -12,10 +12,10 @@ use crate::watch::Watch;
 use mmdb_arguments::EnrichArguments;
 use mmdb_console::{BAD_ARGUMENTS, Console, FAILED, Pace, ProgramError, ProgressLine, line_of};
 use mmdb_filter::{Additions, Counts, Filtered, Live, Rows, filter_rows};
-use mmdb_layout::{Database, open_database};
-use mmdb_reader::Reader;
+use mmdb_layout::{Database, Opened, open_database, open_found};
 use std::alloc::{AllocError, Global};
 use std::cell::Cell;
+use std::env::Env;
 use std::io::Write;
 use std::rt::Files;
 
@@ -261,7 +261,7 @@ enum Task<'t> {
 }
 
 // Opens a file and copies rows with fields of it in each.
-fn enrich_from<R: Files, I: Live, O: Write, E: Pace>(
+fn enrich_from<R: Files + Env, I: Live, O: Write, E: Pace>(
     rt: &R,
     file: &str,
     task: Task<'_>,
@@ -282,9 +282,18 @@ fn enrich_from<R: Files, I: Live, O: Write, E: Pace>(
 }
 
 // Reports a second file: a log more often than another database.
-fn report_other<R: Files, O: Write, E: Pace>(rt: &R, other: &str, console: &mut Console<'_, O, E>) {
+fn report_other<R: Files + Env, O: Write, E: Pace>(
+    rt: &R,
+    other: &str,
+    console: &mut Console<'_, O, E>,
+) {
     let alloc = console.alloc;
-    let text = if Reader::open_readfile(rt, alloc, other).is_ok() {
+    console.names_found = false;
+    let Opened { path, got } = open_found(rt, other, console);
+    let is_database = got.is_ok();
+    drop(path);
+    drop(got);
+    let text = if is_database {
         format!(in alloc; "mmdb: {other} is a second database; enrich takes one")
     } else {
         format!(in alloc; "mmdb: {other} is no database; enrich reads standard input: < {other}")
@@ -295,7 +304,7 @@ fn report_other<R: Files, O: Write, E: Pace>(rt: &R, other: &str, console: &mut 
 /// Copies lines with fields of a database in each, reports how they fared, and answers the status. An `Err` where an
 /// argument is not what is wanted in its place, before the file is opened; where standard input can't be read, standard
 /// output can't be written, the first row has no such column or is too long, or out of memory.
-pub fn enrich<R: Files, I: Live, O: Write, E: Pace>(
+pub fn enrich<R: Files + Env, I: Live, O: Write, E: Pace>(
     rt: &R,
     arguments: &EnrichArguments<'_>,
     input: &mut I,
@@ -305,6 +314,7 @@ pub fn enrich<R: Files, I: Live, O: Write, E: Pace>(
         report_other(rt, *other, console);
         return Ok(BAD_ARGUMENTS);
     }
+    console.names_found = !arguments.quiet;
     match arguments.json {
         Some(path) => {
             let task = json_task(console.alloc, path, &*arguments)?;

@@ -12,6 +12,7 @@ use mmdb_blocks::{Action, Block, BlockKind, List, RangesError, Syntax, blocks_wi
 use mmdb_console::{Console, DIFFERENT, DONE, FAILED, Pace, ProgramError, note_range};
 use mmdb_layout::{Database, open_database};
 use std::alloc::Global;
+use std::env::Env;
 use std::io::{BufRead, Write};
 use std::rt::Files;
 
@@ -180,7 +181,7 @@ fn compare<O: Write, E: Pace>(
 }
 
 // Opens both files and writes what changes between their lists, and answers the status.
-fn compare_files<R: Files, I: BufRead, O: Write, E: Pace>(
+fn compare_files<R: Files + Env, I: BufRead, O: Write, E: Pace>(
     rt: &R,
     arguments: &ListDiffArguments<'_>,
     files: &[ValueFile<'_>],
@@ -211,7 +212,7 @@ fn compare_files<R: Files, I: BufRead, O: Write, E: Pace>(
 /// Writes what changes in a list of networks between two files: what takes the blocks out that only the old list has, and
 /// what puts those in that only the new list has; nothing where a network can't be read. Reports each of these, and answers
 /// the status. An `Err` as of `export`.
-pub fn list_diff<R: Files, I: BufRead, O: Write, E: Pace>(
+pub fn list_diff<R: Files + Env, I: BufRead, O: Write, E: Pace>(
     rt: &R,
     arguments: &ListDiffArguments<'_>,
     input: &mut I,

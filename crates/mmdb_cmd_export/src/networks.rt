@@ -14,6 +14,7 @@ use mmdb_console::{Console, DONE, FAILED, Pace, ProgramError, note_range};
 use mmdb_layout::{Choice, Condition, Database, Networks, networks_in, open_database};
 use mmdb_reader::MaxMindDbError;
 use std::alloc::{AllocError, Global};
+use std::env::Env;
 use std::io::{BufRead, Write};
 use std::rt::Files;
 
@@ -222,7 +223,7 @@ fn export_database<'a, O: Write, E: Pace>(
 }
 
 // Opens a file and writes its chosen networks, and answers the status.
-fn export_file<'a, R: Files, O: Write, E: Pace>(
+fn export_file<'a, R: Files + Env, O: Write, E: Pace>(
     rt: &R,
     file: &str,
     task: &'a ExportTask<'a>,
@@ -257,7 +258,7 @@ fn adjustment_of<R: Files, I: BufRead, O: Write, E: Pace>(
 }
 
 // Writes the chosen networks by conditions with the values of files, and answers the status.
-fn export_with_values<R: Files, I: BufRead, O: Write, E: Pace>(
+fn export_with_values<R: Files + Env, I: BufRead, O: Write, E: Pace>(
     rt: &R,
     arguments: &ExportArguments<'_>,
     files: &[ValueFile<'_>],
@@ -275,7 +276,7 @@ fn export_with_values<R: Files, I: BufRead, O: Write, E: Pace>(
 /// Writes the chosen networks of a range, reports each that can't be read, and answers the status. An `Err` where an
 /// argument is not what is wanted in its place, before a file is opened; where the range can't be asked, standard output
 /// can't be written, the networks do not ascend, or out of memory.
-pub fn export<R: Files, I: BufRead, O: Write, E: Pace>(
+pub fn export<R: Files + Env, I: BufRead, O: Write, E: Pace>(
     rt: &R,
     arguments: &ExportArguments<'_>,
     input: &mut I,

@@ -2,11 +2,14 @@
 use crate::change::change_between;
 use crate::percent::{Percent, percent_of};
 use mmdb_arguments::{InstallArguments, NoRequest};
-use mmdb_console::{Console, DONE, FAILED, ProgramError, line_of, note_archive, reported};
+use mmdb_console::{
+    Console, DONE, FAILED, ProgramError, file_elsewhere, line_of, note_archive, reported,
+};
 use mmdb_files::{Standing, replace_file, standing_of};
 use mmdb_reader::{MaxMindDbError, Metadata, Reader};
 use mmdb_records::unreadable_records;
 use std::alloc::{AllocError, Global};
+use std::env::Env;
 use std::fs::File;
 use std::io::{self, Read, Write};
 use std::rt::Files;
@@ -58,13 +61,13 @@ fn against(standing: Standing, may_be_missing: bool) -> Option<&'static str> {
 }
 
 // What is at a path, where that is no reason against it, which is reported.
-fn standing_at<R: Files, O: Write, E: Write>(
-    rt: &R,
+fn checked_standing<O: Write, E: Write>(
     path: &str,
+    standing: io::Result<Standing>,
     may_be_missing: bool,
     console: &mut Console<'_, O, E>,
 ) -> Option<Standing> {
-    let standing: Result<Standing, MaxMindDbError> = match standing_of(rt, console.alloc, path) {
+    let standing: Result<Standing, MaxMindDbError> = match standing {
         Ok(standing) => Ok(standing),
         Err(error) => Err(MaxMindDbError::from(error)),
     };
@@ -257,20 +260,15 @@ fn install_bytes<R: Files + Clock, O: Write, E: Write>(
     }
 }
 
-/// Puts a MaxMind DB file in the place of another one, or where there is none, says so, and answers the status. Before that it
-/// is verified, all its records are read, and it is compared with what is there: it has the same type and kind of addresses, is
-/// not older, and not more addresses of IPv4 changed than may. Why it is not done is reported, and then what is there stays. An
-/// `Err` where an argument is not what is wanted in its place, before any file is opened, or out of memory.
-pub fn install<R: Files + Clock, O: Write, E: Write>(
+// Installs the file of a task, of which it is known what is there, and answers the status.
+fn install_file<R: Files + Clock, O: Write, E: Write>(
     rt: &R,
-    arguments: &InstallArguments<'_>,
+    task: InstallTask<'_>,
+    found: io::Result<Standing>,
+    standing: Standing,
     console: &mut Console<'_, O, E>,
 ) -> Result<u8, ProgramError> {
-    let task = task_of(console.alloc, arguments)?;
-    let Some(standing) = standing_at(rt, task.dest, true, console) else {
-        return Ok(FAILED);
-    };
-    if standing_at(rt, task.new, false, console).is_none() {
+    if checked_standing(task.new, found, false, console).is_none() {
         note_archive(rt, task.new, console);
         return Ok(FAILED);
     }
@@ -280,6 +278,58 @@ pub fn install<R: Files + Clock, O: Write, E: Write>(
             drop(bytes);
             done
         }
+        None => Ok(FAILED),
+    }
+}
+
+// Where the new file is, if that is elsewhere, which is said.
+fn new_elsewhere<R: Files + Env, O: Write, E: Write>(
+    rt: &R,
+    task: InstallTask<'_>,
+    found: &io::Result<Standing>,
+    console: &mut Console<'_, O, E>,
+) -> Result<Option<String>, AllocError> {
+    match found {
+        Ok(Standing::Nothing | Standing::DeadLink) => file_elsewhere(rt, task.new, console),
+        _ => Ok(None),
+    }
+}
+
+// Installs the new file of a task, which is here or elsewhere, and answers the status.
+fn install_found<R: Files + Env + Clock, O: Write, E: Write>(
+    rt: &R,
+    task: InstallTask<'_>,
+    standing: Standing,
+    console: &mut Console<'_, O, E>,
+) -> Result<u8, ProgramError> {
+    let found = standing_of(rt, console.alloc, task.new);
+    match new_elsewhere(rt, task, &found, console)? {
+        Some(path) => {
+            drop(found);
+            let found = standing_of(rt, console.alloc, path.as_str());
+            let task = InstallTask {
+                new: path.as_str(),
+                ..task
+            };
+            install_file(rt, task, found, standing, console)
+        }
+        None => install_file(rt, task, found, standing, console),
+    }
+}
+
+/// Puts a MaxMind DB file in the place of another one, or where there is none, says so, and answers the status. Before that it
+/// is verified, all its records are read, and it is compared with what is there: it has the same type and kind of addresses, is
+/// not older, and not more addresses of IPv4 changed than may. Why it is not done is reported, and then what is there stays. An
+/// `Err` where an argument is not what is wanted in its place, before any file is opened, or out of memory.
+pub fn install<R: Files + Env + Clock, O: Write, E: Write>(
+    rt: &R,
+    arguments: &InstallArguments<'_>,
+    console: &mut Console<'_, O, E>,
+) -> Result<u8, ProgramError> {
+    let task = task_of(console.alloc, arguments)?;
+    let there = standing_of(rt, console.alloc, task.dest);
+    match checked_standing(task.dest, there, true, console) {
+        Some(standing) => install_found(rt, task, standing, console),
         None => Ok(FAILED),
     }
 }

@@ -7,6 +7,7 @@ use mmdb_json::TokenSink;
 use mmdb_layout::{Database, FieldsMet, Found, open_database};
 use mmdb_reader::{IpNetwork, MaxMindDbError, PathElement};
 use std::alloc::{AllocError, Global};
+use std::env::Env;
 use std::io::Write;
 use std::net::IpAddr;
 use std::rt::Files;
@@ -251,7 +252,7 @@ fn note_absent<O: Write, E: Write>(
 }
 
 // Opens a file and shows what it has, and answers the status.
-fn show_file<R: Files, O: Write, E: Write>(
+fn show_file<R: Files + Env, O: Write, E: Write>(
     rt: &R,
     file: &str,
     task: &ShowTask<'_>,
@@ -269,7 +270,7 @@ fn show_file<R: Files, O: Write, E: Write>(
 
 /// Writes what a database has for addresses, reports the error of each that has one, and answers the status. An `Err` where
 /// an argument is not a path, before the file is opened; where standard output can't be written, or out of memory.
-pub fn show<R: Files, O: Write, E: Write>(
+pub fn show<R: Files + Env, O: Write, E: Write>(
     rt: &R,
     arguments: &ShowArguments<'_>,
     console: &mut Console<'_, O, E>,

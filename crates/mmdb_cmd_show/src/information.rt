@@ -10,6 +10,7 @@ use mmdb_reader::{Metadata, Reader, Sections};
 use mmdb_value::Value;
 use std::alloc::{AllocError, Global};
 use std::collections::BTreeMap;
+use std::env::Env;
 use std::io::Write;
 use std::rt::Files;
 
@@ -360,7 +361,7 @@ fn put_with_fields<O: Write, E: Write>(
 }
 
 // Writes what the database of a file says of itself, or reports why it can't be read, and answers the status.
-fn describe_file<R: Files, O: Write, E: Write>(
+fn describe_file<R: Files + Env, O: Write, E: Write>(
     rt: &R,
     file: &str,
     arguments: &InfoArguments<'_>,
@@ -385,7 +386,7 @@ fn describe_file<R: Files, O: Write, E: Write>(
 
 /// Writes what each database says of itself, and the fields of its records where they are asked for, or reports why its file
 /// can't be read, and answers the status. An `Err` where standard output can't be written, or out of memory.
-pub fn describe<R: Files, O: Write, E: Write>(
+pub fn describe<R: Files + Env, O: Write, E: Write>(
     rt: &R,
     arguments: &InfoArguments<'_>,
     console: &mut Console<'_, O, E>,

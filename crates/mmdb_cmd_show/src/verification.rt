@@ -3,11 +3,12 @@ use json::{Token, Writer};
 use mmdb_arguments::{NoRequest, VerifyArguments};
 use mmdb_console::{Console, DONE, FAILED, Pace, Passed, ProgramError, line_of, note_archive};
 use mmdb_json::write_value;
-use mmdb_layout::open_database;
+use mmdb_layout::{Database, Opened, open_database, open_found, path_or};
 use mmdb_reader::{MaxMindDbError, Metadata, Reader};
 use mmdb_records::unreadable_records;
 use mmdb_value::Value;
 use std::alloc::{AllocError, Global};
+use std::env::Env;
 use std::io::Write;
 use std::rt::Files;
 use std::time::Clock;
@@ -219,14 +220,13 @@ fn verdict_of_error(alloc: Global, error: &MaxMindDbError) -> Result<Verdict, Al
     })
 }
 
-// What is found of a file.
-fn verdict_of<R: Files>(
-    rt: &R,
+// What is found of a database, or of a file that can't be opened.
+fn verdict_of(
     alloc: Global,
-    file: &str,
+    got: Result<Database, MaxMindDbError>,
     task: VerifyTask<'_>,
 ) -> Result<Verdict, AllocError> {
-    match Reader::open_readfile(rt, alloc, file) {
+    match got {
         Ok(reader) => {
             let verdict = verdict_on(alloc, &reader, task);
             drop(reader);
@@ -332,25 +332,27 @@ fn put_line<O: Write, E: Pace>(
 }
 
 // Writes of a file what is wrong with it, if something is, and answers whether nothing is.
-fn verify_one<R: Files, O: Write, E: Pace>(
+fn verify_one<R: Files + Env, O: Write, E: Pace>(
     rt: &R,
     file: &str,
     task: VerifyTask<'_>,
     console: &mut Console<'_, O, E>,
 ) -> Result<bool, ProgramError> {
-    let verdict = verdict_of(rt, console.alloc, file, task)?;
+    let Opened { path, got } = open_found(rt, file, console);
+    let verdict = verdict_of(console.alloc, got, task)?;
     let is_right = verdict.wrong.is_none();
     let put = put_line(file, &verdict, task, console);
     drop(verdict);
     put?;
     if !is_right {
-        note_archive(rt, file, console);
+        note_archive(rt, path_or(&path, file), console);
     }
+    drop(path);
     Ok(is_right)
 }
 
 // When a file was built, none where it can't be opened, which is reported.
-fn epoch_of<R: Files, O: Write, E: Pace>(
+fn epoch_of<R: Files + Env, O: Write, E: Pace>(
     rt: &R,
     file: &str,
     console: &mut Console<'_, O, E>,
@@ -362,7 +364,7 @@ fn epoch_of<R: Files, O: Write, E: Pace>(
 }
 
 // Verifies files as a task says, and answers the status.
-fn verify_all<R: Files, O: Write, E: Pace>(
+fn verify_all<R: Files + Env, O: Write, E: Pace>(
     rt: &R,
     files: &[&str],
     task: VerifyTask<'_>,
@@ -383,11 +385,12 @@ fn verify_all<R: Files, O: Write, E: Pace>(
 /// Writes of each file what is wrong with it, if something is, and answers the status: whether it is whole and, unless only
 /// that is asked, all its records can be read, and whether it is of the type and the time that are asked for. An `Err` where an
 /// argument is not what is wanted in its place, standard output can't be written, or out of memory.
-pub fn verify<R: Files + Clock, O: Write, E: Pace>(
+pub fn verify<R: Files + Env + Clock, O: Write, E: Pace>(
     rt: &R,
     arguments: &VerifyArguments<'_>,
     console: &mut Console<'_, O, E>,
 ) -> Result<u8, ProgramError> {
+    console.names_found = !arguments.quiet;
     let mut task = VerifyTask {
         whole: arguments.whole,
         database_type: None,

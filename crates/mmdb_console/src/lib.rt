@@ -3,6 +3,7 @@
 #![tactic(auto)]
 
 mod archive;
+mod elsewhere;
 mod error;
 mod output;
 mod paths;
@@ -12,6 +13,7 @@ mod ranges;
 mod similar;
 
 pub use archive::{Archive, note_archive};
+pub use elsewhere::{file_elsewhere, path_elsewhere};
 pub use error::ProgramError;
 pub use mmdb_main::{BAD_ARGUMENTS, DONE, FAILED};
 pub use output::{

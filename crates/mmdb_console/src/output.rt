@@ -41,6 +41,8 @@ pub struct Console<'c, O: Write, E: Write> {
     pub terminals: Terminals,
     pub out: &'c mut O,
     pub errors: &'c mut E,
+    /// Whether a database that was found elsewhere is named.
+    pub names_found: bool,
     /// Whether a terminal shows how far it is.
     is_progress_shown: bool,
 }
@@ -80,6 +82,7 @@ impl<'c, O: Write, E: Write> Console<'c, O, E> {
             terminals,
             out,
             errors,
+            names_found: true,
             is_progress_shown: false,
         }
     }

@@ -11,5 +11,7 @@ mod layout;
 pub use absent::{FieldsMet, absent_text};
 pub use choice::Choice;
 pub use condition::{Condition, Requirement, split_condition};
-pub use database::{Database, Found, Networks, networks_in, open_database};
+pub use database::{
+    Database, Found, Networks, Opened, networks_in, open_at, open_database, open_found, path_or,
+};
 pub use layout::{ChosenFields, Layout, layout_of, line_of_cells, line_of_names, write_values};

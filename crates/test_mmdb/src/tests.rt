@@ -1,6 +1,7 @@
 //! What no clause says of the program `mmdb`: worked texts, words, statuses and errors.
 mod changes;
 mod diffs;
+mod elsewhere;
 mod exports;
 mod failures;
 mod faults;

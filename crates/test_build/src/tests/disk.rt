@@ -28,6 +28,9 @@ pub(crate) const PIPE: &str = "pipe";
 /// Where a link leads.
 const TARGET: &str = "out.mmdb";
 
+/// The folders in which databases are looked for: the disk has files whose names have them.
+const FOLDERS: &str = ":first:own/";
+
 /// The number of the process that runs, and that of another one.
 const THIS_PROCESS: &str = "42";
 
@@ -77,6 +80,15 @@ impl Disk {
             fails_at,
             epoch,
             mode: Cell::new(0),
+        }
+    }
+
+    // What a variable has, if it is there.
+    fn variable(&self, name: &str) -> Option<&'static str> {
+        match name {
+            "SOURCE_DATE_EPOCH" => self.epoch,
+            "MMDB_PATH" => Some(FOLDERS),
+            _ => None,
         }
     }
 
@@ -367,8 +379,8 @@ impl Env for DiskRuntime<'_> {
         Err(FillError::NotPresent)
     }
 
-    fn var(&self, _name: &str, buf: &mut [u8]) -> Result<usize, FillError> {
-        let Some(text) = self.disk.epoch else {
+    fn var(&self, name: &str, buf: &mut [u8]) -> Result<usize, FillError> {
+        let Some(text) = self.disk.variable(name) else {
             return Err(FillError::NotPresent);
         };
         if text.len() > buf.len() {

@@ -311,6 +311,121 @@ fn what_a_link_leads_to_is_replaced(rt: HostRuntime) {
     assert!(rt; disk.get(LINK).is_none(), "the link is gone");
 }
 
+/// Names of a new file, where it is, the status, and how what is said begins.
+const ELSEWHERE: &[(&str, &str, u8, &str)] = &[
+    (
+        "new",
+        "new.mmdb",
+        0,
+        "mmdb: new: new.mmdb\nmmdb: out.mmdb: new.mmdb is installed, ",
+    ),
+    (
+        "City",
+        "own/City.mmdb",
+        0,
+        "mmdb: City: own/City.mmdb\nmmdb: out.mmdb: own/City.mmdb is installed, ",
+    ),
+    (
+        "City.mmdb",
+        "/usr/share/GeoIP/City.mmdb",
+        0,
+        "mmdb: City.mmdb: /usr/share/GeoIP/City.mmdb\nmmdb: out.mmdb: /usr/share/GeoIP/City.mmdb is installed, ",
+    ),
+    ("City", "elsewhere/City", 1, "mmdb: City: no such file\n"),
+    ("./City", "own/City", 1, "mmdb: ./City: no such file\n"),
+    (
+        DEAD_LINK,
+        "elsewhere/City",
+        1,
+        "mmdb: dead.mmdb: a link that leads nowhere\n",
+    ),
+];
+
+#[test]
+fn a_new_file_is_found_elsewhere(rt: HostRuntime) {
+    let alloc = rt.alloc();
+    for (name, path, status, said) in ELSEWHERE {
+        let disk = disk_with(
+            &rt,
+            alloc,
+            &[],
+            b"{\"network\":\"3.0.0.0/8\",\"record\":1}\n",
+        );
+        let new = disk.get("new.mmdb").expect(&rt, "a file");
+        let _ = disk.put(path, &new);
+        let asked = InstallArguments {
+            new: *name,
+            ..arguments("out.mmdb", None, false)
+        };
+        let run = install_on(alloc, &disk, &asked);
+        let is_new = are_same(&disk, "out.mmdb", "new.mmdb");
+        assert!(rt;
+            run.status == Some(*status) && is_new == (*status == 0) && run.err().starts_with(said),
+            "{said}: {}",
+            run.err()
+        );
+    }
+}
+
+#[test]
+fn what_is_written_is_not_looked_for(rt: HostRuntime) {
+    let alloc = rt.alloc();
+    let disk = disk_with(
+        &rt,
+        alloc,
+        &[],
+        b"{\"network\":\"3.0.0.0/8\",\"record\":1}\n",
+    );
+    let old = disk.get("out.mmdb").expect(&rt, "a file");
+    let _ = disk.put("own/City", &old);
+    let run = install_on(alloc, &disk, &arguments("City", None, false));
+    assert!(rt;
+        run.status == Some(0)
+            && are_same(&disk, "City", "new.mmdb")
+            && are_same(&disk, "own/City", "out.mmdb"),
+        "{}",
+        run.err()
+    );
+}
+
+#[test]
+fn a_file_of_types_is_found_elsewhere(rt: HostRuntime) {
+    let alloc = rt.alloc();
+    let disk = disk_with(&rt, alloc, &[], OLD);
+    let old = disk.get("out.mmdb").expect(&rt, "a file");
+    let _ = disk.put("own/Types.mmdb", &old);
+    let words = [
+        "mmdb",
+        "build",
+        "made.mmdb",
+        "--types-like",
+        "Types",
+        "--from",
+        "-",
+    ];
+    let run = run_on(alloc, &disk, &words, OLD);
+    assert!(rt;
+        run.status == Some(0) && run.err().starts_with("mmdb: Types: own/Types.mmdb\n"),
+        "{}",
+        run.err()
+    );
+    let words = [
+        "mmdb",
+        "build",
+        "made.mmdb",
+        "--types-like",
+        "None",
+        "--from",
+        "-",
+    ];
+    let run = run_on(alloc, &disk, &words, OLD);
+    assert!(rt;
+        run.status == Some(1) && run.err() == "mmdb: None: i/o error: entity not found\n",
+        "{}",
+        run.err()
+    );
+}
+
 /// Shares that are none.
 const NO_SHARES: &[&str] = &["", "-1", "101", "100.001", "1.2345", ".5", "1.", "1e1", "x"];
 

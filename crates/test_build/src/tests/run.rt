@@ -108,7 +108,7 @@ pub(crate) fn run_on(alloc: Global, disk: &Disk, texts: &[&str], input: &[u8]) -
 }
 
 // The command `install` over a runtime.
-fn install_over<R: Files + Clock>(
+fn install_over<R: Files + Env + Clock>(
     alloc: Global,
     rt: &R,
     arguments: &InstallArguments<'_>,
