@@ -111,7 +111,8 @@ fn push_text(text: &str, line: &mut Vec<u8>) -> Result<(), AllocError> {
 // Adds a network and the end of its line.
 fn push_whole(network: IpNetwork, line: &mut Vec<u8>) -> Result<(), AllocError> {
     network.push_text(line)?;
-    line.push(b'\n')
+    line.push(b'\n')?;
+    Ok(())
 }
 
 // Adds a network between two texts.
@@ -215,10 +216,11 @@ impl Action {
     // Adds what comes before a network of a line of its own.
     fn push_sign(self, line: &mut Vec<u8>) -> Result<(), AllocError> {
         match self {
-            Action::Fill => Ok(()),
-            Action::Remove => line.push(b'-'),
-            Action::Add => line.push(b'+'),
+            Action::Fill => {}
+            Action::Remove => line.push(b'-')?,
+            Action::Add => line.push(b'+')?,
         }
+        Ok(())
     }
 }
 
