@@ -74,6 +74,10 @@ impl<'e, E: Pace> Progress for Watch<'e, E> {
         true
     }
 
+    fn has_read(&mut self) -> bool {
+        true
+    }
+
     fn stays_quoted(&mut self, rows: u64) {
         self.quoted = self.quoted.saturating_add(1);
         if self.is_quiet || self.quoted > MOST_SAID {

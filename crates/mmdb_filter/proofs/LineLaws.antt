@@ -8,8 +8,8 @@ use Rattle.std.specs.Io.KnownBytes.{Appends, Consumes, Keeps, IsAtEnd}
 use Rattle.std.proofs.KnownBytes.{Appends-nil, Appends-trans}
 use Rattle.mmdb_filter.specs.Counting.{count_one}
 use Rattle.mmdb_filter.specs.Rows.{row_from, rows_after, Goes, Leads}
-use Rattle.mmdb_filter.specs.Lines.{MayAdd, Line, AreLines, IsAdded, StandsBehind, seen_of, is_long, row_with, written, counted, AppendsFront, IsFiltered, IsBegun}
-use Rattle.mmdb_filter.specs.Working.{Passes, PassesFront, UnderWay, GoOn, IsBegunWith}
+use Rattle.mmdb_filter.specs.Lines.{MayAdd, Line, AreLines, IsAdded, StandsBehind, seen_of, is_long, row_with, written, AppendsFront, IsFiltered, IsBegun}
+use Rattle.mmdb_filter.specs.Working.{Passes, PassesFront, UnderWay, GoOn, IsPutFrom, IsBegunWith}
 use Rattle.mmdb_filter.specs.declared.counts.Counts.{Counts}
 use Rattle.mmdb_filter.specs.declared.counts.Outcome.{Outcome}
 use Rattle.mmdb_filter.specs.declared.rows.Rows.{Rows}
@@ -29,6 +29,23 @@ pub way_kept : (rows : Rows) (Adds : MayAdd) (input left old now new : Option (L
 way_kept rows Adds None left old now new ready before c way k = tt
 way_kept rows Adds (Some all) None old now new ready before c way k = absurd way
 way_kept rows Adds (Some all) (Some xs) old now new ready before c way k = (way.0, appends_kept old now new way.0 way.1 k, way.2)
+
+-- the same where a beginning of what is ready was written, and the input was read
+pub refilled : (rows : Rows) (Adds : MayAdd) (input left next old now new : Option (List ℕ)) (ready rest : List ℕ) (before c : Counts)
+    → UnderWay rows Adds input left old now ready before c → Keeps left next → IsPutFrom ready rest now new → UnderWay rows Adds input next old new rest before c
+refilled rows Adds None left next old now new ready rest before c way k put = tt
+refilled rows Adds (Some all) None next old now new ready rest before c way k put = absurd way
+refilled rows Adds (Some all) (Some xs) None old now new ready rest before c way k put = absurd k
+refilled rows Adds (Some all) (Some xs) (Some ys) old now new ready rest before c way k put =
+    let (done, appended, goes_on) = way in
+    let (more, split, more_appended) = put in (
+      done ++ more,
+      Appends-trans old now new done more appended more_appended,
+      λ behind lines are.
+          let (whole, wholes, text, counts) = goes_on behind lines (subst (λ l. AreLines rows Adds lines l behind) k are) in
+          let others = written lines in
+          (whole, wholes, text ∙ ap (λ r. done ++ (r ++ others)) split ∙ ap (λ l. done ++ l) (append_assoc more rest others) ∙ sym (append_assoc done more (rest ++ others)), counts),
+    )
 
 -- what is seen of a chunk is seen of the row
 pub seen_whole : (rows : Rows) (position : RowPosition) (chunk ys : List ℕ) → (position ≢ Ended → length chunk < 65539 → ys ≡ [])

@@ -50,6 +50,10 @@ GoOn rows Adds xs n old new before after =
     (ys rest : List ℕ) (lines : List Line) → AreLines rows Adds lines (drop n xs ++ ys) rest
     → (whole : List Line) × AreLines rows Adds whole (xs ++ ys) rest × (old ++ written whole ≡ new ++ written lines) × (counted before whole ≡ counted after lines)
 
+-- A beginning of what is ready was written, and this is ready then.
+abbrev pub IsPutFrom : List ℕ → List ℕ → Option (List ℕ) → Option (List ℕ) → Type 0
+IsPutFrom ready rest old new = (done : List ℕ) × (ready ≡ done ++ rest) × Appends old new done
+
 -- What was written, and then what is ready, is a beginning of the first rows with what is added.
 abbrev pub IsBegunWith : Rows → MayAdd → Option (List ℕ) → Option (List ℕ) → Option (List ℕ) → List ℕ → Type 0
 IsBegunWith rows Adds input old new ready =

@@ -7,13 +7,14 @@ ghost use Rattle.mmdb_filter.specs.Working.{UnderWay, IsBegunWith};
 ghost use Rattle.mmdb_filter.specs.declared.counts.Counts.{Counts as SpecCounts};
 ghost use Rattle.mmdb_filter.specs.declared.counts.Outcome.{Outcome as SpecOutcome};
 
-use crate::at_hand::{AtHand, READY, pass_at_hand};
+use crate::at_hand::{AtHand, pass_at_hand};
 use crate::batch::Batch;
 use crate::chunk::read_live;
 use crate::counts::{Counts, Outcome};
-use crate::live::{Live, flush_before_read};
+use crate::live::Live;
 use crate::pass::pass_chunks;
 use crate::put::put_ready;
+use crate::refill::refill;
 use crate::rows::{RowPosition, Rows};
 use crate::text::{seen, text_length};
 use std::alloc::{AllocError, Global};
@@ -67,6 +68,9 @@ pub trait Additions {
 pub trait Progress {
     /// The rows that passed fared so. Whether the filter goes on; else it ends before the next row.
     fn passed(&mut self, counts: Counts) -> bool;
+
+    /// The input was read, which may have waited. Whether the filter goes on; else it ends before the row that comes.
+    fn has_read(&mut self) -> bool;
 
     /// The row after this many is between quotes where 65,539 bytes of it are read, or where the input ends.
     fn stays_quoted(&mut self, rows: u64);
@@ -195,9 +199,8 @@ fn pass_all<A: Additions, R: Live, W: Write, P: Progress>(
                 return Ok(false);
             }
         }
-        if input.is_drained() || batch.ready.len() >= READY {
-            put_ready(out, &mut batch.ready)?;
-            flush_before_read(input, out)?;
+        if let Some(is_end) = refill(input, &mut batch.ready, out, progress)? {
+            return Ok(is_end);
         }
         match pass_at_hand(rows, additions, memory, input, asked, batch, progress)? {
             AtHand::End => return Ok(true),
@@ -216,7 +219,7 @@ fn pass_all<A: Additions, R: Live, W: Write, P: Progress>(
 
 /// Copies rows, with what is added to each before its last bytes, and counts how they fared, with those that were counted
 /// before. It ends at the input's end, or before a row where it is asked to; then the rows that are left may be filtered
-/// by another call. A last row without an end stays without. A long row passes in chunks. `out` is flushed before each
+/// by another call, also with other additions. A last row without an end stays without. A long row passes in chunks. `out` is flushed before each
 /// read of the input, which may wait, and not at the end.
 ///
 /// An `Err` is of the input, the output or memory, or there are 2^64 - 1 rows; a beginning of that was written then.

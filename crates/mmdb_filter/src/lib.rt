@@ -11,6 +11,7 @@ mod live;
 mod pass;
 mod put;
 mod quotes;
+mod refill;
 mod rows;
 mod runs;
 mod text;

@@ -1,8 +1,6 @@
 //! Inputs that may wait for what comes later.
-ghost use Rattle.std.specs.Io.KnownBytes.{Keeps};
-
 use std::alloc::Allocator;
-use std::io::{self, BufRead, BufReader, Read, Write};
+use std::io::{BufRead, BufReader, Read};
 
 /// An input that says whether a read comes next, which may wait for what comes later.
 pub trait Live: BufRead {
@@ -21,17 +19,5 @@ impl<R: Read, A: Allocator> Live for BufReader<R, A> {
 impl Live for &[u8] {
     fn is_drained(&self) -> bool {
         false
-    }
-}
-
-/// Writes out what is buffered where a read comes next, so that it is not held back while that waits.
-#[inline(always)]
-pub(crate) fn flush_before_read<R: Live, W: Write>(input: &R, out: &mut W) -> io::Result<()>
-    ensures { Keeps (W.contents out.old) (W.contents out.new) }
-{
-    if input.is_drained() {
-        out.flush()
-    } else {
-        Ok(())
     }
 }

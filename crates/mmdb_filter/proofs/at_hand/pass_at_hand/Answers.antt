@@ -1,8 +1,7 @@
-use Rattle.std.proofs.Common.{◌≡◌, ◌≤◌, length, None, Some, Option, OnSome, List, ℕ, subst}
-use Rattle.std.specs.Io.KnownBytes.{IsAtEnd}
+use Rattle.std.proofs.Common.{◌≤◌, length, subst}
 use Rattle.std.specs.Io.BufRead.{FillKeeps}
 use Rattle.std.proofs.BufReadLemmas.{Consumes_shown}
-use Rattle.mmdb_filter.proofs.LineLaws.{more_ready, way_of_kept}
+use Rattle.mmdb_filter.proofs.LineLaws.{more_ready}
 use Rattle.mmdb_filter.proofs.at_hand.pass_at_hand.Goals as goal
 
 pub returns-clause-way : goal.returns-clause-way

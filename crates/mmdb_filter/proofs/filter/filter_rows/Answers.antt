@@ -1,5 +1,4 @@
-use Rattle.std.proofs.Common.{◌≡◌, refl, subst}
-use Rattle.mmdb_filter.specs.Lines.{IsBegun}
+use Rattle.std.proofs.Common.{subst}
 use Rattle.mmdb_filter.specs.Working.{UnderWay, IsBegunWith}
 use Rattle.mmdb_filter.proofs.FrontLaws.{on_any_err}
 use Rattle.mmdb_filter.proofs.LineLaws.{started, either, ready_put, ended, given_up, given_up_between, written_out, written_in}

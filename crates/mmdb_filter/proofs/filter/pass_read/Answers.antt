@@ -1,4 +1,4 @@
-use Rattle.std.proofs.Common.{rules, ◌≡◌, ◌+◌, ◌<◌, ◌≤◌, true, false, ◌++◌, [], ◌∷◌, List, ℕ, length, refl, sym, ap, ◌∙◌, subst, arith}
+use Rattle.std.proofs.Common.{rules, ◌≡◌, ◌+◌, ◌<◌, ◌≤◌, true, ◌++◌, [], ◌∷◌, List, ℕ, length, refl, sym, ap, ◌∙◌, subst, arith}
 use Rattle.mmdb_filter.specs.Rows.{Leads}
 use Rattle.mmdb_filter.specs.Lines.{IsAdded, StandsBehind, most_seen, seen_of, is_long}
 use Rattle.mmdb_filter.specs.Working.{UnderWay}

@@ -1,5 +1,5 @@
 use Rattle.std.proofs.Common.{rules, ◌≡◌, ◌≢◌, ◌≤◌, ◌-◌, ◌++◌, [], length, take, drop, OnSome, sym, ap, ◌∙◌, subst, arith, take-append-drop, append-nil, length-drop}
-use Rattle.std.specs.Io.KnownBytes.{Appends, IsAtEnd}
+use Rattle.std.specs.Io.KnownBytes.{IsAtEnd}
 use Rattle.mmdb_filter.specs.Lines.{row_with, AppendsFront}
 use Rattle.mmdb_filter.specs.declared.rows.RowPosition.TheVariants as spec_position
 use Rattle.mmdb_filter.proofs.FrontLaws.{on_any_err, front_whole, appends_kept}

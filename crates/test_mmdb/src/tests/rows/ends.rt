@@ -15,6 +15,10 @@ impl Progress for Once {
         goes_on
     }
 
+    fn has_read(&mut self) -> bool {
+        true
+    }
+
     fn stays_quoted(&mut self, _rows: u64) {}
 
     fn is_occupied(&mut self, _rows: u64) {}
