@@ -2,13 +2,17 @@
 use clap::{Arg, ArgAction, Command};
 use std::alloc::{AllocError, Global};
 
-const SHOW_EXAMPLE: &str = "Example:
-  mmdb show GeoLite2-City.mmdb 1.1.1.1 2001:db8::1 --path country.iso_code
+const SHOW_EXAMPLE: &str = "Examples:
+  mmdb show GeoLite2-City.mmdb 1.1.1.1 2001:db8::1 --field country.iso_code
+  mmdb show GeoLite2-City.mmdb GeoLite2-ASN.mmdb 1.1.1.1
 
-With --path each value stands alone, as JSON. A path has dots between its
+With --field each value stands alone, as JSON, or where one has a name, as in
+cc=country.iso_code, in an object with its address. A path has dots between its
 steps; an integer is an index, negative from the end; a key in double quotes
-may hold dots or digits. The status is 0 if all were found, 6 if one was not,
-1 for an error, 2 for a usage error.";
+may hold dots, digits or =. Of several files each address gets an object with
+what each of them has, by its database type; with --field the value is that of
+the first file that has one. The status is 0 if all were found, 6 if one was
+not, 1 for an error, 2 for a usage error.";
 
 const INFO_EXAMPLE: &str = "Examples:
   mmdb info GeoLite2-City.mmdb --json
@@ -50,9 +54,10 @@ has control characters; any other value is JSON. With --delimiter , the input is
 CSV: cells may be in quotes, and added cells are where they need them, unless with
 --no-quotes. The address is looked for in the first 65,536 bytes of a line.
 
-With --json a line that is an object gets an object of the fields as its last
-member, named by --into. A field is named by its path's last step, or by
-NAME=PATH. All other lines stay as they are.";
+A field has the name that NAME=PATH gives it, or its path's text. With --json a
+line that is an object gets an object of the fields as its last member, named by
+--into; without a name a field has its path's last step for one. All other lines
+stay as they are.";
 
 const EXPORT_EXAMPLE: &str = "Examples:
   mmdb export GeoLite2-Country.mmdb 81.2.69.0/24 --field country.iso_code
@@ -60,7 +65,8 @@ const EXPORT_EXAMPLE: &str = "Examples:
 
 The networks come ascending, one a line: an object with the network and its
 record, or with the network and the value at each path; or, as csv, rows of
-cells below a header row. In a cell a text stands as it is, and any other value
+cells below a header row. Each value has the name that NAME=PATH gives it, or
+its path's text. In a cell a text stands as it is, and any other value
 as JSON. Where a path leads nowhere a cell is empty, and a value null. A network
 whose record or field can't be read has no line: it is named on standard error,
 and the status is 1 at the end.
@@ -70,7 +76,8 @@ a text as it stands, any other scalar as its JSON. PATH=@FILE has a value a line
 and @@ stands for a @ that a value begins with. --where-contains wants a text
 that has this text in it, and --where-has any value. Several values of one option
 at one path are alternatives, options and paths must all fit, and --where-not
-leaves out.
+leaves out. --where-above and --where-below want a number that is greater or less
+than one as JSON writes it (100, -3.5, 1e3), and than each where there are several.
 
 All other formats write no records but the fewest blocks that have the addresses
 of the networks, and those in the files of --also, but none in those of --except:
@@ -149,6 +156,8 @@ enum Argument {
     Default(&'static str, &'static str, &'static str, &'static str),
     /// An option with a value, which has to be given.
     Needed(&'static str, &'static str, &'static str),
+    /// An option with a value each time that it is given, under either of two names, of which help shows the first.
+    Aliased(&'static str, &'static str, &'static str, &'static str),
     /// An option with one of these values, the first if it is not given.
     Choice(&'static str, &'static str, &'static str, &'static [&'static str]),
     /// An option with one of these values.
@@ -164,9 +173,18 @@ impl Argument {
             Argument::Flag(name, _) => Some(name),
             Argument::Value(name, _, _) => Some(name),
             Argument::Values(name, _, _) => Some(name),
+            Argument::Aliased(name, _, _, _) => Some(name),
             Argument::OneOf(name, _, _, _) => Some(name),
             Argument::Without(name, _, _, _) => Some(name),
             _ => None,
+        }
+    }
+
+    // Whether a word of the command line gives an option of this name or of its other one.
+    fn is_given(self, name: &str, words: &[String]) -> bool {
+        match self {
+            Argument::Aliased(_, other, _, _) => is_given(words, name) || is_given(words, other),
+            _ => is_given(words, name),
         }
     }
 }
@@ -191,10 +209,11 @@ struct Usage {
 
 const FILE: Argument = Argument::Required("FILE", "A MaxMind DB file");
 
-const FIELDS: Argument = Argument::Values(
+const FIELDS: Argument = Argument::Aliased(
     "field",
+    "path",
     "PATH",
-    "Only the value at a path, as country.iso_code; may be repeated",
+    "Only the value at a path, as country.iso_code, or NAME=PATH; may be repeated",
 );
 
 const WHERE: Argument = Argument::Values(
@@ -219,6 +238,18 @@ const WHERE_HAS: Argument = Argument::Values(
     "where-has",
     "PATH",
     "Only networks with any value at the path; may be repeated",
+);
+
+const WHERE_ABOVE: Argument = Argument::Values(
+    "where-above",
+    "PATH=NUMBER",
+    "Only networks with a greater number at the path; may be repeated",
+);
+
+const WHERE_BELOW: Argument = Argument::Values(
+    "where-below",
+    "PATH=NUMBER",
+    "Only networks with a smaller number at the path; may be repeated",
 );
 
 const ALSO: Argument = Argument::Values(
@@ -277,12 +308,8 @@ const READING: &[Usage] = &[
         example: SHOW_EXAMPLE,
         arguments: &[
             FILE,
-            Argument::Several("ADDR", "IPv4 or IPv6 addresses"),
-            Argument::Values(
-                "path",
-                "PATH",
-                "Only the value at a path, as subdivisions.0.names.en; may be repeated",
-            ),
+            Argument::Several("ADDR", "IPv4 or IPv6 addresses, and more files"),
+            FIELDS,
             Argument::Flag(
                 "lines",
                 "One line each, as where standard output is no terminal",
@@ -319,14 +346,15 @@ const READING: &[Usage] = &[
                 "CHARACTER",
                 "What stands between columns, a tab if not given; any other means CSV",
             ),
-            Argument::Values(
+            Argument::Aliased(
                 "field",
+                "path",
                 "PATH",
-                "A field to add, as country.iso_code; may be repeated; needed unless with --json",
+                "A field to add, or NAME=PATH; may be repeated; needed unless with --json",
             ),
             Argument::Flag(
                 "header",
-                "The first line names the columns; the paths are added to it",
+                "The first line names the columns; the fields' names are added to it",
             ),
             Argument::Without(
                 "json",
@@ -364,6 +392,10 @@ const READING: &[Usage] = &[
             ),
             Argument::Flag("strict", "Status 1 where there is anything to warn of"),
             Argument::Flag("quiet", "No notes on standard error"),
+            Argument::Flag(
+                "reload",
+                "Use a database that is replaced meanwhile, within a second",
+            ),
         ],
     },
 ];
@@ -392,6 +424,8 @@ const EXPORTING: &[Usage] = &[Usage {
         WHERE_NOT,
         WHERE_CONTAINS,
         WHERE_HAS,
+        WHERE_ABOVE,
+        WHERE_BELOW,
         ALSO,
         EXCEPT,
         IPV4,
@@ -434,6 +468,8 @@ const COMPARING: &[Usage] = &[Usage {
         WHERE_NOT,
         WHERE_CONTAINS,
         WHERE_HAS,
+        WHERE_ABOVE,
+        WHERE_BELOW,
         ALSO,
         EXCEPT,
         IPV4,
@@ -604,6 +640,10 @@ fn argument_of<'a>(alloc: Global, argument: Argument) -> Result<Arg<'a>, AllocEr
         Argument::Values(name, value, help) => {
             option(alloc, name, value, help).action(ArgAction::Append)
         }
+        Argument::Aliased(name, other, value, help) => {
+            let argument = option(alloc, name, value, help).action(ArgAction::Append);
+            return argument.alias(other);
+        }
         Argument::Default(name, value, help, default) => {
             option(alloc, name, value, help).default_value(default)
         }
@@ -634,7 +674,7 @@ fn is_given(words: &[String], name: &str) -> bool {
 // Whether an argument is made.
 fn is_made(argument: Argument, words: &[String], options: MadeOptions) -> bool {
     match argument.optional_name() {
-        Some(name) => options == MadeOptions::All || is_given(words, name),
+        Some(name) => options == MadeOptions::All || argument.is_given(name, words),
         None => true,
     }
 }

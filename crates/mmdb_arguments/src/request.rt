@@ -3,15 +3,14 @@ use crate::commands::{MadeOptions, command};
 use crate::rejected::NoRequest;
 use clap::ArgMatches;
 use std::alloc::{AllocError, Global};
-use std::net::IpAddr;
 
 /// The arguments of `show`.
 #[derive(Drop)]
 pub struct ShowArguments<'a> {
-    pub file: &'a str,
-    pub addresses: Vec<IpAddr>,
-    /// Texts that should be paths.
-    pub paths: Vec<&'a str>,
+    /// Texts that should be files or addresses, in the order given.
+    pub asked: Vec<&'a str>,
+    /// Texts that should be paths, or names with paths.
+    pub fields: Vec<&'a str>,
     pub lines: bool,
 }
 
@@ -41,7 +40,7 @@ pub struct EnrichArguments<'a> {
     pub delimiter: Option<&'a str>,
     /// A text that should be the number of a column, or with a header its name.
     pub column: &'a str,
-    /// Texts that should be paths.
+    /// Texts that should be paths, or names with paths.
     pub fields: Vec<&'a str>,
     pub header: bool,
     /// Where lines are JSON, a text that should be the path of the address in an object.
@@ -61,6 +60,8 @@ pub struct EnrichArguments<'a> {
     pub strict: bool,
     /// Whether nothing is said but what sets the status.
     pub quiet: bool,
+    /// Whether files that are replaced meanwhile are opened anew.
+    pub reload: bool,
 }
 
 /// The formats of an export.
@@ -95,6 +96,10 @@ pub struct ConditionTexts<'a> {
     pub contains: Vec<&'a str>,
     /// Texts that should be paths at which there is to be a value.
     pub has: Vec<&'a str>,
+    /// Texts that should be paths with numbers that are to be exceeded.
+    pub above: Vec<&'a str>,
+    /// Texts that should be paths with numbers that are not to be reached.
+    pub below: Vec<&'a str>,
 }
 
 /// Which addresses a list of networks has, beside the conditions.
@@ -128,7 +133,7 @@ pub struct ExportArguments<'a> {
     pub file: &'a str,
     /// A text that should be a network.
     pub range: Option<&'a str>,
-    /// Texts that should be paths.
+    /// Texts that should be paths, or names with paths.
     pub fields: Vec<&'a str>,
     pub format: Format,
     pub conditions: ConditionTexts<'a>,
@@ -142,7 +147,7 @@ pub struct DiffArguments<'a> {
     pub new: &'a str,
     /// A text that should be a network.
     pub range: Option<&'a str>,
-    /// Texts that should be paths.
+    /// Texts that should be paths, or names with paths.
     pub fields: Vec<&'a str>,
     pub is_csv: bool,
     pub exit_code: bool,
@@ -250,17 +255,6 @@ pub enum Request<'a> {
     Verify(VerifyArguments<'a>),
 }
 
-fn addresses_of(alloc: Global, texts: &[&str]) -> Result<Vec<IpAddr>, NoRequest> {
-    let mut addresses = Vec::new(alloc);
-    for text in texts {
-        match text.parse::<IpAddr>() {
-            Ok(address) => addresses.push(address)?,
-            Err(_) => return Err(NoRequest::bad_argument(alloc, text, "not an IP address")),
-        }
-    }
-    Ok(addresses)
-}
-
 // The values of an argument.
 fn texts_of<'a>(
     alloc: Global,
@@ -277,11 +271,11 @@ fn file_of<'a>(matches: &ArgMatches<'a>) -> &'a str {
 }
 
 fn show<'a>(alloc: Global, matches: &ArgMatches<'a>) -> Result<Request<'a>, NoRequest> {
-    let addresses = addresses_of(alloc, matches.get_strs("ADDR").unwrap_or(&[]))?;
+    let mut asked = texts_of(alloc, matches, "FILE")?;
+    asked.extend_from_slice(matches.get_strs("ADDR").unwrap_or(&[]))?;
     Ok(Request::Show(ShowArguments {
-        file: file_of(matches),
-        addresses,
-        paths: texts_of(alloc, matches, "path")?,
+        asked,
+        fields: texts_of(alloc, matches, "field")?,
         lines: matches.get_flag("lines"),
     }))
 }
@@ -322,6 +316,7 @@ fn enrich<'a>(alloc: Global, matches: &ArgMatches<'a>) -> Result<Request<'a>, No
         no_quotes: matches.get_flag("no-quotes"),
         strict: matches.get_flag("strict"),
         quiet: matches.get_flag("quiet"),
+        reload: matches.get_flag("reload"),
     }))
 }
 
@@ -347,11 +342,15 @@ fn condition_texts<'a>(
     let where_nots = texts_of(alloc, matches, "where-not")?;
     let contains = texts_of(alloc, matches, "where-contains")?;
     let has = texts_of(alloc, matches, "where-has")?;
+    let above = texts_of(alloc, matches, "where-above")?;
+    let below = texts_of(alloc, matches, "where-below")?;
     Ok(ConditionTexts {
         wheres,
         where_nots,
         contains,
         has,
+        above,
+        below,
     })
 }
 
@@ -408,6 +407,8 @@ fn list_argument(arguments: &ExportArguments<'_>) -> Option<&'static str> {
         ("--where-not", !conditions.where_nots.is_empty()),
         ("--where-contains", !conditions.contains.is_empty()),
         ("--where-has", !conditions.has.is_empty()),
+        ("--where-above", !conditions.above.is_empty()),
+        ("--where-below", !conditions.below.is_empty()),
         ("--also", !list.also.is_empty()),
         ("--except", !list.except.is_empty()),
         ("--ipv4", list.ipv4),

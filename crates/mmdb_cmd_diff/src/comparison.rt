@@ -43,7 +43,7 @@ fn diff_task<'a>(
         old: arguments.old,
         new: arguments.new,
         range: range_of(alloc, arguments.range)?,
-        layout: layout_of(alloc, arguments.is_csv, arguments.fields.as_slice())?,
+        layout: layout_of(alloc, arguments.is_csv, arguments.fields.as_slice(), &[])?,
         exit_code: arguments.exit_code,
     })
 }
@@ -439,14 +439,14 @@ fn note_absent<O: Write, E: Pace>(
     console: &mut Console<'_, O, E>,
 ) -> Result<(), ProgramError> {
     let alloc = console.alloc;
-    let mut met = FieldsMet::new(alloc, task.layout.names().len())?;
+    let mut met = FieldsMet::new(alloc, task.layout.paths().len())?;
     for database in [databases.newer(), databases.old()] {
         if let Ok(networks) = networks_in(alloc, database, Some(range)) {
             look_at(alloc, networks, &task.layout, &mut met)?;
         }
     }
     met.note_absent(
-        task.layout.names(),
+        task.layout.path_texts(),
         databases.newer().data_section(),
         console,
     )

@@ -562,7 +562,7 @@ pub(crate) fn put_names<O: Write>(
 ) -> Result<(), ProgramError> {
     match layout {
         Layout::Cells(fields) => {
-            let line = line_of_names(alloc, &["old.", "new."], fields.names)?;
+            let line = line_of_names(alloc, &["old.", "new."], fields.names.as_slice())?;
             put(line.as_slice(), out)
         }
         Layout::Records | Layout::Values(_) => Ok(()),

@@ -2,9 +2,12 @@
 use crate::inputs::{Named, ValueFile, named_by, text_of_file, values_in};
 use mmdb_arguments::{ConditionTexts, NoRequest};
 use mmdb_console::{path_of, wanted_path};
-use mmdb_layout::{Condition, Requirement, split_condition};
+use mmdb_layout::{Condition, Requirement, is_comparable, split_condition};
 use mmdb_reader::PathElement;
 use std::alloc::{AllocError, Global};
+
+/// What is said of a text that is no path with a number.
+const NO_BOUND: &str = "not PATH=NUMBER, a number as JSON writes it, with an exponent below 2^64";
 
 // Which condition is on a path and wants the same of it, if there is one.
 fn place_of(
@@ -145,6 +148,61 @@ fn add_paths<'a>(
     Ok(())
 }
 
+// The option that wants this of a number.
+fn option_of(wanted: Requirement) -> &'static str {
+    match wanted {
+        Requirement::Below => "--where-below",
+        _ => "--where-above",
+    }
+}
+
+// An `Err` for a text that is no path with a number.
+fn bad_bound(alloc: Global, text: &str, wanted: Requirement) -> NoRequest {
+    let option = option_of(wanted);
+    let argument: Result<String, AllocError> = format!(in alloc; "{option} {text}");
+    match &argument {
+        Ok(argument) => NoRequest::bad_argument(alloc, argument.as_str(), NO_BOUND),
+        Err(_) => NoRequest::Memory,
+    }
+}
+
+// The path and the number of a text `PATH=NUMBER`.
+fn bound_of<'a>(
+    alloc: Global,
+    text: &'a str,
+    wanted: Requirement,
+) -> Result<(Vec<PathElement<'a>>, &'a str), NoRequest> {
+    match split_condition(text) {
+        Some((path, number)) if is_comparable(number) => Ok((wanted_path(alloc, path)?, number)),
+        _ => Err(bad_bound(alloc, text, wanted)),
+    }
+}
+
+// Adds the conditions that there are numbers on a side of others.
+fn add_bounds<'a>(
+    alloc: Global,
+    texts: &[&'a str],
+    wanted: Requirement,
+    conditions: &mut Vec<Condition<'a>>,
+) -> Result<(), NoRequest> {
+    for text in texts {
+        let (path, number) = bound_of(alloc, *text, wanted)?;
+        put_condition(alloc, path, wanted, &[number], conditions)?;
+    }
+    Ok(())
+}
+
+/// How a value that a condition names counts among the others.
+#[derive(Clone, Copy, PartialEq, Eq)]
+pub(crate) enum Role {
+    /// Others of which the same is wanted at its path serve as well.
+    Alternative,
+    /// It is met by all networks that are chosen.
+    Needed,
+    /// It is met by none of them.
+    Excluded,
+}
+
 /// The value that a condition names, alone.
 #[derive(Drop)]
 pub(crate) struct NamedValue<'a> {
@@ -153,14 +211,13 @@ pub(crate) struct NamedValue<'a> {
     pub(crate) value: &'a str,
     /// That the value is at the end of the path.
     pub(crate) condition: Condition<'a>,
-    /// Whether other values of the path serve as well, so that not all of them need be met.
-    pub(crate) is_alternative: bool,
+    pub(crate) role: Role,
 }
 
 impl NamedValue<'_> {
     /// Whether a network with the value is chosen by it, whatever else of which this is wanted at this path.
     pub(crate) fn serves(&self, path: &[PathElement<'_>], wanted: Requirement) -> bool {
-        self.is_alternative
+        self.role == Role::Alternative
             && self.condition.wanted == wanted
             && self.condition.path.as_slice() == path
     }
@@ -177,7 +234,7 @@ fn add_named<'a>(
     alloc: Global,
     texts: &[&'a str],
     wanted: Requirement,
-    is_alternative: bool,
+    role: Role,
     all: &mut Vec<NamedValue<'a>>,
 ) -> Result<(), NoRequest> {
     for text in texts {
@@ -191,7 +248,7 @@ fn add_named<'a>(
             text: *text,
             value,
             condition,
-            is_alternative,
+            role,
         };
         push_named(named, all)?;
     }
@@ -211,7 +268,28 @@ fn add_named_paths<'a>(
             text: *path,
             value: *path,
             condition,
-            is_alternative: true,
+            role: Role::Needed,
+        };
+        push_named(named, all)?;
+    }
+    Ok(())
+}
+
+// Adds the numbers on a side of which there is to be one.
+fn add_named_bounds<'a>(
+    alloc: Global,
+    texts: &[&'a str],
+    wanted: Requirement,
+    all: &mut Vec<NamedValue<'a>>,
+) -> Result<(), NoRequest> {
+    for text in texts {
+        let (path, number) = bound_of(alloc, *text, wanted)?;
+        let condition = condition_of(alloc, path, wanted, &[number])?;
+        let named = NamedValue {
+            text: *text,
+            value: number,
+            condition,
+            role: Role::Needed,
         };
         push_named(named, all)?;
     }
@@ -226,10 +304,25 @@ pub(crate) fn named_values<'a>(
     let mut all = Vec::new(alloc);
     let (wheres, where_nots) = (texts.wheres.as_slice(), texts.where_nots.as_slice());
     let (parts, paths) = (texts.contains.as_slice(), texts.has.as_slice());
-    add_named(alloc, wheres, Requirement::OneOf, true, &mut all)?;
-    add_named(alloc, where_nots, Requirement::OneOf, false, &mut all)?;
-    add_named(alloc, parts, Requirement::Part, true, &mut all)?;
+    let (above, below) = (texts.above.as_slice(), texts.below.as_slice());
+    add_named(
+        alloc,
+        wheres,
+        Requirement::OneOf,
+        Role::Alternative,
+        &mut all,
+    )?;
+    add_named(
+        alloc,
+        where_nots,
+        Requirement::OneOf,
+        Role::Excluded,
+        &mut all,
+    )?;
+    add_named(alloc, parts, Requirement::Part, Role::Alternative, &mut all)?;
     add_named_paths(alloc, paths, &mut all)?;
+    add_named_bounds(alloc, above, Requirement::Above, &mut all)?;
+    add_named_bounds(alloc, below, Requirement::Below, &mut all)?;
     Ok(all)
 }
 
@@ -253,5 +346,17 @@ pub(crate) fn conditions_of<'a>(
     )?;
     add_conditions(alloc, parts, Requirement::Part, files, &mut conditions)?;
     add_paths(alloc, paths, &mut conditions)?;
+    add_bounds(
+        alloc,
+        texts.above.as_slice(),
+        Requirement::Above,
+        &mut conditions,
+    )?;
+    add_bounds(
+        alloc,
+        texts.below.as_slice(),
+        Requirement::Below,
+        &mut conditions,
+    )?;
     Ok(conditions)
 }

@@ -1,5 +1,5 @@
 //! Values of conditions that no network has: a list by a value that is misspelt would have nothing, or too much.
-use crate::conditions::NamedValue;
+use crate::conditions::{NamedValue, Role};
 use crate::listed_values::{FileSearch, searches_of};
 use crate::sink::kind_of;
 use crate::task::ExportTask;
@@ -141,10 +141,14 @@ impl<'t, 'a> Search<'t, 'a> {
             || self.files.iter().any(|file| file.serves(path, wanted))
     }
 
-    // Whether no network has any of the values that serve as well as this one.
+    // Whether no network is chosen where none has a value, nor one that serves as well.
     fn is_without_alternative(&self, value: &NamedValue<'_>) -> bool {
         let condition = &value.condition;
-        value.is_alternative && !self.is_served(condition.path.as_slice(), condition.wanted)
+        match value.role {
+            Role::Alternative => !self.is_served(condition.path.as_slice(), condition.wanted),
+            Role::Needed => true,
+            Role::Excluded => false,
+        }
     }
 
     // What becomes of the list where no network has a value.
@@ -239,12 +243,15 @@ fn meant_by(
     named: &NamedValue<'_>,
     alloc: Global,
 ) -> Result<Option<String>, ProgramError> {
-    if named.condition.wanted != Requirement::Present {
-        return similar_value(database, task, named, alloc);
-    }
-    match split_condition(named.text) {
-        Some((path, value)) => Ok(Some(format!(in alloc; "--where {path}={value}")?)),
-        None => Ok(None),
+    match named.condition.wanted {
+        Requirement::OneOf | Requirement::NoneOf | Requirement::Part => {
+            similar_value(database, task, named, alloc)
+        }
+        Requirement::Present => match split_condition(named.text) {
+            Some((path, value)) => Ok(Some(format!(in alloc; "--where {path}={value}")?)),
+            None => Ok(None),
+        },
+        Requirement::Above | Requirement::Below => Ok(None),
     }
 }
 
@@ -254,6 +261,8 @@ fn missing_text(alloc: Global, named: &NamedValue<'_>) -> Result<String, AllocEr
     match named.condition.wanted {
         Requirement::Present => format!(in alloc; "the PATH of --where-has {text}"),
         Requirement::Part => format!(in alloc; "the TEXT of --where-contains {text}"),
+        Requirement::Above => format!(in alloc; "what --where-above {text} asks for"),
+        Requirement::Below => format!(in alloc; "what --where-below {text} asks for"),
         Requirement::OneOf | Requirement::NoneOf => String::from_str(alloc, text),
     }
 }

@@ -79,7 +79,7 @@ fn note_absent<W: NetworkSink, O: Write, E: Pace>(
     let (Some(met), Shape::Rows(layout)) = (sink.fields_met(), &task.shape) else {
         return Ok(());
     };
-    met.note_absent(layout.names(), database.data_section(), console)
+    met.note_absent(layout.path_texts(), database.data_section(), console)
 }
 
 // Writes the chosen networks, reports how many could not be read, and answers the status.

@@ -121,7 +121,7 @@ impl<'a, 'r> ExportRows<'a, 'r> {
         out: &mut O,
     ) -> Result<ExportRows<'a, 'r>, ProgramError> {
         let line = Vec::with_capacity(alloc, MOST_JOINED + NETWORK_BYTES)?;
-        let met = FieldsMet::new(alloc, layout.names().len())?;
+        let met = FieldsMet::new(alloc, layout.paths().len())?;
         put_header(alloc, layout, out)?;
         Ok(ExportRows {
             alloc,

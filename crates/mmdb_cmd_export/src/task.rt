@@ -5,7 +5,7 @@ use crate::names::{fault_of_name, fault_of_table};
 use mmdb_arguments::{ExportArguments, Format, ListArguments, NoRequest};
 use mmdb_blocks::{BlockKind, Kinds, Syntax, is_list_value, is_set_name};
 use mmdb_console::range_of;
-use mmdb_layout::{Condition, Layout, layout_of};
+use mmdb_layout::{Condition, Layout, NETWORK, layout_of};
 use mmdb_reader::IpNetwork;
 use std::alloc::Global;
 
@@ -162,7 +162,8 @@ fn rows_of<'a>(
     if let Some(argument) = argument_of_lists(&arguments.list) {
         return Err(NoRequest::bad_argument(alloc, argument, "needs a list of networks"));
     }
-    Ok(Shape::Rows(layout_of(alloc, is_csv, arguments.fields.as_slice())?))
+    let fields = arguments.fields.as_slice();
+    Ok(Shape::Rows(layout_of(alloc, is_csv, fields, &[NETWORK])?))
 }
 
 // A list in a syntax, of which networks have no fields.

@@ -112,11 +112,11 @@ pub fn paths_of<'a>(
     Ok(paths)
 }
 
-// Whether a key stands for itself as a part between dots.
+// Whether a key stands for itself as a part between dots, and after a name and `=`.
 fn is_plain(key: &str) -> bool {
     let mut has_sign = key.is_empty() || key.starts_with('"');
     for byte in key.as_bytes() {
-        has_sign |= *byte == b'.';
+        has_sign |= matches!(*byte, b'.' | b'=');
     }
     !has_sign && !is_integer(key)
 }
@@ -136,7 +136,7 @@ fn path_with(alloc: Global, path: &str, step: &str) -> Result<String, AllocError
 }
 
 /// The text of a path with a key more, which `path_of` reads so. None where no text does: of a key with quotes that
-/// begins with them or has a dot.
+/// begins with them or has a dot or an equals sign.
 pub fn path_with_key(alloc: Global, path: &str, key: &str) -> Result<Option<String>, AllocError> {
     if is_plain(key) {
         return Ok(Some(path_with(alloc, path, key)?));

@@ -1,3 +1,6 @@
 mod TextLaws
 mod ConditionLaws
 mod SignLaws
+mod DigitLaws
+mod ScaleLaws
+mod BoundLaws

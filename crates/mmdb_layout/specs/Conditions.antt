@@ -14,7 +14,10 @@ use Rattle.mmdb_reader.specs.declared.path.PathElement.{PathElement}
 use Rattle.mmdb_json.specs.Texts.{IsCompact}
 use Rattle.mmdb_layout.specs.declared.condition.Condition.{Condition}
 use Rattle.mmdb_layout.specs.declared.condition.Requirement.{Requirement}
-use Rattle.mmdb_layout.specs.declared.condition.Requirement.TheVariants.{OneOf, NoneOf, Part, Present}
+use Rattle.mmdb_layout.specs.declared.condition.Requirement.TheVariants.{OneOf, NoneOf, Part, Present, Above, Below}
+use Rattle.mmdb_layout.specs.declared.number.Side.{Side}
+use Rattle.mmdb_layout.specs.declared.number.Side.TheVariants as sides
+use Rattle.mmdb_layout.specs.Numbers.{SaysBeyondAll}
 
 -- a text is one of the texts
 abbrev pub IsOneOf : List ℕ → List (List ℕ) → Type 0
@@ -60,12 +63,22 @@ SaysPartOf (Some own) texts b = SaysAnyPart own texts b
 abbrev pub SaysPart : Tree → List (List ℕ) → Bool → Type 0
 SaysPart v texts b = SaysPartOf (text_of v) texts b
 
--- A Bool says whether a value is what is asked for: one of the texts, wanted or not; a text that has one of them in it; or any.
+-- A Bool says whether a value is a number on a side of each of the texts, by its JSON. A text, an array or a map is no number.
+abbrev pub SaysBeyond : Side → Tree → List (List ℕ) → Bool → Type 0
+SaysBeyond side (scalar (text own)) bounds b = b ≡ false
+SaysBeyond side (array _) bounds b = b ≡ false
+SaysBeyond side (table _) bounds b = b ≡ false
+SaysBeyond side v bounds b = (json : List ℕ) × IsCompact v json × SaysBeyondAll side json bounds b
+
+-- A Bool says whether a value is what is asked for: one of the texts, wanted or not; a text that has one of them in it; any; or a
+-- number above or below each of them.
 abbrev pub SaysFits : Requirement → Tree → List (List ℕ) → Bool → Type 0
 SaysFits OneOf v texts b = SaysAmong v texts b
 SaysFits NoneOf v texts b = SaysAmong v texts b
 SaysFits Part v texts b = SaysPart v texts b
 SaysFits Present v texts b = b ≡ true
+SaysFits Above v texts b = SaysBeyond sides.Above v texts b
+SaysFits Below v texts b = SaysBeyond sides.Below v texts b
 
 -- a Bool says so of what was read along a path: where nothing is there, it is not
 abbrev pub SaysRead : Requirement → Option Tree → List (List ℕ) → Bool → Type 0
@@ -111,6 +124,8 @@ wants OneOf is_found = is_found
 wants NoneOf is_found = not is_found
 wants Part is_found = is_found
 wants Present is_found = is_found
+wants Above is_found = is_found
+wants Below is_found = is_found
 
 -- the texts of a condition
 abbrev pub texts_of : Condition → List (List ℕ)

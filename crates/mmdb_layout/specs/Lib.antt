@@ -1,5 +1,7 @@
 -- What has to be believed: what contracts of public items name.
 pub mod Conditions
+pub mod Numbers
 pub mod Choices
 -- What only contracts of private functions and proofs name.
 pub mod Working
+pub mod Digits

@@ -18,6 +18,13 @@ const MOST_NAMED: usize = 10;
 /// How many bytes a path has at most that may be meant, or may mean another.
 const MOST_BYTES: usize = 256;
 
+/// A record at an offset of a data section.
+#[derive(Clone, Copy)]
+pub struct RecordAt<'s> {
+    pub section: &'s [u8],
+    pub offset: usize,
+}
+
 /// Which fields the records have that were looked at.
 #[derive(Drop)]
 pub struct FieldsMet {
@@ -83,15 +90,14 @@ fn offer_paths(
     Ok(())
 }
 
-// Offers the paths of the records at some offsets. One that can't be read is passed.
+// Offers the paths of records. One that can't be read is passed.
 fn offer_records(
     alloc: Global,
-    section: &[u8],
-    offsets: &[usize],
+    records: &[RecordAt<'_>],
     similar: &mut Similar<'_>,
 ) -> Result<(), AllocError> {
-    for offset in offsets {
-        let mut decoder = Decoder::new(section, *offset);
+    for record in records {
+        let mut decoder = Decoder::new(record.section, record.offset);
         let record = <Value<'_> as Decode>::decode(alloc, &mut decoder);
         if let Ok(record) = &record {
             offer_paths(alloc, record, similar)?;
@@ -100,18 +106,16 @@ fn offer_records(
     Ok(())
 }
 
-/// What is said of a field that no such record has, with a path that may be meant, of those of the records at some offsets of a
-/// data section.
+/// What is said of a field that no such record has, with a path that may be meant, of those of some records.
 pub fn absent_text(
     alloc: Global,
     which: &str,
     name: &str,
-    section: &[u8],
-    offsets: &[usize],
+    records: &[RecordAt<'_>],
 ) -> Result<String, AllocError> {
     let mut similar = Similar::new(alloc, name)?;
     if name.len() <= MOST_BYTES {
-        offer_records(alloc, section, offsets, &mut similar)?;
+        offer_records(alloc, records, &mut similar)?;
     }
     match similar.best() {
         Some(best) => format!(in alloc; "mmdb: no {which} has {name}; did you mean {best}?"),
@@ -149,6 +153,13 @@ impl FieldsMet {
         self.are_met.iter().all(|is_met| *is_met)
     }
 
+    /// Takes the fields for met that are met elsewhere.
+    pub fn join(&mut self, elsewhere: &FieldsMet) {
+        for (is_met, is_met_there) in self.are_met.iter_mut().zip(&elsewhere.are_met) {
+            *is_met = *is_met || *is_met_there;
+        }
+    }
+
     /// Looks at a record, if there is one.
     pub fn look(&mut self, found: &Found<'_>, paths: &[Vec<PathElement<'_>>]) {
         let Some(offset) = found.offset() else {
@@ -160,6 +171,18 @@ impl FieldsMet {
         if self.offsets.len() < MOST_RECORDS {
             let _ = self.offsets.push(offset);
         }
+    }
+
+    // What is said of a field that no record had, of those of a data section that were looked at.
+    fn text_of(&self, name: &str, section: &[u8]) -> Result<String, AllocError> {
+        let mut records = Vec::new(self.alloc);
+        for offset in &self.offsets {
+            records.push(RecordAt {
+                section,
+                offset: *offset,
+            })?;
+        }
+        absent_text(self.alloc, "record", name, records.as_slice())
     }
 
     /// Says of each field that no record had, of those of a data section that were looked at, after what was written. An
@@ -181,13 +204,7 @@ impl FieldsMet {
             }
             count = count.saturating_add(1);
             if count <= MOST_NAMED {
-                let text = absent_text(
-                    self.alloc,
-                    "record",
-                    name,
-                    section,
-                    self.offsets.as_slice(),
-                );
+                let text = self.text_of(name, section);
                 console.note(line_of(self.alloc, text));
             }
         }

@@ -2,9 +2,10 @@
 ghost use Rattle.std.specs.Prelude.{◌≡◌, ◌<◌, ◌↔◌, ℕ, IsTrue, IfOk, IfErr, MatchOption, map, option_map};
 ghost use Rattle.mmdb_format.specs.Error.{MemoryApart};
 ghost use Rattle.mmdb_value.specs.Values.{value_tree};
-ghost use Rattle.mmdb_layout.specs.Conditions.{SaysOneOf, SaysAmong, HasPart, SaysAnyPart, SaysPart, SaysFits, text_of as spec_text_of, wants as spec_wants, SaysMet, IsUnread, IsSign, SplitsAtSign};
+ghost use Rattle.mmdb_layout.specs.Conditions.{SaysOneOf, SaysAmong, HasPart, SaysAnyPart, SaysPart, SaysBeyond, SaysFits, text_of as spec_text_of, wants as spec_wants, SaysMet, IsUnread, IsSign, SplitsAtSign};
 ghost use Rattle.mmdb_layout.specs.Working.{is_container as spec_is_container, SaysFound};
 
+use crate::number::{Side, is_beyond_all};
 use memchr::memmem;
 use mmdb_json::compact;
 use mmdb_reader::{LookupResult, MaxMindDbError, PathElement};
@@ -23,10 +24,14 @@ pub enum Requirement {
     Part,
     /// That there is one.
     Present,
+    /// That it is a number above each of the texts.
+    Above,
+    /// That it is a number below each of them.
+    Below,
 }
 
 /// A condition on the value at a path: a text is compared as it is, any other scalar by its JSON, and a map or an
-/// array is none of the texts. Only a text has others in it.
+/// array is none of the texts. Only a text has others in it, and only a number is above or below others.
 #[derive(Drop)]
 pub struct Condition<'a> {
     pub path: Vec<PathElement<'a>>,
@@ -112,6 +117,28 @@ fn has_part_among(value: &Value<'_>, texts: &[&str]) -> bool
     }
 }
 
+// Whether a value is a number on a side of each of the texts.
+fn is_number_beyond(
+    alloc: Global,
+    side: Side,
+    value: &Value<'_>,
+    bounds: &[&str],
+) -> Result<bool, AllocError>
+    ensures { IfOk result (SaysBeyond side (value_tree value.now) (map (λ t. t.now) bounds.now)) }
+{
+    if let Some(_) = text_of(value) {
+        return Ok(false);
+    }
+    if is_container(value) {
+        return Ok(false);
+    }
+    let json = compact(alloc, value)?;
+    match str::from_utf8(json.as_slice()) {
+        Ok(own) => is_beyond_all(alloc, side, own, bounds),
+        Err(_) => Ok(false),
+    }
+}
+
 impl Requirement {
     // Whether a value is what is asked for, or what is not wanted.
     fn fits(self, alloc: Global, value: &Value<'_>, texts: &[&str]) -> Result<bool, AllocError>
@@ -121,6 +148,8 @@ impl Requirement {
             Requirement::OneOf | Requirement::NoneOf => is_among(alloc, value, texts),
             Requirement::Part => Ok(has_part_among(value, texts)),
             Requirement::Present => Ok(true),
+            Requirement::Above => is_number_beyond(alloc, Side::Above, value, texts),
+            Requirement::Below => is_number_beyond(alloc, Side::Below, value, texts),
         }
     }
 
@@ -130,7 +159,11 @@ impl Requirement {
     {
         match self {
             Requirement::NoneOf => !is_found,
-            Requirement::OneOf | Requirement::Part | Requirement::Present => is_found,
+            Requirement::OneOf
+            | Requirement::Part
+            | Requirement::Present
+            | Requirement::Above
+            | Requirement::Below => is_found,
         }
     }
 }

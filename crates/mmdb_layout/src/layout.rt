@@ -1,8 +1,8 @@
 //! What the rows of an export look like.
 use crate::database::Found;
+use crate::fields::{ChosenFields, DefaultName, fields_of};
 use json::{Token, Writer};
 use mmdb_arguments::NoRequest;
-use mmdb_console::paths_of;
 use mmdb_filter::put_csv_cell;
 use mmdb_found::write_found;
 use mmdb_json::{RecordTexts, compact};
@@ -11,17 +11,10 @@ use mmdb_value::Value;
 use std::alloc::{AllocError, Global};
 
 /// The name of a row's network.
-const NETWORK: &str = "network";
+pub const NETWORK: &str = "network";
 
 /// What comes before the network in a line of JSON.
 const BEFORE_NETWORK: &str = "{\"network\":\"";
-
-/// Some values of a record, each by a path and under the path's text.
-#[derive(Drop)]
-pub struct ChosenFields<'a> {
-    pub names: &'a [&'a str],
-    pub paths: Vec<Vec<PathElement<'a>>>,
-}
 
 /// How a network is written with what its record has.
 #[derive(Drop)]
@@ -34,27 +27,27 @@ pub enum Layout<'a> {
     Cells(ChosenFields<'a>),
 }
 
-// The values at the paths of these names.
-fn fields_of<'a>(alloc: Global, names: &'a [&'a str]) -> Result<ChosenFields<'a>, NoRequest> {
-    Ok(ChosenFields {
-        names,
-        paths: paths_of(alloc, names)?,
-    })
-}
-
-/// How rows are laid out with the values at the paths of these names. An `Err` where one is not a path, or cells have no
-/// names.
+/// How rows are laid out with the fields that texts ask for. An `Err` where they ask for none that can be, and where cells have no
+/// fields. A name of a field is another one than those that are taken.
 pub fn layout_of<'a>(
     alloc: Global,
     is_csv: bool,
-    names: &'a [&'a str],
+    texts: &[&'a str],
+    taken: &[&str],
 ) -> Result<Layout<'a>, NoRequest> {
-    match (is_csv, names.is_empty()) {
-        (true, true) => Err(NoRequest::bad_argument(alloc, "--format csv", "needs a --field")),
-        (false, true) => Ok(Layout::Records),
-        (true, false) => Ok(Layout::Cells(fields_of(alloc, names)?)),
-        (false, false) => Ok(Layout::Values(fields_of(alloc, names)?)),
+    if texts.is_empty() {
+        return if is_csv {
+            Err(NoRequest::bad_argument(alloc, "--format csv", "needs a --field"))
+        } else {
+            Ok(Layout::Records)
+        };
     }
+    let fields = fields_of(alloc, texts, DefaultName::Path, taken)?;
+    Ok(if is_csv {
+        Layout::Cells(fields)
+    } else {
+        Layout::Values(fields)
+    })
 }
 
 // Adds a cell after a comma.
@@ -255,12 +248,12 @@ impl Layout<'_> {
         }
     }
 
-    /// The names of the fields, none where whole records are wanted.
-    pub fn names(&self) -> &[&str] {
-        let Some(fields) = self.fields() else {
-            return &[];
-        };
-        fields.names
+    /// The paths of the fields as they are written, none where whole records are wanted.
+    pub fn path_texts(&self) -> &[&str] {
+        match self.fields() {
+            Some(fields) => fields.texts.as_slice(),
+            None => &[],
+        }
     }
 
     /// The paths of the fields, none where whole records are wanted.
@@ -319,7 +312,11 @@ impl Layout<'_> {
     /// The line of the columns' names, where there are columns. An `Err` is of memory.
     pub fn header(&self, alloc: Global) -> Result<Option<Vec<u8>>, AllocError> {
         match self {
-            Layout::Cells(fields) => Ok(Some(line_of_names(alloc, &[""], fields.names)?)),
+            Layout::Cells(fields) => Ok(Some(line_of_names(
+                alloc,
+                &[""],
+                fields.names.as_slice(),
+            )?)),
             Layout::Records | Layout::Values(_) => Ok(None),
         }
     }

@@ -6,12 +6,16 @@ mod absent;
 mod choice;
 mod condition;
 mod database;
+mod fields;
 mod layout;
+mod number;
 
-pub use absent::{FieldsMet, absent_text};
+pub use absent::{FieldsMet, RecordAt, absent_text};
 pub use choice::Choice;
 pub use condition::{Condition, Requirement, split_condition};
 pub use database::{
     Database, Found, Networks, Opened, networks_in, open_at, open_database, open_found, path_or,
 };
-pub use layout::{ChosenFields, Layout, layout_of, line_of_cells, line_of_names, write_values};
+pub use fields::{ChosenFields, DefaultName, fields_of, path_texts};
+pub use layout::{Layout, NETWORK, layout_of, line_of_cells, line_of_names, write_values};
+pub use number::is_comparable;

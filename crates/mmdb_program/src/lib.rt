@@ -3,6 +3,6 @@
 
 mod program;
 
-pub use mmdb_cmd_show::{info, show_to};
+pub use mmdb_cmd_show::info;
 pub use mmdb_console::{Io, ProgramError, Terminals, path_of};
 pub use program::run;

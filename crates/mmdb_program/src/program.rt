@@ -46,7 +46,7 @@ fn put_reason<O: Write, E: Write>(reason: &NoRequest, console: &mut Console<'_, 
 // What an error of a request names: the file, or the command where there are several.
 fn subject_of<'a>(request: &Request<'a>) -> &'a str {
     match request {
-        Request::Show(arguments) => arguments.file,
+        Request::Show(arguments) => arguments.asked.first().copied().unwrap_or("show"),
         Request::Info(arguments) => match arguments.files.as_slice() {
             [file] => *file,
             _ => "info",
@@ -116,8 +116,8 @@ fn run_request<R: Files + Env + Clock, I: Live, O: Write, E: Pace>(
 /// What the program does with its arguments, its own name first, and the status that it ends with.
 ///
 /// 0: done. 1: an error, which is reported on `errors` with the file, the stream or the argument. 2: a usage error; no file was
-/// opened, unless for a column that the first line has not. 6: an address has no record, or a path leads nowhere in it. 7: two
-/// files differ, where that was asked. Faults of `errors` change no status.
+/// opened, unless for a column that the first line has not, or where `show` has no address. 6: an address has no record, or a
+/// path leads nowhere in it. 7: two files differ, where that was asked. Faults of `errors` change no status.
 pub fn run<R: Files + Env + Clock, I: Live, O: Write, E: Write>(
     rt: &R,
     alloc: Global,

@@ -1,0 +1,154 @@
+//! Fields as a person asks for them: by a path, or by a name and a path.
+use crate::condition::split_condition;
+use mmdb_arguments::NoRequest;
+use mmdb_console::wanted_path;
+use mmdb_reader::PathElement;
+use std::alloc::{AllocError, Global};
+
+/// Some values of a record: what each is called, and its path.
+#[derive(Drop)]
+pub struct ChosenFields<'a> {
+    pub names: Vec<&'a str>,
+    /// The paths, as they are written.
+    pub texts: Vec<&'a str>,
+    pub paths: Vec<Vec<PathElement<'a>>>,
+    /// Whether a name was given to one of them.
+    pub is_named: bool,
+}
+
+/// What a field is called that is given no name.
+#[derive(Clone, Copy, PartialEq, Eq)]
+pub enum DefaultName {
+    /// As its path is written. Fields may be asked for twice so.
+    Path,
+    /// As the last step of its path is, which no other field may be.
+    LastStep,
+}
+
+/// The text of a field: the name that it gives, if it gives one, and the path as it is written.
+#[derive(Clone, Copy)]
+struct FieldText<'a> {
+    name: Option<&'a str>,
+    path: &'a str,
+}
+
+// What is between the quotes in which a whole name is, or else the name.
+fn unquoted(name: &str) -> &str {
+    match name
+        .strip_prefix('"')
+        .and_then(|rest| rest.strip_suffix('"'))
+    {
+        Some(inside) if !inside.contains('"') => inside,
+        _ => name,
+    }
+}
+
+// The parts of a text `PATH`, or `NAME=PATH`, of which the first equals sign that is not in quotes ends the name.
+fn field_text(text: &str) -> FieldText<'_> {
+    match split_condition(text) {
+        Some((name, path)) => FieldText {
+            name: Some(unquoted(name)),
+            path,
+        },
+        None => FieldText {
+            name: None,
+            path: text,
+        },
+    }
+}
+
+// The last step of a path, as it is written. In quotes it is what is between them.
+fn last_step(path: &str) -> &str {
+    if let Some(text) = path.strip_suffix('"') {
+        return match text.rsplit_once('"') {
+            Some((_, step)) => step,
+            None => path,
+        };
+    }
+    match path.rsplit_once('.') {
+        Some((_, step)) => step,
+        None => path,
+    }
+}
+
+impl<'a> FieldText<'a> {
+    // What the field is called.
+    fn name_or(self, default: DefaultName) -> &'a str {
+        match (self.name, default) {
+            (Some(name), _) => name,
+            (None, DefaultName::Path) => self.path,
+            (None, DefaultName::LastStep) => last_step(self.path),
+        }
+    }
+}
+
+// The error of a text, if there was memory for it.
+fn error_of(alloc: Global, text: &str, wanted: Result<String, AllocError>) -> NoRequest {
+    match &wanted {
+        Ok(wanted) => NoRequest::bad_argument(alloc, text, wanted.as_str()),
+        Err(_) => NoRequest::Memory,
+    }
+}
+
+// That neither another field nor what is beside the fields has the name of a field.
+fn test_name(
+    alloc: Global,
+    name: &str,
+    text: &str,
+    others: &[&str],
+    taken: &[&str],
+) -> Result<(), NoRequest> {
+    let path = field_text(text).path;
+    let wanted: Result<String, AllocError> = if others.contains(&name) {
+        format!(in alloc;
+            "another field has the name {name} too; give one of them a name of its own, as NAME={path}"
+        )
+    } else if taken.contains(&name) {
+        format!(in alloc; "the name {name} is taken; give the field another one, as NAME={path}")
+    } else {
+        return Ok(());
+    };
+    Err(error_of(alloc, text, wanted))
+}
+
+/// The paths that texts ask for, as they are written, without the names.
+pub fn path_texts<'a>(alloc: Global, texts: &[&'a str]) -> Result<Vec<&'a str>, AllocError> {
+    let mut paths = Vec::new(alloc);
+    for text in texts {
+        paths.push(field_text(*text).path)?;
+    }
+    Ok(paths)
+}
+
+// Whether one of the texts gives a name.
+fn is_any_named(texts: &[&str]) -> bool {
+    texts.iter().any(|text| field_text(*text).name.is_some())
+}
+
+/// The fields that texts ask for, each `PATH` or `NAME=PATH`. An `Err` where one is not a path, and where two have one name or one
+/// has a name that is taken, unless no name is given and each is called as its path is written.
+pub fn fields_of<'a>(
+    alloc: Global,
+    texts: &[&'a str],
+    default: DefaultName,
+    taken: &[&str],
+) -> Result<ChosenFields<'a>, NoRequest> {
+    let is_named = is_any_named(texts);
+    let are_distinct = is_named || default == DefaultName::LastStep;
+    let mut fields = ChosenFields {
+        names: Vec::new(alloc),
+        texts: path_texts(alloc, texts)?,
+        paths: Vec::new(alloc),
+        is_named,
+    };
+    for text in texts {
+        let field = field_text(*text);
+        let name = field.name_or(default);
+        if are_distinct {
+            test_name(alloc, name, *text, fields.names.as_slice(), taken)?;
+        }
+        fields.names.push(name)?;
+        fields.paths.push(wanted_path(alloc, field.path)?)?;
+    }
+    Ok(fields)
+}
