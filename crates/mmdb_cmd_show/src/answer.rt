@@ -1,37 +1,41 @@
-//! What a database has for an address, as JSON.
+//! What databases have for an address, as JSON.
+use crate::databases::{ShownDatabase, first_value};
 use json::{Pretty, Token, Writer};
-use mmdb_arguments::{NoRequest, ShowArguments};
-use mmdb_console::{Console, DONE, FAILED, NOT_FOUND, ProgramError, paths_of};
 use mmdb_found::write_found;
-use mmdb_json::TokenSink;
-use mmdb_layout::{Database, FieldsMet, Found, open_database};
+use mmdb_json::{TokenSink, write_value};
+use mmdb_layout::{ChosenFields, Database};
 use mmdb_reader::{IpNetwork, MaxMindDbError, PathElement};
+use mmdb_value::Value;
 use std::alloc::{AllocError, Global};
-use std::env::Env;
-use std::io::Write;
 use std::net::IpAddr;
-use std::rt::Files;
 
-// What `show` is asked for.
+/// The name of an answer's address.
+pub(crate) const ADDRESS: &str = "address";
+
+/// What one of several databases has for an address.
 #[derive(Drop)]
-struct ShowTask<'a> {
-    addresses: &'a [IpAddr],
-    names: &'a [&'a str],
-    paths: Vec<Vec<PathElement<'a>>>,
-    lines: bool,
+pub(crate) struct DatabaseAnswer<'d> {
+    pub(crate) network: IpNetwork,
+    pub(crate) record: Option<Value<'d>>,
 }
 
-// What the arguments of `show` ask for. An `Err` where one is not a path.
-fn show_task<'a>(
-    alloc: Global,
-    arguments: &'a ShowArguments<'a>,
-) -> Result<ShowTask<'a>, NoRequest> {
-    Ok(ShowTask {
-        addresses: arguments.addresses.as_slice(),
-        names: arguments.paths.as_slice(),
-        paths: paths_of(alloc, arguments.paths.as_slice())?,
-        lines: arguments.lines,
-    })
+/// What is shown of an address.
+#[derive(Clone, Copy)]
+pub(crate) enum Shown<'f, 'd, 'p> {
+    /// An object with the address, its network and its record in a database.
+    Record(&'d Database),
+    /// The value at a path in the first of the databases that has one.
+    Value(&'f [ShownDatabase<'d>], &'f [PathElement<'p>]),
+    /// An object with the address and such values.
+    Values(&'f [ShownDatabase<'d>], &'f ChosenFields<'p>),
+}
+
+/// An address, and what is shown of it.
+#[derive(Clone, Copy)]
+pub(crate) struct AddressAnswer<'f, 'd, 'p> {
+    pub(crate) alloc: Global,
+    pub(crate) address: IpAddr,
+    pub(crate) shown: Shown<'f, 'd, 'p>,
 }
 
 // The tokens of a key and of a text that was made, if there was memory for it.
@@ -45,42 +49,152 @@ fn write_text<W: TokenSink>(
     out.token(Token::String(text.as_str()))
 }
 
-// The tokens of an answer up to its record.
+// The tokens of an object up to its second member: those of the address.
 fn begin_answer<W: TokenSink>(
     alloc: Global,
     address: IpAddr,
-    network: IpNetwork,
     out: &mut W,
 ) -> Result<(), AllocError> {
     out.token(Token::BeginObject)?;
-    write_text("address", address.to_string(alloc), out)?;
+    write_text(ADDRESS, address.to_string(alloc), out)
+}
+
+// The tokens of a network, and of the key of its record.
+fn write_network<W: TokenSink>(
+    alloc: Global,
+    network: IpNetwork,
+    out: &mut W,
+) -> Result<(), AllocError> {
     write_text("network", network.to_string(alloc), out)?;
     out.token(Token::Key("record"))
 }
 
-/// What is shown of an address: its network and record, or the value at a path.
-#[derive(Clone, Copy)]
-struct AddressAnswer<'f, 'r, 'p> {
+// The tokens of a value, or of null, and whether there is a value.
+fn write_or_null<W: TokenSink>(
+    alloc: Global,
+    value: Option<&Value<'_>>,
+    out: &mut W,
+) -> Result<bool, AllocError> {
+    match value {
+        Some(value) => write_value(alloc, value, out)?,
+        None => out.token(Token::Null)?,
+    }
+    Ok(value.is_some())
+}
+
+// The tokens of what one of several databases has, or of null, and whether there is a record.
+fn write_database<W: TokenSink>(
+    alloc: Global,
+    answer: &Option<DatabaseAnswer<'_>>,
+    out: &mut W,
+) -> Result<bool, AllocError> {
+    let Some(answer) = answer else {
+        out.token(Token::Null)?;
+        return Ok(false);
+    };
+    out.token(Token::BeginObject)?;
+    write_network(alloc, answer.network, out)?;
+    let has_record = write_or_null(alloc, answer.record.as_ref(), out)?;
+    out.token(Token::EndObject)?;
+    Ok(has_record)
+}
+
+// Adds a text and a newline.
+fn put_lines(text: Vec<u8>, out: &mut Vec<u8>) -> Result<(), AllocError> {
+    out.extend_from_slice(text.as_slice())?;
+    out.extend_from_slice(b"\n")
+}
+
+// The tokens of an address and what each of several databases has for it, and whether there is a record.
+fn write_records<W: TokenSink>(
     alloc: Global,
     address: IpAddr,
-    found: &'f Found<'r>,
-    path: Option<&'f [PathElement<'p>]>,
+    databases: &[ShownDatabase<'_>],
+    answers: &[Option<DatabaseAnswer<'_>>],
+    out: &mut W,
+) -> Result<bool, AllocError> {
+    begin_answer(alloc, address, out)?;
+    let mut has_record = false;
+    for (database, answer) in databases.iter().zip(answers) {
+        out.token(Token::Key(database.key))?;
+        has_record |= write_database(alloc, answer, out)?;
+    }
+    out.token(Token::EndObject)?;
+    Ok(has_record)
+}
+
+/// Adds an object with the address, and its network and its record in each of several databases, under their names, or null
+/// where there is no answer: in a line, or else laid out over several. Answers whether there is a record.
+pub(crate) fn put_records(
+    alloc: Global,
+    address: IpAddr,
+    databases: &[ShownDatabase<'_>],
+    answers: &[Option<DatabaseAnswer<'_>>],
+    lines: bool,
+    out: &mut Vec<u8>,
+) -> Result<bool, AllocError> {
+    if lines {
+        let mut writer = Writer::new(Vec::new(alloc));
+        let has_record = write_records(alloc, address, databases, answers, &mut writer)?;
+        put_lines(writer.into_inner(), out)?;
+        return Ok(has_record);
+    }
+    let mut writer = Pretty::new(alloc);
+    let has_record = write_records(alloc, address, databases, answers, &mut writer)?;
+    put_lines(writer.into_inner(), out)?;
+    Ok(has_record)
 }
 
 impl AddressAnswer<'_, '_, '_> {
     // The tokens of the address, its network and its record, and whether there is a record.
-    fn write_object<W: TokenSink>(&self, out: &mut W) -> Result<bool, MaxMindDbError> {
-        begin_answer(self.alloc, self.address, self.found.network()?, out)?;
-        let is_found = write_found(self.alloc, self.found, &[], out)?;
+    fn write_record<W: TokenSink>(
+        &self,
+        database: &Database,
+        out: &mut W,
+    ) -> Result<bool, MaxMindDbError> {
+        let found = database.lookup(self.address)?;
+        let network = found.network()?;
+        begin_answer(self.alloc, self.address, out)?;
+        write_network(self.alloc, network, out)?;
+        let has_record = write_found(self.alloc, &found, &[], out)?;
         out.token(Token::EndObject)?;
-        Ok(is_found)
+        Ok(has_record)
+    }
+
+    // The tokens of a value, and whether there is one.
+    fn write_value<W: TokenSink>(
+        &self,
+        databases: &[ShownDatabase<'_>],
+        path: &[PathElement<'_>],
+        out: &mut W,
+    ) -> Result<bool, MaxMindDbError> {
+        let value = first_value(self.alloc, databases, self.address, path)?;
+        Ok(write_or_null(self.alloc, value.as_ref(), out)?)
+    }
+
+    // The tokens of the address and values, and whether none is missing.
+    fn write_values<W: TokenSink>(
+        &self,
+        databases: &[ShownDatabase<'_>],
+        fields: &ChosenFields<'_>,
+        out: &mut W,
+    ) -> Result<bool, MaxMindDbError> {
+        begin_answer(self.alloc, self.address, out)?;
+        let mut are_found = true;
+        for (name, path) in fields.names.iter().zip(&fields.paths) {
+            out.token(Token::Key(*name))?;
+            are_found &= self.write_value(databases, path.as_slice(), out)?;
+        }
+        out.token(Token::EndObject)?;
+        Ok(are_found)
     }
 
     // The tokens of what is shown, and whether nothing is missing.
     fn write<W: TokenSink>(&self, out: &mut W) -> Result<bool, MaxMindDbError> {
-        match self.path {
-            Some(path) => write_found(self.alloc, self.found, path, out),
-            None => self.write_object(out),
+        match self.shown {
+            Shown::Record(database) => self.write_record(database, out),
+            Shown::Value(databases, path) => self.write_value(databases, path, out),
+            Shown::Values(databases, fields) => self.write_values(databases, fields, out),
         }
     }
 
@@ -100,183 +214,12 @@ impl AddressAnswer<'_, '_, '_> {
         Ok(is_found)
     }
 
-    fn put(&self, lines: bool, out: &mut Vec<u8>) -> Result<bool, MaxMindDbError> {
+    /// Adds it in a line, or else laid out over several, and answers whether nothing is missing.
+    pub(crate) fn put(&self, lines: bool, out: &mut Vec<u8>) -> Result<bool, MaxMindDbError> {
         if lines {
             self.put_line(out)
         } else {
             self.put_pretty(out)
         }
     }
-}
-
-// Adds a text and a newline.
-fn put_lines(text: Vec<u8>, out: &mut Vec<u8>) -> Result<(), AllocError> {
-    out.extend_from_slice(text.as_slice())?;
-    out.extend_from_slice(b"\n")
-}
-
-// Adds an address with its network and record, and answers whether there is a record.
-fn put_whole(
-    alloc: Global,
-    address: IpAddr,
-    found: &Found<'_>,
-    lines: bool,
-    out: &mut Vec<u8>,
-) -> Result<bool, MaxMindDbError> {
-    let whole = AddressAnswer {
-        alloc,
-        address,
-        found,
-        path: None,
-    };
-    whole.put(lines, out)
-}
-
-// Adds the values at some paths, and answers whether none was missing.
-fn put_values(
-    alloc: Global,
-    address: IpAddr,
-    found: &Found<'_>,
-    paths: &[Vec<PathElement<'_>>],
-    lines: bool,
-    out: &mut Vec<u8>,
-) -> Result<bool, MaxMindDbError> {
-    let mut are_found = true;
-    for path in paths {
-        let value = AddressAnswer {
-            alloc,
-            address,
-            found,
-            path: Some(path.as_slice()),
-        };
-        are_found &= value.put(lines, out)?;
-    }
-    Ok(are_found)
-}
-
-/// Adds to `out` what a database has for an address, and answers whether nothing was missing: an object with
-/// the address, its network and its record, or the value at each path alone; `null` where there is none. Each is
-/// a line, or else laid out over several.
-pub fn show_to(
-    alloc: Global,
-    database: &Database,
-    address: IpAddr,
-    paths: &[Vec<PathElement<'_>>],
-    lines: bool,
-    out: &mut Vec<u8>,
-) -> Result<bool, MaxMindDbError> {
-    let found = database.lookup(address)?;
-    if paths.is_empty() {
-        put_whole(alloc, address, &found, lines, out)
-    } else {
-        put_values(alloc, address, &found, paths, lines, out)
-    }
-}
-
-// Writes what was made for an address, reports its error if it has one, and answers the status of it.
-fn put_shown<O: Write, E: Write>(
-    address: IpAddr,
-    text: &[u8],
-    shown: &Result<bool, MaxMindDbError>,
-    console: &mut Console<'_, O, E>,
-) -> Result<u8, ProgramError> {
-    console.put(text)?;
-    match shown {
-        Ok(true) => Ok(DONE),
-        Ok(false) => Ok(NOT_FOUND),
-        Err(error) => {
-            console.report_behind(address.to_string(console.alloc), error)?;
-            Ok(FAILED)
-        }
-    }
-}
-
-// Writes what a database has for an address, reports its error if it has one, and answers the status of it.
-fn show_one<O: Write, E: Write>(
-    database: &Database,
-    task: &ShowTask<'_>,
-    address: IpAddr,
-    console: &mut Console<'_, O, E>,
-) -> Result<u8, ProgramError> {
-    let alloc = console.alloc;
-    let (paths, lines) = (
-        task.paths.as_slice(),
-        task.lines || !console.terminals.output,
-    );
-    let mut text = Vec::new(alloc);
-    let shown = show_to(alloc, database, address, paths, lines, &mut text);
-    let status = put_shown(address, text.as_slice(), &shown, console);
-    drop(shown);
-    status
-}
-
-// The status after one more address: of an error above all, and of what is not found only if nothing came before.
-fn status_after(status: u8, next: u8) -> u8 {
-    if next == FAILED || status == DONE {
-        next
-    } else {
-        status
-    }
-}
-
-// Writes what a database has for addresses, reports the error of each that has one, and answers the status.
-fn show_all<O: Write, E: Write>(
-    database: &Database,
-    task: &ShowTask<'_>,
-    console: &mut Console<'_, O, E>,
-) -> Result<u8, ProgramError> {
-    let mut status = DONE;
-    for address in task.addresses {
-        status = status_after(status, show_one(database, task, *address, console)?);
-    }
-    note_absent(database, task, console)?;
-    Ok(status)
-}
-
-// Says of paths that lead to no value in any of the records that were shown.
-fn note_absent<O: Write, E: Write>(
-    database: &Database,
-    task: &ShowTask<'_>,
-    console: &mut Console<'_, O, E>,
-) -> Result<(), ProgramError> {
-    let mut met = FieldsMet::new(console.alloc, task.paths.len())?;
-    for address in task.addresses {
-        if met.are_all_met() {
-            return Ok(());
-        }
-        if let Ok(found) = database.lookup(*address) {
-            met.look(&found, task.paths.as_slice());
-        }
-    }
-    met.note_absent(task.names, database.data_section(), console)
-}
-
-// Opens a file and shows what it has, and answers the status.
-fn show_file<R: Files + Env, O: Write, E: Write>(
-    rt: &R,
-    file: &str,
-    task: &ShowTask<'_>,
-    console: &mut Console<'_, O, E>,
-) -> Result<u8, ProgramError> {
-    match open_database(rt, file, console) {
-        Some(database) => {
-            let done = show_all(&database, task, console);
-            drop(database);
-            done
-        }
-        None => Ok(FAILED),
-    }
-}
-
-/// Writes what a database has for addresses, reports the error of each that has one, and answers the status. An `Err` where
-/// an argument is not a path, before the file is opened; where standard output can't be written, or out of memory.
-pub fn show<R: Files + Env, O: Write, E: Write>(
-    rt: &R,
-    arguments: &ShowArguments<'_>,
-    console: &mut Console<'_, O, E>,
-) -> Result<u8, ProgramError> {
-    let task = show_task(console.alloc, arguments)?;
-    let done = show_file(rt, arguments.file, &task, console);
-    drop(task);
-    done
 }

@@ -3,10 +3,13 @@
 #![tactic(auto)]
 
 mod answer;
+mod asked;
+mod command;
+mod databases;
 mod fields;
 mod information;
 mod verification;
 
-pub use answer::{show, show_to};
+pub use command::show;
 pub use information::{describe, info};
 pub use verification::verify;

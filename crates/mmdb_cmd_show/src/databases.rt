@@ -1,0 +1,129 @@
+//! Databases that are asked in turn.
+use crate::answer::{ADDRESS, DatabaseAnswer};
+use crate::asked::NamedDatabase;
+use mmdb_layout::Database;
+use mmdb_reader::{MaxMindDbError, PathElement};
+use mmdb_value::Value;
+use std::alloc::{AllocError, Global};
+use std::net::IpAddr;
+
+/// The version of addresses of a database without IPv6.
+const IPV4: u16 = 4;
+
+/// A database whose answers are shown.
+#[derive(Clone, Copy)]
+pub(crate) struct ShownDatabase<'d> {
+    /// What its answers are called beside those of others.
+    pub(crate) key: &'d str,
+    /// Its name as it was given.
+    pub(crate) name: &'d str,
+    pub(crate) database: &'d Database,
+}
+
+// Whether answers of one of the databases are called so, or what is beside them.
+fn is_taken(key: &str, shown: &[ShownDatabase<'_>]) -> bool {
+    key == ADDRESS || shown.iter().any(|other| other.key == key)
+}
+
+/// The databases with what their answers are called: by the type of each, or as it was given where that is taken.
+pub(crate) fn shown_databases<'d>(
+    alloc: Global,
+    open: &'d [NamedDatabase<'d>],
+) -> Result<Vec<ShownDatabase<'d>>, AllocError> {
+    let mut shown: Vec<ShownDatabase<'d>> = Vec::new(alloc);
+    for named in open {
+        let own = named.database.metadata().database_type.as_str();
+        let key = if is_taken(own, shown.as_slice()) {
+            named.name
+        } else {
+            own
+        };
+        shown.push(ShownDatabase {
+            key,
+            name: named.name,
+            database: &named.database,
+        })?;
+    }
+    Ok(shown)
+}
+
+// Whether a database can be asked for an address: for one of IPv6 only where it has such.
+fn can_be_asked(database: &Database, address: IpAddr) -> bool {
+    match address {
+        IpAddr::V4(_) => true,
+        IpAddr::V6(_) => database.metadata().ip_version != IPV4,
+    }
+}
+
+// Whether a database is passed over: it can't be asked for an address, and another one can.
+fn is_passed(database: &Database, others: &[ShownDatabase<'_>], address: IpAddr) -> bool {
+    !can_be_asked(database, address)
+        && others
+            .iter()
+            .any(|other| can_be_asked(other.database, address))
+}
+
+/// The value at a path in the first of the databases that has one there. Fails where one that is asked before can't be read so.
+pub(crate) fn first_value<'d>(
+    alloc: Global,
+    databases: &[ShownDatabase<'d>],
+    address: IpAddr,
+    path: &[PathElement<'_>],
+) -> Result<Option<Value<'d>>, MaxMindDbError> {
+    for shown in databases {
+        if is_passed(shown.database, databases, address) {
+            continue;
+        }
+        let found = shown.database.lookup(address)?;
+        let value: Option<Value<'d>> = found.decode_path(alloc, path)?;
+        if value.is_some() {
+            return Ok(value);
+        }
+    }
+    Ok(None)
+}
+
+// What a database has for an address.
+fn answer_of<'d>(
+    alloc: Global,
+    database: &'d Database,
+    address: IpAddr,
+) -> Result<DatabaseAnswer<'d>, MaxMindDbError> {
+    let found = database.lookup(address)?;
+    Ok(DatabaseAnswer {
+        network: found.network()?,
+        record: found.decode(alloc)?,
+    })
+}
+
+/// What databases have for an address, each its answer, or none where it is passed over or there is an error.
+#[derive(Drop)]
+pub(crate) struct Answers<'d> {
+    pub(crate) answers: Vec<Option<DatabaseAnswer<'d>>>,
+    /// The errors, each with the name of its database.
+    pub(crate) errors: Vec<(&'d str, MaxMindDbError)>,
+}
+
+/// What each of several databases has for an address. An `Err` is of memory.
+pub(crate) fn answers_of<'d>(
+    alloc: Global,
+    databases: &[ShownDatabase<'d>],
+    address: IpAddr,
+) -> Result<Answers<'d>, AllocError> {
+    let mut answers = Vec::new(alloc);
+    let mut errors = Vec::new(alloc);
+    for shown in databases {
+        if is_passed(shown.database, databases, address) {
+            answers.push(None)?;
+            continue;
+        }
+        match answer_of(alloc, shown.database, address) {
+            Ok(answer) => answers.push(Some(answer))?,
+            Err(error) => {
+                answers.push(None)?;
+                errors.push((shown.name, error))?;
+            }
+        }
+    }
+    Ok(Answers { answers, errors })
+}
