@@ -12,7 +12,7 @@ use Rattle.mmdb_filter.specs.declared.counts.Outcome.{Outcome}
 use Rattle.mmdb_filter.specs.declared.counts.Outcome.TheVariants.{Absent, Found, Failed}
 use Rattle.mmdb_filter.specs.declared.rows.Rows.{Rows}
 use Rattle.mmdb_cmd_enrich.specs.Added.{AddsAt}
-use Rattle.mmdb_cmd_enrich.specs.Cells.{blanks, AreCells, are_read}
+use Rattle.mmdb_cmd_enrich.specs.Cells.{blanks, AreCells, are_read, reads_in}
 use Rattle.mmdb_cmd_enrich.specs.Rows.{paths_of}
 use Rattle.mmdb_cmd_enrich.specs.Working.{AddsAtTo, AddsForTo}
 
@@ -23,10 +23,13 @@ found_added db rows fields address leaf offset o outcome old new answers at (ext
 pub absent_added : (db : Database) (rows : Rows) (fields : Vec (Vec PathElement)) (outcome : Outcome) (old new : Vec ℕ) → outcome ≡ Absent → new.items ≡ old.items ++ blanks rows (paths_of fields) → AddsAtTo db rows fields None outcome old new
 absent_added db rows fields outcome old new e put = (blanks rows (paths_of fields), (refl, e), put)
 
-pub read_added : (db asked : Database) (rows : Rows) (paths : List (List PathElement)) (offset : ℕ) (shown cells : List ℕ) (read : Bool) (outcome : Outcome)
-    → asked ≡ db → shown ≡ cells → AreCells rows paths (data_section asked) offset cells → read ≡ are_read paths (data_section asked) offset → outcome ≡ (if read then Found else Failed) → AddsAt db rows paths (Some offset) shown outcome
-read_added db asked rows paths offset shown cells read outcome same put are r addition =
-    subst (λ d. AddsAt d rows paths (Some offset) shown outcome) same (subst (λ x. AreCells rows paths (data_section asked) offset x) (sym put) are, addition ∙ ap (λ b. if b then Found else Failed) r)
+pub read_added : (db asked : Database) (rows : Rows) (paths : List (List PathElement)) (found : Option ℕ) (offset : ℕ) (shown cells : List ℕ) (read : Bool) (outcome : Outcome)
+    → asked ≡ db → found ≡ Some offset → shown ≡ cells → AreCells rows (reads_in (data_section asked) found) paths cells → read ≡ are_read (reads_in (data_section asked) found) paths → outcome ≡ (if read then Found else Failed)
+    → AddsAt db rows paths (Some offset) shown outcome
+read_added db asked rows paths found offset shown cells read outcome same there put are r addition =
+    let here = subst (λ f. AreCells rows (reads_in (data_section asked) f) paths cells) there are in
+    let all = subst (λ f. read ≡ are_read (reads_in (data_section asked) f) paths) there r in
+    subst (λ d. AddsAt d rows paths (Some offset) shown outcome) same (subst (λ x. AreCells rows (reads_in (data_section asked) (Some offset)) paths x) (sym put) here, addition ∙ ap (λ b. if b then Found else Failed) all)
 
 -- what comes after what was there
 pub behind : (old new added : List ℕ) (n : ℕ) → n ≡ length old → new ≡ old ++ added → drop n new ≡ added

@@ -10,13 +10,13 @@ use Rattle.mmdb_filter.specs.declared.counts.Outcome.{Outcome}
 use Rattle.mmdb_filter.specs.declared.counts.Outcome.TheVariants.{Found, Absent, Unreadable, Failed}
 use Rattle.mmdb_addresses.specs.declared.readings.Reading.{Reading}
 use Rattle.mmdb_cmd_enrich.specs.Asked.{AsksForRow}
-use Rattle.mmdb_cmd_enrich.specs.Cells.{AreCells, blanks, are_read}
+use Rattle.mmdb_cmd_enrich.specs.Cells.{AreCells, blanks, are_read, reads_in}
 
 -- the cells of a record at an offset, or empty ones where there is none
 abbrev pub AddsAt : Database → Rows → List (List PathElement) → Option ℕ → List ℕ → Outcome → Type 0
 AddsAt db rows paths None extra outcome = (extra ≡ blanks rows paths) × (outcome ≡ Absent)
 AddsAt db rows paths (Some offset) extra outcome =
-    AreCells rows paths (data_section db) offset extra × (outcome ≡ (if are_read paths (data_section db) offset then Found else Failed))
+    AreCells rows (reads_in (data_section db) (Some offset)) paths extra × (outcome ≡ (if are_read (reads_in (data_section db) (Some offset)) paths then Found else Failed))
 
 -- those of the record of an address; empty ones where there is no address, or its lookup fails
 abbrev pub AddsFor : Database → Rows → List (List PathElement) → Option IpAddr → List ℕ → Outcome → Type 0

@@ -39,16 +39,21 @@ ShowsCell (Csv delimiter) v cell = (value : List ℕ) × MatchBool (is_any_text 
 abbrev pub read_at : List PathElement → List ℕ → ℕ → Option (Option Tree)
 read_at path s offset = answer_along path true (value_at true) s offset
 
+-- what is read along a path in the record at an offset, where there is one
+abbrev pub reads_in : List ℕ → Option ℕ → List PathElement → Option (Option Tree)
+reads_in s None path = Some None
+reads_in s (Some offset) path = read_at path s offset
+
 -- the cell of what was read: empty where nothing is there, or the way or the value failed
 abbrev pub IsCell : Rows → Option (Option Tree) → List ℕ → Type 0
 IsCell rows None cell = cell ≡ []
 IsCell rows (Some None) cell = cell ≡ []
 IsCell rows (Some (Some v)) cell = ShowsCell rows v cell
 
--- a delimiter and a cell for each path
-abbrev pub AreCells : Rows → List (List PathElement) → List ℕ → ℕ → List ℕ → Type 0
-AreCells rows [] s offset cells = cells ≡ []
-AreCells rows (path ∷ paths) s offset cells = (cell rest : List ℕ) × (cells ≡ delimiter_of rows ∷ (cell ++ rest)) × IsCell rows (read_at path s offset) cell × AreCells rows paths s offset rest
+-- a delimiter and a cell for each path, along which this is read
+abbrev pub AreCells : Rows → (List PathElement → Option (Option Tree)) → List (List PathElement) → List ℕ → Type 0
+AreCells rows reads [] cells = cells ≡ []
+AreCells rows reads (path ∷ paths) cells = (cell rest : List ℕ) × (cells ≡ delimiter_of rows ∷ (cell ++ rest)) × IsCell rows (reads path) cell × AreCells rows reads paths rest
 
 -- a delimiter for each path
 abbrev pub blanks : Rows → List (List PathElement) → List ℕ
@@ -56,6 +61,6 @@ blanks rows [] = []
 blanks rows (path ∷ paths) = delimiter_of rows ∷ blanks rows paths
 
 -- no path and no value failed
-abbrev pub are_read : List (List PathElement) → List ℕ → ℕ → Bool
-are_read [] s offset = true
-are_read (path ∷ paths) s offset = is_some (read_at path s offset) && are_read paths s offset
+abbrev pub are_read : (List PathElement → Option (Option Tree)) → List (List PathElement) → Bool
+are_read reads [] = true
+are_read reads (path ∷ paths) = is_some (reads path) && are_read reads paths

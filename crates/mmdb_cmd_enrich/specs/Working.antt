@@ -1,5 +1,6 @@
 -- What contracts of private functions and proofs name.
-use Rattle.std.specs.Prelude.{◌≡◌, ◌⊎◌, ℕ, List, [], ◌∷◌, ◌++◌, Option, Some, option_map, Bool, true, false, is_some, Result, Ok, Err}
+use Rattle.std.specs.Prelude.{◌≡◌, ◌⊎◌, ◌<◌, ◌+◌, ◌*◌, ℕ, List, [], ◌∷◌, ◌++◌, map, Option, Some, None, option_map, Bool, true, false, is_some, Result, Ok, Err, ⊤}
+use Rattle.std.specs.declared.convert.AsSlice.{Ghosts}
 use Rattle.mmdb_format.specs.Unfolding.{Tree}
 use Rattle.mmdb_format.specs.declared.error.MaxMindDbError.{MaxMindDbError}
 use Rattle.mmdb_decode.specs.Errors.{Fails}
@@ -8,7 +9,10 @@ use Rattle.mmdb_value.specs.declared.any_value.Value.{Value}
 use Rattle.mmdb_reader.specs.declared.path.PathElement.{PathElement}
 use Rattle.mmdb_filter.specs.declared.rows.Rows.{Rows}
 use Rattle.mmdb_cmd_enrich.specs.Columns.{delimiter_of}
-use Rattle.mmdb_cmd_enrich.specs.Cells.{ShowsCell, read_at, IsCell, AreCells, are_read}
+use Rattle.mmdb_reader.specs.Found.{database_asked, section_asked, offset_found}
+use Rattle.mmdb_reader.specs.declared.lookup_result.LookupResult.{LookupResult}
+use Rattle.mmdb_cmd_enrich.specs.Cells.{ShowsCell, reads_in, IsCell, AreCells, are_read}
+use Rattle.mmdb_cmd_enrich.specs.Layers.{Has, HaveAll, or_next, digit_of, radix_of, AddsAtAll, AddsForAll}
 use Rattle.std.specs.declared.net.ip_addr.IpAddr.{IpAddr}
 use Rattle.json.specs.Token.{Token}
 use Rattle.mmdb_reader.specs.File.{Database}
@@ -40,17 +44,17 @@ abbrev pub PutsCell : Rows → Option (Option Tree) → Bool → List ℕ → Li
 PutsCell rows answer is_read old new =
     (cell : List ℕ) × IsCell rows answer cell × (new ≡ old ++ cell) × (is_read ≡ is_some answer)
 
--- bytes grow by a delimiter and the cell of what is read along a path
-abbrev pub PutsCellAlong : Rows → List PathElement → List ℕ → ℕ → Bool → List ℕ → List ℕ → Type 0
-PutsCellAlong rows path s offset is_read old new =
-    (cell : List ℕ) × IsCell rows (read_at path s offset) cell
-    × (new ≡ old ++ (delimiter_of rows ∷ cell)) × (is_read ≡ is_some (read_at path s offset))
+-- bytes grow by a delimiter and the cell of an answer, and it is said whether there is one
+abbrev pub PutsNextCell : Rows → Option (Option Tree) → Bool → List ℕ → List ℕ → Type 0
+PutsNextCell rows answer is_read old new =
+    (cell : List ℕ) × IsCell rows answer cell
+    × (new ≡ old ++ (delimiter_of rows ∷ cell)) × (is_read ≡ is_some answer)
 
 -- bytes grow by a delimiter and a cell for each path
-abbrev pub PutsCells : Rows → List (List PathElement) → List ℕ → ℕ → Bool → List ℕ → List ℕ → Type 0
-PutsCells rows paths s offset is_read old new =
-    (cells : List ℕ) × AreCells rows paths s offset cells
-    × (new ≡ old ++ cells) × (is_read ≡ are_read paths s offset)
+abbrev pub PutsCells : Rows → (List PathElement → Option (Option Tree)) → List (List PathElement) → Bool → List ℕ → List ℕ → Type 0
+PutsCells rows reads paths is_read old new =
+    (cells : List ℕ) × AreCells rows reads paths cells
+    × (new ≡ old ++ cells) × (is_read ≡ are_read reads paths)
 
 -- tokens grow by the fields of the record at an offset
 abbrev pub PutsFields : List NamedField → List ℕ → ℕ → List Token → List Token → Type 0
@@ -92,3 +96,49 @@ PutsToObject db nulls name fields line addition old new =
     × (((extra ≡ []) × (addition.outcome ≡ Occupied) × (line.is_taken ≡ true))
     ⊎ ((line.is_taken ≡ false) × (asked : Option IpAddr) × AsksIfAny db line.address asked
     × AddsMemberFor db nulls name fields line.is_empty line.behind asked extra addition.behind addition.outcome))
+
+-- where the record of an answer is, if there is one
+abbrev pub offset_in : {S : Type 0} {G : Ghosts S ℕ} → Option (LookupResult S G) → Option ℕ
+offset_in None = None
+offset_in (Some found) = offset_found found
+
+-- an answer, if there is one, is one of this database
+abbrev pub IsAnswerOf : {S : Type 0} {G : Ghosts S ℕ} → Database → Option (LookupResult S G) → Type 0
+IsAnswerOf db None = ⊤
+IsAnswerOf db (Some found) = database_asked found ≡ db
+
+-- what a database has for an address
+abbrev pub IsAnswer : {S : Type 0} {G : Ghosts S ℕ} → Database → IpAddr → Option (LookupResult S G) → Type 0
+IsAnswer db address answer = IsAnswerOf db answer × Has db address (offset_in answer)
+
+-- answers of these databases
+abbrev pub AreAnswersOf : {S : Type 0} {G : Ghosts S ℕ} → List Database → List (Option (LookupResult S G)) → Type 0
+AreAnswersOf [] [] = ⊤
+AreAnswersOf [] (answer ∷ answers) = ⊥
+AreAnswersOf (db ∷ dbs) [] = ⊥
+AreAnswersOf (db ∷ dbs) (answer ∷ answers) = IsAnswerOf db answer × AreAnswersOf dbs answers
+
+-- what these databases have for an address
+abbrev pub AreAnswers : {S : Type 0} {G : Ghosts S ℕ} → List Database → IpAddr → List (Option (LookupResult S G)) → Type 0
+AreAnswers dbs address answers = AreAnswersOf dbs answers × HaveAll dbs address (map offset_in answers)
+
+-- what is read along a path in the record of an answer
+abbrev pub reads_of : {S : Type 0} {G : Ghosts S ℕ} → Option (LookupResult S G) → List PathElement → Option (Option Tree)
+reads_of None path = Some None
+reads_of (Some found) path = reads_in (section_asked found) (offset_found found) path
+
+-- what is read along a path in the first record of answers that has a value there
+abbrev pub first_read_of : {S : Type 0} {G : Ghosts S ℕ} → List (Option (LookupResult S G)) → List PathElement → Option (Option Tree)
+first_read_of [] path = Some None
+first_read_of (answer ∷ answers) path = or_next (reads_of answer path) (first_read_of answers path)
+
+-- one digit more: where this database has a record
+abbrev pub IsKeyAfter : Option ℕ → Database → Option ℕ → ℕ → Type 0
+IsKeyAfter before db offset key =
+    (number : ℕ) × (before ≡ Some number) × (digit_of offset < radix_of db) × (key ≡ number * radix_of db + digit_of offset)
+
+abbrev pub AddsAtAllTo : List Database → Rows → Vec (Vec PathElement) → List (Option ℕ) → Outcome → Vec ℕ → Vec ℕ → Type 0
+AddsAtAllTo dbs rows fields offsets outcome old new = (extra : List ℕ) × AddsAtAll dbs rows (paths_of fields) offsets extra outcome × (new.items ≡ old.items ++ extra)
+
+abbrev pub AddsForAllTo : List Database → Rows → Vec (Vec PathElement) → Option IpAddr → Outcome → Vec ℕ → Vec ℕ → Type 0
+AddsForAllTo dbs rows fields address outcome old new = (extra : List ℕ) × AddsForAll dbs rows (paths_of fields) address extra outcome × (new.items ≡ old.items ++ extra)

@@ -1,6 +1,9 @@
-//! The address that a database is asked for.
-ghost use Rattle.mmdb_cmd_enrich.specs.Asked.{Asks};
+//! The address that a row has, and the one that a database is asked for.
+ghost use Rattle.mmdb_cmd_enrich.specs.Asked.{Asks, ReadsRow};
 
+use crate::parts::part_of;
+use mmdb_addresses::{Reading, address_anywhere, address_of};
+use mmdb_filter::Rows;
 use mmdb_reader::Reader;
 use std::convert::AsSlice;
 use std::net::IpAddr;
@@ -18,4 +21,24 @@ pub(crate) fn asked_of<S: AsSlice<u8> + Drop>(reader: &Reader<S>, address: IpAdd
         IpAddr::V6(long) if reader.metadata().ip_version == IPV4 => long.to_canonical(),
         other => other,
     }
+}
+
+/// The address in a row: in a column, or the first one anywhere.
+#[inline(always)]
+pub(crate) fn row_address(
+    rows: Rows,
+    reading: Reading,
+    column: usize,
+    text: &[u8],
+    is_long: bool,
+) -> Option<IpAddr>
+    ensures { ReadsRow rows reading column text.now is_long result }
+{
+    if let Reading::Anywhere = reading {
+        return address_anywhere(text, is_long);
+    }
+    address_of(
+        reading,
+        part_of(rows, reading, text, is_long, column, false),
+    )
 }

@@ -43,7 +43,8 @@ pub(crate) struct KeptRecord<'c> {
 }
 
 /// What was added for the last records, each at the bucket that its offset gives. At most 512 bytes of a record are
-/// kept, and those that are not in their bucket take at most 8 MiB.
+/// kept, and those that are not in their bucket take at most 8 MiB. Of the records of several databases one number takes the
+/// place of the offset.
 #[derive(Drop)]
 pub struct AddedCache {
     alloc: Global,
@@ -179,5 +180,15 @@ impl AddedCache {
             outcome,
             cells,
         });
+    }
+
+    /// Keeps the cells of records that have a number.
+    pub(crate) fn keep_numbered(&mut self, number: Option<usize>, cells: &[u8], outcome: Outcome)
+        ensures { (wanted : Wanted) → AreKept wanted self.old
+            → IfSome number (λ n. AddsOf wanted n cells.now outcome) → AreKept wanted self.new }
+    {
+        if let Some(number) = number {
+            self.keep(number, cells, outcome);
+        }
     }
 }

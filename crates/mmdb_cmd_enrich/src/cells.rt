@@ -1,19 +1,18 @@
 //! The cells of a record.
-ghost use Rattle.std.specs.Prelude.{◌≡◌, ◌++◌, ℕ, Option, Some, IfOk, OnOk, map};
+ghost use Rattle.std.specs.Prelude.{◌≡◌, ◌++◌, Option, IfOk, OnOk, map};
 ghost use Rattle.mmdb_filter.specs.declared.rows.Rows.TheVariants.{Lines, Csv};
 ghost use Rattle.mmdb_format.specs.Unfolding.{Tree};
 ghost use Rattle.mmdb_value.specs.Values.{value_tree};
-ghost use Rattle.mmdb_reader.specs.Found.{section_asked, offset_found};
-ghost use Rattle.mmdb_cmd_enrich.specs.Cells.{is_plain as spec_is_plain, blanks, are_read};
-ghost use Rattle.mmdb_cmd_enrich.specs.Working.{PutsShown, PutsCell, PutsCellAlong, PutsCells, IsReadAs};
+ghost use Rattle.mmdb_cmd_enrich.specs.Cells.{is_plain as spec_is_plain, blanks};
+ghost use Rattle.mmdb_cmd_enrich.specs.Working.{PutsShown, PutsCell, PutsNextCell, PutsCells, IsReadAs};
 
 use crate::columns::delimiter_of;
+use crate::read_along::ReadAlong;
 use mmdb_filter::{Rows, put_csv_cell};
 use mmdb_json::compact;
-use mmdb_reader::{LookupResult, MaxMindDbError, PathElement};
+use mmdb_reader::{MaxMindDbError, PathElement};
 use mmdb_value::Value;
 use std::alloc::{AllocError, Global};
-use std::convert::AsSlice;
 
 // Whether no byte is a control character or the delimiter.
 fn is_plain(delimiter: u8, text: &[u8]) -> bool
@@ -100,33 +99,31 @@ fn put_read(
 }
 
 // Adds a delimiter and the cell at the end of a path, and says whether nothing failed.
-fn put_cell<S: AsSlice<u8> + Drop>(
+fn put_cell<R: ReadAlong>(
     alloc: Global,
     rows: Rows,
-    found: &LookupResult<'_, S>,
+    found: &R,
     path: &[PathElement<'_>],
     out: &mut Vec<u8>,
 ) -> Result<bool, AllocError>
-    ensures { IfOk result (λ read. (offset : ℕ) → offset_found found.now ≡ Some offset
-        → PutsCellAlong rows path.now (section_asked found.now) offset
-        read out.old.items out.new.items) }
+    ensures { IfOk result (λ read.
+        PutsNextCell rows (R.reads found.now path.now) read out.old.items out.new.items) }
 {
     out.push(delimiter_of(rows))?;
-    let read: Result<Option<Value<'_>>, MaxMindDbError> = found.decode_path(alloc, path);
+    let read = found.read_along(alloc, path);
     put_read(alloc, rows, &read, out)
 }
 
 /// Adds a delimiter and a cell for each path, and says whether nothing failed.
-pub(crate) fn put_cells<S: AsSlice<u8> + Drop>(
+pub(crate) fn put_cells<R: ReadAlong>(
     alloc: Global,
     rows: Rows,
-    found: &LookupResult<'_, S>,
+    found: &R,
     paths: &[Vec<PathElement<'_>>],
     out: &mut Vec<u8>,
 ) -> Result<bool, AllocError>
-    ensures { IfOk result (λ read. (offset : ℕ) → offset_found found.now ≡ Some offset
-        → PutsCells rows (map (λ path. path.items) paths.now) (section_asked found.now) offset
-        read out.old.items out.new.items) }
+    ensures { IfOk result (λ read. PutsCells rows (R.reads found.now)
+        (map (λ path. path.items) paths.now) read out.old.items out.new.items) }
 {
     let mut are_read = true;
     for path in paths {

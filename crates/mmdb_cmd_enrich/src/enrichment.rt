@@ -41,8 +41,8 @@ pub struct Enrichment<'a, 'f, S: AsSlice<u8> + Drop> {
     pub paths: Vec<Vec<PathElement<'f>>>,
 }
 
-// How a row fares whose record was found.
-fn outcome_of(are_read: bool) -> Outcome
+/// How a row fares whose record was found.
+pub(crate) fn outcome_of(are_read: bool) -> Outcome
     ensures { result ≡ (if are_read then Found else Failed) }
 {
     if are_read {
@@ -82,9 +82,9 @@ fn as_asked<S: AsSlice<u8> + Drop>(reader: &Reader<S>, read: Asked) -> Asked
     }
 }
 
-// Adds cells that are kept.
+/// Adds cells that are kept.
 #[inline(always)]
-fn put_kept(kept: KeptRecord<'_>, out: &mut Vec<u8>) -> Result<Outcome, AllocError>
+pub(crate) fn put_kept(kept: KeptRecord<'_>, out: &mut Vec<u8>) -> Result<Outcome, AllocError>
     ensures { IfOk result (λ outcome. (outcome ≡ kept.entry.outcome)
         × (out.new.items ≡ out.old.items ++ kept.entry.cells.now)) }
 {
@@ -99,7 +99,7 @@ impl<'a, 'f, S: AsSlice<u8> + Drop> Enrichment<'a, 'f, S> {
     // Notes a record that was read, or was not.
     #[inline(never)]
     fn note(&self, found: &LookupResult<'_, S>, offset: usize, are_read: bool, notes: &mut Notes) {
-        notes.note_record(offset);
+        notes.note_record(0, offset);
         for at in 0..self.paths.len() {
             let path = self.paths[at].as_slice();
             notes.note_field(self.alloc, found, at, path, are_read);

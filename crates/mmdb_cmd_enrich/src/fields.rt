@@ -1,4 +1,5 @@
 //! Fields that are asked for.
+use mmdb_layout::path_texts;
 use std::alloc::{AllocError, Global};
 
 /// A field that is asked for.
@@ -10,13 +11,13 @@ pub(crate) struct AskedField<'a> {
     pub(crate) is_said: bool,
 }
 
-/// The fields at these paths.
+/// The fields that these texts ask for, each a path or a name and a path.
 pub(crate) fn wanted_fields<'a>(
     alloc: Global,
-    paths: &[&'a str],
+    texts: &[&'a str],
 ) -> Result<Vec<AskedField<'a>>, AllocError> {
     let mut fields = Vec::new(alloc);
-    for path in paths {
+    for path in &path_texts(alloc, texts)? {
         fields.push(AskedField {
             path: *path,
             is_said: false,

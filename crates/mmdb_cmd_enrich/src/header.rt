@@ -187,7 +187,7 @@ fn write_header<O: Write>(
 ) -> Result<usize, ProgramError> {
     let column = place_of(alloc, task.rows, task.column, header.as_slice())?;
     if !header.is_empty() {
-        put_names(task.rows, task.names, header)?;
+        put_names(task.rows, task.names.as_slice(), header)?;
         put(header.as_slice(), out)?;
     }
     Ok(column)

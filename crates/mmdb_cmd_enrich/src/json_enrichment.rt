@@ -51,10 +51,17 @@ impl JsonMemory {
     pub fn new(alloc: Global) -> Result<JsonMemory, AllocError>
         ensures { IfOk result (λ memory. (wanted : Wanted) → AreKept wanted memory.cache) }
     {
+        JsonMemory::with_notes(alloc, Notes::new(alloc))
+    }
+
+    /// Of no line, with what is noted of records that were read before.
+    pub(crate) fn with_notes(alloc: Global, notes: Notes) -> Result<JsonMemory, AllocError>
+        ensures { IfOk result (λ memory. (wanted : Wanted) → AreKept wanted memory.cache) }
+    {
         Ok(JsonMemory {
             cache: AddedCache::new(alloc)?,
             scratch: Scratch::new(alloc),
-            notes: Notes::new(alloc),
+            notes,
         })
     }
 }
@@ -124,7 +131,7 @@ impl<'a, 'f, S: AsSlice<u8> + Drop> JsonEnrichment<'a, 'f, S> {
     // Notes a record that was read, or was not.
     #[inline(never)]
     fn note(&self, found: &LookupResult<'_, S>, offset: usize, are_read: bool, notes: &mut Notes) {
-        notes.note_record(offset);
+        notes.note_record(0, offset);
         for at in 0..self.fields.len() {
             let path = self.fields[at].path.as_slice();
             notes.note_field(self.alloc, found, at, path, are_read);

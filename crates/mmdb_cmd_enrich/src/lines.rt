@@ -4,20 +4,26 @@ use crate::fields::wanted_fields;
 use crate::header::column_of;
 use crate::input::{Counted, InputKind, copy_mark, kind_of_input};
 use crate::json_enrichment::{JsonEnrichment, JsonMemory};
+use crate::layered_enrichment::{LayeredEnrichment, LayeredMemory};
+use crate::notes::Notes;
+use crate::opening::open_all;
 use crate::output::Output;
+use crate::reload::{Lookout, reopen};
 use crate::row_memory::RowMemory;
-use crate::task::{JsonTask, LINES, RowsTask, json_task, rows_task, wanted_members};
+use crate::task::{JsonTask, LINES, RowsTask, json_task, rows_task};
 use crate::warnings::{AddressPlace, Remembering, Warnings};
 use crate::watch::Watch;
-use mmdb_arguments::EnrichArguments;
-use mmdb_console::{BAD_ARGUMENTS, Console, FAILED, Pace, ProgramError, ProgressLine, line_of};
-use mmdb_filter::{Additions, Counts, Filtered, Live, Rows, filter_rows};
-use mmdb_layout::{Database, Opened, open_database, open_found};
+use mmdb_arguments::{EnrichArguments, NoRequest};
+use mmdb_console::{Console, Pace, ProgramError, ProgressLine, line_of};
+use mmdb_filter::{Additions, Counts, Live, Rows, filter_rows};
+use mmdb_layout::Database;
 use std::alloc::{AllocError, Global};
 use std::cell::Cell;
 use std::env::Env;
 use std::io::Write;
+use std::mem;
 use std::rt::Files;
+use std::time::Clock;
 
 // How rows fared, in words.
 fn text_of_rows(alloc: Global, counts: Counts) -> Result<String, AllocError> {
@@ -66,28 +72,59 @@ fn text_of_members(
     line_of(alloc, Ok(text))
 }
 
-// What rows pass through, and what is said of them.
+// What rows pass through, what is known of those that passed, and what is said of them.
 #[derive(Drop)]
 struct Passage<'n, 'a> {
     kind: InputKind,
     /// How many bytes of the input passed.
     bytes: u64,
+    /// How the rows fared that passed.
+    counts: Counts,
+    /// What is noted of their records.
+    records: Notes,
+    /// Whether it was said what is wrong with the first of them.
+    is_checked: bool,
     notes: &'n mut Warnings<'a>,
+    lookout: Lookout,
+}
+
+impl<'n, 'a> Passage<'n, 'a> {
+    // Of no row.
+    fn new<R: Files>(
+        rt: &R,
+        alloc: Global,
+        notes: &'n mut Warnings<'a>,
+        lookout: Lookout,
+    ) -> Passage<'n, 'a> {
+        Passage {
+            kind: kind_of_input(rt),
+            bytes: 0,
+            counts: Counts::new(),
+            records: Notes::new(alloc),
+            is_checked: false,
+            notes,
+            lookout,
+        }
+    }
+
+    // Takes out what is noted of records.
+    fn take_records(&mut self, alloc: Global) -> Notes {
+        mem::replace(&mut self.records, Notes::new(alloc))
+    }
 }
 
 // Copies rows with what is added to each, and counts how they fared. How many passed is shown on a terminal meanwhile. It
-// ends before the input's end where it is to stop.
+// ends before the input's end after the first thousand, and where a file was replaced. Whether it came to the input's end.
 #[inline(never)]
-fn filter<A: Additions, I: Live, O: Write, E: Pace>(
+fn filter<A: Additions, R: Files + Clock, I: Live, O: Write, E: Pace>(
+    rt: &R,
     rows: Rows,
     additions: &A,
     memory: &mut A::Memory,
-    counts: Counts,
-    stops: bool,
     input: &mut I,
     passage: &mut Passage<'_, '_>,
     console: &mut Console<'_, O, E>,
-) -> Result<Filtered, ProgramError>
+) -> Result<bool, ProgramError>
     requires { A.fits additions.now memory.old }
     ensures { A.fits additions.now memory.new }
 {
@@ -99,9 +136,11 @@ fn filter<A: Additions, I: Live, O: Write, E: Pace>(
         line,
         &bytes,
         passage.kind.size,
-        stops,
+        !passage.is_checked,
         passage.notes.is_quiet(),
         passage.notes.before,
+        &mut passage.lookout,
+        rt,
     );
     let mut out = Output::new(console.out, passage.kind.is_live);
     let mut counted = Counted {
@@ -113,7 +152,7 @@ fn filter<A: Additions, I: Live, O: Write, E: Pace>(
         rows,
         additions,
         memory,
-        counts,
+        passage.counts,
         &mut counted,
         &mut out,
         &mut watch,
@@ -121,126 +160,153 @@ fn filter<A: Additions, I: Live, O: Write, E: Pace>(
     watch.clear();
     passage.notes.add(watch.quoted, watch.occupied);
     passage.bytes = bytes.get();
-    out.of_filter(filtered)
+    let filtered = out.of_filter(filtered)?;
+    passage.counts = filtered.counts;
+    Ok(filtered.is_end)
 }
 
-// Copies all rows. What is wrong with the first thousand is said when they passed. Standard output is flushed.
-fn copy_rows<A: Additions, I: Live, O: Write, E: Pace>(
+// Copies rows up to the input's end, or until a file was replaced, and says whether that was the end. What is wrong with the
+// first thousand is said when they passed.
+fn copy_rows<A: Additions, R: Files + Clock, I: Live, O: Write, E: Pace>(
+    rt: &R,
     rows: Rows,
     additions: &A,
     memory: &mut A::Memory,
-    database: &Database,
+    databases: &[Database],
     input: &mut I,
     passage: &mut Passage<'_, '_>,
     console: &mut Console<'_, O, E>,
-) -> Result<Counts, ProgramError>
+) -> Result<bool, ProgramError>
 where
     A::Memory: Remembering,
     requires { A.fits additions.now memory.old }
 {
-    let first = Counts::new();
-    let mut filtered = filter(
-        rows, additions, memory, first, true, input, passage, console,
-    )?;
-    if !filtered.is_end {
-        let counts = filtered.counts;
-        passage
-            .notes
-            .check(counts, memory.records(), database, console);
-        filtered = filter(
-            rows, additions, memory, counts, false, input, passage, console,
-        )?;
+    let is_end = filter(rt, rows, additions, memory, input, passage, console)?;
+    if is_end || passage.lookout.has_seen {
+        return Ok(is_end);
     }
-    console.flush()?;
-    let counts = filtered.counts;
     passage
         .notes
-        .finish(counts, memory.records(), database, console);
-    Ok(counts)
+        .check(passage.counts, memory.records(), databases, console);
+    passage.is_checked = true;
+    filter(rt, rows, additions, memory, input, passage, console)
 }
 
-// Copies rows with fields after each, and reports how they fared.
-fn enrich_rows<I: Live, O: Write, E: Pace>(
-    enrichment: &Enrichment<'_, '_, Vec<u8>>,
-    input: &mut I,
+// Reports how all rows fared, and answers the status. Standard output is flushed.
+fn finish<O: Write, E: Pace>(
+    databases: &[Database],
+    text: Result<String, AllocError>,
     passage: &mut Passage<'_, '_>,
     console: &mut Console<'_, O, E>,
 ) -> Result<u8, ProgramError> {
-    let mut memory = RowMemory::new(console.alloc)?;
+    console.flush()?;
+    let counts = passage.counts;
+    passage
+        .notes
+        .finish(counts, &passage.records, databases, console);
+    let unasked = passage.records.unasked;
+    Ok(passage.notes.end(counts, unasked, text, console))
+}
+
+// Copies rows with fields after each.
+fn enrich_rows<R: Files + Clock, I: Live, O: Write, E: Pace>(
+    rt: &R,
+    enrichment: &Enrichment<'_, '_, Vec<u8>>,
+    databases: &[Database],
+    input: &mut I,
+    passage: &mut Passage<'_, '_>,
+    console: &mut Console<'_, O, E>,
+) -> Result<bool, ProgramError> {
+    let alloc = console.alloc;
+    let mut memory = RowMemory::with_notes(alloc, passage.take_records(alloc))?;
     let rows = enrichment.rows;
-    let database = enrichment.reader;
-    let counts = copy_rows(
+    let done = copy_rows(
+        rt,
         rows,
         enrichment,
         &mut memory,
-        database,
+        databases,
         input,
         passage,
         console,
     );
-    let unasked = memory.notes.unasked;
-    drop(memory);
-    let counts = counts?;
-    let text = text_of_rows(console.alloc, counts);
-    Ok(passage.notes.end(counts, unasked, text, console))
+    passage.records = mem::replace(&mut memory.notes, Notes::new(alloc));
+    done
 }
 
-// Copies rows with fields after each, and reports how they fared.
-fn enrich_columns<I: Live, O: Write, E: Pace>(
-    database: &Database,
-    task: RowsTask<'_>,
+// Copies rows with fields of several databases after each.
+fn enrich_layered<R: Files + Clock, I: Live, O: Write, E: Pace>(
+    rt: &R,
+    enrichment: &LayeredEnrichment<'_, '_, Vec<u8>>,
     input: &mut I,
     passage: &mut Passage<'_, '_>,
     console: &mut Console<'_, O, E>,
-) -> Result<u8, ProgramError> {
-    copy_mark(input, console.out)?;
-    let column = column_of(console.alloc, &task, input, console.out)?;
-    let enrichment = Enrichment {
+) -> Result<bool, ProgramError> {
+    let alloc = console.alloc;
+    let mut memory = LayeredMemory::with_notes(alloc, passage.take_records(alloc))?;
+    let rows = enrichment.rows;
+    let done = copy_rows(
+        rt,
+        rows,
+        enrichment,
+        &mut memory,
+        enrichment.readers,
+        input,
+        passage,
+        console,
+    );
+    passage.records = mem::replace(&mut memory.notes, Notes::new(alloc));
+    done
+}
+
+// Copies rows with fields after each, up to the input's end or until a file was replaced, and says whether that was the end.
+fn enrich_columns<R: Files + Clock, I: Live, O: Write, E: Pace>(
+    rt: &R,
+    databases: &[Database],
+    names: &[&str],
+    task: RowsTask<'_>,
+    column: usize,
+    input: &mut I,
+    passage: &mut Passage<'_, '_>,
+    console: &mut Console<'_, O, E>,
+) -> Result<bool, ProgramError> {
+    if let [database] = databases {
+        let enrichment = Enrichment {
+            alloc: console.alloc,
+            reader: database,
+            reading: task.reading,
+            rows: task.rows,
+            column,
+            paths: task.paths,
+        };
+        return enrich_rows(rt, &enrichment, databases, input, passage, console);
+    }
+    let enrichment = LayeredEnrichment {
         alloc: console.alloc,
-        reader: database,
+        readers: databases,
+        names,
         reading: task.reading,
         rows: task.rows,
         column,
         paths: task.paths,
     };
-    enrich_rows(&enrichment, input, passage, console)
+    enrich_layered(rt, &enrichment, input, passage, console)
 }
 
-// Copies lines with a member more in each object, and reports how they fared.
-fn enrich_objects<I: Live, O: Write, E: Pace>(
-    enrichment: &JsonEnrichment<'_, '_, Vec<u8>>,
-    input: &mut I,
-    passage: &mut Passage<'_, '_>,
-    console: &mut Console<'_, O, E>,
-) -> Result<u8, ProgramError> {
-    let mut memory = JsonMemory::new(console.alloc)?;
-    let database = enrichment.reader;
-    let counts = copy_rows(
-        LINES,
-        enrichment,
-        &mut memory,
-        database,
-        input,
-        passage,
-        console,
-    );
-    let unasked = memory.notes.unasked;
-    drop(memory);
-    let counts = counts?;
-    let first = passage.notes.occupied;
-    let text = text_of_members(console.alloc, counts, enrichment.name, first);
-    Ok(passage.notes.end(counts, unasked, text, console))
-}
-
-// Copies lines with a member more in each object, and reports how they fared.
-fn enrich_json<I: Live, O: Write, E: Pace>(
-    database: &Database,
+// Copies lines with a member more in each object, up to the input's end or until a file was replaced, and says whether that
+// was the end.
+fn enrich_json<R: Files + Clock, I: Live, O: Write, E: Pace>(
+    rt: &R,
+    databases: &[Database],
     task: JsonTask<'_>,
     input: &mut I,
     passage: &mut Passage<'_, '_>,
     console: &mut Console<'_, O, E>,
-) -> Result<u8, ProgramError> {
-    copy_mark(input, console.out)?;
+) -> Result<bool, ProgramError> {
+    let Some(database) = databases.first() else {
+        drop(task);
+        return Ok(true);
+    };
     let enrichment = JsonEnrichment {
         alloc: console.alloc,
         reader: database,
@@ -250,96 +316,214 @@ fn enrich_json<I: Live, O: Write, E: Pace>(
         nulls: task.nulls,
         fields: task.fields,
     };
-    enrich_objects(&enrichment, input, passage, console)
+    enrich_objects(rt, &enrichment, databases, input, passage, console)
 }
 
-// What is done to rows.
-#[derive(Drop)]
-enum Task<'t> {
-    Columns(RowsTask<'t>),
-    Member(JsonTask<'t>),
-}
-
-// Opens a file and copies rows with fields of it in each.
-fn enrich_from<R: Files + Env, I: Live, O: Write, E: Pace>(
+// Copies lines with a member more in each object.
+fn enrich_objects<R: Files + Clock, I: Live, O: Write, E: Pace>(
     rt: &R,
-    file: &str,
-    task: Task<'_>,
+    enrichment: &JsonEnrichment<'_, '_, Vec<u8>>,
+    databases: &[Database],
+    input: &mut I,
+    passage: &mut Passage<'_, '_>,
+    console: &mut Console<'_, O, E>,
+) -> Result<bool, ProgramError> {
+    let alloc = console.alloc;
+    let mut memory = JsonMemory::with_notes(alloc, passage.take_records(alloc))?;
+    let done = copy_rows(
+        rt,
+        LINES,
+        enrichment,
+        &mut memory,
+        databases,
+        input,
+        passage,
+        console,
+    );
+    passage.records = mem::replace(&mut memory.notes, Notes::new(alloc));
+    done
+}
+
+// Opens what took the place of files, if that was seen. What was noted of records is of those before.
+fn take_new<R: Files + Clock, O: Write, E: Pace>(
+    rt: &R,
+    databases: &mut Vec<Database>,
+    passage: &mut Passage<'_, '_>,
+    console: &mut Console<'_, O, E>,
+) {
+    if passage.lookout.look(rt) {
+        reopen(rt, &mut passage.lookout, databases, console);
+        passage.records.records.clear();
+    }
+}
+
+// Copies all rows with fields after each. Where a file is replaced, the rows after that are looked up in the new one.
+fn copy_columns<R: Files + Clock, I: Live, O: Write, E: Pace>(
+    rt: &R,
+    databases: &mut Vec<Database>,
+    names: &[&str],
+    arguments: &EnrichArguments<'_>,
+    column: usize,
+    input: &mut I,
+    passage: &mut Passage<'_, '_>,
+    console: &mut Console<'_, O, E>,
+) -> Result<(), ProgramError> {
+    for _ in 0..u64::MAX {
+        take_new(rt, databases, passage, console);
+        let task = rows_task(console.alloc, &*arguments)?;
+        let at_hand = databases.as_slice();
+        if enrich_columns(rt, at_hand, names, task, column, input, passage, console)? {
+            return Ok(());
+        }
+    }
+    Ok(())
+}
+
+// Copies all lines with a member more in each object. Where a file is replaced, the lines after that are looked up in the new
+// one.
+fn copy_objects<R: Files + Clock, I: Live, O: Write, E: Pace>(
+    rt: &R,
+    databases: &mut Vec<Database>,
+    arguments: &EnrichArguments<'_>,
+    input: &mut I,
+    passage: &mut Passage<'_, '_>,
+    console: &mut Console<'_, O, E>,
+) -> Result<(), ProgramError> {
+    let path = arguments.json.unwrap_or("");
+    for _ in 0..u64::MAX {
+        take_new(rt, databases, passage, console);
+        let task = json_task(console.alloc, path, &*arguments)?;
+        if enrich_json(rt, databases.as_slice(), task, input, passage, console)? {
+            return Ok(());
+        }
+    }
+    Ok(())
+}
+
+// Copies all rows with fields after each, and reports how they fared. The first row may name the columns.
+fn enrich_all_rows<R: Files + Clock, I: Live, O: Write, E: Pace>(
+    rt: &R,
+    databases: &mut Vec<Database>,
+    names: &[&str],
+    task: &RowsTask<'_>,
+    arguments: &EnrichArguments<'_>,
     input: &mut I,
     passage: &mut Passage<'_, '_>,
     console: &mut Console<'_, O, E>,
 ) -> Result<u8, ProgramError> {
-    let Some(database) = open_database(rt, file, console) else {
-        drop(task);
-        return Ok(FAILED);
-    };
-    let done = match task {
-        Task::Columns(task) => enrich_columns(&database, task, input, passage, console),
-        Task::Member(task) => enrich_json(&database, task, input, passage, console),
-    };
-    drop(database);
-    done
+    copy_mark(input, console.out)?;
+    let column = column_of(console.alloc, task, input, console.out)?;
+    copy_columns(
+        rt, databases, names, arguments, column, input, passage, console,
+    )?;
+    let text = text_of_rows(console.alloc, passage.counts);
+    finish(databases.as_slice(), text, passage, console)
 }
 
-// Reports a second file: a log more often than another database.
-fn report_other<R: Files + Env, O: Write, E: Pace>(
+// Copies all lines with a member more in each object, and reports how they fared.
+fn enrich_all_objects<R: Files + Clock, I: Live, O: Write, E: Pace>(
     rt: &R,
-    other: &str,
+    databases: &mut Vec<Database>,
+    name: &str,
+    arguments: &EnrichArguments<'_>,
+    input: &mut I,
+    passage: &mut Passage<'_, '_>,
     console: &mut Console<'_, O, E>,
-) {
-    let alloc = console.alloc;
-    console.names_found = false;
-    let Opened { path, got } = open_found(rt, other, console);
-    let is_database = got.is_ok();
-    drop(path);
-    drop(got);
-    let text = if is_database {
-        format!(in alloc; "mmdb: {other} is a second database; enrich takes one")
-    } else {
-        format!(in alloc; "mmdb: {other} is no database; enrich reads standard input: < {other}")
-    };
-    console.note(line_of(alloc, text));
+) -> Result<u8, ProgramError> {
+    copy_mark(input, console.out)?;
+    copy_objects(rt, databases, arguments, input, passage, console)?;
+    let first = passage.notes.occupied;
+    let text = text_of_members(console.alloc, passage.counts, name, first);
+    finish(databases.as_slice(), text, passage, console)
 }
 
-/// Copies lines with fields of a database in each, reports how they fared, and answers the status. An `Err` where an
-/// argument is not what is wanted in its place, before the file is opened; where standard input can't be read, standard
-/// output can't be written, the first row has no such column or is too long, or out of memory.
-pub fn enrich<R: Files + Env, I: Live, O: Write, E: Pace>(
+// Copies rows with fields of databases after each, and reports how they fared.
+fn enrich_to_rows<R: Files + Env + Clock, I: Live, O: Write, E: Pace>(
+    rt: &R,
+    names: &[&str],
+    arguments: &EnrichArguments<'_>,
+    input: &mut I,
+    console: &mut Console<'_, O, E>,
+) -> Result<u8, ProgramError> {
+    let task = rows_task(console.alloc, &*arguments)?;
+    let fields = wanted_fields(console.alloc, arguments.fields.as_slice())?;
+    let before = u64::from(task.header);
+    let mut notes = Warnings::new(task.place(arguments), fields, before, arguments);
+    let mut databases = Vec::new(console.alloc);
+    let mut lookout = Lookout::new(console.alloc, rt, arguments.reload);
+    if let Some(status) = open_all(rt, names, &mut databases, &mut lookout, console)? {
+        return Ok(status);
+    }
+    let mut passage = Passage::new(rt, console.alloc, &mut notes, lookout);
+    enrich_all_rows(
+        rt,
+        &mut databases,
+        names,
+        &task,
+        &*arguments,
+        input,
+        &mut passage,
+        console,
+    )
+}
+
+// Copies lines with a member more in each object, and reports how they fared.
+fn enrich_to_objects<R: Files + Env + Clock, I: Live, O: Write, E: Pace>(
+    rt: &R,
+    names: &[&str],
+    arguments: &EnrichArguments<'_>,
+    input: &mut I,
+    console: &mut Console<'_, O, E>,
+) -> Result<u8, ProgramError> {
+    let path = arguments.json.unwrap_or("");
+    let name = json_task(console.alloc, path, &*arguments)?.into;
+    let fields = wanted_fields(console.alloc, arguments.fields.as_slice())?;
+    let mut notes = Warnings::new(AddressPlace::Member(path), fields, 0, arguments);
+    let mut databases = Vec::new(console.alloc);
+    let mut lookout = Lookout::new(console.alloc, rt, arguments.reload);
+    if let Some(status) = open_all(rt, names, &mut databases, &mut lookout, console)? {
+        return Ok(status);
+    }
+    let mut passage = Passage::new(rt, console.alloc, &mut notes, lookout);
+    enrich_all_objects(
+        rt,
+        &mut databases,
+        name,
+        &*arguments,
+        input,
+        &mut passage,
+        console,
+    )
+}
+
+// The names of the databases.
+fn names_of<'a>(
+    alloc: Global,
+    arguments: &EnrichArguments<'a>,
+) -> Result<Vec<&'a str>, AllocError> {
+    let mut names = Vec::new(alloc);
+    names.push(arguments.file)?;
+    names.extend_from_slice(arguments.others.as_slice())?;
+    Ok(names)
+}
+
+/// Copies lines with fields of databases in each, reports how they fared, and answers the status. Where replaced files are
+/// wanted, rows that come after a file was replaced are looked up in the new one. An `Err` where an argument is not what is
+/// wanted in its place, before a file is opened; where standard input can't be read, standard output can't be written, the
+/// first row has no such column or is too long, or out of memory.
+pub fn enrich<R: Files + Env + Clock, I: Live, O: Write, E: Pace>(
     rt: &R,
     arguments: &EnrichArguments<'_>,
     input: &mut I,
     console: &mut Console<'_, O, E>,
 ) -> Result<u8, ProgramError> {
-    if let Some(other) = arguments.others.first() {
-        report_other(rt, *other, console);
-        return Ok(BAD_ARGUMENTS);
-    }
     console.names_found = !arguments.quiet;
+    let names = names_of(console.alloc, arguments)?;
     match arguments.json {
-        Some(path) => {
-            let task = json_task(console.alloc, path, &*arguments)?;
-            let fields = wanted_members(console.alloc, arguments)?;
-            let mut notes = Warnings::new(AddressPlace::Member(path), fields, 0, arguments);
-            let mut passage = Passage {
-                kind: kind_of_input(rt),
-                bytes: 0,
-                notes: &mut notes,
-            };
-            let task = Task::Member(task);
-            enrich_from(rt, arguments.file, task, input, &mut passage, console)
+        Some(_) if !arguments.others.is_empty() => {
+            Err(NoRequest::bad_argument(console.alloc, "--json", "takes one database").into())
         }
-        None => {
-            let task = rows_task(console.alloc, &*arguments)?;
-            let fields = wanted_fields(console.alloc, arguments.fields.as_slice())?;
-            let before = u64::from(task.header);
-            let mut notes = Warnings::new(task.place(arguments), fields, before, arguments);
-            let mut passage = Passage {
-                kind: kind_of_input(rt),
-                bytes: 0,
-                notes: &mut notes,
-            };
-            let task = Task::Columns(task);
-            enrich_from(rt, arguments.file, task, input, &mut passage, console)
-        }
+        Some(_) => enrich_to_objects(rt, names.as_slice(), arguments, input, console),
+        None => enrich_to_rows(rt, names.as_slice(), arguments, input, console),
     }
 }

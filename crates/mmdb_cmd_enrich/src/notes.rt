@@ -1,4 +1,6 @@
 //! What is noted of the records that are read, so that it can be said at the end what was amiss.
+use crate::asked::asked_of;
+use crate::layers::{Layers, can_ask_any, read_in};
 use mmdb_reader::{LookupResult, MaxMindDbError, PathElement, Reader};
 use mmdb_value::Value;
 use std::alloc::{AllocError, Global};
@@ -20,19 +22,39 @@ pub struct RowFailure {
     pub cause: String,
 }
 
+/// A record of one of the databases.
+#[derive(Clone, Copy, PartialEq)]
+pub struct NotedRecord {
+    /// The place of the database among them.
+    pub database: usize,
+    pub offset: usize,
+}
+
 /// What is noted of the records that are read. Where there is no memory for a note, it is left out.
 #[derive(Drop)]
 pub struct Notes {
     /// How many rows have passed.
     pub rows: u64,
-    /// How many rows have an address that the database can't be asked for: one of IPv6, where it has IPv4 alone.
+    /// How many rows have an address that no database can be asked for: one of IPv6, where they have IPv4 alone.
     pub unasked: u64,
     /// The first rows whose record can't be read, at most 10.
     pub failures: Vec<RowFailure>,
     /// Of each field whether a record had a value there. A field at which none is noted had none.
     pub met: Vec<bool>,
-    /// The offsets of the first records, at most 64, each once.
-    pub records: Vec<usize>,
+    /// The first records, at most 64, each once.
+    pub records: Vec<NotedRecord>,
+}
+
+// Why a record can't be read, in words: after the name of its database, where it has one.
+fn cause_of(
+    alloc: Global,
+    name: Option<&str>,
+    error: &MaxMindDbError,
+) -> Result<String, AllocError> {
+    match name {
+        Some(name) => format!(in alloc; "{name}: {error}"),
+        None => format!(in alloc; "{error}"),
+    }
 }
 
 impl Notes {
@@ -59,14 +81,18 @@ impl Notes {
         count >= MOST_FAILURES || (count > 0 && self.failures[count - 1].row == self.rows)
     }
 
-    /// Notes why the record of this row can't be read.
+    /// Notes why the record of this row can't be read, in the database of a name, if it has one.
     #[inline(never)]
-    pub(crate) fn note_failure(&mut self, alloc: Global, error: &MaxMindDbError) {
+    pub(crate) fn note_failure(
+        &mut self,
+        alloc: Global,
+        name: Option<&str>,
+        error: &MaxMindDbError,
+    ) {
         if self.has_failure() {
             return;
         }
-        let cause: Result<String, AllocError> = format!(in alloc; "{error}");
-        if let Ok(cause) = cause {
+        if let Ok(cause) = cause_of(alloc, name, error) {
             let _ = self.failures.push(RowFailure {
                 row: self.rows,
                 cause,
@@ -76,9 +102,10 @@ impl Notes {
 
     /// Notes a record.
     #[inline(never)]
-    pub(crate) fn note_record(&mut self, offset: usize) {
-        if self.records.len() < MOST_RECORDS && !self.records.as_slice().contains(&offset) {
-            let _ = self.records.push(offset);
+    pub(crate) fn note_record(&mut self, database: usize, offset: usize) {
+        let record = NotedRecord { database, offset };
+        if self.records.len() < MOST_RECORDS && !self.records.as_slice().contains(&record) {
+            let _ = self.records.push(record);
         }
     }
 
@@ -120,8 +147,43 @@ impl Notes {
                 let _ = self.note_met(field);
             }
             Ok(None) => {}
-            Err(error) => self.note_failure(alloc, &error),
+            Err(error) => self.note_failure(alloc, None, &error),
         }
+    }
+
+    /// Notes whether the records of several databases have a value at a field, and in which of them that can't be read.
+    /// Where all of them were read, a field at which a record had a value is not read again.
+    #[inline(never)]
+    pub(crate) fn note_layered<S: AsSlice<u8> + Drop>(
+        &mut self,
+        alloc: Global,
+        names: &[&str],
+        layers: &Layers<'_, S>,
+        field: usize,
+        path: &[PathElement<'_>],
+        are_read: bool,
+    ) {
+        if are_read && self.has_met(field) {
+            return;
+        }
+        for (at, answer) in layers.answers.iter().enumerate() {
+            match read_in(alloc, answer, path) {
+                Ok(Some(_)) => {
+                    let _ = self.note_met(field);
+                    return;
+                }
+                Ok(None) => {}
+                Err(error) => return self.note_failure(alloc, names.get(at).copied(), &error),
+            }
+        }
+    }
+
+    // Notes the error of a lookup.
+    fn note_lookup(&mut self, alloc: Global, name: Option<&str>, error: &MaxMindDbError) {
+        if let MaxMindDbError::InvalidInput { .. } = error {
+            self.unasked = self.unasked.saturating_add(1);
+        }
+        self.note_failure(alloc, name, error);
     }
 }
 
@@ -134,9 +196,38 @@ pub(crate) fn note_rejected<S: AsSlice<u8> + Drop>(
     notes: &mut Notes,
 ) {
     if let Err(error) = reader.lookup(address) {
-        if let MaxMindDbError::InvalidInput { .. } = error {
-            notes.unasked = notes.unasked.saturating_add(1);
+        notes.note_lookup(alloc, None, &error);
+    }
+}
+
+// The error of the lookup of an address in a database, where it can be asked for it or not.
+fn error_of<S: AsSlice<u8> + Drop>(
+    reader: &Reader<S>,
+    address: IpAddr,
+    can_ask: bool,
+) -> Option<MaxMindDbError> {
+    match reader.lookup(asked_of(reader, address)) {
+        Err(error) if matches!(error, MaxMindDbError::InvalidInput { .. }) != can_ask => Some(
+            error,
+        ),
+        _ => None,
+    }
+}
+
+/// Notes in which of several databases an address is rejected, and why: the first whose lookup fails, or, where none can be
+/// asked for it, the first of all.
+#[inline(never)]
+pub(crate) fn note_rejected_by<S: AsSlice<u8> + Drop>(
+    alloc: Global,
+    readers: &[Reader<S>],
+    names: &[&str],
+    address: IpAddr,
+    notes: &mut Notes,
+) {
+    let can_ask = can_ask_any(readers, address);
+    for (at, reader) in readers.iter().enumerate() {
+        if let Some(error) = error_of(reader, address, can_ask) {
+            return notes.note_lookup(alloc, names.get(at).copied(), &error);
         }
-        notes.note_failure(alloc, &error);
     }
 }

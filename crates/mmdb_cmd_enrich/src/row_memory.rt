@@ -27,9 +27,17 @@ impl RowMemory {
             (λ memory. (db : Database) (reading : Reading) (wanted : Wanted)
             → Remembers db reading wanted memory) }
     {
+        RowMemory::with_notes(alloc, Notes::new(alloc))
+    }
+
+    /// Of no row, with what is noted of records that were read before.
+    pub(crate) fn with_notes(alloc: Global, notes: Notes) -> Result<RowMemory, AllocError>
+        ensures { IfOk result
+            (λ memory. (db : Database) (reading : Reading) (wanted : Wanted)
+            → Remembers db reading wanted memory) }
+    {
         let cache = AddedCache::new(alloc)?;
         let ahead = Ahead::new();
-        let notes = Notes::new(alloc);
         Ok(RowMemory {
             cache,
             ahead,

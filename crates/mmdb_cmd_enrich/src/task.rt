@@ -1,14 +1,14 @@
 //! What `enrich` is asked for.
-use crate::fields::{AskedField, wanted_fields};
 use crate::members::NamedField;
 use crate::warnings::AddressPlace;
 use mmdb_addresses::Reading;
 use mmdb_arguments::{EnrichArguments, Hop, NoRequest};
-use mmdb_console::{paths_of, wanted_path};
+use mmdb_console::wanted_path;
 use mmdb_filter::Rows;
+use mmdb_layout::{ChosenFields, DefaultName, fields_of};
 use mmdb_objects::PathStep;
 use mmdb_reader::PathElement;
-use std::alloc::{AllocError, Global};
+use std::alloc::Global;
 
 /// A column of lines.
 #[derive(Clone, Copy)]
@@ -25,7 +25,7 @@ pub(crate) struct RowsTask<'a> {
     pub(crate) rows: Rows,
     pub(crate) reading: Reading,
     pub(crate) column: Column<'a>,
-    pub(crate) names: &'a [&'a str],
+    pub(crate) names: Vec<&'a str>,
     pub(crate) paths: Vec<Vec<PathElement<'a>>>,
     pub(crate) header: bool,
 }
@@ -117,72 +117,58 @@ fn bad_delimiter(alloc: Global) -> NoRequest {
     NoRequest::bad_argument(alloc, "--delimiter", "neither a quote nor a line break")
 }
 
-// The last step of a path, as it is written. In quotes it is what is between them.
-fn last_step(path: &str) -> &str {
-    if let Some(text) = path.strip_suffix('"') {
-        return match text.rsplit_once('"') {
-            Some((_, step)) => step,
-            None => path,
-        };
+/// The names of columns, and the paths of the fields in them.
+type FieldColumns<'a> = (Vec<&'a str>, Vec<Vec<PathElement<'a>>>);
+
+/// What a name of a column is that no row can have.
+const BROKEN_ROW: &str = "a name with what separates columns or lines";
+
+// The fields of objects.
+fn members_of<'a>(alloc: Global, texts: &[&'a str]) -> Result<Vec<NamedField<'a>>, NoRequest> {
+    let ChosenFields {
+        names,
+        texts: _,
+        paths,
+        is_named: _,
+    } = fields_of(alloc, texts, DefaultName::LastStep, &[])?;
+    let mut members = Vec::new(alloc);
+    for (name, path) in names.iter().zip(paths) {
+        members.push(NamedField { name: *name, path })?;
     }
-    match path.rsplit_once('.') {
-        Some((_, step)) => step,
-        None => path,
-    }
+    Ok(members)
 }
 
-// The name of a field and its path: `NAME=PATH`, or a path alone, of which the last step is the name.
-fn named_path(text: &str) -> (&str, &str) {
-    match text.split_once('=') {
-        Some((name, path)) if !name.contains('"') => (name, path),
-        _ => (last_step(text), text),
-    }
-}
-
-// The error of a field whose name another one has.
-fn equal_name(alloc: Global, name: &str, text: &str, path: &str) -> NoRequest {
-    let wanted: Result<String, AllocError> = format!(in alloc;
-        "another field has the name {name} too; give one of them a name of its own, as NAME={path}"
-    );
-    match &wanted {
-        Ok(wanted) => NoRequest::bad_argument(alloc, text, wanted.as_str()),
-        Err(_) => NoRequest::Memory,
-    }
-}
-
-// Whether a field has this name.
-fn has_name(fields: &[NamedField<'_>], name: &str) -> bool {
-    for field in fields {
-        if field.name == name {
-            return true;
+// Whether the cells of a row can't have this name for a column.
+fn breaks_row(rows: Rows, name: &str) -> bool {
+    match rows {
+        Rows::Lines { delimiter } => {
+            let mut bytes = name.as_bytes().iter();
+            bytes.any(|byte| *byte == delimiter || *byte == b'\n' || *byte == b'\r')
         }
+        Rows::Csv { .. } => false,
     }
-    false
 }
 
-fn fields_of<'a>(alloc: Global, texts: &[&'a str]) -> Result<Vec<NamedField<'a>>, NoRequest> {
-    let mut fields = Vec::new(alloc);
-    for text in texts {
-        let (name, path) = named_path(*text);
-        if has_name(fields.as_slice(), name) {
-            return Err(equal_name(alloc, name, *text, path));
-        }
-        let path = wanted_path(alloc, path)?;
-        fields.push(NamedField { name, path })?;
-    }
-    Ok(fields)
-}
-
-/// The fields that members of objects are to have.
-pub(crate) fn wanted_members<'a>(
+// What the columns of fields are called, and where the fields are. An `Err` where a given name would break the first row.
+fn columns_of<'a>(
     alloc: Global,
+    rows: Rows,
     arguments: &EnrichArguments<'a>,
-) -> Result<Vec<AskedField<'a>>, AllocError> {
-    let mut texts = Vec::new(alloc);
-    for text in &arguments.fields {
-        texts.push(named_path(*text).1)?;
+) -> Result<FieldColumns<'a>, NoRequest> {
+    let ChosenFields {
+        names,
+        texts: _,
+        paths,
+        is_named,
+    } = fields_of(alloc, arguments.fields.as_slice(), DefaultName::Path, &[])?;
+    if is_named && arguments.header {
+        for name in &names {
+            if breaks_row(rows, *name) {
+                return Err(NoRequest::bad_argument(alloc, *name, BROKEN_ROW));
+            }
+        }
     }
-    wanted_fields(alloc, texts.as_slice())
+    Ok((names, paths))
 }
 
 // A step of the path of an address in an object: a key, or an index from the front.
@@ -228,7 +214,7 @@ pub(crate) fn json_task<'a>(
         path: address_path(alloc, path)?,
         into,
         nulls: arguments.nulls,
-        fields: fields_of(alloc, arguments.fields.as_slice())?,
+        fields: members_of(alloc, arguments.fields.as_slice())?,
     })
 }
 
@@ -246,18 +232,19 @@ pub(crate) fn rows_task<'a>(
     if arguments.no_quotes && arguments.delimiter.is_none() {
         return Err(NoRequest::bad_argument(alloc, "--no-quotes", "needs a --delimiter"));
     }
-    let names = arguments.fields.as_slice();
     let rows = rows_of(alloc, arguments.delimiter, arguments.no_quotes)?;
     let column = column_of(alloc, arguments.column, arguments.header)?;
-    if names.is_empty() {
+    if arguments.fields.is_empty() {
         return Err(NoRequest::bad_argument(alloc, "enrich", "needs a --field"));
     }
+    let reading = tested_reading(alloc, arguments)?;
+    let (names, paths) = columns_of(alloc, rows, arguments)?;
     Ok(RowsTask {
         rows,
-        reading: tested_reading(alloc, arguments)?,
+        reading,
         column,
         names,
-        paths: paths_of(alloc, names)?,
+        paths,
         header: arguments.header,
     })
 }

@@ -1,13 +1,15 @@
 //! What is said of rows besides how they fared.
 use crate::fields::AskedField;
 use crate::json_enrichment::JsonMemory;
+use crate::layered_enrichment::LayeredMemory;
 use crate::notes::Notes as Records;
 use crate::row_memory::RowMemory;
 use mmdb_arguments::EnrichArguments;
 use mmdb_console::{Console, DONE, FAILED, line_of};
 use mmdb_filter::{Counts, Rows};
-use mmdb_layout::{Database, absent_text};
+use mmdb_layout::{Database, RecordAt, absent_text};
 use std::alloc::{AllocError, Global};
+use std::convert::AsSlice;
 use std::io::Write;
 
 /// Of this many fields it is said that no record has them.
@@ -30,6 +32,12 @@ pub(crate) trait Remembering {
 }
 
 impl Remembering for RowMemory {
+    fn records(&self) -> &Records {
+        &self.notes
+    }
+}
+
+impl<S: AsSlice<u8> + Drop> Remembering for LayeredMemory<'_, S> {
     fn records(&self) -> &Records {
         &self.notes
     }
@@ -100,6 +108,26 @@ fn is_met(records: &Records, field: usize) -> bool {
     field < records.met.len() && records.met[field]
 }
 
+// What is said of a field that no such record has.
+fn missing_text(
+    alloc: Global,
+    which: &str,
+    path: &str,
+    records: &Records,
+    databases: &[Database],
+) -> Result<String, AllocError> {
+    let mut noted = Vec::new(alloc);
+    for record in &records.records {
+        if let Some(database) = databases.get(record.database) {
+            noted.push(RecordAt {
+                section: database.data_section(),
+                offset: record.offset,
+            })?;
+        }
+    }
+    absent_text(alloc, which, path, noted.as_slice())
+}
+
 impl<'a> Warnings<'a> {
     /// Nothing is said yet of rows after `before` others.
     pub(crate) fn new(
@@ -147,7 +175,7 @@ impl<'a> Warnings<'a> {
         &mut self,
         which: &str,
         records: &Records,
-        database: &Database,
+        databases: &[Database],
         console: &mut Console<'_, O, E>,
     ) {
         let alloc = console.alloc;
@@ -155,8 +183,7 @@ impl<'a> Warnings<'a> {
             if self.said < MOST_SAID && !field.is_said && !is_met(records, at) {
                 field.is_said = true;
                 self.said = self.said.saturating_add(1);
-                let (section, offsets) = (database.data_section(), records.records.as_slice());
-                let text = absent_text(alloc, which, field.path, section, offsets);
+                let text = missing_text(alloc, which, field.path, records, databases);
                 console.note(line_of(alloc, text));
             }
         }
@@ -186,7 +213,7 @@ impl<'a> Warnings<'a> {
         which: &str,
         counts: Counts,
         records: &Records,
-        database: &Database,
+        databases: &[Database],
         console: &mut Console<'_, O, E>,
     ) {
         self.say_failures(records, console);
@@ -197,7 +224,7 @@ impl<'a> Warnings<'a> {
             self.say_no_address(console);
         }
         if counts.found > 0 {
-            self.say_missing(which, records, database, console);
+            self.say_missing(which, records, databases, console);
         }
     }
 
@@ -206,10 +233,10 @@ impl<'a> Warnings<'a> {
         &mut self,
         counts: Counts,
         records: &Records,
-        database: &Database,
+        databases: &[Database],
         console: &mut Console<'_, O, E>,
     ) {
-        self.say("record so far", counts, records, database, console);
+        self.say("record so far", counts, records, databases, console);
     }
 
     // Whether a record was found, and none has one of the fields.
@@ -227,17 +254,17 @@ impl<'a> Warnings<'a> {
         &mut self,
         counts: Counts,
         records: &Records,
-        database: &Database,
+        databases: &[Database],
         console: &mut Console<'_, O, E>,
     ) {
-        self.say("record", counts, records, database, console);
+        self.say("record", counts, records, databases, console);
         self.has_warned |= had_no_address(counts)
             || counts.occupied > 0
             || self.has_missing(counts, records);
     }
 
-    /// Says how the rows fared, and answers the status: `unasked` of those with an error have an address that the database
-    /// can't be asked for.
+    /// Says how the rows fared, and answers the status: `unasked` of those with an error have an address that no database can
+    /// be asked for.
     pub(crate) fn end<O: Write, E: Write>(
         &self,
         counts: Counts,

@@ -1,16 +1,19 @@
 //! What is said of rows while they pass.
+use crate::reload::Lookout;
 use mmdb_console::{Pace, Passed, ProgressLine, line_of};
 use mmdb_filter::{Counts, Progress};
 use std::alloc::Global;
 use std::cell::Cell;
 use std::io::Write;
+use std::rt::Files;
+use std::time::Clock;
 
 /// Of this many rows it is said that they stay in quotes.
 const MOST_SAID: u64 = 10;
 
 /// How many rows passed is shown on a terminal. Rows that stay in quotes are warned of.
 #[derive(Drop)]
-pub(crate) struct Watch<'e, E: Pace> {
+pub(crate) struct Watch<'e, E: Pace, R: Files + Clock> {
     alloc: Global,
     line: ProgressLine<'e, E>,
     /// How many bytes of the input passed, and how many it has where that is known.
@@ -21,13 +24,16 @@ pub(crate) struct Watch<'e, E: Pace> {
     is_quiet: bool,
     /// How many rows are before the first one of the filter.
     before: u64,
+    /// Where it ends because a file was replaced.
+    lookout: &'e mut Lookout,
+    rt: &'e R,
     /// How many rows stay in quotes.
     pub(crate) quoted: u64,
     /// The number of the first row that has already what would be added.
     pub(crate) occupied: Option<u64>,
 }
 
-impl<'e, E: Pace> Watch<'e, E> {
+impl<'e, E: Pace, R: Files + Clock> Watch<'e, E, R> {
     pub(crate) fn new(
         alloc: Global,
         line: ProgressLine<'e, E>,
@@ -36,7 +42,9 @@ impl<'e, E: Pace> Watch<'e, E> {
         stops: bool,
         is_quiet: bool,
         before: u64,
-    ) -> Watch<'e, E> {
+        lookout: &'e mut Lookout,
+        rt: &'e R,
+    ) -> Watch<'e, E, R> {
         Watch {
             alloc,
             line,
@@ -45,6 +53,8 @@ impl<'e, E: Pace> Watch<'e, E> {
             stops,
             is_quiet,
             before,
+            lookout,
+            rt,
             quoted: 0,
             occupied: None,
         }
@@ -61,7 +71,7 @@ impl<'e, E: Pace> Watch<'e, E> {
     }
 }
 
-impl<'e, E: Pace> Progress for Watch<'e, E> {
+impl<'e, E: Pace, R: Files + Clock> Progress for Watch<'e, E, R> {
     fn passed(&mut self, counts: Counts) -> bool {
         if self.stops {
             return false;
@@ -75,7 +85,7 @@ impl<'e, E: Pace> Progress for Watch<'e, E> {
     }
 
     fn has_read(&mut self) -> bool {
-        true
+        !self.lookout.look(self.rt)
     }
 
     fn stays_quoted(&mut self, rows: u64) {

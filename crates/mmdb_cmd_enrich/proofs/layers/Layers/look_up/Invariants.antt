@@ -1,0 +1,6 @@
+use Rattle.std.proofs.Common.{drop}
+use Rattle.mmdb_cmd_enrich.proofs.LayerLaws.{LayersWay}
+use Rattle.mmdb_cmd_enrich.proofs.layers.Layers.look_up.Given as goal
+
+abbrev pub invariant-loop-reader : goal.invariant-loop-reader
+invariant-loop-reader g l = LayersWay l.fn.readers (drop l.reader-index l.fn.readers) l.address l.self.answers.items l.self.key

@@ -1,0 +1,219 @@
+//! What is added to a row from several databases.
+ghost use Rattle.std.specs.Prelude.{◌≡◌, ◌++◌, IfOk, IfSome, Some, map};
+ghost use Rattle.mmdb_cmd_enrich.specs.Cells.{blanks};
+ghost use Rattle.mmdb_cmd_enrich.specs.Kept.{AreKept};
+ghost use Rattle.mmdb_cmd_enrich.specs.Layers.{AddsToAll, IsKey, outcome_of as spec_outcome_of};
+ghost use Rattle.mmdb_cmd_enrich.specs.Rows.{paths_of, AreKeptForAll};
+ghost use Rattle.mmdb_cmd_enrich.specs.Wanted.{Wanted};
+ghost use Rattle.mmdb_cmd_enrich.specs.Working.{AddsAtAllTo, AddsForAllTo, AreAnswersOf, offset_in};
+ghost use Rattle.mmdb_filter.specs.declared.counts.Outcome.TheVariants.{Failed};
+
+use crate::asked::row_address;
+use crate::cache::AddedCache;
+use crate::cells::{put_blanks, put_cells};
+use crate::enrichment::{outcome_of, put_kept};
+use crate::layers::{Layers, can_ask_any, offset_of};
+use crate::notes::{Notes, note_rejected_by};
+use mmdb_addresses::Reading;
+use mmdb_filter::{Added, Additions, Outcome, Rows};
+use mmdb_reader::{PathElement, Reader};
+use std::alloc::{AllocError, Global};
+use std::convert::AsSlice;
+use std::net::IpAddr;
+
+/// Fields of the records of the address in a column, as columns after each row: each field of the first database that has
+/// it.
+#[derive(Drop)]
+pub struct LayeredEnrichment<'a, 'f, S: AsSlice<u8> + Drop> {
+    pub alloc: Global,
+    /// Where addresses are looked up, the first of these first.
+    pub readers: &'a [Reader<S>],
+    /// What the databases are called where a record of one can't be read.
+    pub names: &'a [&'a str],
+    /// What is enriched: lines or rows of CSV.
+    pub rows: Rows,
+    /// Where in a cell the address is, or that it is anywhere in a row.
+    pub reading: Reading,
+    /// The column of the address, from 0.
+    pub column: usize,
+    /// The paths of the fields.
+    pub paths: Vec<Vec<PathElement<'f>>>,
+}
+
+/// What is remembered from row to row: what was added for the last records, and what is noted of records.
+#[derive(Drop)]
+pub struct LayeredMemory<'a, S: AsSlice<u8> + Drop> {
+    pub(crate) cache: AddedCache,
+    pub(crate) layers: Layers<'a, S>,
+    /// What is noted of the records that were read.
+    pub notes: Notes,
+}
+
+impl<'a, S: AsSlice<u8> + Drop> LayeredMemory<'a, S> {
+    /// Of no row, with what is noted of records that were read before. It takes memory for the cells of records at once.
+    pub(crate) fn with_notes(
+        alloc: Global,
+        notes: Notes,
+    ) -> Result<LayeredMemory<'a, S>, AllocError>
+        ensures { IfOk result (λ memory. (wanted : Wanted) → AreKept wanted memory.cache) }
+    {
+        Ok(LayeredMemory {
+            cache: AddedCache::new(alloc)?,
+            layers: Layers::new(alloc),
+            notes,
+        })
+    }
+}
+
+// How a row fares, by whether a database has a record, and whether no field failed.
+fn outcome_of_all(has_record: bool, are_read: bool) -> Outcome
+    ensures { result ≡ spec_outcome_of has_record are_read }
+{
+    if has_record {
+        outcome_of(are_read)
+    } else {
+        Outcome::Absent
+    }
+}
+
+impl<'a, 'f, S: AsSlice<u8> + Drop> LayeredEnrichment<'a, 'f, S> {
+    // Notes the records that were read, or were not.
+    #[inline(never)]
+    fn note(&self, layers: &Layers<'a, S>, are_read: bool, notes: &mut Notes) {
+        for (at, answer) in layers.answers.iter().enumerate() {
+            if let Some(offset) = offset_of(answer) {
+                notes.note_record(at, offset);
+            }
+        }
+        for at in 0..self.paths.len() {
+            let path = self.paths[at].as_slice();
+            notes.note_layered(self.alloc, self.names, layers, at, path, are_read);
+        }
+    }
+
+    // Adds the cells of records that were not kept, and keeps them.
+    #[inline(never)]
+    fn put_records(
+        &self,
+        layers: &Layers<'a, S>,
+        cache: &mut AddedCache,
+        notes: &mut Notes,
+        out: &mut Vec<u8>,
+    ) -> Result<Outcome, AllocError>
+        requires asked { AreAnswersOf self.now.readers.now layers.now.answers.items }
+        requires key { IfSome layers.now.key
+            (IsKey 0 self.now.readers.now (map offset_in layers.now.answers.items)) }
+        requires kept { AreKeptForAll self.now.readers.now self.now.rows self.now.paths cache.old }
+        ensures added { IfOk result (λ outcome. AddsAtAllTo self.now.readers.now self.now.rows
+            self.now.paths (map offset_in layers.now.answers.items) outcome out.old out.new) }
+        ensures kept { AreKeptForAll self.now.readers.now self.now.rows self.now.paths cache.new }
+    {
+        let before = out.len();
+        let are_read = put_cells(self.alloc, self.rows, layers, self.paths.as_slice(), out)?;
+        let outcome = outcome_of_all(layers.has_record(), are_read);
+        cache.keep_numbered(layers.key, &out.as_slice()[before..], outcome);
+        self.note(layers, are_read, notes);
+        Ok(outcome)
+    }
+
+    // Adds empty cells.
+    fn put_none(&self, outcome: Outcome, out: &mut Vec<u8>) -> Result<Outcome, AllocError>
+        ensures { IfOk result (λ addition. (addition ≡ outcome)
+            × (out.new.items ≡ out.old.items ++ blanks self.now.rows (paths_of self.now.paths))) }
+    {
+        put_blanks(self.rows, self.paths.as_slice(), out)?;
+        Ok(outcome)
+    }
+
+    // Adds empty cells for an address that is rejected.
+    #[inline(never)]
+    fn put_rejected(
+        &self,
+        address: IpAddr,
+        notes: &mut Notes,
+        out: &mut Vec<u8>,
+    ) -> Result<Outcome, AllocError>
+        ensures { IfOk result (λ addition. (addition ≡ Failed)
+            × (out.new.items ≡ out.old.items ++ blanks self.now.rows (paths_of self.now.paths))) }
+    {
+        note_rejected_by(self.alloc, self.readers, self.names, address, notes);
+        self.put_none(Outcome::Failed, out)
+    }
+
+    // Adds the cells of what was found: those that are kept, or those of the records.
+    #[inline(always)]
+    fn put_found(
+        &self,
+        layers: &Layers<'a, S>,
+        cache: &mut AddedCache,
+        notes: &mut Notes,
+        out: &mut Vec<u8>,
+    ) -> Result<Outcome, AllocError>
+        requires asked { AreAnswersOf self.now.readers.now layers.now.answers.items }
+        requires key { IfSome layers.now.key
+            (IsKey 0 self.now.readers.now (map offset_in layers.now.answers.items)) }
+        requires kept { AreKeptForAll self.now.readers.now self.now.rows self.now.paths cache.old }
+        ensures added { IfOk result (λ outcome. AddsAtAllTo self.now.readers.now self.now.rows
+            self.now.paths (map offset_in layers.now.answers.items) outcome out.old out.new) }
+        ensures kept { AreKeptForAll self.now.readers.now self.now.rows self.now.paths cache.new }
+    {
+        if let Some(key) = layers.key
+            && let Some(kept) = cache.kept(key)
+        {
+            return put_kept(kept, out);
+        }
+        self.put_records(layers, cache, notes, out)
+    }
+
+    // Adds the cells of an address.
+    #[inline(always)]
+    fn put_address(
+        &self,
+        address: IpAddr,
+        memory: &mut LayeredMemory<'a, S>,
+        out: &mut Vec<u8>,
+    ) -> Result<Outcome, AllocError>
+        requires { AreKeptForAll self.now.readers.now self.now.rows self.now.paths memory.old.cache }
+        ensures added { IfOk result (λ outcome. AddsForAllTo self.now.readers.now self.now.rows
+            self.now.paths (Some address) outcome out.old out.new) }
+        ensures kept { AreKeptForAll self.now.readers.now self.now.rows self.now.paths memory.new.cache }
+    {
+        if !can_ask_any(self.readers, address) {
+            return self.put_rejected(address, &mut memory.notes, out);
+        }
+        if !memory.layers.look_up(self.readers, address)? {
+            return self.put_rejected(address, &mut memory.notes, out);
+        }
+        self.put_found(&memory.layers, &mut memory.cache, &mut memory.notes, out)
+    }
+}
+
+impl<'a, 'f, S: AsSlice<u8> + Drop> Additions for LayeredEnrichment<'a, 'f, S> {
+    ghost use Rattle.mmdb_cmd_enrich.specs.Layers.{AddsToAll};
+    ghost use Rattle.mmdb_cmd_enrich.specs.Rows.{paths_of, AreKeptForAll};
+
+    type Memory = LayeredMemory<'a, S>;
+
+    ghost adds = { λ e text goes_on extra behind outcome. (behind ≡ 0)
+        × AddsToAll e.readers.now e.rows e.reading e.column (paths_of e.paths) text goes_on extra outcome };
+
+    ghost fits = { λ e memory. AreKeptForAll e.readers.now e.rows e.paths memory.cache };
+
+    fn add(
+        &self,
+        memory: &mut LayeredMemory<'a, S>,
+        text: &[u8],
+        is_long: bool,
+        out: &mut Vec<u8>,
+    ) -> Result<Added, AllocError> {
+        memory.notes.pass_row();
+        let address = row_address(self.rows, self.reading, self.column, text, is_long);
+        let outcome = match address {
+            Some(address) => self.put_address(address, memory, out)?,
+            None => self.put_none(Outcome::Unreadable, out)?,
+        };
+        Ok(Added { outcome, behind: 0 })
+    }
+
+    fn foresee(&self, _memory: &mut LayeredMemory<'a, S>, _bytes: &[u8]) {}
+}
