@@ -1,4 +1,5 @@
 //! What no clause says of the program `mmdb`: worked texts, words, statuses and errors.
+mod bounds;
 mod changes;
 mod diffs;
 mod elsewhere;
@@ -7,13 +8,17 @@ mod failures;
 mod faults;
 mod helps;
 mod kept_rows;
+mod layers;
 mod lists;
 mod memory;
+mod names;
 mod numbers;
 mod program;
 mod progress;
 mod record_texts;
+mod replaced;
 mod rows;
 mod runs;
+mod several;
 mod shared;
 mod texts;

@@ -185,7 +185,18 @@ const ROWS: &[Row<'static>] = &[
     (&["show", "folder", "200.0.0.1"], 1, "", "mmdb: folder: i/o error: is a directory\n"),
     // one that is nowhere is named as it was given; of one that was found the path is
     (&["show", "gone", "200.0.0.1"], 1, "", "mmdb: gone: i/o error: entity not found\n"),
-    // each command that reads a database
+    // several
+    (
+        &["show", "City", "ASN", "200.0.0.1"],
+        0,
+        "{\"address\":\"200.0.0.1\",\"T\":{\"network\":\"128.0.0.0/1\",\"record\":\"x\"},\"ASN\":{\"network\":\"128.0.0.0/1\",\"record\":\"x\"}}\n",
+        "mmdb: City: /usr/share/GeoIP/City.mmdb\nmmdb: ASN: own/ASN.mmdb\n",
+    ),
+];
+
+/// The same of each command that reads a database.
+#[rattlefmt::skip]
+const COMMANDS: &[Row<'static>] = &[
     (&["info", "gone"], 1, "", "mmdb: gone: i/o error: entity not found\n"),
     (&["export", "City"], 0, LISTED, "mmdb: City: /usr/share/GeoIP/City.mmdb\n"),
     (&["export", "City", "--format", "cidr"], 0, "128.0.0.0/1\n", "mmdb: City: /usr/share/GeoIP/City.mmdb\n"),
@@ -223,13 +234,27 @@ const ROWS: &[Row<'static>] = &[
         "200.0.0.1\tx\n",
         "mmdb: City: /usr/share/GeoIP/City.mmdb\nmmdb: 1 lines with a record, 0 without, 0 without an address, 0 with an error\n",
     ),
-    (&["enrich", "City", "ASN", "--field", ""], 2, "", "mmdb: ASN is a second database; enrich takes one\n"),
+    (
+        &["enrich", "City", "ASN", "--field", ""],
+        0,
+        "200.0.0.1\tx\n",
+        "mmdb: City: /usr/share/GeoIP/City.mmdb\nmmdb: ASN: own/ASN.mmdb\nmmdb: 1 lines with a record, 0 without, 0 without an address, 0 with an error\n",
+    ),
     (&["enrich", "gone", "--field", ""], 1, "", "mmdb: gone: i/o error: entity not found\n"),
 ];
 
 #[test]
 fn databases_are_found_elsewhere(rt: HostRuntime) {
     for (texts, status, out, err) in ROWS {
+        let run = run_spread(rt.alloc(), texts, "200.0.0.1\n");
+        let holds = run.status == *status && run.out() == *out && run.err() == *err;
+        assert_of(&rt, texts, &run, holds);
+    }
+}
+
+#[test]
+fn commands_find_databases_elsewhere(rt: HostRuntime) {
+    for (texts, status, out, err) in COMMANDS {
         let run = run_spread(rt.alloc(), texts, "200.0.0.1\n");
         let holds = run.status == *status && run.out() == *out && run.err() == *err;
         assert_of(&rt, texts, &run, holds);

@@ -22,9 +22,9 @@ const HELPS: &[(&[&str], &[&str])] = &[
         &["show", "--help"],
         &[
             "mmdb show [OPTIONS] <FILE> <ADDR>...",
-            "--path",
+            "--field",
             "--lines",
-            "Example:\n  mmdb show ",
+            "Examples:\n  mmdb show ",
         ],
     ),
     (
@@ -53,6 +53,8 @@ const HELPS: &[(&[&str], &[&str])] = &[
             "--where-not",
             "--where-contains",
             "--where-has",
+            "--where-above",
+            "--where-below",
             "--also",
             "--except",
             "--ipv4",

@@ -1,0 +1,324 @@
+//! Rows with fields of several databases.
+use super::program::{Run, assert_of, run_over, two_files};
+use mmdb_vectors::builder::{Field, changed_file, nodes_24};
+use std::alloc::{AllocError, Global};
+use std::process::Abort;
+
+/// A database: its nodes, their count as it is encoded, its IP version as it is encoded, and its data.
+type Database<'a> = (&'a [(u32, u32)], &'a [u8], &'a [u8], &'a [u8]);
+
+const IPV4: &[u8] = b"\xA1\x04";
+
+const IPV6: &[u8] = b"\xA1\x06";
+
+/// {"c": "own"}, {"n": 7}, and at 12 {"c": a text that is not UTF-8}.
+const OWN_DATA: &[u8] = b"\xE1\x41c\x43own\xE1\x41n\xA1\x07\xE1\x41c\x41\xFF";
+
+/// In 64.0.0.0/2, 128.0.0.0/2 and 192.0.0.0/2. Of three nodes: offset o is 19 + o, 3 is none.
+const OWN: Database<'static> = (&[(1, 2), (3, 19), (26, 31)], b"\xC1\x03", IPV4, OWN_DATA);
+
+/// {"c": "city", "n": 9}, and at 12 {"c": "q\",t\tab"}.
+const CITY_DATA: &[u8] = b"\xE2\x41c\x44city\x41n\xA1\x09\xE1\x41c\x47q\",t\tab";
+
+/// The second in 128.0.0.0/2, none in 0.0.0.0/3, the first one else. Of four nodes: offset o is 20 + o, 4 is none.
+const CITY: Database<'static> = (
+    &[(1, 2), (3, 20), (32, 20), (4, 20)],
+    b"\xC1\x04",
+    IPV4,
+    CITY_DATA,
+);
+
+/// {"c": "six"} everywhere.
+const SIX: Database<'static> = (&[(17, 17)], b"\xC1\x01", IPV6, b"\xE1\x41c\x43six");
+
+/// {"organization": "x"} everywhere.
+const NAMED: Database<'static> = (&[(17, 17)], b"\xC1\x01", IPV4, b"\xE1\x4Corganization\x41x");
+
+/// No offset of the data in 0.0.0.0/1, {"c": "six"} in 128.0.0.0/1.
+const TORN: Database<'static> = (&[(4096, 17)], b"\xC1\x01", IPV4, b"\xE1\x41c\x43six");
+
+/// The databases, words after these, standard input, the status, standard output, and what standard error has to hold.
+type Row<'a> = (
+    Database<'a>,
+    Database<'a>,
+    &'a [&'a str],
+    &'a str,
+    u8,
+    &'a str,
+    &'a [&'a str],
+);
+
+/// An address of each kind.
+const ALL: &str = "1.1.1.1\n33.0.0.1\n70.0.0.1\n130.0.0.1\n200.0.0.1\n-\n";
+
+/// An address for each pair of a database with IPv6 and one without.
+const BOTH: &str = "1.1.1.1\n70.0.0.1\n::ffff:70.0.0.1\n2001:db8::1\n::1\n";
+
+#[rattlefmt::skip]
+const ROWS: &[Row<'static>] = &[
+    // each field of the first database that has it; one that can't be read is not asked of the next
+    (
+        OWN, CITY, &["--field", "c", "--field", "n"], ALL, 1,
+        "1.1.1.1\t\t\n33.0.0.1\tcity\t9\n70.0.0.1\town\t9\n130.0.0.1\t\"q\\\",t\\tab\"\t7\n200.0.0.1\t\t9\n-\t\t\n",
+        &["mmdb: row 5: here.mmdb: ", "mmdb: 3 lines with a record, 1 without, 1 without an address, 1 with an error\n"],
+    ),
+    // in the other order
+    (
+        CITY, OWN, &["--field", "c", "--field", "n"], ALL, 0,
+        "1.1.1.1\t\t\n33.0.0.1\tcity\t9\n70.0.0.1\tcity\t9\n130.0.0.1\t\"q\\\",t\\tab\"\t7\n200.0.0.1\tcity\t9\n-\t\t\n",
+        &["mmdb: 4 lines with a record, 1 without, 1 without an address, 0 with an error\n"],
+    ),
+    // the way of a path that can't be followed is an error, not a reason to ask the next
+    (
+        OWN, CITY, &["--field", "c.d", "--field", "n"], "70.0.0.1\n", 1, "70.0.0.1\t\t9\n",
+        &["mmdb: row 1: here.mmdb: decoding error", "0 lines with a record, 0 without, 0 without an address, 1 with an error\n"],
+    ),
+    // CSV, with quotes where a cell needs them
+    (
+        OWN, CITY, &["--delimiter", ",", "--column", "2", "--field", "n", "--field", "c"],
+        "\"a\n,\",130.0.0.1\r\nx,\"70.0.0.1\"\n", 0,
+        "\"a\n,\",130.0.0.1,7,\"q\"\",t\tab\"\r\nx,\"70.0.0.1\",9,own\n", &["2 lines with a record"],
+    ),
+    // the first row names the columns
+    (
+        OWN, CITY, &["--header", "--column", "ip", "--field", "n"], "ip\tx\n33.0.0.1\ty\n", 0,
+        "ip\tx\tn\n33.0.0.1\ty\t9\n", &["1 lines with a record"],
+    ),
+    // anywhere in a row, and a hop
+    (OWN, CITY, &["--anywhere", "--field", "c"], "from=70.0.0.1;\n", 0, "from=70.0.0.1;\town\n", &["1 lines with a record"]),
+    (OWN, CITY, &["--hop", "last", "--field", "c"], "33.0.0.1, 70.0.0.1\n", 0, "33.0.0.1, 70.0.0.1\town\n", &["1 lines with a record"]),
+];
+
+#[rattlefmt::skip]
+const OTHER_ROWS: &[Row<'static>] = &[
+    // a database without IPv6 has no record of an IPv6 address, but of the IPv4 address in it
+    (
+        OWN, SIX, &["--field", "c"], BOTH, 0,
+        "1.1.1.1\tsix\n70.0.0.1\town\n::ffff:70.0.0.1\town\n2001:db8::1\tsix\n::1\tsix\n", &["5 lines with a record"],
+    ),
+    (
+        SIX, OWN, &["--field", "n", "--field", "c"], "130.0.0.1\n::1\n", 0, "130.0.0.1\t7\tsix\n::1\t\tsix\n", &["2 lines with a record"],
+    ),
+    // no database can be asked for it
+    (
+        OWN, CITY, &["--field", "c"], "::1\n70.0.0.1\n", 0, "::1\t\n70.0.0.1\town\n",
+        &["mmdb: row 1: here.mmdb: invalid input: cannot look up IPv6", "1 lines with a record, 0 without, 0 without an address, 1 with an error\n"],
+    ),
+    (OWN, CITY, &["--field", "c", "--strict"], "::1\n70.0.0.1\n", 1, "::1\t\n70.0.0.1\town\n", &["1 with an error"]),
+    // a lookup that fails is an error, whatever the other has
+    (
+        CITY, TORN, &["--field", "c"], "70.0.0.1\n200.0.0.1\n", 1, "70.0.0.1\t\n200.0.0.1\tcity\n",
+        &["mmdb: row 1: new.mmdb: invalid database", "1 lines with a record, 0 without, 0 without an address, 1 with an error\n"],
+    ),
+    (
+        TORN, CITY, &["--field", "c"], "70.0.0.1\n", 1, "70.0.0.1\t\n", &["mmdb: row 1: here.mmdb: invalid database"],
+    ),
+    (SIX, TORN, &["--field", "c"], "1.1.1.1\n::1\n", 1, "1.1.1.1\t\n::1\tsix\n", &["mmdb: row 1: new.mmdb: invalid database"]),
+    // a field that no record of any has, with what may be meant of either
+    (
+        OWN, CITY, &["--field", "cc", "--field", "n", "--field", "nn"], "70.0.0.1\n", 0, "70.0.0.1\t\t9\t\n",
+        &["mmdb: no record has cc\nmmdb: no record has nn\nmmdb: 1 lines"],
+    ),
+    (
+        OWN, NAMED, &["--field", "organisation", "--field", "c"], "70.0.0.1\n", 0, "70.0.0.1\t\town\n",
+        &["mmdb: no record has organisation; did you mean organization?\nmmdb: 1 lines"],
+    ),
+    (
+        NAMED, OWN, &["--field", "organisation", "--field", "c"], "70.0.0.1\n", 0, "70.0.0.1\t\town\n",
+        &["mmdb: no record has organisation; did you mean organization?\nmmdb: 1 lines"],
+    ),
+    (OWN, CITY, &["--field", "n"], "", 0, "", &["mmdb: 0 lines with a record, 0 without, 0 without an address, 0 with an error\n"]),
+];
+
+/// Words, the status, and what standard error has to hold, of runs that write nothing.
+type Rejected<'a> = (&'a [&'a str], u8, &'a [&'a str]);
+
+#[rattlefmt::skip]
+const REJECTED: &[Rejected<'static>] = &[
+    (&["enrich", "here.mmdb", "gone.mmdb", "--field", "c"], 1, &["mmdb: gone.mmdb: i/o error: entity not found\n"]),
+    (&["enrich", "gone.mmdb", "here.mmdb", "--field", "c"], 1, &["mmdb: gone.mmdb: i/o error: entity not found\n"]),
+    (
+        &["enrich", "here.mmdb", "new.mmdb", "--field", "c"], 2,
+        &["mmdb: new.mmdb: invalid database", "mmdb: new.mmdb is no database; enrich reads standard input: < new.mmdb\n"],
+    ),
+    (&["enrich", "new.mmdb", "here.mmdb", "--field", "c"], 1, &["mmdb: new.mmdb: invalid database"]),
+    (&["enrich", "here.mmdb", "gone.mmdb"], 2, &["enrich: needs a --field"]),
+    (&["enrich", "here.mmdb", "gone.mmdb", "--field", "c", "--json", "ip"], 2, &["--json: takes one database"]),
+];
+
+// The file of a database, or none without memory.
+fn file_with(alloc: Global, database: &Database<'_>) -> Vec<u8> {
+    let (nodes, count, version, data) = *database;
+    let changes = &[(Field::NodeCount, count), (Field::IpVersion, version)];
+    match nodes_24(alloc, nodes) {
+        Ok(nodes) => changed_file(alloc, nodes.as_slice(), data, changes).unwrap_or(Vec::new(
+            alloc,
+        )),
+        Err(_) => Vec::new(alloc),
+    }
+}
+
+// Whether standard error holds each of these texts.
+fn holds_all(run: &Run, texts: &[&str]) -> bool {
+    for text in texts {
+        if !run.err().contains(*text) {
+            return false;
+        }
+    }
+    true
+}
+
+// A run of `enrich` over two databases.
+fn run_both(alloc: Global, old: &[u8], newer: &[u8], words: &[&str], lines: &str) -> Run {
+    let mut all: Vec<&str> = Vec::new(alloc);
+    let _ = all.extend_from_slice(&["enrich", "here.mmdb", "new.mmdb"]);
+    let _ = all.extend_from_slice(words);
+    run_over(alloc, &two_files(old, newer), all.as_slice(), lines, false)
+}
+
+// Asserts what a run leaves.
+fn assert_row(rt: &impl Abort, alloc: Global, row: &Row<'_>) {
+    let (first, second, words, lines, status, out, err) = *row;
+    let old = file_with(alloc, &first);
+    let newer = file_with(alloc, &second);
+    let run = run_both(alloc, old.as_slice(), newer.as_slice(), words, lines);
+    let holds = run.status == status && run.out() == out && holds_all(&run, err);
+    assert_of(rt, words, &run, holds);
+}
+
+#[test]
+fn fields_of_two_databases(rt: HostRuntime) {
+    for row in ROWS {
+        assert_row(&rt, rt.alloc(), row);
+    }
+}
+
+#[test]
+fn errors_of_two_databases(rt: HostRuntime) {
+    for row in OTHER_ROWS {
+        assert_row(&rt, rt.alloc(), row);
+    }
+}
+
+#[test]
+fn files_that_are_no_databases(rt: HostRuntime) {
+    let old = file_with(rt.alloc(), &OWN);
+    for (words, status, err) in REJECTED {
+        let run = run_over(
+            rt.alloc(),
+            &two_files(old.as_slice(), b"x"),
+            words,
+            "70.0.0.1\n",
+            false,
+        );
+        let holds = run.status == *status && run.out().is_empty() && holds_all(&run, err);
+        assert_of(&rt, words, &run, holds);
+    }
+}
+
+/// How many records each of the databases of many has: one for each value of six bits.
+const MANY: u32 = 64;
+
+/// The nodes of a tree of six bits that has so many nodes before it, of which both halves are the next one. The record of
+/// each value is five bytes after that of the value before.
+fn many_nodes(alloc: Global, before: u32) -> Result<Vec<(u32, u32)>, AllocError> {
+    let mut nodes = Vec::new(alloc);
+    for at in 0..before {
+        let next = at.saturating_add(1);
+        nodes.push((next, next))?;
+    }
+    let count = before.saturating_add(MANY - 1);
+    for at in 0..MANY - 1 {
+        let left = many_child(before, count, 2 * at + 1);
+        let right = many_child(before, count, 2 * at + 2);
+        nodes.push((left, right))?;
+    }
+    Ok(nodes)
+}
+
+// Where a child leads in such a tree: to a node, or to the record of a value.
+fn many_child(before: u32, count: u32, child: u32) -> u32 {
+    if child < MANY - 1 {
+        return before.saturating_add(child);
+    }
+    let value = child.saturating_sub(MANY - 1);
+    count
+        .saturating_add(16)
+        .saturating_add(value.saturating_mul(5))
+}
+
+// The records {KEY: value} of all values.
+fn many_records(alloc: Global, key: u8) -> Result<Vec<u8>, AllocError> {
+    let mut data = Vec::new(alloc);
+    for value in 0..MANY {
+        data.extend_from_slice(&[0xE1, 0x41, key, 0xA1, value as u8])?;
+    }
+    Ok(data)
+}
+
+// The file of such a database.
+fn many_file(alloc: Global, before: u32, count: &[u8], key: u8) -> Result<Vec<u8>, AllocError> {
+    let nodes = many_nodes(alloc, before)?;
+    let nodes = nodes_24(alloc, nodes.as_slice())?;
+    let data = many_records(alloc, key)?;
+    changed_file(
+        alloc,
+        nodes.as_slice(),
+        data.as_slice(),
+        &[(Field::NodeCount, count)],
+    )
+}
+
+// Adds the row of a value of the first six bits and one of the first six bits of the second octet, as it is read or written.
+fn push_many(
+    alloc: Global,
+    first: u32,
+    second: u32,
+    is_written: bool,
+    text: &mut String,
+) -> Result<(), AllocError> {
+    let (high, low) = (first.saturating_mul(4), second.saturating_mul(4));
+    let row: String = format!(in alloc; "{high}.{low}.0.1")?;
+    text.push_str(row.as_str())?;
+    if is_written {
+        let cells: String = format!(in alloc; "\t{first}\t{second}")?;
+        text.push_str(cells.as_str())?;
+    }
+    text.push_str("\n")
+}
+
+// The rows of all pairs of values, twice.
+fn many_rows(alloc: Global, is_written: bool) -> Result<String, AllocError> {
+    let mut text = String::new(alloc);
+    for _ in 0..2 {
+        for first in 0..MANY {
+            for second in 0..MANY {
+                push_many(alloc, first, second, is_written, &mut text)?;
+            }
+        }
+    }
+    Ok(text)
+}
+
+// Whether the rows of all pairs are written so.
+fn are_many_written(alloc: Global) -> Result<bool, AllocError> {
+    let old = many_file(alloc, 0, b"\xC1\x3F", b'a')?;
+    let newer = many_file(alloc, 8, b"\xC1\x47", b'b')?;
+    let lines = many_rows(alloc, false)?;
+    let want = many_rows(alloc, true)?;
+    let words = ["--field", "a", "--field", "b"];
+    let run = run_both(
+        alloc,
+        old.as_slice(),
+        newer.as_slice(),
+        &words,
+        lines.as_str(),
+    );
+    Ok(run.status == 0 && run.out() == want.as_str())
+}
+
+#[test]
+fn many_pairs_of_records(rt: HostRuntime) {
+    let are_written = are_many_written(rt.alloc()).unwrap_or(false);
+    assert!(rt; are_written, "rows of all pairs");
+}
