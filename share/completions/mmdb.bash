@@ -7,11 +7,11 @@ _mmdb_table() {
 # Made by scripts/completions.
   commands='show info enrich export diff verify install build help'
   case $1 in
-    show) options='--path --lines --help -h' valued='--path' files=1 ;;
+    show) options='--field --lines --help -h' valued='--field' files=1 ;;
     info) options='--json --fields --help -h' valued='' files=9 ;;
-    enrich) options='--column --delimiter --field --header --json --into --nulls --hop --anywhere --exact --no-quotes --strict --quiet --help -h' valued='--column --delimiter --field --json --into --hop' files=9 ;;
-    export) options='--field --format --where --where-not --where-contains --where-has --also --except --ipv4 --ipv6 --name --table --family --jump --value --allow-empty --allow-missing --help -h' valued='--field --format --where --where-not --where-contains --where-has --also --except --name --table --family --jump --value' files=1 ;;
-    diff) options='--field --format --where --where-not --where-contains --where-has --also --except --ipv4 --ipv6 --name --table --family --allow-empty --allow-missing --exit-code --help -h' valued='--field --format --where --where-not --where-contains --where-has --also --except --name --table --family' files=2 ;;
+    enrich) options='--column --delimiter --field --header --json --into --nulls --hop --anywhere --exact --no-quotes --strict --quiet --reload --help -h' valued='--column --delimiter --field --json --into --hop' files=9 ;;
+    export) options='--field --format --where --where-not --where-contains --where-has --where-above --where-below --also --except --ipv4 --ipv6 --name --table --family --jump --value --allow-empty --allow-missing --help -h' valued='--field --format --where --where-not --where-contains --where-has --where-above --where-below --also --except --name --table --family --jump --value' files=1 ;;
+    diff) options='--field --format --where --where-not --where-contains --where-has --where-above --where-below --also --except --ipv4 --ipv6 --name --table --family --allow-empty --allow-missing --exit-code --help -h' valued='--field --format --where --where-not --where-contains --where-has --where-above --where-below --also --except --name --table --family' files=2 ;;
     verify) options='--whole --database-type --newer-than --max-age --json --quiet --help -h' valued='--database-type --newer-than --max-age' files=9 ;;
     install) options='--max-change --dry-run --help -h' valued='--max-change' files=2 ;;
     build) options='--from --format --network-column --range-columns --type --types-like --equal --database-type --description --language --build-epoch --ip-version --record-size --reserved --skip-bad --check --help -h' valued='--from --format --network-column --range-columns --type --types-like --equal --database-type --description --language --build-epoch --ip-version --record-size --reserved' files=1 ;;
