@@ -43,6 +43,8 @@ const ENRICH_EXAMPLE: &str = "Examples:
   journalctl -fu ssh | mmdb enrich GeoLite2-City.mmdb --anywhere --field country.iso_code
   mmdb enrich GeoLite2-City.mmdb --json client.ip --field country.iso_code < log.jsonl
   mmdb enrich GeoLite2-City.mmdb --delimiter , --header --column ip --field city < log.csv
+  mmdb enrich GeoLite2-City.mmdb GeoLite2-ASN.mmdb --network --field country.iso_code \\
+      --field autonomous_system_organization < access.log
 
 Columns stand between tabs, and each line comes out before the next is waited
 for. The address is the first word of its column, alone, in brackets or quotes,
@@ -54,6 +56,10 @@ has control characters; any other value is JSON. With --delimiter , the input is
 CSV: cells may be in quotes, and added cells are where they need them, unless with
 --no-quotes. The address is looked for in the first 65,536 bytes of a line.
 
+Of several files a field has the value of the first that has one at its path, so
+that a file of one's own before others overlays them. With --network the first
+column is the network of the address, the smallest that it is in in one of them.
+
 A field has the name that NAME=PATH gives it, or its path's text. With --json a
 line that is an object gets an object of the fields as its last member, named by
 --into; without a name a field has its path's last step for one. All other lines
@@ -62,6 +68,8 @@ stay as they are.";
 const EXPORT_EXAMPLE: &str = "Examples:
   mmdb export GeoLite2-Country.mmdb 81.2.69.0/24 --field country.iso_code
   mmdb export GeoLite2-Country.mmdb --where country.iso_code=DE --format cidr
+  mmdb export GeoLite2-Country.mmdb GeoLite2-ASN.mmdb --where country.iso_code=CN \\
+      --where-not autonomous_system_number=4134 --format nft
 
 The networks come ascending, one a line: an object with the network and its
 record, or with the network and the value at each path; or, as csv, rows of
@@ -70,6 +78,10 @@ its path's text. In a cell a text stands as it is, and any other value
 as JSON. Where a path leads nowhere a cell is empty, and a value null. A network
 whose record or field can't be read has no line: it is named on standard error,
 and the status is 1 at the end.
+
+Of several files each network is one in which all of them have one answer, as large
+as it can be: with each file's record by its database type, null where it has none,
+or with the values of the first that has one at the path. So are conditions.
 
 With --where only networks whose record has this value at the path are written:
 a text as it stands, any other scalar as its JSON. PATH=@FILE has a value a line,
@@ -146,6 +158,8 @@ enum Argument {
     Optional(&'static str, &'static str),
     /// Texts in their places, one or more.
     Several(&'static str, &'static str),
+    /// Texts in their places, or none.
+    More(&'static str, &'static str),
     /// An option without a value.
     Flag(&'static str, &'static str),
     /// An option with a value.
@@ -334,7 +348,10 @@ const READING: &[Usage] = &[
         about: "Copy lines from standard input, with fields of the address's record behind each",
         example: ENRICH_EXAMPLE,
         arguments: &[
-            Argument::Several("FILE", "A MaxMind DB file"),
+            Argument::Several(
+                "FILE",
+                "MaxMind DB files; a field is that of the first that has it",
+            ),
             Argument::Default(
                 "column",
                 "COLUMN",
@@ -351,6 +368,10 @@ const READING: &[Usage] = &[
                 "path",
                 "PATH",
                 "A field to add, or NAME=PATH; may be repeated; needed unless with --json",
+            ),
+            Argument::Flag(
+                "network",
+                "Also the network of the address, before the fields",
             ),
             Argument::Flag(
                 "header",
@@ -407,9 +428,9 @@ const EXPORTING: &[Usage] = &[Usage {
     example: EXPORT_EXAMPLE,
     arguments: &[
         FILE,
-        Argument::Optional(
+        Argument::More(
             "RANGE",
-            "Only networks inside this one, or the one around it",
+            "Only networks inside this one, or the one around it; and more files",
         ),
         FIELDS,
         Argument::Choice(
@@ -633,6 +654,7 @@ fn argument_of<'a>(alloc: Global, argument: Argument) -> Result<Arg<'a>, AllocEr
         Argument::Several(name, help) => {
             positional(alloc, name, help).required(true).num_args(1..)
         }
+        Argument::More(name, help) => positional(alloc, name, help).num_args(1..),
         Argument::Flag(name, help) => positional(alloc, name, help)
             .long(name)
             .action(ArgAction::SetTrue),

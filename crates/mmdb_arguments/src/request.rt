@@ -42,6 +42,8 @@ pub struct EnrichArguments<'a> {
     pub column: &'a str,
     /// Texts that should be paths, or names with paths.
     pub fields: Vec<&'a str>,
+    /// Whether the network of the address is added too.
+    pub network: bool,
     pub header: bool,
     /// Where lines are JSON, a text that should be the path of the address in an object.
     pub json: Option<&'a str>,
@@ -133,6 +135,8 @@ pub struct ExportArguments<'a> {
     pub file: &'a str,
     /// A text that should be a network.
     pub range: Option<&'a str>,
+    /// Texts that should be more files, or one of them the network.
+    pub others: Vec<&'a str>,
     /// Texts that should be paths, or names with paths.
     pub fields: Vec<&'a str>,
     pub format: Format,
@@ -306,6 +310,7 @@ fn enrich<'a>(alloc: Global, matches: &ArgMatches<'a>) -> Result<Request<'a>, No
         delimiter: matches.get_str("delimiter"),
         column: matches.get_str("column").unwrap_or("1"),
         fields,
+        network: matches.get_flag("network"),
         header: matches.get_flag("header"),
         json: matches.get_str("json"),
         into: matches.get_str("into"),
@@ -375,10 +380,11 @@ fn list_arguments<'a>(
     })
 }
 
-// What is asked of the networks of a file.
+// What is asked of the networks of a file, inside a network.
 fn export_arguments<'a>(
     alloc: Global,
     file: &'a str,
+    range: Option<&'a str>,
     matches: &ArgMatches<'a>,
 ) -> Result<ExportArguments<'a>, AllocError> {
     let fields = texts_of(alloc, matches, "field")?;
@@ -386,7 +392,8 @@ fn export_arguments<'a>(
     let list = list_arguments(alloc, matches)?;
     Ok(ExportArguments {
         file,
-        range: matches.get_str("RANGE"),
+        range,
+        others: Vec::new(alloc),
         fields,
         format: format_of(matches),
         conditions,
@@ -395,7 +402,8 @@ fn export_arguments<'a>(
 }
 
 fn export<'a>(alloc: Global, matches: &ArgMatches<'a>) -> Result<Request<'a>, NoRequest> {
-    let arguments = export_arguments(alloc, file_of(matches), matches)?;
+    let mut arguments = export_arguments(alloc, file_of(matches), None, matches)?;
+    arguments.others = texts_of(alloc, matches, "RANGE")?;
     Ok(Request::Export(arguments))
 }
 
@@ -431,7 +439,8 @@ fn diff<'a>(alloc: Global, matches: &ArgMatches<'a>) -> Result<Request<'a>, NoRe
     let old = matches.get_str("OLD").unwrap_or("");
     let file = matches.get_str("NEW").unwrap_or("");
     let exit_code = matches.get_flag("exit-code");
-    let newer = export_arguments(alloc, file, matches)?;
+    let range = matches.get_str("RANGE");
+    let newer = export_arguments(alloc, file, range, matches)?;
     if !matches!(newer.format, Format::JsonLines | Format::Csv) {
         return Ok(Request::ListDiff(ListDiffArguments {
             old,
