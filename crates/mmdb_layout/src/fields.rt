@@ -94,7 +94,7 @@ fn error_of(alloc: Global, text: &str, wanted: Result<String, AllocError>) -> No
     }
 }
 
-// That neither another field nor what is beside the fields has the name of a field.
+// That a field has a name if one is given, which neither another one nor what is beside the fields has.
 fn test_name(
     alloc: Global,
     name: &str,
@@ -103,7 +103,9 @@ fn test_name(
     taken: &[&str],
 ) -> Result<(), NoRequest> {
     let FieldText { text, path, .. } = field;
-    let wanted: Result<String, AllocError> = if others.contains(&name) {
+    let wanted: Result<String, AllocError> = if name.is_empty() && field.name.is_some() {
+        format!(in alloc; "a field with an empty name; give it one, as NAME={path}")
+    } else if others.contains(&name) {
         format!(in alloc;
             "another field has the name {name} too; give one of them a name of its own, as NAME={path}"
         )
@@ -133,8 +135,8 @@ fn field_texts<'a>(alloc: Global, texts: &[&'a str]) -> Result<Vec<FieldText<'a>
     Ok(fields)
 }
 
-/// The fields that texts ask for, each `PATH` or `NAME=PATH`. An `Err` where one is not a path, and where two have one name or one
-/// has a name that is taken, unless no name is given and each is called as its path is written.
+/// The fields that texts ask for, each `PATH` or `NAME=PATH`. An `Err` where one is not a path, and where a name is empty, two have one
+/// or one is taken, unless no name is given and each is called as its path is written.
 pub fn fields_of<'a>(
     alloc: Global,
     texts: &[&'a str],
