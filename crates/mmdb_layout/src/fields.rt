@@ -104,7 +104,7 @@ fn test_name(
 ) -> Result<(), NoRequest> {
     let FieldText { text, path, .. } = field;
     let wanted: Result<String, AllocError> = if name.is_empty() && field.name.is_some() {
-        format!(in alloc; "a field with an empty name; give it one, as NAME={path}")
+        format!(in alloc; "an empty name; give the field another one, as NAME={path}")
     } else if others.contains(&name) {
         format!(in alloc;
             "another field has the name {name} too; give one of them a name of its own, as NAME={path}"
