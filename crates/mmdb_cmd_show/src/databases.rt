@@ -93,32 +93,36 @@ pub(crate) fn first_value<'d>(
     Ok(None)
 }
 
-// Whether the value at a path can't be read in a database.
-fn is_unread(
+// The name of the database that is asked for the value at a path in vain, since it can't be read there.
+fn name_at_fault_along<'d>(
     alloc: Global,
-    database: &Database,
+    databases: &[ShownDatabase<'d>],
     address: IpAddr,
     path: &[PathElement<'_>],
-) -> bool {
-    let value = value_in(alloc, database, address, path);
-    value.is_err()
+) -> Option<&'d str> {
+    for shown in databases {
+        if is_passed(shown.database, databases, address) {
+            continue;
+        }
+        match value_in(alloc, shown.database, address, path) {
+            Ok(None) => {}
+            Ok(Some(_)) => return None,
+            Err(_) => return Some(shown.name),
+        }
+    }
+    None
 }
 
-/// The name of the first of the databases in which the value at one of the paths can't be read.
+/// The name of the first database in which the value at one of the paths is asked for and can't be read.
 pub(crate) fn name_at_fault<'d>(
     alloc: Global,
     databases: &[ShownDatabase<'d>],
     address: IpAddr,
     paths: &[Vec<PathElement<'_>>],
 ) -> Option<&'d str> {
-    for shown in databases {
-        if is_passed(shown.database, databases, address) {
-            continue;
-        }
-        for path in paths {
-            if is_unread(alloc, shown.database, address, path.as_slice()) {
-                return Some(shown.name);
-            }
+    for path in paths {
+        if let Some(name) = name_at_fault_along(alloc, databases, address, path.as_slice()) {
+            return Some(name);
         }
     }
     None
