@@ -5,5 +5,6 @@ use Rattle.mmdb_layout.proofs.condition.Condition.finds.Goals as goal
 
 pub returns-in_ok-fits-in-Ok-Some-clause-found : goal.returns-in_ok-fits-in-Ok-Some-clause-found
 returns-in_ok-fits-in-Ok-Some-clause-found g c =
-    found_by c.args.self.now.wanted (g.R.ReadAlong.reads c.args.found.now) c.args.self.now.path.items c.as_slice.result.now (texts_of c.args.self.now) c.read_along.result c.in-Ok-Some.value
-    c.in_ok-fits-in-Ok-Some.field-0 c.as_slice.ensures.value c.read_along.ensures (search rules) (search rules)
+    let condition = c.args.self.now in
+    let reads = g.R.ReadAlong.reads c.args.found.now in
+    found_by condition.wanted c.as_slice.result.now condition.path.items (texts_of condition) reads c.in-Ok-Some.field-0 c.in-Ok-Some.value c.in_ok-fits-in-Ok-Some.field-0 c.as_slice.ensures.value c.in-Ok-Some.ensures (search rules) (search rules)
