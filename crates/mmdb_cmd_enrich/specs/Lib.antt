@@ -6,6 +6,7 @@ pub mod Added
 pub mod Layers
 pub mod Fields
 pub mod Members
+pub mod LayeredMembers
 pub mod Wanted
 pub mod KeptCells
 pub mod Kept

@@ -10,6 +10,7 @@ use Rattle.mmdb_addresses.specs.Addresses.{ReadsAddress}
 use Rattle.mmdb_addresses.specs.declared.readings.Reading.{Reading}
 use Rattle.mmdb_cmd_enrich.specs.Asked.{AsksIfAny}
 use Rattle.mmdb_cmd_enrich.specs.Fields.{IsMember, IsNullMember, HasUnreadField}
+use Rattle.mmdb_layout.specs.Reading.{reads_in}
 use Rattle.mmdb_objects.specs.Longer.{comma_behind}
 use Rattle.mmdb_objects.specs.Objects.{IsObject, text_along, has_member, is_empty}
 use Rattle.mmdb_cmd_enrich.specs.declared.members.NamedField.{NamedField}
@@ -21,7 +22,7 @@ use Rattle.mmdb_filter.specs.declared.filter.Added.{Added}
 abbrev pub HasUnreadMember : Database → List NamedField → IpAddr → Type 0
 HasUnreadMember db fields address =
     (¬ CanAsk db address) ⊎ (IsInvalidAt db address
-    ⊎ ((leaf : List Bool) × (offset : ℕ) × Answers db address leaf (outcome_at (Some offset)) × HasUnreadField fields (data_section db) offset))
+    ⊎ ((leaf : List Bool) × (offset : ℕ) × Answers db address leaf (outcome_at (Some offset)) × HasUnreadField (reads_in (data_section db) (Some offset)) fields))
 
 -- For an object without a record nothing is added, or, where that is wanted, a member of which each field is null.
 abbrev pub AddsNone : Bool → List ℕ → List NamedField → Bool → ℕ → List ℕ → ℕ → Type 0
@@ -36,7 +37,7 @@ AddsMemberFor db nulls name fields empty at None extra behind outcome = (outcome
 AddsMemberFor db nulls name fields empty at (Some address) extra behind outcome =
     ((extra ≡ []) × (outcome ≡ Failed) × HasUnreadMember db fields address)
     ⊎ (((outcome ≡ Absent) × ((leaf : List Bool) × Answers db address leaf (outcome_at None)) × AddsNone nulls name fields empty at extra behind)
-    ⊎ ((leaf : List Bool) × (offset : ℕ) × (text : List ℕ) × Answers db address leaf (outcome_at (Some offset)) × IsMember db name fields offset text
+    ⊎ ((leaf : List Bool) × (offset : ℕ) × (text : List ℕ) × Answers db address leaf (outcome_at (Some offset)) × IsMember (reads_in (data_section db) (Some offset)) name fields text
     × (extra ≡ comma_behind empty ++ text) × (behind ≡ at) × (outcome ≡ Found)))
 
 -- An object that has a member of the name stays as it is. Any other gets what its address is given.

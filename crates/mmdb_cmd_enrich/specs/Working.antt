@@ -13,11 +13,12 @@ use Rattle.std.specs.declared.net.ip_addr.IpAddr.{IpAddr}
 use Rattle.json.specs.Token.{Token}
 use Rattle.mmdb_reader.specs.File.{Database}
 use Rattle.mmdb_cmd_enrich.specs.declared.members.NamedField.{NamedField}
-use Rattle.mmdb_cmd_enrich.specs.Fields.{AreFields, member_tokens}
+use Rattle.mmdb_cmd_enrich.specs.Fields.{AreValue, AreFields, member_tokens}
 use Rattle.mmdb_filter.specs.declared.counts.Outcome.{Outcome}
-use Rattle.mmdb_cmd_enrich.specs.Wanted.{MemberAt}
+use Rattle.mmdb_cmd_enrich.specs.Wanted.{MemberOf}
 use Rattle.mmdb_objects.specs.declared.objects.Line.{Line}
 use Rattle.mmdb_filter.specs.declared.filter.Added.{Added}
+use Rattle.mmdb_cmd_enrich.specs.LayeredMembers.{AddsMemberAtAll, AddsMemberForAll}
 use Rattle.mmdb_cmd_enrich.specs.Members.{AddsMemberFor, AddsNone, PutsMember}
 use Rattle.mmdb_cmd_enrich.specs.Asked.{AsksIfAny}
 use Rattle.mmdb_filter.specs.declared.counts.Outcome.TheVariants.{Occupied}
@@ -46,21 +47,24 @@ PutsCells rows reads paths is_read old new =
     (cells : List ℕ) × AreCells rows reads paths cells
     × (new ≡ old ++ cells) × (is_read ≡ are_read reads paths)
 
--- tokens grow by the fields of the record at an offset
-abbrev pub PutsFields : List NamedField → List ℕ → ℕ → List Token → List Token → Type 0
-PutsFields fields s offset old new =
-    (tokens : List Token) × AreFields fields s offset tokens × (new ≡ old ++ tokens)
+-- tokens grow by those of what was read
+abbrev pub PutsValue : Option (Option Tree) → List Token → List Token → Type 0
+PutsValue answer old new = (value : List Token) × AreValue answer value × (new ≡ old ++ value)
+
+-- tokens grow by fields, along whose paths this is read
+abbrev pub PutsFields : (List PathElement → Option (Option Tree)) → List NamedField → List Token → List Token → Type 0
+PutsFields reads fields old new =
+    (tokens : List Token) × AreFields reads fields tokens × (new ≡ old ++ tokens)
 
 -- tokens grow by a member with these fields
-abbrev pub PutsFieldsOf : List ℕ → List NamedField → List ℕ → ℕ → List Token → List Token → Type 0
-PutsFieldsOf name fields s offset old new =
-    (tokens : List Token) × AreFields fields s offset tokens × (new ≡ old ++ member_tokens name tokens)
+abbrev pub PutsFieldsOf : (List PathElement → Option (Option Tree)) → List ℕ → List NamedField → List Token → List Token → Type 0
+PutsFieldsOf reads name fields old new =
+    (tokens : List Token) × AreFields reads fields tokens × (new ≡ old ++ member_tokens name tokens)
 
--- Bytes grow by the member of the record at an offset.
-abbrev pub PutsMemberAt : Database → List ℕ → List NamedField → ℕ → Line → Added → List ℕ → List ℕ →
-    Type 0
-PutsMemberAt db name fields offset line addition old new =
-    (text : List ℕ) × (outcome : Outcome) × MemberAt db name fields offset text outcome
+-- Bytes grow by the member of what is read, or by nothing where a field can't be read.
+abbrev pub PutsMemberOf : (List PathElement → Option (Option Tree)) → List ℕ → List NamedField → Line → Added → List ℕ → List ℕ → Type 0
+PutsMemberOf reads name fields line addition old new =
+    (text : List ℕ) × (outcome : Outcome) × MemberOf reads name fields text outcome
     × PutsMember line text outcome addition old new
 
 -- Bytes grow by what is added to an object for its address.
@@ -122,3 +126,20 @@ AddsAtAllTo dbs rows fields offsets outcome old new = (extra : List ℕ) × Adds
 
 abbrev pub AddsForAllTo : List Database → Rows → Vec (Vec PathElement) → Option IpAddr → Outcome → Vec ℕ → Vec ℕ → Type 0
 AddsForAllTo dbs rows fields address outcome old new = (extra : List ℕ) × AddsForAll dbs rows (paths_of fields) address extra outcome × (new.items ≡ old.items ++ extra)
+
+-- Bytes grow by the member of the records at these offsets.
+abbrev pub PutsMemberAtAll : List Database → Bool → List ℕ → List NamedField → Line → List (Option ℕ) → Added → List ℕ → List ℕ → Type 0
+PutsMemberAtAll dbs nulls name fields line offsets addition old new =
+    (extra : List ℕ) × AddsMemberAtAll dbs nulls name fields line.is_empty line.behind offsets extra addition.behind addition.outcome × (new ≡ old ++ extra)
+
+-- Bytes grow by what is added to an object for its address, from several databases.
+abbrev pub PutsMemberForAll : List Database → Bool → List ℕ → List NamedField → Line → Option IpAddr → Added → List ℕ → List ℕ → Type 0
+PutsMemberForAll dbs nulls name fields line address addition old new =
+    (extra : List ℕ) × AddsMemberForAll dbs nulls name fields line.is_empty line.behind address extra addition.behind addition.outcome × (new ≡ old ++ extra)
+
+-- Bytes grow by what is added to an object, from several databases.
+abbrev pub PutsToObjectAll : List Database → Bool → List ℕ → List NamedField → Line → Added → List ℕ → List ℕ → Type 0
+PutsToObjectAll dbs nulls name fields line addition old new =
+    (extra : List ℕ) × (new ≡ old ++ extra)
+    × (((extra ≡ []) × (addition.outcome ≡ Occupied) × (line.is_taken ≡ true))
+    ⊎ ((line.is_taken ≡ false) × AddsMemberForAll dbs nulls name fields line.is_empty line.behind line.address extra addition.behind addition.outcome))

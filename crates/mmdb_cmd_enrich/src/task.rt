@@ -123,6 +123,9 @@ type FieldColumns<'a> = (Vec<&'a str>, Vec<Vec<PathElement<'a>>>);
 /// What a name of a column is that no row can have.
 const BROKEN_ROW: &str = "a name with what separates columns or lines";
 
+/// What `--json` is without a field where there are several databases.
+const FIELDLESS: &str = "needs a --field where there are several databases";
+
 // The fields of objects.
 fn members_of<'a>(alloc: Global, texts: &[&'a str]) -> Result<Vec<NamedField<'a>>, NoRequest> {
     let ChosenFields {
@@ -208,6 +211,12 @@ pub(crate) fn json_task<'a>(
     let into = arguments.into.unwrap_or("geo");
     if into.is_empty() {
         return Err(NoRequest::bad_argument(alloc, "--into", "an empty name"));
+    }
+    if arguments.fields.is_empty() && !arguments.others.is_empty() {
+        return Err(NoRequest::bad_argument(alloc, "--json", FIELDLESS));
+    }
+    if arguments.network {
+        return Err(NoRequest::bad_argument(alloc, "--network", "not with --json"));
     }
     Ok(JsonTask {
         reading: tested_reading(alloc, arguments)?,
