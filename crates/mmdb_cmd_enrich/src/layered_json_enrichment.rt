@@ -100,7 +100,12 @@ impl<'a, 'f, S: AsSlice<u8> + Drop> LayeredJsonEnrichment<'a, 'f, S> {
         ensures kept { AreKept (layered_member self.now.readers.now self.now.name.now
             self.now.fields.items) cache.new }
     {
-        let member = member_of(self.alloc, &layers.answers, self.name, self.fields.as_slice())?;
+        let member = member_of(
+            self.alloc,
+            &layers.answers,
+            self.name,
+            self.fields.as_slice(),
+        )?;
         let kept = kept_of(&member);
         cache.keep_numbered(layers.key, kept.cells, kept.outcome);
         self.note(layers, kept.outcome == Outcome::Found, notes);
@@ -218,7 +223,13 @@ impl<'a, 'f, S: AsSlice<u8> + Drop> LayeredJsonEnrichment<'a, 'f, S> {
         if !memory.layers.look_up(self.readers, address)? {
             return Ok(self.put_rejected(address, &mut memory.notes));
         }
-        self.put_found(line, &memory.layers, &mut memory.cache, &mut memory.notes, out)
+        self.put_found(
+            line,
+            &memory.layers,
+            &mut memory.cache,
+            &mut memory.notes,
+            out,
+        )
     }
 
     // Adds to a line what it is given by its address.

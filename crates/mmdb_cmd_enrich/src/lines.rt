@@ -429,7 +429,15 @@ fn copy_objects<R: Files + Clock, I: Live, O: Write, E: Pace>(
     for _ in 0..u64::MAX {
         take_new(rt, databases, passage, console);
         let task = json_task(console.alloc, path, &*arguments)?;
-        if enrich_json(rt, databases.as_slice(), names, task, input, passage, console)? {
+        if enrich_json(
+            rt,
+            databases.as_slice(),
+            names,
+            task,
+            input,
+            passage,
+            console,
+        )? {
             return Ok(());
         }
     }
