@@ -1,7 +1,8 @@
 -- Members of what several databases have.
-use Rattle.std.proofs.Common.{◌≡◌, ℕ, List, [], ◌++◌, map, Option, Some, None, IfSome, Bool, true, false, inl, inr, ◌≤◌, ◌⊎◌, refl, sym, ◌∙◌, subst, arith, append-nil}
+use Rattle.std.proofs.Common.{◌≡◌, ℕ, List, [], ◌++◌, map, Option, Some, None, IfSome, Bool, true, false, inl, inr, ◌≤◌, ◌⊎◌, refl, sym, ap, ◌∙◌, subst, arith, append-nil}
 use Rattle.std.specs.declared.convert.AsSlice.{Ghosts}
 use Rattle.std.specs.declared.net.ip_addr.IpAddr.{IpAddr}
+use Rattle.json.specs.Token.{Token}
 use Rattle.mmdb_format.specs.Unfolding.{Tree}
 use Rattle.mmdb_layout.specs.Reading.{first_read_of}
 use Rattle.mmdb_reader.specs.File.{Database}
@@ -11,9 +12,12 @@ use Rattle.mmdb_filter.specs.declared.counts.Outcome.{Outcome}
 use Rattle.mmdb_filter.specs.declared.counts.Outcome.TheVariants.{Absent, Failed}
 use Rattle.mmdb_filter.specs.declared.filter.Added.{Added}
 use Rattle.mmdb_cmd_enrich.specs.Layers.{HaveAll, CanAskAny, CanAskNone, AnyRejects, first_read, has_record, IsKey}
+use Rattle.mmdb_cmd_enrich.specs.Fields.{network_tokens}
+use Rattle.mmdb_cmd_enrich.specs.LayeredMembers.{AreFront}
+use Rattle.mmdb_cmd_enrich.specs.Networks.{shown_of}
 use Rattle.mmdb_cmd_enrich.specs.Wanted.{MemberOf, layered_member, AddsOf}
 use Rattle.mmdb_cmd_enrich.specs.Members.{PutsMember}
-use Rattle.mmdb_cmd_enrich.specs.Working.{offset_in, AreAnswersOf, PutsMemberOf, PutsNone, PutsMemberAtAll, PutsMemberForAll, PutsToObjectAll}
+use Rattle.mmdb_cmd_enrich.specs.Working.{offset_in, AreAnswers, AreAnswersOf, PutsMemberAfter, PutsNoneAfter, PutsRead, PutsFound, PutsMemberForAll, PutsToObjectAll}
 use Rattle.mmdb_cmd_enrich.specs.declared.members.NamedField.{NamedField}
 use Rattle.mmdb_cmd_enrich.proofs.LayerLaws.{first_same, keys_same}
 use Rattle.mmdb_cmd_enrich.proofs.MemberLaws.{behind_put}
@@ -38,38 +42,39 @@ member_of_keys dbs name fields offsets None text outcome is made = tt
 member_of_keys dbs name fields offsets (Some key) text outcome is made = member_of_key dbs name fields offsets key text outcome is made
 
 -- as many bytes after the member as after the brace, or none
-pub behind_of : (reads : List PathElement → Option (Option Tree)) (name : List ℕ) (fields : List NamedField) (line : Line) (addition : Added) (old new : List ℕ) → PutsMemberOf reads name fields line addition old new → addition.behind ≤ line.behind
-behind_of reads name fields line addition old new (text, outcome, inl (is, here), puts) = behind_put line text outcome addition old new (inl here) puts
-behind_of reads name fields line addition old new (text, outcome, inr (is, none, here), puts) = behind_put line text outcome addition old new (inr here) puts
+pub behind_of : (front : List Token) (reads : List PathElement → Option (Option Tree)) (name : List ℕ) (fields : List NamedField) (line : Line) (addition : Added) (old new : List ℕ) → PutsMemberAfter front reads name fields line addition old new → addition.behind ≤ line.behind
+behind_of front reads name fields line addition old new (text, outcome, inl (is, here), puts) = behind_put line text outcome addition old new (inl here) puts
+behind_of front reads name fields line addition old new (text, outcome, inr (is, none, here), puts) = behind_put line text outcome addition old new (inr here) puts
 
--- the member of records
-pub records_put : (dbs : List Database) (nulls : Bool) (name : List ℕ) (fields : List NamedField) (line : Line) (offsets : List (Option ℕ)) (has : Bool) (addition : Added) (old new : List ℕ)
-    → has ≡ has_record offsets → has ≡ true → PutsMemberOf (first_read dbs offsets) name fields line addition old new → PutsMemberAtAll dbs nulls name fields line offsets addition old new
-records_put dbs nulls name fields line offsets has addition old new same there (text, outcome, inl (is, here), puts) =
+-- the member of records, after others
+read_put : (dbs : List Database) (network nulls : Bool) (name : List ℕ) (fields : List NamedField) (line : Line) (address : IpAddr) (offsets : List (Option ℕ)) (front : List Token) (addition : Added) (old new : List ℕ)
+    → CanAskAny dbs address → HaveAll dbs address offsets → has_record offsets ≡ true → AreFront dbs network address front → PutsMemberAfter front (first_read dbs offsets) name fields line addition old new
+    → PutsMemberForAll dbs network nulls name fields line (Some address) addition old new
+read_put dbs network nulls name fields line address offsets front addition old new any have there are (text, outcome, inl (is, here), puts) =
     let (o, b, put) = subst (λ x. PutsMember line text x addition old new) here puts in
-    (comma_behind line.is_empty ++ text, inr (inr (sym same ∙ there, text, is, refl, b, o)), put)
-records_put dbs nulls name fields line offsets has addition old new same there (text, outcome, inr (rejected, none, here), puts) =
+    (comma_behind line.is_empty ++ text, inr (any, offsets, have, inr (inr (there, front, text, are, is, refl, b, o))), put)
+read_put dbs network nulls name fields line address offsets front addition old new any have there are (text, outcome, inr (rejected, none, here), puts) =
     let (o, b, put) = subst (λ x. PutsMember line text x addition old new) here puts in
-    ([], inr (inl (sym same ∙ there, refl, o, rejected)), put ∙ sym (append-nil old))
-
--- no record
-pub no_records_put : (dbs : List Database) (nulls : Bool) (name : List ℕ) (fields : List NamedField) (line : Line) (offsets : List (Option ℕ)) (has : Bool) (addition : Added) (old new : List ℕ)
-    → has ≡ has_record offsets → has ≡ false → PutsNone nulls name fields line Absent addition old new → PutsMemberAtAll dbs nulls name fields line offsets addition old new
-no_records_put dbs nulls name fields line offsets has addition old new same none (o, (extra, adds, put)) = (extra, inl (sym same ∙ none, o, adds), put)
+    ([], inr (any, offsets, have, inr (inl (there, refl, o, rejected))), put ∙ sym (append-nil old))
 
 -- what is added for the records of an address
-pub all_put : (dbs : List Database) (nulls : Bool) (name : List ℕ) (fields : List NamedField) (line : Line) (address : IpAddr) (offsets : List (Option ℕ)) (addition : Added) (old new : List ℕ)
-    → CanAskAny dbs address → HaveAll dbs address offsets → PutsMemberAtAll dbs nulls name fields line offsets addition old new → PutsMemberForAll dbs nulls name fields line (Some address) addition old new
-all_put dbs nulls name fields line address offsets addition old new any have (extra, adds, put) = (extra, inr (any, offsets, have, adds), put)
+pub all_put : {S : Type 0} {G : Ghosts S ℕ} (dbs : List Database) (network nulls : Bool) (name : List ℕ) (fields : List NamedField) (line : Line) (address : IpAddr) (answers : List (Option (LookupResult S G))) (addition : Added) (old new : List ℕ)
+    → CanAskAny dbs address → AreAnswers dbs address answers → PutsFound dbs network nulls name fields line answers addition old new → PutsMemberForAll dbs network nulls name fields line (Some address) addition old new
+all_put dbs network nulls name fields line address answers addition old new any (are, have, shows) (inl (none, (o, (extra, adds, put)))) = (extra, inr (any, map offset_in answers, have, inl (none, o, adds)), put)
+all_put dbs false nulls name fields line address answers addition old new any (are, have, shows) (inr (there, puts)) =
+    read_put dbs false nulls name fields line address (map offset_in answers) [] addition old new any have there refl puts
+all_put dbs true nulls name fields line address answers addition old new any (are, have, shows) (inr (there, (network, (networks, these, is), puts))) =
+    read_put dbs true nulls name fields line address (map offset_in answers) (network_tokens network) addition old new any have there
+    (networks, shows networks these, ap network_tokens (is ∙ ap (λ h. shown_of h networks) there)) puts
 
 -- an address that is rejected
-pub all_rejected : (dbs : List Database) (nulls : Bool) (name : List ℕ) (fields : List NamedField) (line : Line) (address : IpAddr) (addition : Added) (old : List ℕ)
-    → CanAskNone dbs address ⊎ AnyRejects dbs address → addition.outcome ≡ Failed → PutsMemberForAll dbs nulls name fields line (Some address) addition old old
-all_rejected dbs nulls name fields line address addition old why o = ([], inl (why, refl, o), sym (append-nil old))
+pub all_rejected : (dbs : List Database) (network nulls : Bool) (name : List ℕ) (fields : List NamedField) (line : Line) (address : IpAddr) (addition : Added) (old : List ℕ)
+    → CanAskNone dbs address ⊎ AnyRejects dbs address → addition.outcome ≡ Failed → PutsMemberForAll dbs network nulls name fields line (Some address) addition old old
+all_rejected dbs network nulls name fields line address addition old why o = ([], inl (why, refl, o), sym (append-nil old))
 
 -- what an object is given by its address
-pub object_put_all : (dbs : List Database) (nulls : Bool) (name : List ℕ) (fields : List NamedField) (line : Line) (address : Option IpAddr) (addition : Added) (old new : List ℕ) → line.is_taken ≡ false → line.address ≡ address
-    → PutsMemberForAll dbs nulls name fields line address addition old new → PutsToObjectAll dbs nulls name fields line addition old new
-object_put_all dbs nulls name fields line address addition old new free is puts =
-    let (extra, adds, put) = subst (λ a. PutsMemberForAll dbs nulls name fields line a addition old new) (sym is) puts in
+pub object_put_all : (dbs : List Database) (network nulls : Bool) (name : List ℕ) (fields : List NamedField) (line : Line) (address : Option IpAddr) (addition : Added) (old new : List ℕ) → line.is_taken ≡ false → line.address ≡ address
+    → PutsMemberForAll dbs network nulls name fields line address addition old new → PutsToObjectAll dbs network nulls name fields line addition old new
+object_put_all dbs network nulls name fields line address addition old new free is puts =
+    let (extra, adds, put) = subst (λ a. PutsMemberForAll dbs network nulls name fields line a addition old new) (sym is) puts in
     (extra, put, inr (free, adds))

@@ -1,12 +1,14 @@
 -- The member of an object that fields make, each of what is read along its path.
-use Rattle.std.specs.Prelude.{◌≡◌, ◌⊎◌, ℕ, List, [], ◌∷◌, ◌++◌, Option, Some, None}
+use Rattle.std.specs.Prelude.{◌≡◌, ◌⊎◌, ℕ, List, [], ◌∷◌, ◌++◌, Option, Some, None, codes}
 use Rattle.json.specs.Json.{Json}
 use Rattle.json.specs.Lex.{tokens as tokens_read}
 use Rattle.json.specs.Print.{print}
-use Rattle.json.specs.Token.{Token, key, null, begin_object, end_object}
+use Rattle.json.specs.Token.{Token, key, null, string, begin_object, end_object}
 use Rattle.json.specs.Tree.{json_tokens}
 use Rattle.mmdb_format.specs.Unfolding.{Tree}
 use Rattle.mmdb_json.specs.Shown.{Shows}
+use Rattle.mmdb_net.specs.Network.{short_text_of}
+use Rattle.mmdb_net.specs.declared.network.IpNetwork.{IpNetwork}
 use Rattle.mmdb_reader.specs.declared.path.PathElement.{PathElement}
 use Rattle.mmdb_cmd_enrich.specs.declared.members.NamedField.{NamedField}
 
@@ -36,12 +38,26 @@ HasUnreadField reads (field ∷ fields) = (reads field.path.items ≡ None) ⊎ 
 abbrev pub member_tokens : List ℕ → List Token → List Token
 member_tokens name tokens = key name ∷ (begin_object ∷ (tokens ++ end_object ∷ []))
 
--- the text of a member with fields: its name, and an object; a reader gets their tokens back
-abbrev pub IsMember : (List PathElement → Option (Option Tree)) → List ℕ → List NamedField → List ℕ → Type 0
-IsMember reads name fields text =
-    (tokens : List Token) × AreFields reads fields tokens × (text ≡ print (member_tokens name tokens))
-    × (tokens_read text ≡ member_tokens name tokens)
+-- the member of a network, `null` where there is none
+abbrev pub network_tokens : Option IpNetwork → List Token
+network_tokens None = key (codes "network") ∷ (null ∷ [])
+network_tokens (Some network) = key (codes "network") ∷ (string (short_text_of network) ∷ [])
 
--- the text of a member with fields that are all null; a reader gets its tokens back
+-- the text of a member with other members before the fields: its name, and an object; a reader gets their tokens back
+abbrev pub IsMemberAfter : List Token → (List PathElement → Option (Option Tree)) → List ℕ → List NamedField → List ℕ → Type 0
+IsMemberAfter front reads name fields text =
+    (tokens : List Token) × AreFields reads fields tokens × (text ≡ print (member_tokens name (front ++ tokens)))
+    × (tokens_read text ≡ member_tokens name (front ++ tokens))
+
+-- the same with fields alone
+abbrev pub IsMember : (List PathElement → Option (Option Tree)) → List ℕ → List NamedField → List ℕ → Type 0
+IsMember reads name fields text = IsMemberAfter [] reads name fields text
+
+-- the text of a member with fields that are all null after other members; a reader gets its tokens back
+abbrev pub IsNullMemberAfter : List Token → List ℕ → List NamedField → List ℕ → Type 0
+IsNullMemberAfter front name fields text =
+    (text ≡ print (member_tokens name (front ++ null_fields fields))) × (tokens_read text ≡ member_tokens name (front ++ null_fields fields))
+
+-- the same with fields alone
 abbrev pub IsNullMember : List ℕ → List NamedField → List ℕ → Type 0
-IsNullMember name fields text = (text ≡ print (member_tokens name (null_fields fields))) × (tokens_read text ≡ member_tokens name (null_fields fields))
+IsNullMember name fields text = IsNullMemberAfter [] name fields text

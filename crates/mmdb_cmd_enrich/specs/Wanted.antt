@@ -1,6 +1,7 @@
 -- What is wanted of records: cells after a row, or a member of an object, of one database or of several. A record is known by
 -- its offset; the records of several databases by the number of their offsets.
 use Rattle.std.specs.Prelude.{◌≡◌, ◌⊎◌, ℕ, List, [], Option, Some}
+use Rattle.json.specs.Token.{Token}
 use Rattle.mmdb_format.specs.Unfolding.{Tree}
 use Rattle.mmdb_reader.specs.File.{Database, data_section}
 use Rattle.mmdb_reader.specs.declared.path.PathElement.{PathElement}
@@ -10,7 +11,7 @@ use Rattle.mmdb_filter.specs.declared.counts.Outcome.TheVariants.{Found, Failed}
 use Rattle.mmdb_cmd_enrich.specs.Added.{AddsAt}
 use Rattle.mmdb_layout.specs.Reading.{reads_in}
 use Rattle.mmdb_cmd_enrich.specs.Layers.{AddsAtAll, IsKey, first_read}
-use Rattle.mmdb_cmd_enrich.specs.Fields.{IsMember, HasUnreadField}
+use Rattle.mmdb_cmd_enrich.specs.Fields.{IsMemberAfter, HasUnreadField}
 use Rattle.mmdb_cmd_enrich.specs.declared.members.NamedField.{NamedField}
 
 pub data Wanted : Type 0 where
@@ -19,11 +20,15 @@ pub data Wanted : Type 0 where
   member : Database → List ℕ → List NamedField → Wanted
   layered_member : List Database → List ℕ → List NamedField → Wanted
 
--- the text of a member, or none where a field can't be read
-abbrev pub MemberOf : (List PathElement → Option (Option Tree)) → List ℕ → List NamedField → List ℕ → Outcome → Type 0
-MemberOf reads name fields text outcome =
-    (IsMember reads name fields text × (outcome ≡ Found))
+-- the text of a member with others before the fields, or none where a field can't be read
+abbrev pub MemberAfter : List Token → (List PathElement → Option (Option Tree)) → List ℕ → List NamedField → List ℕ → Outcome → Type 0
+MemberAfter front reads name fields text outcome =
+    (IsMemberAfter front reads name fields text × (outcome ≡ Found))
     ⊎ (HasUnreadField reads fields × (text ≡ []) × (outcome ≡ Failed))
+
+-- the same with fields alone
+abbrev pub MemberOf : (List PathElement → Option (Option Tree)) → List ℕ → List NamedField → List ℕ → Outcome → Type 0
+MemberOf reads name fields text outcome = MemberAfter [] reads name fields text outcome
 
 -- what is added for the record of a number
 abbrev pub AddsOf : Wanted → ℕ → List ℕ → Outcome → Type 0

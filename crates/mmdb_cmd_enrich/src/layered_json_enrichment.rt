@@ -1,15 +1,17 @@
 //! What is added to a line of JSON from several databases.
 ghost use Rattle.std.specs.Prelude.{◌≡◌, ◌≤◌, IfOk, IfSome, Some, true, map};
+ghost use Rattle.mmdb_cmd_enrich.specs.Fields.{IsNullMemberAfter};
 ghost use Rattle.mmdb_cmd_enrich.specs.Kept.{AreKept};
-ghost use Rattle.mmdb_cmd_enrich.specs.Layers.{IsKey, first_read, has_record};
+ghost use Rattle.mmdb_cmd_enrich.specs.LayeredMembers.{null_front};
+ghost use Rattle.mmdb_cmd_enrich.specs.Layers.{IsKey, first_read};
 ghost use Rattle.mmdb_cmd_enrich.specs.Wanted.{Wanted, layered_member};
-ghost use Rattle.mmdb_cmd_enrich.specs.Working.{AreAnswersOf, PutsMemberOf, PutsMemberAtAll, PutsMemberForAll, PutsNone, PutsToObjectAll, offset_in};
+ghost use Rattle.mmdb_cmd_enrich.specs.Working.{AreAnswersOf, PutsFound, PutsMemberForAll, PutsMemberOf, PutsNoneAfter, PutsRead, PutsToObjectAll, offset_in};
 ghost use Rattle.mmdb_filter.specs.declared.counts.Outcome.TheVariants.{Failed};
 
 use crate::cache::AddedCache;
 use crate::json_enrichment::{kept_of, nothing, put_member, put_text};
 use crate::layers::{Layers, can_ask_any};
-use crate::members::{NamedField, member_of, null_member};
+use crate::members::{NamedField, member_of, network_member_of, null_member, null_network_member};
 use crate::notes::{Notes, note_rejected_by};
 use json::Scratch;
 use mmdb_addresses::Reading;
@@ -20,7 +22,8 @@ use std::alloc::{AllocError, Global};
 use std::convert::AsSlice;
 use std::net::IpAddr;
 
-/// Fields of the records of the address in an object, as its last member: each field of the first database that has it.
+/// Fields of the records of the address in an object, as its last member: each field of the first database that has it, and
+/// before them, where it is wanted, the network of the address.
 #[derive(Drop)]
 pub struct LayeredJsonEnrichment<'a, 'f, S: AsSlice<u8> + Drop> {
     pub alloc: Global,
@@ -36,6 +39,8 @@ pub struct LayeredJsonEnrichment<'a, 'f, S: AsSlice<u8> + Drop> {
     pub name: &'f str,
     /// Whether an object without a record gets the member too, with every field null.
     pub nulls: bool,
+    /// Whether the member has the network of the address before the fields: the smallest in which a database has it.
+    pub network: bool,
     /// What the member has.
     pub fields: Vec<NamedField<'f>>,
 }
@@ -112,6 +117,19 @@ impl<'a, 'f, S: AsSlice<u8> + Drop> LayeredJsonEnrichment<'a, 'f, S> {
         put_member(line, kept, out)
     }
 
+    // The member of which everything is null.
+    fn null_member(&self) -> Result<Vec<u8>, AllocError>
+        ensures { IfOk result (λ text. IsNullMemberAfter (null_front self.now.network)
+            self.now.name.now self.now.fields.items text.items) }
+    {
+        let fields = self.fields.as_slice();
+        if self.network {
+            null_network_member(self.alloc, self.name, fields)
+        } else {
+            null_member(self.alloc, self.name, fields)
+        }
+    }
+
     // Adds what an object without a record gets.
     #[inline(never)]
     fn put_none(
@@ -120,14 +138,15 @@ impl<'a, 'f, S: AsSlice<u8> + Drop> LayeredJsonEnrichment<'a, 'f, S> {
         outcome: Outcome,
         out: &mut Vec<u8>,
     ) -> Result<Added, AllocError>
-        ensures added { IfOk result (λ addition. PutsNone self.now.nulls self.now.name.now
-            self.now.fields.items line.now outcome addition out.old.items out.new.items) }
+        ensures added { IfOk result (λ addition. PutsNoneAfter (null_front self.now.network)
+            self.now.nulls self.now.name.now self.now.fields.items line.now outcome addition
+            out.old.items out.new.items) }
         ensures behind { IfOk result (λ addition. addition.behind ≤ line.now.behind) }
     {
         if !self.nulls {
             return Ok(nothing(outcome));
         }
-        let member = null_member(self.alloc, self.name, self.fields.as_slice())?;
+        let member = self.null_member()?;
         put_text(line, member.as_slice(), outcome, out)
     }
 
@@ -170,6 +189,57 @@ impl<'a, 'f, S: AsSlice<u8> + Drop> LayeredJsonEnrichment<'a, 'f, S> {
         self.put_records(line, layers, cache, notes, out)
     }
 
+    // Adds the member of records with the network of the address. It is not kept: other addresses have these records in
+    // other networks.
+    #[inline(never)]
+    fn put_networked(
+        &self,
+        line: &Line,
+        layers: &Layers<'a, S>,
+        notes: &mut Notes,
+        out: &mut Vec<u8>,
+    ) -> Result<Added, AllocError>
+        requires asked { AreAnswersOf self.now.readers.now layers.now.answers.items }
+        ensures { IfOk result (λ addition. PutsRead self.now.readers.now true self.now.name.now
+            self.now.fields.items line.now layers.now.answers.items addition
+            out.old.items out.new.items) }
+    {
+        let network = layers.shown_network();
+        let fields = self.fields.as_slice();
+        let member = network_member_of(self.alloc, network, &layers.answers, self.name, fields)?;
+        let made = kept_of(&member);
+        self.note(layers, made.outcome == Outcome::Found, notes);
+        put_member(line, made, out)
+    }
+
+    // Adds the member of records, with the network of the address where it is wanted.
+    #[inline(always)]
+    fn put_read(
+        &self,
+        line: &Line,
+        layers: &Layers<'a, S>,
+        cache: &mut AddedCache,
+        notes: &mut Notes,
+        out: &mut Vec<u8>,
+    ) -> Result<Added, AllocError>
+        requires asked { AreAnswersOf self.now.readers.now layers.now.answers.items }
+        requires key { IfSome layers.now.key
+            (IsKey 0 self.now.readers.now (map offset_in layers.now.answers.items)) }
+        requires kept { AreKept (layered_member self.now.readers.now self.now.name.now
+            self.now.fields.items) cache.old }
+        ensures added { IfOk result (λ addition. PutsRead self.now.readers.now self.now.network
+            self.now.name.now self.now.fields.items line.now layers.now.answers.items addition
+            out.old.items out.new.items) }
+        ensures kept { AreKept (layered_member self.now.readers.now self.now.name.now
+            self.now.fields.items) cache.new }
+    {
+        if self.network {
+            self.put_networked(line, layers, notes, out)
+        } else {
+            self.put_kept(line, layers, cache, notes, out)
+        }
+    }
+
     // Adds the member of what was found, or what an object without a record gets.
     #[inline(always)]
     fn put_found(
@@ -185,15 +255,15 @@ impl<'a, 'f, S: AsSlice<u8> + Drop> LayeredJsonEnrichment<'a, 'f, S> {
             (IsKey 0 self.now.readers.now (map offset_in layers.now.answers.items)) }
         requires kept { AreKept (layered_member self.now.readers.now self.now.name.now
             self.now.fields.items) cache.old }
-        ensures added { IfOk result (λ addition. PutsMemberAtAll self.now.readers.now
+        ensures added { IfOk result (λ addition. PutsFound self.now.readers.now self.now.network
             self.now.nulls self.now.name.now self.now.fields.items line.now
-            (map offset_in layers.now.answers.items) addition out.old.items out.new.items) }
+            layers.now.answers.items addition out.old.items out.new.items) }
         ensures behind { IfOk result (λ addition. addition.behind ≤ line.now.behind) }
         ensures kept { AreKept (layered_member self.now.readers.now self.now.name.now
             self.now.fields.items) cache.new }
     {
         if layers.has_record() {
-            self.put_kept(line, layers, cache, notes, out)
+            self.put_read(line, layers, cache, notes, out)
         } else {
             self.put_none(line, Outcome::Absent, out)
         }
@@ -211,8 +281,8 @@ impl<'a, 'f, S: AsSlice<u8> + Drop> LayeredJsonEnrichment<'a, 'f, S> {
         requires { AreKept (layered_member self.now.readers.now self.now.name.now
             self.now.fields.items) memory.old.cache }
         ensures added { IfOk result (λ addition. PutsMemberForAll self.now.readers.now
-            self.now.nulls self.now.name.now self.now.fields.items line.now (Some address)
-            addition out.old.items out.new.items) }
+            self.now.network self.now.nulls self.now.name.now self.now.fields.items line.now
+            (Some address) addition out.old.items out.new.items) }
         ensures behind { IfOk result (λ addition. addition.behind ≤ line.now.behind) }
         ensures kept { AreKept (layered_member self.now.readers.now self.now.name.now
             self.now.fields.items) memory.new.cache }
@@ -243,8 +313,8 @@ impl<'a, 'f, S: AsSlice<u8> + Drop> LayeredJsonEnrichment<'a, 'f, S> {
         requires { AreKept (layered_member self.now.readers.now self.now.name.now
             self.now.fields.items) memory.old.cache }
         ensures added { IfOk result (λ addition. PutsToObjectAll self.now.readers.now
-            self.now.nulls self.now.name.now self.now.fields.items line.now addition
-            out.old.items out.new.items) }
+            self.now.network self.now.nulls self.now.name.now self.now.fields.items line.now
+            addition out.old.items out.new.items) }
         ensures behind { IfOk result (λ addition. addition.behind ≤ line.now.behind) }
         ensures kept { AreKept (layered_member self.now.readers.now self.now.name.now
             self.now.fields.items) memory.new.cache }
@@ -266,8 +336,8 @@ impl<'a, 'f, S: AsSlice<u8> + Drop> Additions for LayeredJsonEnrichment<'a, 'f, 
 
     type Memory = LayeredJsonMemory<'a, S>;
 
-    ghost adds = { λ e text goes_on extra behind outcome. AddsMemberAll e.readers.now e.reading
-        e.path.items e.nulls e.name.now e.fields.items text goes_on extra behind outcome };
+    ghost adds = { λ e text goes_on extra behind outcome. AddsMemberAll e.readers.now e.network
+        e.reading e.path.items e.nulls e.name.now e.fields.items text goes_on extra behind outcome };
 
     ghost fits = { λ e memory.
         AreKept (layered_member e.readers.now e.name.now e.fields.items) memory.cache };

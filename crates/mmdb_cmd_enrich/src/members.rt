@@ -1,13 +1,14 @@
 //! The member that is added to an object.
-ghost use Rattle.std.specs.Prelude.{◌≡◌, ◌++◌, OnOk, IfOk, IfErr, IfSome, IfNone};
-ghost use Rattle.mmdb_cmd_enrich.specs.Fields.{HasUnreadField, IsMember, IsNullMember, null_fields};
-ghost use Rattle.mmdb_cmd_enrich.specs.Working.{PutsValue, PutsFields, PutsFieldsOf};
+ghost use Rattle.std.specs.Prelude.{◌≡◌, ◌++◌, None, OnOk, IfOk, IfErr, IfSome, IfNone};
+ghost use Rattle.mmdb_cmd_enrich.specs.Fields.{HasUnreadField, IsMember, IsMemberAfter, IsNullMember, IsNullMemberAfter, network_tokens, null_fields};
+ghost use Rattle.mmdb_cmd_enrich.specs.Working.{PutsValue, PutsFields, PutsFieldsAfter, PutsFieldsOf};
 ghost use Rattle.mmdb_decode.specs.Errors.{Fails};
 ghost use Rattle.mmdb_format.specs.Error.{MemoryApart};
 
 use json::{Token, Writer};
 use mmdb_json::write_value;
-use mmdb_layout::ReadAlong;
+use mmdb_layout::{NETWORK, ReadAlong};
+use mmdb_net::IpNetwork;
 use mmdb_reader::{MaxMindDbError, PathElement};
 use std::alloc::{AllocError, Global};
 
@@ -59,6 +60,25 @@ fn put_fields<R: ReadAlong>(
     Ok(())
 }
 
+// Writes the member of a network, null where there is none.
+fn put_network(
+    alloc: Global,
+    network: Option<IpNetwork>,
+    out: &mut Writer,
+) -> Result<(), AllocError>
+    ensures tokens { OnOk result (out.new.tokens ≡ out.old.tokens ++ network_tokens network) }
+    ensures before { out.new.before ≡ out.old.before }
+{
+    out.token(Token::Key(NETWORK))?;
+    match network {
+        Some(network) => {
+            let text: String = format!(in alloc; "{network}")?;
+            out.token(Token::String(text.as_str()))
+        }
+        None => out.token(Token::Null),
+    }
+}
+
 // Writes a member with the fields.
 fn put_member<R: ReadAlong>(
     alloc: Global,
@@ -100,6 +120,50 @@ pub(crate) fn member_of<R: ReadAlong>(
     }
 }
 
+// Writes a member with a network and the fields.
+fn put_network_member<R: ReadAlong>(
+    alloc: Global,
+    network: Option<IpNetwork>,
+    found: &R,
+    name: &str,
+    fields: &[NamedField<'_>],
+    out: &mut Writer,
+) -> Result<(), MaxMindDbError>
+    ensures member { OnOk result (PutsFieldsAfter (network_tokens network) (R.reads found.now)
+        name.now fields.now out.old.tokens out.new.tokens) }
+    ensures rejected { IfErr result (λ e.
+        MemoryApart e (HasUnreadField (R.reads found.now) fields.now)) }
+    ensures before { out.new.before ≡ out.old.before }
+{
+    out.token(Token::Key(name))?;
+    out.token(Token::BeginObject)?;
+    put_network(alloc, network, out)?;
+    put_fields(alloc, found, fields, out)?;
+    out.token(Token::EndObject)?;
+    Ok(())
+}
+
+/// The text of a member with a network and fields, or none where one of these failed.
+pub(crate) fn network_member_of<R: ReadAlong>(
+    alloc: Global,
+    network: Option<IpNetwork>,
+    found: &R,
+    name: &str,
+    fields: &[NamedField<'_>],
+) -> Result<Option<Vec<u8>>, AllocError>
+    ensures some { IfOk result (λ member. IfSome member (λ text. IsMemberAfter
+        (network_tokens network) (R.reads found.now) name.now fields.now text.items)) }
+    ensures none { IfOk result (λ member.
+        IfNone member (HasUnreadField (R.reads found.now) fields.now)) }
+{
+    let mut out = Writer::new(Vec::with_capacity(alloc, 256)?);
+    match put_network_member(alloc, network, found, name, fields, &mut out) {
+        Ok(()) => Ok(Some(out.into_inner())),
+        Err(MaxMindDbError::Memory) => Err(AllocError),
+        Err(_) => Ok(None),
+    }
+}
+
 // Writes for each field its name and null.
 fn put_nulls(fields: &[NamedField<'_>], out: &mut Writer) -> Result<(), AllocError>
     ensures fields { OnOk result (out.new.tokens ≡ out.old.tokens ++ null_fields fields.now) }
@@ -124,6 +188,24 @@ pub(crate) fn null_member(
     let mut out = Writer::new(Vec::with_capacity(alloc, 256)?);
     out.token(Token::Key(name))?;
     out.token(Token::BeginObject)?;
+    put_nulls(fields, &mut out)?;
+    out.token(Token::EndObject)?;
+    Ok(out.into_inner())
+}
+
+/// The text of a member with a network and every field null.
+pub(crate) fn null_network_member(
+    alloc: Global,
+    name: &str,
+    fields: &[NamedField<'_>],
+) -> Result<Vec<u8>, AllocError>
+    ensures { IfOk result (λ text.
+        IsNullMemberAfter (network_tokens None) name.now fields.now text.items) }
+{
+    let mut out = Writer::new(Vec::with_capacity(alloc, 256)?);
+    out.token(Token::Key(name))?;
+    out.token(Token::BeginObject)?;
+    put_network(alloc, None, &mut out)?;
     put_nulls(fields, &mut out)?;
     out.token(Token::EndObject)?;
     Ok(out.into_inner())
