@@ -3,6 +3,7 @@ mod CellRunLaws
 mod KeptLaws
 mod ColumnLaws
 mod AddedLaws
+mod NetworkLaws
 mod LayerLaws
 mod AheadLaws
 mod AskedLaws

@@ -3,6 +3,7 @@ pub mod Columns
 pub mod Cells
 pub mod Asked
 pub mod Added
+pub mod Networks
 pub mod Layers
 pub mod Fields
 pub mod Members

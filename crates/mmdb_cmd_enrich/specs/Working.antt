@@ -5,10 +5,14 @@ use Rattle.mmdb_format.specs.Unfolding.{Tree}
 use Rattle.mmdb_reader.specs.declared.path.PathElement.{PathElement}
 use Rattle.mmdb_filter.specs.declared.rows.Rows.{Rows}
 use Rattle.mmdb_cmd_enrich.specs.Columns.{delimiter_of}
-use Rattle.mmdb_reader.specs.Found.{database_asked, offset_found}
+use Rattle.mmdb_net.specs.declared.network.IpNetwork.{IpNetwork}
+use Rattle.mmdb_reader.specs.Found.{database_asked, leaf_of, offset_found, shown_as_ipv4}
+use Rattle.mmdb_reader.specs.Lookup.{CanAsk, Answers, outcome_at}
+use Rattle.mmdb_reader.specs.Shown.{IsShownBy, is_shown_as_ipv4}
 use Rattle.mmdb_reader.specs.declared.lookup_result.LookupResult.{LookupResult}
 use Rattle.mmdb_cmd_enrich.specs.Cells.{ShowsCell, IsCell, AreCells, are_read}
-use Rattle.mmdb_cmd_enrich.specs.Layers.{Has, HaveAll, digit_of, radix_of, AddsAtAll, AddsForAll}
+use Rattle.mmdb_cmd_enrich.specs.Layers.{HaveAll, has_record, digit_of, radix_of, AddsAtAll, AddsForAll}
+use Rattle.mmdb_cmd_enrich.specs.Networks.{HaveNetworks, smallest, shown_of, IsFront}
 use Rattle.std.specs.declared.net.ip_addr.IpAddr.{IpAddr}
 use Rattle.json.specs.Token.{Token}
 use Rattle.mmdb_reader.specs.File.{Database}
@@ -20,7 +24,7 @@ use Rattle.mmdb_objects.specs.declared.objects.Line.{Line}
 use Rattle.mmdb_filter.specs.declared.filter.Added.{Added}
 use Rattle.mmdb_cmd_enrich.specs.LayeredMembers.{AddsMemberForAll, null_front}
 use Rattle.mmdb_cmd_enrich.specs.Members.{AddsMemberFor, AddsNoneAfter, PutsMember}
-use Rattle.mmdb_cmd_enrich.specs.Asked.{AsksIfAny}
+use Rattle.mmdb_cmd_enrich.specs.Asked.{Asks, AsksIfAny}
 use Rattle.mmdb_filter.specs.declared.counts.Outcome.TheVariants.{Occupied}
 use Rattle.std.specs.Global.{Vec}
 use Rattle.mmdb_cmd_enrich.specs.Added.{AddsAt, AddsFor}
@@ -115,7 +119,50 @@ IsAnswerOf db (Some found) = database_asked found ≡ db
 
 -- what a database has for an address
 abbrev pub IsAnswer : {S : Type 0} {G : Ghosts S ℕ} → Database → IpAddr → Option (LookupResult S G) → Type 0
-IsAnswer db address answer = IsAnswerOf db answer × Has db address (offset_in answer)
+IsAnswer db address None = (asked : IpAddr) × Asks db address asked × (¬ CanAsk db asked)
+IsAnswer db address (Some found) =
+    (asked : IpAddr) × Asks db address asked × (database_asked found ≡ db)
+    × Answers db asked (leaf_of found) (outcome_at (offset_found found)) × (shown_as_ipv4 found ≡ is_shown_as_ipv4 db asked)
+
+-- the network of an answer, if there is one
+abbrev pub IsNetworkOf : {S : Type 0} {G : Ghosts S ℕ} → Option (LookupResult S G) → Option IpNetwork → Type 0
+IsNetworkOf None None = ⊤
+IsNetworkOf None (Some network) = ⊥
+IsNetworkOf (Some found) None = ⊥
+IsNetworkOf (Some found) (Some network) = IsShownBy (database_asked found) (leaf_of found) (shown_as_ipv4 found) network
+
+-- the same of each answer
+abbrev pub AreNetworks : {S : Type 0} {G : Ghosts S ℕ} → List (Option (LookupResult S G)) → List (Option IpNetwork) → Type 0
+AreNetworks [] [] = ⊤
+AreNetworks [] (network ∷ networks) = ⊥
+AreNetworks (answer ∷ answers) [] = ⊥
+AreNetworks (answer ∷ answers) (network ∷ networks) = IsNetworkOf answer network × AreNetworks answers networks
+
+-- the smallest of the networks of answers
+abbrev pub IsSmallest : {S : Type 0} {G : Ghosts S ℕ} → List (Option (LookupResult S G)) → Option IpNetwork → Type 0
+IsSmallest answers network = (networks : List (Option IpNetwork)) × AreNetworks answers networks × (network ≡ smallest networks)
+
+-- the network that is shown of answers
+abbrev pub IsShownOf : {S : Type 0} {G : Ghosts S ℕ} → List (Option (LookupResult S G)) → Option IpNetwork → Type 0
+IsShownOf answers network =
+    (networks : List (Option IpNetwork)) × AreNetworks answers networks × (network ≡ shown_of (has_record (map offset_in answers)) networks)
+
+-- the networks of answers are those in which these databases have an address
+abbrev pub ShowNetworks : {S : Type 0} {G : Ghosts S ℕ} → List Database → IpAddr → List (Option (LookupResult S G)) → Type 0
+ShowNetworks dbs address answers = (networks : List (Option IpNetwork)) → AreNetworks answers networks → HaveNetworks dbs address networks
+
+-- bytes grow by a delimiter and the cell of a network
+abbrev pub PutsFront : Rows → Option IpNetwork → List ℕ → List ℕ → Type 0
+PutsFront rows network old new = (front : List ℕ) × IsFront rows network front × (new ≡ old ++ front)
+
+-- what comes before the fields of such answers
+abbrev pub IsFrontOf : {S : Type 0} {G : Ghosts S ℕ} → Bool → Rows → List (Option (LookupResult S G)) → List ℕ → Type 0
+IsFrontOf false rows answers front = front ≡ []
+IsFrontOf true rows answers front = (network : Option IpNetwork) × IsShownOf answers network × IsFront rows network front
+
+-- bytes grow by what comes before the fields of such answers
+abbrev pub PutsFrontOf : {S : Type 0} {G : Ghosts S ℕ} → Bool → Rows → List (Option (LookupResult S G)) → List ℕ → List ℕ → Type 0
+PutsFrontOf wanted rows answers old new = (front : List ℕ) × IsFrontOf wanted rows answers front × (new ≡ old ++ front)
 
 -- answers of these databases
 abbrev pub AreAnswersOf : {S : Type 0} {G : Ghosts S ℕ} → List Database → List (Option (LookupResult S G)) → Type 0
@@ -126,7 +173,7 @@ AreAnswersOf (db ∷ dbs) (answer ∷ answers) = IsAnswerOf db answer × AreAnsw
 
 -- what these databases have for an address
 abbrev pub AreAnswers : {S : Type 0} {G : Ghosts S ℕ} → List Database → IpAddr → List (Option (LookupResult S G)) → Type 0
-AreAnswers dbs address answers = AreAnswersOf dbs answers × HaveAll dbs address (map offset_in answers)
+AreAnswers dbs address answers = AreAnswersOf dbs answers × HaveAll dbs address (map offset_in answers) × ShowNetworks dbs address answers
 
 -- one digit more: where this database has a record
 abbrev pub IsKeyAfter : Option ℕ → Database → Option ℕ → ℕ → Type 0
@@ -136,8 +183,8 @@ IsKeyAfter before db offset key =
 abbrev pub AddsAtAllTo : List Database → Rows → Vec (Vec PathElement) → List (Option ℕ) → Outcome → Vec ℕ → Vec ℕ → Type 0
 AddsAtAllTo dbs rows fields offsets outcome old new = (extra : List ℕ) × AddsAtAll dbs rows (paths_of fields) offsets extra outcome × (new.items ≡ old.items ++ extra)
 
-abbrev pub AddsForAllTo : List Database → Rows → Vec (Vec PathElement) → Option IpAddr → Outcome → Vec ℕ → Vec ℕ → Type 0
-AddsForAllTo dbs rows fields address outcome old new = (extra : List ℕ) × AddsForAll dbs rows (paths_of fields) address extra outcome × (new.items ≡ old.items ++ extra)
+abbrev pub AddsForAllTo : List Database → Bool → Rows → Vec (Vec PathElement) → Option IpAddr → Outcome → Vec ℕ → Vec ℕ → Type 0
+AddsForAllTo dbs network rows fields address outcome old new = (extra : List ℕ) × AddsForAll dbs network rows (paths_of fields) address extra outcome × (new.items ≡ old.items ++ extra)
 
 -- Bytes grow by the member of the records of such answers, with their network where it is wanted.
 abbrev pub PutsRead : {S : Type 0} {G : Ghosts S ℕ} → List Database → Bool → List ℕ → List NamedField → Line → List (Option (LookupResult S G)) → Added → List ℕ → List ℕ → Type 0

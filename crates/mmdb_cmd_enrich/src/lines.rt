@@ -260,6 +260,14 @@ fn enrich_layered<R: Files + Clock, I: Live, O: Write, E: Pace>(
     done
 }
 
+// What databases are called where a record of one can't be read: one alone needs no name.
+fn names_said<'n>(names: &'n [&'n str]) -> &'n [&'n str] {
+    match names {
+        [_] => &[],
+        _ => names,
+    }
+}
+
 // Copies rows with fields after each, up to the input's end or until a file was replaced, and says whether that was the end.
 fn enrich_columns<R: Files + Clock, I: Live, O: Write, E: Pace>(
     rt: &R,
@@ -271,7 +279,9 @@ fn enrich_columns<R: Files + Clock, I: Live, O: Write, E: Pace>(
     passage: &mut Passage<'_, '_>,
     console: &mut Console<'_, O, E>,
 ) -> Result<bool, ProgramError> {
-    if let [database] = databases {
+    if let [database] = databases
+        && !task.network
+    {
         let enrichment = Enrichment {
             alloc: console.alloc,
             reader: database,
@@ -285,10 +295,11 @@ fn enrich_columns<R: Files + Clock, I: Live, O: Write, E: Pace>(
     let enrichment = LayeredEnrichment {
         alloc: console.alloc,
         readers: databases,
-        names,
+        names: names_said(names),
         reading: task.reading,
         rows: task.rows,
         column,
+        network: task.network,
         paths: task.paths,
     };
     enrich_layered(rt, &enrichment, input, passage, console)

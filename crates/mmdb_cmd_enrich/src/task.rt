@@ -5,10 +5,10 @@ use mmdb_addresses::Reading;
 use mmdb_arguments::{EnrichArguments, Hop, NoRequest};
 use mmdb_console::wanted_path;
 use mmdb_filter::Rows;
-use mmdb_layout::{ChosenFields, DefaultName, fields_of};
+use mmdb_layout::{ChosenFields, DefaultName, NETWORK, fields_of};
 use mmdb_objects::PathStep;
 use mmdb_reader::PathElement;
-use std::alloc::Global;
+use std::alloc::{AllocError, Global};
 
 /// A column of lines.
 #[derive(Clone, Copy)]
@@ -25,8 +25,11 @@ pub(crate) struct RowsTask<'a> {
     pub(crate) rows: Rows,
     pub(crate) reading: Reading,
     pub(crate) column: Column<'a>,
+    /// What the columns are called that are added.
     pub(crate) names: Vec<&'a str>,
     pub(crate) paths: Vec<Vec<PathElement<'a>>>,
+    /// Whether the network of the address comes before the fields.
+    pub(crate) network: bool,
     pub(crate) header: bool,
 }
 
@@ -152,7 +155,27 @@ fn breaks_row(rows: Rows, name: &str) -> bool {
     }
 }
 
-// What the columns of fields are called, and where the fields are. An `Err` where a given name would break the first row.
+// What the columns are called that are added: that of the network, where it is wanted, before those of the fields.
+fn names_of<'a>(
+    alloc: Global,
+    network: bool,
+    fields: Vec<&'a str>,
+) -> Result<Vec<&'a str>, AllocError> {
+    if !network {
+        return Ok(fields);
+    }
+    let mut names = Vec::new(alloc);
+    names.push(NETWORK)?;
+    names.extend_from_slice(fields.as_slice())?;
+    Ok(names)
+}
+
+// The names that no field may have.
+fn taken_names(network: bool) -> &'static [&'static str] {
+    if network { &[NETWORK] } else { &[] }
+}
+
+// What the columns are called that are added, and where the fields are. An `Err` where a given name would break the first row.
 fn columns_of<'a>(
     alloc: Global,
     rows: Rows,
@@ -163,7 +186,12 @@ fn columns_of<'a>(
         texts: _,
         paths,
         is_named,
-    } = fields_of(alloc, arguments.fields.as_slice(), DefaultName::Path, &[])?;
+    } = fields_of(
+        alloc,
+        arguments.fields.as_slice(),
+        DefaultName::Path,
+        taken_names(arguments.network),
+    )?;
     if is_named && arguments.header {
         for name in &names {
             if breaks_row(rows, *name) {
@@ -171,7 +199,7 @@ fn columns_of<'a>(
             }
         }
     }
-    Ok((names, paths))
+    Ok((names_of(alloc, arguments.network, names)?, paths))
 }
 
 // A step of the path of an address in an object: a key, or an index from the front.
@@ -243,7 +271,7 @@ pub(crate) fn rows_task<'a>(
     }
     let rows = rows_of(alloc, arguments.delimiter, arguments.no_quotes)?;
     let column = column_of(alloc, arguments.column, arguments.header)?;
-    if arguments.fields.is_empty() {
+    if arguments.fields.is_empty() && !arguments.network {
         return Err(NoRequest::bad_argument(alloc, "enrich", "needs a --field"));
     }
     let reading = tested_reading(alloc, arguments)?;
@@ -254,6 +282,7 @@ pub(crate) fn rows_task<'a>(
         column,
         names,
         paths,
+        network: arguments.network,
         header: arguments.header,
     })
 }

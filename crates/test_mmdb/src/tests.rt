@@ -13,6 +13,7 @@ mod layers;
 mod lists;
 mod memory;
 mod names;
+mod network_column;
 mod numbers;
 mod program;
 mod progress;
