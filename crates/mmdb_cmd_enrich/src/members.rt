@@ -1,5 +1,5 @@
 //! The member that is added to an object.
-ghost use Rattle.std.specs.Prelude.{◌≡◌, ◌++◌, None, OnOk, IfOk, IfErr, IfSome, IfNone};
+ghost use Rattle.std.specs.Prelude.{◌≡◌, ◌++◌, None, false, OnOk, IfOk, IfErr, IfSome, IfNone};
 ghost use Rattle.mmdb_cmd_enrich.specs.Fields.{HasUnreadField, IsMember, IsMemberAfter, IsNullMember, IsNullMemberAfter, network_tokens, null_fields};
 ghost use Rattle.mmdb_cmd_enrich.specs.Working.{PutsValue, PutsFields, PutsFieldsAfter, PutsFieldsOf};
 ghost use Rattle.mmdb_decode.specs.Errors.{Fails};
