@@ -12,8 +12,8 @@ use Rattle.mmdb_filter.specs.declared.counts.Outcome.{Outcome}
 use Rattle.mmdb_filter.specs.declared.counts.Outcome.TheVariants.{Absent, Failed}
 use Rattle.mmdb_filter.specs.declared.filter.Added.{Added}
 use Rattle.mmdb_cmd_enrich.specs.Layers.{HaveAll, CanAskAny, CanAskNone, AnyRejects, first_read, has_record, IsKey}
-use Rattle.mmdb_cmd_enrich.specs.Fields.{network_tokens}
-use Rattle.mmdb_cmd_enrich.specs.LayeredMembers.{AreFront}
+use Rattle.mmdb_cmd_enrich.specs.Fields.{IsNullMemberAfter, network_tokens}
+use Rattle.mmdb_cmd_enrich.specs.LayeredMembers.{AreFront, null_front}
 use Rattle.mmdb_cmd_enrich.specs.Networks.{shown_of}
 use Rattle.mmdb_cmd_enrich.specs.Wanted.{MemberOf, layered_member, AddsOf}
 use Rattle.mmdb_cmd_enrich.specs.Members.{PutsMember}
@@ -45,6 +45,21 @@ member_of_keys dbs name fields offsets (Some key) text outcome is made = member_
 pub behind_of : (front : List Token) (reads : List PathElement → Option (Option Tree)) (name : List ℕ) (fields : List NamedField) (line : Line) (addition : Added) (old new : List ℕ) → PutsMemberAfter front reads name fields line addition old new → addition.behind ≤ line.behind
 behind_of front reads name fields line addition old new (text, outcome, inl (is, here), puts) = behind_put line text outcome addition old new (inl here) puts
 behind_of front reads name fields line addition old new (text, outcome, inr (is, none, here), puts) = behind_put line text outcome addition old new (inr here) puts
+
+pub behind_of_read : {S : Type 0} {G : Ghosts S ℕ} (dbs : List Database) (network : Bool) (name : List ℕ) (fields : List NamedField) (line : Line) (answers : List (Option (LookupResult S G))) (addition : Added) (old new : List ℕ)
+    → PutsRead dbs network name fields line answers addition old new → addition.behind ≤ line.behind
+behind_of_read dbs false name fields line answers addition old new puts = behind_of [] (first_read dbs (map offset_in answers)) name fields line addition old new puts
+behind_of_read dbs true name fields line answers addition old new (network, shown, puts) = behind_of (network_tokens network) (first_read dbs (map offset_in answers)) name fields line addition old new puts
+
+-- with the network or without, as it is wanted
+pub read_as_wanted : {S : Type 0} {G : Ghosts S ℕ} (dbs : List Database) (network wanted : Bool) (name : List ℕ) (fields : List NamedField) (line : Line) (answers : List (Option (LookupResult S G))) (addition : Added) (old new : List ℕ)
+    → network ≡ wanted → PutsRead dbs wanted name fields line answers addition old new → PutsRead dbs network name fields line answers addition old new
+read_as_wanted dbs network wanted name fields line answers addition old new is puts = subst (λ b. PutsRead dbs b name fields line answers addition old new) (sym is) puts
+
+pub null_as_wanted : (network wanted : Bool) (name : List ℕ) (fields given : List NamedField) (text : List ℕ)
+    → network ≡ wanted → given ≡ fields → IsNullMemberAfter (null_front wanted) name given text → IsNullMemberAfter (null_front network) name fields text
+null_as_wanted network wanted name fields given text is same null =
+    subst (λ fs. IsNullMemberAfter (null_front network) name fs text) same (subst (λ b. IsNullMemberAfter (null_front b) name given text) (sym is) null)
 
 -- the member of records, after others
 read_put : (dbs : List Database) (network nulls : Bool) (name : List ℕ) (fields : List NamedField) (line : Line) (address : IpAddr) (offsets : List (Option ℕ)) (front : List Token) (addition : Added) (old new : List ℕ)

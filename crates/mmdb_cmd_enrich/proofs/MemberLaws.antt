@@ -19,12 +19,12 @@ use Rattle.mmdb_filter.specs.declared.counts.Outcome.{Outcome}
 use Rattle.mmdb_filter.specs.declared.counts.Outcome.TheVariants.{Found, Absent, Failed}
 use Rattle.mmdb_filter.specs.declared.filter.Added.{Added}
 use Rattle.mmdb_layout.specs.Reading.{reads_in}
-use Rattle.mmdb_cmd_enrich.specs.Fields.{AreValue, AreFields, HasUnreadField, IsMember, IsNullMember}
+use Rattle.mmdb_cmd_enrich.specs.Fields.{AreValue, AreFields, HasUnreadField, IsMemberAfter, IsNullMemberAfter}
 use Rattle.mmdb_cmd_enrich.specs.Members.{HasUnreadMember, PutsMember, PutsText}
 use Rattle.mmdb_objects.specs.Longer.{comma_behind}
-use Rattle.mmdb_cmd_enrich.specs.Working.{PutsValue, PutsMemberFor, PutsNone, PutsToObject}
+use Rattle.mmdb_cmd_enrich.specs.Working.{PutsValue, PutsMemberFor, PutsNone, PutsNoneAfter, PutsToObject}
 use Rattle.mmdb_cmd_enrich.specs.Asked.{AsksIfAny}
-use Rattle.mmdb_cmd_enrich.specs.Wanted.{MemberOf}
+use Rattle.mmdb_cmd_enrich.specs.Wanted.{MemberAfter, MemberOf}
 use Rattle.mmdb_cmd_enrich.specs.declared.members.NamedField.{NamedField}
 use Rattle.mmdb_objects.specs.declared.objects.Line.{Line}
 
@@ -72,17 +72,17 @@ declined (ResourceLimit message o path) answer P goes r = goes r
 declined (InvalidNetwork cause) answer P goes r = goes r
 declined (InvalidInput message) answer P goes r = goes r
 
--- the member of what was read, or that a field can't be read
-pub member_kept : (reads others : List PathElement → Option (Option Tree)) (name : List ℕ) (fields : List NamedField) (member : Option (Vec ℕ)) (cells : List ℕ) (outcome : Outcome)
+-- the member of what was read, after others, or that a field can't be read
+pub member_kept : (front : List Token) (reads others : List PathElement → Option (Option Tree)) (name : List ℕ) (fields : List NamedField) (member : Option (Vec ℕ)) (cells : List ℕ) (outcome : Outcome)
     → reads ≡ others
-    → IfSome member (λ text. IsMember reads name fields text.items)
+    → IfSome member (λ text. IsMemberAfter front reads name fields text.items)
     → IfNone member (HasUnreadField reads fields)
     → MatchOption member ((cells ≡ []) × (outcome ≡ Failed)) (λ text. (cells ≡ text.items) × (outcome ≡ Found))
-    → MemberOf others name fields cells outcome
-member_kept reads others name fields None cells outcome same some none kept =
-    subst (λ r. MemberOf r name fields cells outcome) same (inr (none, kept.0, kept.1))
-member_kept reads others name fields (Some text) cells outcome same some none kept =
-    subst (λ r. MemberOf r name fields cells outcome) same (inl (subst (IsMember reads name fields) (sym kept.0) some, kept.1))
+    → MemberAfter front others name fields cells outcome
+member_kept front reads others name fields None cells outcome same some none kept =
+    subst (λ r. MemberAfter front r name fields cells outcome) same (inr (none, kept.0, kept.1))
+member_kept front reads others name fields (Some text) cells outcome same some none kept =
+    subst (λ r. MemberAfter front r name fields cells outcome) same (inl (subst (IsMemberAfter front reads name fields) (sym kept.0) some, kept.1))
 
 -- what is read in the record that a lookup found
 pub reads_same : (db asked : Database) (found : Option ℕ) (offset : ℕ) → asked ≡ db → found ≡ Some offset → reads_in (data_section asked) found ≡ reads_in (data_section db) (Some offset)
@@ -106,17 +106,17 @@ pub absent_put : (db : Database) (nulls : Bool) (name : List ℕ) (fields : List
 absent_put db nulls name fields line address leaf found addition old new none answers (o, (extra, adds, put)) =
     (extra, inr (inl (o, (leaf, subst (λ f. Answers db address leaf (outcome_at f)) none answers), adds)), put)
 
--- a member of which each field is null, or nothing
-pub null_put : (name : List ℕ) (fields : List NamedField) (line : Line) (outcome : Outcome) (text : List ℕ) (addition : Added) (old new : List ℕ) → IsNullMember name fields text
-    → PutsText line text outcome addition old new → PutsNone true name fields line outcome addition old new
-null_put name fields line outcome text addition old new is (o, b, put) = (o, (comma_behind line.is_empty ++ text, (text, is, refl, b), put))
+-- a member of which each field is null, after others, or nothing
+pub null_put : (front : List Token) (name : List ℕ) (fields : List NamedField) (line : Line) (outcome : Outcome) (text : List ℕ) (addition : Added) (old new : List ℕ) → IsNullMemberAfter front name fields text
+    → PutsText line text outcome addition old new → PutsNoneAfter front true name fields line outcome addition old new
+null_put front name fields line outcome text addition old new is (o, b, put) = (o, (comma_behind line.is_empty ++ text, (text, is, refl, b), put))
 
-pub nothing_put : (name : List ℕ) (fields : List NamedField) (line : Line) (outcome : Outcome) (addition : Added) (old : List ℕ) → addition.outcome ≡ outcome → PutsNone false name fields line outcome addition old old
-nothing_put name fields line outcome addition old o = (o, ([], refl, sym (append-nil old)))
+pub nothing_put : (front : List Token) (name : List ℕ) (fields : List NamedField) (line : Line) (outcome : Outcome) (addition : Added) (old : List ℕ) → addition.outcome ≡ outcome → PutsNoneAfter front false name fields line outcome addition old old
+nothing_put front name fields line outcome addition old o = (o, ([], refl, sym (append-nil old)))
 
-pub none_put : (nulls wanted : Bool) (name : List ℕ) (fields : List NamedField) (line : Line) (outcome : Outcome) (addition : Added) (old new : List ℕ) → nulls ≡ wanted
-    → PutsNone wanted name fields line outcome addition old new → PutsNone nulls name fields line outcome addition old new
-none_put nulls wanted name fields line outcome addition old new is puts = subst (λ b. PutsNone b name fields line outcome addition old new) (sym is) puts
+pub none_put : (front : List Token) (nulls wanted : Bool) (name : List ℕ) (fields : List NamedField) (line : Line) (outcome : Outcome) (addition : Added) (old new : List ℕ) → nulls ≡ wanted
+    → PutsNoneAfter front wanted name fields line outcome addition old new → PutsNoneAfter front nulls name fields line outcome addition old new
+none_put front nulls wanted name fields line outcome addition old new is puts = subst (λ b. PutsNoneAfter front b name fields line outcome addition old new) (sym is) puts
 
 -- the lookup of the address fails
 pub rejected_put : (db : Database) (nulls : Bool) (name : List ℕ) (fields : List NamedField) (line : Line) (address : IpAddr) (addition : Added) (old : List ℕ) → HasUnreadMember db fields address → addition.outcome ≡ Failed → PutsMemberFor db nulls name fields line (Some address) addition old old

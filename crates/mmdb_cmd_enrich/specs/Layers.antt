@@ -13,7 +13,7 @@ use Rattle.mmdb_addresses.specs.declared.readings.Reading.{Reading}
 use Rattle.mmdb_cmd_enrich.specs.Asked.{Asks, ReadsRow}
 use Rattle.mmdb_cmd_enrich.specs.Cells.{AreCells, are_read}
 use Rattle.mmdb_cmd_enrich.specs.Networks.{AddsFront, all_blanks}
-use Rattle.mmdb_layout.specs.Reading.{reads_in}
+use Rattle.mmdb_layout.specs.Reading.{reads_in, or_next}
 
 -- Where a database has the record of an address: at an offset, or nowhere, also where it can't be asked for the address.
 abbrev pub Has : Database → IpAddr → Option ℕ → Type 0

@@ -316,7 +316,9 @@ fn enrich_json<R: Files + Clock, I: Live, O: Write, E: Pace>(
     passage: &mut Passage<'_, '_>,
     console: &mut Console<'_, O, E>,
 ) -> Result<bool, ProgramError> {
-    if let [database] = databases {
+    if let [database] = databases
+        && !task.network
+    {
         let enrichment = JsonEnrichment {
             alloc: console.alloc,
             reader: database,
@@ -331,11 +333,12 @@ fn enrich_json<R: Files + Clock, I: Live, O: Write, E: Pace>(
     let enrichment = LayeredJsonEnrichment {
         alloc: console.alloc,
         readers: databases,
-        names,
+        names: names_said(names),
         reading: task.reading,
         path: task.path,
         name: task.into,
         nulls: task.nulls,
+        network: task.network,
         fields: task.fields,
     };
     enrich_layered_objects(rt, &enrichment, input, passage, console)

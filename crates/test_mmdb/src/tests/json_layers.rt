@@ -1,8 +1,9 @@
 //! Lines of JSON with fields of several databases.
 use super::layers::{
-    CITY, MANY, OWN, Row, SIX, TORN, assert_row, file_with, holds_all, many_file, run_both,
+    CITY, Database, MANY, OWN, Row, SIX, TORN, assert_row, file_with, holds_all, many_file,
+    run_both,
 };
-use super::program::{assert_of, run_over, two_files};
+use super::program::{assert_of, run_of, run_over, two_files};
 use std::alloc::{AllocError, Global};
 
 /// A line of each kind.
@@ -92,6 +93,57 @@ const OTHER_ROWS: &[Row<'static>] = &[
     ),
 ];
 
+#[rattlefmt::skip]
+const NETWORK_ROWS: &[Row<'static>] = &[
+    // the smallest network in which one of them has the address, with a record or without
+    (
+        OWN, CITY, &["--json", "ip", "--network", "--field", "c", "--field", "n"], ALL, 1,
+        "{\"ip\":\"1.1.1.1\"}\n{\"ip\":\"33.0.0.1\",\"geo\":{\"network\":\"32.0.0.0/3\",\"c\":\"city\",\"n\":9}}\n{\"ip\":\"70.0.0.1\",\"geo\":{\"network\":\"64.0.0.0/2\",\"c\":\"own\",\"n\":9}}\n{\"ip\":\"130.0.0.1\",\"geo\":{\"network\":\"128.0.0.0/2\",\"c\":\"q\\\",t\\tab\",\"n\":7}}\n{\"ip\":\"200.0.0.1\"}\n{\"ip\":\"-\"}\n[]\n{}\n",
+        &["mmdb: row 5: here.mmdb: ", "mmdb: 3 lines with a record, 1 without, 2 without an address, 1 with an error, 1 not objects of JSON\n"],
+    ),
+    // null where there is no record or no address
+    (
+        CITY, OWN, &["--json", "ip", "--network", "--field", "n", "--nulls"], ALL, 0,
+        "{\"ip\":\"1.1.1.1\",\"geo\":{\"network\":null,\"n\":null}}\n{\"ip\":\"33.0.0.1\",\"geo\":{\"network\":\"32.0.0.0/3\",\"n\":9}}\n{\"ip\":\"70.0.0.1\",\"geo\":{\"network\":\"64.0.0.0/2\",\"n\":9}}\n{\"ip\":\"130.0.0.1\",\"geo\":{\"network\":\"128.0.0.0/2\",\"n\":7}}\n{\"ip\":\"200.0.0.1\",\"geo\":{\"network\":\"192.0.0.0/2\",\"n\":9}}\n{\"ip\":\"-\",\"geo\":{\"network\":null,\"n\":null}}\n[]\n{\"geo\":{\"network\":null,\"n\":null}}\n",
+        &["4 lines with a record, 1 without, 2 without an address, 0 with an error"],
+    ),
+    // of one record in two networks, again and again
+    (
+        CITY, OWN, &["--json", "ip", "--network", "--field", "c"], "{\"ip\":\"33.0.0.1\"}\n{\"ip\":\"200.0.0.1\"}\n{\"ip\":\"34.0.0.1\"}\n{\"ip\":\"201.0.0.1\"}\n", 0,
+        "{\"ip\":\"33.0.0.1\",\"geo\":{\"network\":\"32.0.0.0/3\",\"c\":\"city\"}}\n{\"ip\":\"200.0.0.1\",\"geo\":{\"network\":\"192.0.0.0/2\",\"c\":\"city\"}}\n{\"ip\":\"34.0.0.1\",\"geo\":{\"network\":\"32.0.0.0/3\",\"c\":\"city\"}}\n{\"ip\":\"201.0.0.1\",\"geo\":{\"network\":\"192.0.0.0/2\",\"c\":\"city\"}}\n",
+        &["4 lines with a record"],
+    ),
+    // of IPv4 in IPv6
+    (
+        SIX, OWN, &["--json", "ip", "--network", "--field", "c"], BOTH, 0,
+        "{\"ip\":\"70.0.0.1\",\"geo\":{\"network\":\"64.0.0.0/2\",\"c\":\"six\"}}\n{\"ip\":\"::ffff:70.0.0.1\",\"geo\":{\"network\":\"64.0.0.0/2\",\"c\":\"six\"}}\n{\"ip\":\"2001:db8::1\",\"geo\":{\"network\":\"::/1\",\"c\":\"six\"}}\n",
+        &["3 lines with a record"],
+    ),
+];
+
+/// A database, words after it, standard input, the status, standard output, and what standard error has to hold.
+type OneRow<'a> = (
+    Database<'a>,
+    &'a [&'a str],
+    &'a str,
+    u8,
+    &'a str,
+    &'a [&'a str],
+);
+
+#[rattlefmt::skip]
+const ONE_ROWS: &[OneRow<'static>] = &[
+    (
+        OWN, &["enrich", "here.mmdb", "--json", "ip", "--network", "--field", "c", "--nulls"], ALL, 1,
+        "{\"ip\":\"1.1.1.1\",\"geo\":{\"network\":null,\"c\":null}}\n{\"ip\":\"33.0.0.1\",\"geo\":{\"network\":null,\"c\":null}}\n{\"ip\":\"70.0.0.1\",\"geo\":{\"network\":\"64.0.0.0/2\",\"c\":\"own\"}}\n{\"ip\":\"130.0.0.1\",\"geo\":{\"network\":\"128.0.0.0/2\",\"c\":null}}\n{\"ip\":\"200.0.0.1\"}\n{\"ip\":\"-\",\"geo\":{\"network\":null,\"c\":null}}\n[]\n{\"geo\":{\"network\":null,\"c\":null}}\n",
+        &["mmdb: row 5: decoding error", "mmdb: 2 lines with a record, 2 without, 2 without an address, 1 with an error, 1 not objects of JSON\n"],
+    ),
+    (
+        CITY, &["enrich", "here.mmdb", "--json", "ip", "--network", "--field", "record="], "{\"ip\":\"33.0.0.1\"}\n", 0,
+        "{\"ip\":\"33.0.0.1\",\"geo\":{\"network\":\"32.0.0.0/3\",\"record\":{\"c\":\"city\",\"n\":9}}}\n", &["1 lines with a record"],
+    ),
+];
+
 /// Words, the status, and what standard error has to hold, of runs that write nothing.
 type Rejected<'a> = (&'a [&'a str], u8, &'a [&'a str]);
 
@@ -99,7 +151,10 @@ type Rejected<'a> = (&'a [&'a str], u8, &'a [&'a str]);
 const REJECTED: &[Rejected<'static>] = &[
     (&["enrich", "here.mmdb", "gone.mmdb", "--json", "ip", "--field", "c"], 1, &["mmdb: gone.mmdb: i/o error: entity not found\n"]),
     (&["enrich", "here.mmdb", "gone.mmdb", "--json", "ip"], 2, &["--json: needs a --field where there are several databases"]),
-    (&["enrich", "gone.mmdb", "--json", "ip", "--field", "c", "--network"], 2, &["--network: not with --json"]),
+    (&["enrich", "gone.mmdb", "--json", "ip", "--network"], 2, &["--network: with --json needs a --field; --field record= has the whole record"]),
+    (&["enrich", "gone.mmdb", "here.mmdb", "--json", "ip", "--network"], 2, &["--network: with --json needs a --field"]),
+    (&["enrich", "gone.mmdb", "--json", "ip", "--network", "--field", "network=c"], 2, &["network=c: the name network is taken"]),
+    (&["enrich", "gone.mmdb", "--json", "ip", "--network", "--field", "a.network"], 2, &["a.network: the name network is taken"]),
 ];
 
 #[test]
@@ -113,6 +168,24 @@ fn members_of_two_databases(rt: HostRuntime) {
 fn members_and_errors_of_two_databases(rt: HostRuntime) {
     for row in OTHER_ROWS {
         assert_row(&rt, rt.alloc(), row);
+    }
+}
+
+#[test]
+fn networks_of_two_databases(rt: HostRuntime) {
+    for row in NETWORK_ROWS {
+        assert_row(&rt, rt.alloc(), row);
+    }
+}
+
+#[test]
+fn networks_of_one_database(rt: HostRuntime) {
+    for row in ONE_ROWS {
+        let (database, words, lines, status, out, err) = *row;
+        let file = file_with(rt.alloc(), &database);
+        let run = run_of(rt.alloc(), file.as_slice(), words, lines);
+        let holds = run.status == status && run.out() == out && holds_all(&run, err);
+        assert_of(&rt, words, &run, holds);
     }
 }
 

@@ -272,7 +272,12 @@ fn many_records(alloc: Global, key: u8) -> Result<Vec<u8>, AllocError> {
 }
 
 /// The file of such a database, whose records have their values at a key of one byte.
-pub(super) fn many_file(alloc: Global, before: u32, count: &[u8], key: u8) -> Result<Vec<u8>, AllocError> {
+pub(super) fn many_file(
+    alloc: Global,
+    before: u32,
+    count: &[u8],
+    key: u8,
+) -> Result<Vec<u8>, AllocError> {
     let nodes = many_nodes(alloc, before)?;
     let nodes = nodes_24(alloc, nodes.as_slice())?;
     let data = many_records(alloc, key)?;

@@ -1,4 +1,4 @@
-use Rattle.std.proofs.Common.{List, IfSome, IfNone, Some, subst}
+use Rattle.std.proofs.Common.{List, [], IfSome, IfNone, Some, subst}
 use Rattle.std.proofs.lemmas.Result.{IfOk-weaker}
 use Rattle.mmdb_layout.specs.Reading.{reads_in, reads_found}
 use Rattle.mmdb_reader.specs.File.{data_section}
@@ -20,7 +20,7 @@ returns-clause-added g c =
     let some = subst (λ (fs : List NamedField). IfSome addition (λ text. IsMember reads name fs text.items)) c.as_slice.ensures.value c.in_ok-member.ensures.some in
     let none = subst (λ (fs : List NamedField). IfNone addition (HasUnreadField reads fs)) c.as_slice.ensures.value c.in_ok-member.ensures.none in
     let same = reads_same db (database_asked c.args.found.now) (offset_found c.args.found.now) c.args.offset c.requires.asked c.requires.at in
-    let is = member_kept reads (reads_in (data_section db) (Some c.args.offset)) name fields addition kept.cells.now kept.outcome same some none c.kept_of-kept.ensures in
+    let is = member_kept [] reads (reads_in (data_section db) (Some c.args.offset)) name fields addition kept.cells.now kept.outcome same some none c.kept_of-kept.ensures in
     IfOk-weaker c.put_member.result _ _
     (λ addition puts. (kept.cells.now, kept.outcome, is, puts))
     c.put_member.ensures
@@ -36,4 +36,4 @@ returns-clause-kept g c =
     let some = subst (λ (fs : List NamedField). IfSome addition (λ text. IsMember reads name fs text.items)) c.as_slice.ensures.value c.in_ok-member.ensures.some in
     let none = subst (λ (fs : List NamedField). IfNone addition (HasUnreadField reads fs)) c.as_slice.ensures.value c.in_ok-member.ensures.none in
     let same = reads_same db (database_asked c.args.found.now) (offset_found c.args.found.now) c.args.offset c.requires.asked c.requires.at in
-    c.keep.ensures (member db name fields) c.requires.kept (member_kept reads (reads_in (data_section db) (Some c.args.offset)) name fields addition kept.cells.now kept.outcome same some none c.kept_of-kept.ensures)
+    c.keep.ensures (member db name fields) c.requires.kept (member_kept [] reads (reads_in (data_section db) (Some c.args.offset)) name fields addition kept.cells.now kept.outcome same some none c.kept_of-kept.ensures)

@@ -1,4 +1,4 @@
-use Rattle.std.proofs.Common.{List, IfSome, IfNone, map, subst}
+use Rattle.std.proofs.Common.{List, [], IfSome, IfNone, map, subst}
 use Rattle.std.proofs.lemmas.Result.{IfOk-weaker}
 use Rattle.mmdb_layout.specs.Reading.{first_read_of}
 use Rattle.mmdb_cmd_enrich.specs.Fields.{IsMember, HasUnreadField}
@@ -21,7 +21,7 @@ returns-clause-added g c =
     let kept = c.kept_of-kept.result in
     let some = subst (λ (fs : List NamedField). IfSome addition (λ text. IsMember reads name fs text.items)) c.as_slice.ensures.value c.in_ok-member.ensures.some in
     let none = subst (λ (fs : List NamedField). IfNone addition (HasUnreadField reads fs)) c.as_slice.ensures.value c.in_ok-member.ensures.none in
-    let is = member_kept reads (first_read dbs (map offset_in answers)) name fields addition kept.cells.now kept.outcome (answers_same dbs answers c.requires.asked) some none c.kept_of-kept.ensures in
+    let is = member_kept [] reads (first_read dbs (map offset_in answers)) name fields addition kept.cells.now kept.outcome (answers_same dbs answers c.requires.asked) some none c.kept_of-kept.ensures in
     IfOk-weaker c.put_member.result _ _
     (λ addition puts. (kept.cells.now, kept.outcome, is, puts))
     c.put_member.ensures
@@ -37,6 +37,6 @@ returns-clause-kept g c =
     let kept = c.kept_of-kept.result in
     let some = subst (λ (fs : List NamedField). IfSome addition (λ text. IsMember reads name fs text.items)) c.as_slice.ensures.value c.in_ok-member.ensures.some in
     let none = subst (λ (fs : List NamedField). IfNone addition (HasUnreadField reads fs)) c.as_slice.ensures.value c.in_ok-member.ensures.none in
-    let is = member_kept reads (first_read dbs (map offset_in answers)) name fields addition kept.cells.now kept.outcome (answers_same dbs answers c.requires.asked) some none c.kept_of-kept.ensures in
+    let is = member_kept [] reads (first_read dbs (map offset_in answers)) name fields addition kept.cells.now kept.outcome (answers_same dbs answers c.requires.asked) some none c.kept_of-kept.ensures in
     c.keep_numbered.ensures (layered_member dbs name fields) c.requires.kept
     (member_of_keys dbs name fields (map offset_in answers) c.args.layers.now.key kept.cells.now kept.outcome c.requires.key is)
