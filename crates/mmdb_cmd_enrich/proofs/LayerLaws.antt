@@ -70,9 +70,9 @@ key_done dbs offsets None way = way 0
 key_done dbs offsets (Some key) way = way key refl
 
 -- no answers have no networks
-none_shown : {S : Type 0} {G : Ghosts S ℕ} (address : IpAddr) → ShowNetworks {S} {G} [] address []
-none_shown address [] are = tt
-none_shown address (network ∷ networks) are = absurd are
+none_shown : (S : Type 0) (G : Ghosts S ℕ) (address : IpAddr) → ShowNetworks {S = S} {G = G} [] address []
+none_shown S G address [] are = tt
+none_shown S G address (network ∷ networks) are = absurd are
 
 pub answers_done : {S : Type 0} {G : Ghosts S ℕ} (dbs : List Database) (address : IpAddr) (answers : List (Option (LookupResult S G))) (key : Option ℕ)
     → LayersWay dbs [] address answers key → AreAnswers dbs address answers × IfSome key (IsKey 0 dbs (map offset_in answers))
@@ -80,7 +80,7 @@ answers_done {S} {G} dbs address answers key way =
     let all : answers ++ [] ≡ answers = append-nil answers in
     let H : List (Option (LookupResult S G)) → Type 0 = λ l. HaveAll dbs address (map offset_in l) in
     let K : List (Option (LookupResult S G)) → Type 0 = λ l. IfSome key (IsKey 0 dbs (map offset_in l)) in (
-      (subst (AreAnswersOf dbs) all (way.answered [] tt), subst H all (way.have [] tt), subst (ShowNetworks dbs address) all (way.shown [] (none_shown address))),
+      (subst (AreAnswersOf dbs) all (way.answered [] tt), subst H all (way.have [] tt), subst (ShowNetworks dbs address) all (way.shown [] (none_shown S G address))),
       subst K all (key_done dbs (map offset_in (answers ++ [])) key (way.numbered [])),
     )
 

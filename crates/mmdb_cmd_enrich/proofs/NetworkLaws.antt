@@ -101,6 +101,6 @@ found_added dbs wanted rows fields address answers outcome old middle new can al
     let (front, is, ahead) = put in
     let (cells, at, behind) = adds in (
       front ++ cells,
-      inr (can, map offset_in answers, all.1.0, front, cells, refl, front_added dbs wanted rows address answers front all.1.1 is, at),
+      inr (can, map offset_in answers, all.1, front, cells, refl, front_added dbs wanted rows address answers front all.2 is, at),
       behind ∙ (ap (λ l. l ++ cells) ahead ∙ append_assoc old.items front cells),
     )

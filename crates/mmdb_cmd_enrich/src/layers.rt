@@ -163,11 +163,8 @@ impl<'a, S: AsSlice<u8> + Drop> Layers<'a, S> {
     pub(crate) fn shown_network(&self) -> Option<IpNetwork>
         ensures { IsShownOf self.now.answers.items result }
     {
-        if self.has_record() {
-            self.smallest_network()
-        } else {
-            None
-        }
+        let smallest = self.smallest_network();
+        if self.has_record() { smallest } else { None }
     }
 
     /// Looks an address up in each database, and says whether no lookup failed.
