@@ -92,7 +92,7 @@ digit_same (Some a) None e = absurd (omega (arith, e))
 digit_same (Some a) (Some b) e = ap Some (omega (arith, e))
 
 -- no two lists of offsets have the same key
-keys_same : (dbs : List Database) (m n : ℕ) (some others : List (Option ℕ)) (key : ℕ) → IsKey m dbs some key → IsKey n dbs others key → (m ≡ n) × (some ≡ others)
+pub keys_same : (dbs : List Database) (m n : ℕ) (some others : List (Option ℕ)) (key : ℕ) → IsKey m dbs some key → IsKey n dbs others key → (m ≡ n) × (some ≡ others)
 keys_same [] m n [] [] key a b = (sym a ∙ b, refl)
 keys_same [] m n [] (o ∷ os) key a b = absurd b
 keys_same [] m n (o ∷ os) others key a b = absurd a

@@ -8,5 +8,6 @@ mod LayerLaws
 mod AheadLaws
 mod AskedLaws
 mod MemberLaws
+mod LayeredMemberLaws
 mod PartLaws
 mod GainLaws

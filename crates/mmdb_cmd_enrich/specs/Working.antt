@@ -17,12 +17,13 @@ use Rattle.std.specs.declared.net.ip_addr.IpAddr.{IpAddr}
 use Rattle.json.specs.Token.{Token}
 use Rattle.mmdb_reader.specs.File.{Database}
 use Rattle.mmdb_cmd_enrich.specs.declared.members.NamedField.{NamedField}
-use Rattle.mmdb_cmd_enrich.specs.Fields.{AreFields, member_tokens}
+use Rattle.mmdb_cmd_enrich.specs.Fields.{AreValue, AreFields, member_tokens, network_tokens}
 use Rattle.mmdb_filter.specs.declared.counts.Outcome.{Outcome}
-use Rattle.mmdb_cmd_enrich.specs.Wanted.{MemberAt}
+use Rattle.mmdb_cmd_enrich.specs.Wanted.{MemberAfter}
 use Rattle.mmdb_objects.specs.declared.objects.Line.{Line}
 use Rattle.mmdb_filter.specs.declared.filter.Added.{Added}
-use Rattle.mmdb_cmd_enrich.specs.Members.{AddsMemberFor, AddsNone, PutsMember}
+use Rattle.mmdb_cmd_enrich.specs.LayeredMembers.{AddsMemberForAll, null_front}
+use Rattle.mmdb_cmd_enrich.specs.Members.{AddsMemberFor, AddsNoneAfter, PutsMember}
 use Rattle.mmdb_cmd_enrich.specs.Asked.{Asks, AsksIfAny}
 use Rattle.mmdb_filter.specs.declared.counts.Outcome.TheVariants.{Occupied}
 use Rattle.std.specs.Global.{Vec}
@@ -50,22 +51,33 @@ PutsCells rows reads paths is_read old new =
     (cells : List ℕ) × AreCells rows reads paths cells
     × (new ≡ old ++ cells) × (is_read ≡ are_read reads paths)
 
--- tokens grow by the fields of the record at an offset
-abbrev pub PutsFields : List NamedField → List ℕ → ℕ → List Token → List Token → Type 0
-PutsFields fields s offset old new =
-    (tokens : List Token) × AreFields fields s offset tokens × (new ≡ old ++ tokens)
+-- tokens grow by those of what was read
+abbrev pub PutsValue : Option (Option Tree) → List Token → List Token → Type 0
+PutsValue answer old new = (value : List Token) × AreValue answer value × (new ≡ old ++ value)
 
--- tokens grow by a member with these fields
-abbrev pub PutsFieldsOf : List ℕ → List NamedField → List ℕ → ℕ → List Token → List Token → Type 0
-PutsFieldsOf name fields s offset old new =
-    (tokens : List Token) × AreFields fields s offset tokens × (new ≡ old ++ member_tokens name tokens)
+-- tokens grow by fields, along whose paths this is read
+abbrev pub PutsFields : (List PathElement → Option (Option Tree)) → List NamedField → List Token → List Token → Type 0
+PutsFields reads fields old new =
+    (tokens : List Token) × AreFields reads fields tokens × (new ≡ old ++ tokens)
 
--- Bytes grow by the member of the record at an offset.
-abbrev pub PutsMemberAt : Database → List ℕ → List NamedField → ℕ → Line → Added → List ℕ → List ℕ →
-    Type 0
-PutsMemberAt db name fields offset line addition old new =
-    (text : List ℕ) × (outcome : Outcome) × MemberAt db name fields offset text outcome
+-- tokens grow by a member with these fields after others
+abbrev pub PutsFieldsAfter : List Token → (List PathElement → Option (Option Tree)) → List ℕ → List NamedField → List Token → List Token → Type 0
+PutsFieldsAfter front reads name fields old new =
+    (tokens : List Token) × AreFields reads fields tokens × (new ≡ old ++ member_tokens name (front ++ tokens))
+
+-- the same with fields alone
+abbrev pub PutsFieldsOf : (List PathElement → Option (Option Tree)) → List ℕ → List NamedField → List Token → List Token → Type 0
+PutsFieldsOf reads name fields old new = PutsFieldsAfter [] reads name fields old new
+
+-- Bytes grow by the member of what is read, with others before the fields, or by nothing where a field can't be read.
+abbrev pub PutsMemberAfter : List Token → (List PathElement → Option (Option Tree)) → List ℕ → List NamedField → Line → Added → List ℕ → List ℕ → Type 0
+PutsMemberAfter front reads name fields line addition old new =
+    (text : List ℕ) × (outcome : Outcome) × MemberAfter front reads name fields text outcome
     × PutsMember line text outcome addition old new
+
+-- the same with fields alone
+abbrev pub PutsMemberOf : (List PathElement → Option (Option Tree)) → List ℕ → List NamedField → Line → Added → List ℕ → List ℕ → Type 0
+PutsMemberOf reads name fields line addition old new = PutsMemberAfter [] reads name fields line addition old new
 
 -- Bytes grow by what is added to an object for its address.
 abbrev pub PutsMemberFor : Database → Bool → List ℕ → List NamedField → Line → Option IpAddr → Added → List ℕ → List ℕ → Type 0
@@ -78,10 +90,14 @@ AddsAtTo db rows fields offset outcome old new = (extra : List ℕ) × AddsAt db
 abbrev pub AddsForTo : Database → Rows → Vec (Vec PathElement) → Option IpAddr → Outcome → Vec ℕ → Vec ℕ → Type 0
 AddsForTo db rows fields address outcome old new = (extra : List ℕ) × AddsFor db rows (paths_of fields) address extra outcome × (new.items ≡ old.items ++ extra)
 
--- Bytes grow by what is added to an object without a record.
+-- Bytes grow by what is added to an object without a record, with others before the fields.
+abbrev pub PutsNoneAfter : List Token → Bool → List ℕ → List NamedField → Line → Outcome → Added → List ℕ → List ℕ → Type 0
+PutsNoneAfter front nulls name fields line outcome addition old new =
+    (addition.outcome ≡ outcome) × ((extra : List ℕ) × AddsNoneAfter front nulls name fields line.is_empty line.behind extra addition.behind × (new ≡ old ++ extra))
+
+-- the same with fields alone
 abbrev pub PutsNone : Bool → List ℕ → List NamedField → Line → Outcome → Added → List ℕ → List ℕ → Type 0
-PutsNone nulls name fields line outcome addition old new =
-    (addition.outcome ≡ outcome) × ((extra : List ℕ) × AddsNone nulls name fields line.is_empty line.behind extra addition.behind × (new ≡ old ++ extra))
+PutsNone nulls name fields line outcome addition old new = PutsNoneAfter [] nulls name fields line outcome addition old new
 
 -- Bytes grow by what is added to an object.
 abbrev pub PutsToObject : Database → Bool → List ℕ → List NamedField → Line → Added → List ℕ → List ℕ → Type 0
@@ -169,3 +185,28 @@ AddsAtAllTo dbs rows fields offsets outcome old new = (extra : List ℕ) × Adds
 
 abbrev pub AddsForAllTo : List Database → Bool → Rows → Vec (Vec PathElement) → Option IpAddr → Outcome → Vec ℕ → Vec ℕ → Type 0
 AddsForAllTo dbs network rows fields address outcome old new = (extra : List ℕ) × AddsForAll dbs network rows (paths_of fields) address extra outcome × (new.items ≡ old.items ++ extra)
+
+-- Bytes grow by the member of the records of such answers, with their network where it is wanted.
+abbrev pub PutsRead : {S : Type 0} {G : Ghosts S ℕ} → List Database → Bool → List ℕ → List NamedField → Line → List (Option (LookupResult S G)) → Added → List ℕ → List ℕ → Type 0
+PutsRead dbs false name fields line answers addition old new = PutsMemberOf (first_read dbs (map offset_in answers)) name fields line addition old new
+PutsRead dbs true name fields line answers addition old new =
+    (network : Option IpNetwork) × IsShownOf answers network
+    × PutsMemberAfter (network_tokens network) (first_read dbs (map offset_in answers)) name fields line addition old new
+
+-- Bytes grow by that, or by what is added to an object without a record.
+abbrev pub PutsFound : {S : Type 0} {G : Ghosts S ℕ} → List Database → Bool → Bool → List ℕ → List NamedField → Line → List (Option (LookupResult S G)) → Added → List ℕ → List ℕ → Type 0
+PutsFound dbs network nulls name fields line answers addition old new =
+    ((has_record (map offset_in answers) ≡ false) × PutsNoneAfter (null_front network) nulls name fields line Absent addition old new)
+    ⊎ ((has_record (map offset_in answers) ≡ true) × PutsRead dbs network name fields line answers addition old new)
+
+-- Bytes grow by what is added to an object for its address, from several databases.
+abbrev pub PutsMemberForAll : List Database → Bool → Bool → List ℕ → List NamedField → Line → Option IpAddr → Added → List ℕ → List ℕ → Type 0
+PutsMemberForAll dbs network nulls name fields line address addition old new =
+    (extra : List ℕ) × AddsMemberForAll dbs network nulls name fields line.is_empty line.behind address extra addition.behind addition.outcome × (new ≡ old ++ extra)
+
+-- Bytes grow by what is added to an object, from several databases.
+abbrev pub PutsToObjectAll : List Database → Bool → Bool → List ℕ → List NamedField → Line → Added → List ℕ → List ℕ → Type 0
+PutsToObjectAll dbs network nulls name fields line addition old new =
+    (extra : List ℕ) × (new ≡ old ++ extra)
+    × (((extra ≡ []) × (addition.outcome ≡ Occupied) × (line.is_taken ≡ true))
+    ⊎ ((line.is_taken ≡ false) × AddsMemberForAll dbs network nulls name fields line.is_empty line.behind line.address extra addition.behind addition.outcome))

@@ -12,7 +12,7 @@ use crate::asked::row_address;
 use crate::cache::AddedCache;
 use crate::cells::{put_all_blanks, put_cells, put_network_cell};
 use crate::enrichment::{outcome_of, put_kept};
-use crate::layers::{Layers, can_ask_any, offset_of};
+use crate::layers::{Layers, can_ask_any};
 use crate::notes::{Notes, note_rejected_by};
 use mmdb_addresses::Reading;
 use mmdb_filter::{Added, Additions, Outcome, Rows};
@@ -82,11 +82,7 @@ impl<'a, 'f, S: AsSlice<u8> + Drop> LayeredEnrichment<'a, 'f, S> {
     // Notes the records that were read, or were not.
     #[inline(never)]
     fn note(&self, layers: &Layers<'a, S>, are_read: bool, notes: &mut Notes) {
-        for (at, answer) in layers.answers.iter().enumerate() {
-            if let Some(offset) = offset_of(answer) {
-                notes.note_record(at, offset);
-            }
-        }
+        notes.note_records(layers);
         for at in 0..self.paths.len() {
             let path = self.paths[at].as_slice();
             notes.note_layered(self.alloc, self.names, layers, at, path, are_read);

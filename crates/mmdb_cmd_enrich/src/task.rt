@@ -56,6 +56,8 @@ pub(crate) struct JsonTask<'a> {
     pub(crate) into: &'a str,
     /// Whether objects without a record get it too.
     pub(crate) nulls: bool,
+    /// Whether the network of the address comes before the fields.
+    pub(crate) network: bool,
     pub(crate) fields: Vec<NamedField<'a>>,
 }
 
@@ -126,14 +128,41 @@ type FieldColumns<'a> = (Vec<&'a str>, Vec<Vec<PathElement<'a>>>);
 /// What a name of a column is that no row can have.
 const BROKEN_ROW: &str = "a name with what separates columns or lines";
 
+/// What `--json` is without a field where there are several databases.
+const FIELDLESS: &str = "needs a --field where there are several databases";
+
+/// What `--network` is without a field in objects.
+const FIELDLESS_NETWORK: &str = "with --json needs a --field; --field record= has the whole record";
+
+// That there is a field where objects need one: with the network, and of several databases.
+fn test_fields(alloc: Global, arguments: &EnrichArguments<'_>) -> Result<(), NoRequest> {
+    if !arguments.fields.is_empty() {
+        Ok(())
+    } else if arguments.network {
+        Err(NoRequest::bad_argument(alloc, "--network", FIELDLESS_NETWORK))
+    } else if !arguments.others.is_empty() {
+        Err(NoRequest::bad_argument(alloc, "--json", FIELDLESS))
+    } else {
+        Ok(())
+    }
+}
+
 // The fields of objects.
-fn members_of<'a>(alloc: Global, texts: &[&'a str]) -> Result<Vec<NamedField<'a>>, NoRequest> {
+fn members_of<'a>(
+    alloc: Global,
+    arguments: &EnrichArguments<'a>,
+) -> Result<Vec<NamedField<'a>>, NoRequest> {
     let ChosenFields {
         names,
         texts: _,
         paths,
         is_named: _,
-    } = fields_of(alloc, texts, DefaultName::LastStep, &[])?;
+    } = fields_of(
+        alloc,
+        arguments.fields.as_slice(),
+        DefaultName::LastStep,
+        taken_names(arguments.network),
+    )?;
     let mut members = Vec::new(alloc);
     for (name, path) in names.iter().zip(paths) {
         members.push(NamedField { name: *name, path })?;
@@ -237,12 +266,14 @@ pub(crate) fn json_task<'a>(
     if into.is_empty() {
         return Err(NoRequest::bad_argument(alloc, "--into", "an empty name"));
     }
+    test_fields(alloc, arguments)?;
     Ok(JsonTask {
         reading: tested_reading(alloc, arguments)?,
         path: address_path(alloc, path)?,
         into,
         nulls: arguments.nulls,
-        fields: members_of(alloc, arguments.fields.as_slice())?,
+        network: arguments.network,
+        fields: members_of(alloc, arguments)?,
     })
 }
 

@@ -7,6 +7,7 @@ mod exports;
 mod failures;
 mod faults;
 mod helps;
+mod json_layers;
 mod kept_rows;
 mod layers;
 mod lists;

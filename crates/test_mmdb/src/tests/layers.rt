@@ -48,7 +48,7 @@ pub(super) const NAMED: Database<'static> = (
 pub(super) const TORN: Database<'static> = (&[(4096, 17)], b"\xC1\x01", IPV4, b"\xE1\x41c\x43six");
 
 /// The databases, words after these, standard input, the status, standard output, and what standard error has to hold.
-type Row<'a> = (
+pub(super) type Row<'a> = (
     Database<'a>,
     Database<'a>,
     &'a [&'a str],
@@ -153,7 +153,6 @@ const REJECTED: &[Rejected<'static>] = &[
     ),
     (&["enrich", "new.mmdb", "here.mmdb", "--field", "c"], 1, &["mmdb: new.mmdb: invalid database"]),
     (&["enrich", "here.mmdb", "gone.mmdb"], 2, &["enrich: needs a --field"]),
-    (&["enrich", "here.mmdb", "gone.mmdb", "--field", "c", "--json", "ip"], 2, &["--json: takes one database"]),
 ];
 
 /// The file of a database, or none without memory.
@@ -192,8 +191,8 @@ pub(super) fn run_both(
     run_over(alloc, &two_files(old, newer), all.as_slice(), lines, false)
 }
 
-// Asserts what a run leaves.
-fn assert_row(rt: &impl Abort, alloc: Global, row: &Row<'_>) {
+/// Asserts what a run leaves.
+pub(super) fn assert_row(rt: &impl Abort, alloc: Global, row: &Row<'_>) {
     let (first, second, words, lines, status, out, err) = *row;
     let old = file_with(alloc, &first);
     let newer = file_with(alloc, &second);
@@ -233,7 +232,7 @@ fn files_that_are_no_databases(rt: HostRuntime) {
 }
 
 /// How many records each of the databases of many has: one for each value of six bits.
-const MANY: u32 = 64;
+pub(super) const MANY: u32 = 64;
 
 /// The nodes of a tree of six bits that has so many nodes before it, of which both halves are the next one. The record of
 /// each value is five bytes after that of the value before.
@@ -272,8 +271,13 @@ fn many_records(alloc: Global, key: u8) -> Result<Vec<u8>, AllocError> {
     Ok(data)
 }
 
-// The file of such a database.
-fn many_file(alloc: Global, before: u32, count: &[u8], key: u8) -> Result<Vec<u8>, AllocError> {
+/// The file of such a database, whose records have their values at a key of one byte.
+pub(super) fn many_file(
+    alloc: Global,
+    before: u32,
+    count: &[u8],
+    key: u8,
+) -> Result<Vec<u8>, AllocError> {
     let nodes = many_nodes(alloc, before)?;
     let nodes = nodes_24(alloc, nodes.as_slice())?;
     let data = many_records(alloc, key)?;
