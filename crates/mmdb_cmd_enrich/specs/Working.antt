@@ -11,7 +11,7 @@ use Rattle.mmdb_reader.specs.Lookup.{CanAsk, Answers, outcome_at}
 use Rattle.mmdb_reader.specs.Shown.{IsShownBy, is_shown_as_ipv4}
 use Rattle.mmdb_reader.specs.declared.lookup_result.LookupResult.{LookupResult}
 use Rattle.mmdb_cmd_enrich.specs.Cells.{ShowsCell, IsCell, AreCells, are_read}
-use Rattle.mmdb_cmd_enrich.specs.Layers.{HaveAll, has_record, digit_of, radix_of, AddsAtAll, AddsForAll}
+use Rattle.mmdb_cmd_enrich.specs.Layers.{HaveAll, first_read, has_record, digit_of, radix_of, AddsAtAll, AddsForAll}
 use Rattle.mmdb_cmd_enrich.specs.Networks.{HaveNetworks, smallest, shown_of, IsFront}
 use Rattle.std.specs.declared.net.ip_addr.IpAddr.{IpAddr}
 use Rattle.json.specs.Token.{Token}
@@ -25,7 +25,7 @@ use Rattle.mmdb_filter.specs.declared.filter.Added.{Added}
 use Rattle.mmdb_cmd_enrich.specs.LayeredMembers.{AddsMemberForAll, null_front}
 use Rattle.mmdb_cmd_enrich.specs.Members.{AddsMemberFor, AddsNoneAfter, PutsMember}
 use Rattle.mmdb_cmd_enrich.specs.Asked.{Asks, AsksIfAny}
-use Rattle.mmdb_filter.specs.declared.counts.Outcome.TheVariants.{Occupied}
+use Rattle.mmdb_filter.specs.declared.counts.Outcome.TheVariants.{Absent, Occupied}
 use Rattle.std.specs.Global.{Vec}
 use Rattle.mmdb_cmd_enrich.specs.Added.{AddsAt, AddsFor}
 use Rattle.mmdb_cmd_enrich.specs.Rows.{paths_of}

@@ -22,7 +22,7 @@ returns g c =
     let made = c.kept_of-made.result in
     let some = subst (λ (fs : List NamedField). IfSome addition (λ text. IsMemberAfter front reads name fs text.items)) c.as_slice-fields.ensures.value c.in_ok-member.ensures.some in
     let none = subst (λ (fs : List NamedField). IfNone addition (HasUnreadField reads fs)) c.as_slice-fields.ensures.value c.in_ok-member.ensures.none in
-    let is = member_kept front reads (first_read dbs (map offset_in answers)) name fields addition made.cells.now made.outcome (answers_same dbs answers c.requires) some none c.kept_of-made.ensures in
+    let is = member_kept front reads (first_read dbs (map offset_in answers)) name fields addition made.cells.now made.outcome (answers_same dbs answers c.requires.asked) some none c.kept_of-made.ensures in
     IfOk-weaker c.put_member.result _ _
     (λ addition puts. (network, c.shown_network-network.ensures, (made.cells.now, made.outcome, is, puts)))
     c.put_member.ensures
