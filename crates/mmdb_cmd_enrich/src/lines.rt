@@ -209,7 +209,46 @@ fn finish<O: Write, E: Pace>(
     Ok(passage.notes.end(counts, unasked, text, console))
 }
 
-// Copies rows with fields after each.
+// Copies rows with what is added to each, by a memory of no row, up to the input's end or until a file was replaced, and says
+// whether that was the end.
+fn enrich_with<A: Additions, R: Files + Clock, I: Live, O: Write, E: Pace>(
+    rt: &R,
+    rows: Rows,
+    additions: &A,
+    memory: A::Memory,
+    databases: &[Database],
+    input: &mut I,
+    passage: &mut Passage<'_, '_>,
+    console: &mut Console<'_, O, E>,
+) -> Result<bool, ProgramError>
+where
+    A::Memory: Remembering,
+    requires { A.fits additions.now memory }
+{
+    let mut memory = memory;
+    let done = copy_rows(
+        rt,
+        rows,
+        additions,
+        &mut memory,
+        databases,
+        input,
+        passage,
+        console,
+    );
+    passage.records = mem::replace(memory.records_mut(), Notes::new(console.alloc));
+    done
+}
+
+// What databases are called where a record of one can't be read: one alone needs no name.
+fn names_said<'n>(names: &'n [&'n str]) -> &'n [&'n str] {
+    match names {
+        [_] => &[],
+        _ => names,
+    }
+}
+
+// Copies rows with fields of one database after each.
 fn enrich_rows<R: Files + Clock, I: Live, O: Write, E: Pace>(
     rt: &R,
     enrichment: &Enrichment<'_, '_, Vec<u8>>,
@@ -219,20 +258,11 @@ fn enrich_rows<R: Files + Clock, I: Live, O: Write, E: Pace>(
     console: &mut Console<'_, O, E>,
 ) -> Result<bool, ProgramError> {
     let alloc = console.alloc;
-    let mut memory = RowMemory::with_notes(alloc, passage.take_records(alloc))?;
+    let memory = RowMemory::with_notes(alloc, passage.take_records(alloc))?;
     let rows = enrichment.rows;
-    let done = copy_rows(
-        rt,
-        rows,
-        enrichment,
-        &mut memory,
-        databases,
-        input,
-        passage,
-        console,
-    );
-    passage.records = mem::replace(&mut memory.notes, Notes::new(alloc));
-    done
+    enrich_with(
+        rt, rows, enrichment, memory, databases, input, passage, console,
+    )
 }
 
 // Copies rows with fields of several databases after each.
@@ -244,28 +274,11 @@ fn enrich_layered<R: Files + Clock, I: Live, O: Write, E: Pace>(
     console: &mut Console<'_, O, E>,
 ) -> Result<bool, ProgramError> {
     let alloc = console.alloc;
-    let mut memory = LayeredMemory::with_notes(alloc, passage.take_records(alloc))?;
-    let rows = enrichment.rows;
-    let done = copy_rows(
-        rt,
-        rows,
-        enrichment,
-        &mut memory,
-        enrichment.readers,
-        input,
-        passage,
-        console,
-    );
-    passage.records = mem::replace(&mut memory.notes, Notes::new(alloc));
-    done
-}
-
-// What databases are called where a record of one can't be read: one alone needs no name.
-fn names_said<'n>(names: &'n [&'n str]) -> &'n [&'n str] {
-    match names {
-        [_] => &[],
-        _ => names,
-    }
+    let memory = LayeredMemory::with_notes(alloc, passage.take_records(alloc))?;
+    let (rows, readers) = (enrichment.rows, enrichment.readers);
+    enrich_with(
+        rt, rows, enrichment, memory, readers, input, passage, console,
+    )
 }
 
 // Copies rows with fields after each, up to the input's end or until a file was replaced, and says whether that was the end.
@@ -344,7 +357,7 @@ fn enrich_json<R: Files + Clock, I: Live, O: Write, E: Pace>(
     enrich_layered_objects(rt, &enrichment, input, passage, console)
 }
 
-// Copies lines with a member more in each object.
+// Copies lines with a member more in each object, of one database.
 fn enrich_objects<R: Files + Clock, I: Live, O: Write, E: Pace>(
     rt: &R,
     enrichment: &JsonEnrichment<'_, '_, Vec<u8>>,
@@ -354,19 +367,10 @@ fn enrich_objects<R: Files + Clock, I: Live, O: Write, E: Pace>(
     console: &mut Console<'_, O, E>,
 ) -> Result<bool, ProgramError> {
     let alloc = console.alloc;
-    let mut memory = JsonMemory::with_notes(alloc, passage.take_records(alloc))?;
-    let done = copy_rows(
-        rt,
-        LINES,
-        enrichment,
-        &mut memory,
-        databases,
-        input,
-        passage,
-        console,
-    );
-    passage.records = mem::replace(&mut memory.notes, Notes::new(alloc));
-    done
+    let memory = JsonMemory::with_notes(alloc, passage.take_records(alloc))?;
+    enrich_with(
+        rt, LINES, enrichment, memory, databases, input, passage, console,
+    )
 }
 
 // Copies lines with a member more in each object, of several databases.
@@ -378,19 +382,11 @@ fn enrich_layered_objects<R: Files + Clock, I: Live, O: Write, E: Pace>(
     console: &mut Console<'_, O, E>,
 ) -> Result<bool, ProgramError> {
     let alloc = console.alloc;
-    let mut memory = LayeredJsonMemory::with_notes(alloc, passage.take_records(alloc))?;
-    let done = copy_rows(
-        rt,
-        LINES,
-        enrichment,
-        &mut memory,
-        enrichment.readers,
-        input,
-        passage,
-        console,
-    );
-    passage.records = mem::replace(&mut memory.notes, Notes::new(alloc));
-    done
+    let memory = LayeredJsonMemory::with_notes(alloc, passage.take_records(alloc))?;
+    let readers = enrichment.readers;
+    enrich_with(
+        rt, LINES, enrichment, memory, readers, input, passage, console,
+    )
 }
 
 // Opens what took the place of files, if that was seen. What was noted of records is of those before.

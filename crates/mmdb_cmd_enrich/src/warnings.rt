@@ -30,11 +30,17 @@ pub(crate) enum AddressPlace<'a> {
 /// Who remembers what was amiss with records.
 pub(crate) trait Remembering {
     fn records(&self) -> &Records;
+
+    fn records_mut(&mut self) -> &mut Records;
 }
 
 impl Remembering for RowMemory {
     fn records(&self) -> &Records {
         &self.notes
+    }
+
+    fn records_mut(&mut self) -> &mut Records {
+        &mut self.notes
     }
 }
 
@@ -42,17 +48,29 @@ impl<S: AsSlice<u8> + Drop> Remembering for LayeredMemory<'_, S> {
     fn records(&self) -> &Records {
         &self.notes
     }
+
+    fn records_mut(&mut self) -> &mut Records {
+        &mut self.notes
+    }
 }
 
 impl Remembering for JsonMemory {
     fn records(&self) -> &Records {
         &self.notes
     }
+
+    fn records_mut(&mut self) -> &mut Records {
+        &mut self.notes
+    }
 }
 
 impl<S: AsSlice<u8> + Drop> Remembering for LayeredJsonMemory<'_, S> {
     fn records(&self) -> &Records {
         &self.notes
+    }
+
+    fn records_mut(&mut self) -> &mut Records {
+        &mut self.notes
     }
 }
 

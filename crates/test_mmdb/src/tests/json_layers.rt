@@ -136,7 +136,7 @@ const ONE_ROWS: &[OneRow<'static>] = &[
     (
         OWN, &["enrich", "here.mmdb", "--json", "ip", "--network", "--field", "c", "--nulls"], ALL, 1,
         "{\"ip\":\"1.1.1.1\",\"geo\":{\"network\":null,\"c\":null}}\n{\"ip\":\"33.0.0.1\",\"geo\":{\"network\":null,\"c\":null}}\n{\"ip\":\"70.0.0.1\",\"geo\":{\"network\":\"64.0.0.0/2\",\"c\":\"own\"}}\n{\"ip\":\"130.0.0.1\",\"geo\":{\"network\":\"128.0.0.0/2\",\"c\":null}}\n{\"ip\":\"200.0.0.1\"}\n{\"ip\":\"-\",\"geo\":{\"network\":null,\"c\":null}}\n[]\n{\"geo\":{\"network\":null,\"c\":null}}\n",
-        &["mmdb: row 5: decoding error", "mmdb: 2 lines with a record, 2 without, 2 without an address, 1 with an error, 1 not objects of JSON\n"],
+        &["mmdb: row 5: invalid database", "mmdb: 2 lines with a record, 2 without, 2 without an address, 1 with an error, 1 not objects of JSON\n"],
     ),
     (
         CITY, &["enrich", "here.mmdb", "--json", "ip", "--network", "--field", "record="], "{\"ip\":\"33.0.0.1\"}\n", 0,

@@ -2,7 +2,7 @@ use Rattle.mmdb_cmd_enrich.specs.Rows.{paths_of}
 use Rattle.mmdb_cmd_enrich.specs.Wanted.{layers}
 use Rattle.mmdb_cmd_enrich.proofs.lines.enrich_layered.Goals as goal
 
-pub copy_rows-done-requires : goal.copy_rows-done-requires
-copy_rows-done-requires g c =
+pub enrich_with-requires : goal.enrich_with-requires
+enrich_with-requires g c =
     let enrichment = c.args.enrichment.now in
     c.in_ok-memory.ensures (layers enrichment.readers.now enrichment.rows (paths_of enrichment.paths))
