@@ -1,20 +1,19 @@
 -- The smallest network of an address.
-use Rattle.std.proofs.Common.{◌≡◌, ◌⊎◌, ◌+◌, ◌<◌, ◌≤◌, ℕ, List, [], ◌∷◌, ◌++◌, map, Option, Some, None, Bool, true, false, nat_lt, inl, inr, refl, sym, ap, ◌∙◌, subst, arith, append_assoc, if◌then◌else◌}
+use Rattle.std.proofs.Common.{◌≡◌, ℕ, List, [], ◌∷◌, ◌++◌, map, Option, Some, None, Bool, true, false, nat_lt, inl, inr, refl, sym, ap, ◌∙◌, subst, arith, append_assoc}
 use Rattle.std.proofs.lemmas.Bool.Decides.{nat_tests}
 use Rattle.std.specs.declared.convert.AsSlice.{Ghosts}
 use Rattle.std.specs.declared.net.ip_addr.IpAddr.{IpAddr}
 use Rattle.std.specs.Global.{Vec}
 use Rattle.mmdb_net.specs.declared.network.IpNetwork.{IpNetwork}
 use Rattle.mmdb_reader.specs.File.{Database}
-use Rattle.mmdb_reader.specs.Found.{database_asked, leaf_of, offset_found, shown_as_ipv4}
-use Rattle.mmdb_reader.specs.Shown.{IsShownBy, is_shown_as_ipv4}
+use Rattle.mmdb_reader.specs.Found.{leaf_of, offset_found, shown_as_ipv4}
+use Rattle.mmdb_reader.specs.Shown.{IsShownBy}
 use Rattle.mmdb_reader.specs.declared.lookup_result.LookupResult.{LookupResult}
 use Rattle.mmdb_reader.specs.declared.path.PathElement.{PathElement}
 use Rattle.mmdb_filter.specs.declared.counts.Outcome.{Outcome}
 use Rattle.mmdb_filter.specs.declared.rows.Rows.{Rows}
-use Rattle.mmdb_cmd_enrich.specs.Layers.{Has, CanAskAny, HaveAll, has_record, AddsAtAll}
-use Rattle.mmdb_cmd_enrich.specs.Networks.{HasNetwork, HaveNetworks, depth_of, smaller, smallest, shown_of, IsFront, AddsFront}
-use Rattle.mmdb_cmd_enrich.specs.Rows.{paths_of}
+use Rattle.mmdb_cmd_enrich.specs.Layers.{Has, CanAskAny, has_record}
+use Rattle.mmdb_cmd_enrich.specs.Networks.{HasNetwork, depth_of, smaller, smallest, IsFront, AddsFront}
 use Rattle.mmdb_cmd_enrich.specs.Working.{offset_in, IsAnswerOf, IsAnswer, AreAnswers, IsNetworkOf, AreNetworks, IsSmallest, ShowNetworks, IsFrontOf, PutsFrontOf, AddsAtAllTo, AddsForAllTo}
 
 smaller_none : (network : Option IpNetwork) → smaller network None ≡ network

@@ -82,6 +82,21 @@ fn put_value(
     }
 }
 
+// Adds the cell of a network whose text is not plain in a line: as JSON.
+#[inline(never)]
+fn put_quoted_network(
+    alloc: Global,
+    delimiter: u8,
+    network: IpNetwork,
+    out: &mut Vec<u8>,
+) -> Result<(), AllocError>
+    ensures { OnOk result (PutsShown (Lines delimiter)
+        (scalar (text_content (short_text_of network))) out.old.items out.new.items) }
+{
+    let text: String = format!(in alloc; "{network}")?;
+    put_line_value(alloc, delimiter, &Value::String(text.as_str()), out)
+}
+
 // Adds the cell of a network.
 fn put_network(
     alloc: Global,
@@ -92,8 +107,15 @@ fn put_network(
     ensures { OnOk result (PutsShown rows (scalar (text_content (short_text_of network)))
         out.old.items out.new.items) }
 {
-    let text: String = format!(in alloc; "{network}")?;
-    put_value(alloc, rows, &Value::String(text.as_str()), out)
+    let mut text: Vec<u8> = Vec::new(alloc);
+    network.push_text(&mut text)?;
+    match rows {
+        Rows::Csv { delimiter } => put_csv_cell(delimiter, text.as_slice(), out),
+        Rows::Lines { delimiter } if is_plain(delimiter, text.as_slice()) => {
+            out.extend_from_slice(text.as_slice())
+        }
+        Rows::Lines { delimiter } => put_quoted_network(alloc, delimiter, network, out),
+    }
 }
 
 /// Adds a delimiter and the cell of a network, an empty one where there is none.

@@ -1,4 +1,4 @@
-use Rattle.std.proofs.Common.{◌≡◌, IfSome, map, subst}
+use Rattle.std.proofs.Common.{IfSome, map, subst}
 use Rattle.std.proofs.lemmas.Result.{IfOk-weaker}
 use Rattle.std.specs.Bool.{MatchBool}
 use Rattle.mmdb_cmd_enrich.specs.Layers.{AnyRejects, IsKey}
