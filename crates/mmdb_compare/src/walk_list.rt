@@ -60,7 +60,7 @@ impl<'a, S: AsSlice<u8> + Drop> WalkList<'a, S> {
         range: IpNetwork,
     ) -> Result<WalkList<'a, S>, (usize, MaxMindDbError)>
         ensures { IfOk result (λ list.
-          map left_of list.walks.items ≡ map (λ db. all_of db range) readers.now) }
+            map left_of list.walks.items ≡ map (λ db. all_of db range) readers.now) }
     {
         let mut walks = Vec::new(alloc);
         for place in 0..readers.len() {

@@ -3,4 +3,4 @@ use Rattle.mmdb_compare.proofs.TogetherLaws.{walks_begin}
 use Rattle.mmdb_compare.proofs.together.Together.new.Goals as goal
 
 pub returns : goal.returns
-returns g c = record { at = refl; left = walks_begin c.in_ok-new.list.walks.items ∙ c.in_ok-new.ensures }
+returns g c = record { at = refl; left = walks_begin c.in_ok-new.field-0.walks.items ∙ c.in_ok-new.ensures }
