@@ -12,7 +12,8 @@ use Rattle.mmdb_filter.specs.declared.counts.Outcome.{Outcome}
 use Rattle.mmdb_filter.specs.declared.counts.Outcome.TheVariants.{Absent, Found, Failed}
 use Rattle.mmdb_filter.specs.declared.rows.Rows.{Rows}
 use Rattle.mmdb_cmd_enrich.specs.Added.{AddsAt}
-use Rattle.mmdb_cmd_enrich.specs.Cells.{blanks, AreCells, are_read, reads_in}
+use Rattle.mmdb_cmd_enrich.specs.Cells.{blanks, AreCells, are_read}
+use Rattle.mmdb_layout.specs.Reading.{reads_in}
 use Rattle.mmdb_cmd_enrich.specs.Rows.{paths_of}
 use Rattle.mmdb_cmd_enrich.specs.Working.{AddsAtTo, AddsForTo}
 

@@ -10,8 +10,8 @@ use Rattle.mmdb_reader.specs.declared.path.PathElement.{PathElement}
 use Rattle.mmdb_filter.specs.declared.rows.Rows.{Rows}
 use Rattle.mmdb_cmd_enrich.specs.Columns.{delimiter_of}
 use Rattle.mmdb_format.specs.Unfolding.{Tree}
-use Rattle.mmdb_cmd_enrich.specs.Cells.{reads_in, IsCell, AreCells, are_read}
-use Rattle.mmdb_cmd_enrich.specs.Working.{IsReadAs}
+use Rattle.mmdb_cmd_enrich.specs.Cells.{IsCell, AreCells, are_read}
+use Rattle.mmdb_layout.specs.Reading.{reads_in, IsReadAs}
 
 -- what decoding along a path gave
 pub read_as : (path : List PathElement) (s : List ℕ) (found : Option ℕ) (r : Result (Option Value) MaxMindDbError)

@@ -13,10 +13,11 @@ use Rattle.mmdb_reader.specs.declared.lookup_result.LookupResult.{LookupResult}
 use Rattle.mmdb_reader.specs.declared.path.PathElement.{PathElement}
 use Rattle.mmdb_filter.specs.declared.counts.Outcome.{Outcome}
 use Rattle.mmdb_filter.specs.declared.rows.Rows.{Rows}
-use Rattle.mmdb_cmd_enrich.specs.Cells.{reads_in, IsCell, AreCells, are_read}
-use Rattle.mmdb_cmd_enrich.specs.Layers.{HaveAll, AnyRejects, or_next, first_read, has_record, outcome_of, AddsAtAll, digit_of, radix_of, IsKey}
+use Rattle.mmdb_cmd_enrich.specs.Cells.{IsCell, AreCells, are_read}
+use Rattle.mmdb_layout.specs.Reading.{reads_in, or_next, reads_of, first_read_of}
+use Rattle.mmdb_cmd_enrich.specs.Layers.{HaveAll, AnyRejects, first_read, has_record, outcome_of, AddsAtAll, digit_of, radix_of, IsKey}
 use Rattle.mmdb_cmd_enrich.specs.Wanted.{layers, AddsOf}
-use Rattle.mmdb_cmd_enrich.specs.Working.{offset_in, IsAnswerOf, IsAnswer, AreAnswersOf, AreAnswers, reads_of, first_read_of, IsKeyAfter}
+use Rattle.mmdb_cmd_enrich.specs.Working.{offset_in, IsAnswerOf, IsAnswer, AreAnswersOf, AreAnswers, IsKeyAfter}
 
 -- What the databases left have completes what was found of those before: answers, where records are, and the key.
 pub record LayersWay {S : Type 0} {G : Ghosts S ℕ} (dbs left : List Database) (address : IpAddr) (answers : List (Option (LookupResult S G))) (key : Option ℕ) : Type 0 where

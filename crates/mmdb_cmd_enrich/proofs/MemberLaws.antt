@@ -15,7 +15,7 @@ use Rattle.mmdb_reader.specs.Lookup.{Answers, CanAsk, IsInvalidAt, outcome_at}
 use Rattle.mmdb_filter.specs.declared.counts.Outcome.{Outcome}
 use Rattle.mmdb_filter.specs.declared.counts.Outcome.TheVariants.{Found, Absent, Failed}
 use Rattle.mmdb_filter.specs.declared.filter.Added.{Added}
-use Rattle.mmdb_cmd_enrich.specs.Cells.{read_at}
+use Rattle.mmdb_layout.specs.Reading.{read_at}
 use Rattle.mmdb_cmd_enrich.specs.Fields.{AreValue, AreFields, HasUnreadField, IsMember, IsNullMember}
 use Rattle.mmdb_cmd_enrich.specs.Members.{HasUnreadMember, PutsMember, PutsText}
 use Rattle.mmdb_objects.specs.Longer.{comma_behind}

@@ -10,7 +10,8 @@ use Rattle.mmdb_filter.specs.declared.counts.Outcome.{Outcome}
 use Rattle.mmdb_filter.specs.declared.counts.Outcome.TheVariants.{Found, Absent, Unreadable, Failed}
 use Rattle.mmdb_addresses.specs.declared.readings.Reading.{Reading}
 use Rattle.mmdb_cmd_enrich.specs.Asked.{AsksForRow}
-use Rattle.mmdb_cmd_enrich.specs.Cells.{AreCells, blanks, are_read, reads_in}
+use Rattle.mmdb_cmd_enrich.specs.Cells.{AreCells, blanks, are_read}
+use Rattle.mmdb_layout.specs.Reading.{reads_in}
 
 -- the cells of a record at an offset, or empty ones where there is none
 abbrev pub AddsAt : Database → Rows → List (List PathElement) → Option ℕ → List ℕ → Outcome → Type 0

@@ -3,8 +3,6 @@ use Rattle.std.specs.Prelude.{◌≡◌, ℕ, List, [], ◌∷◌, ◌++◌, Opt
 use Rattle.std.specs.Bool.{MatchBool}
 use Rattle.mmdb_format.specs.Contents.{text}
 use Rattle.mmdb_format.specs.Unfolding.{Tree, scalar}
-use Rattle.mmdb_value.specs.AnyValue.{value_at}
-use Rattle.mmdb_reader.specs.Selecting.{answer_along}
 use Rattle.mmdb_reader.specs.declared.path.PathElement.{PathElement}
 use Rattle.mmdb_json.specs.Texts.{IsCompact}
 use Rattle.mmdb_filter.specs.Cells.{csv_cell}
@@ -34,15 +32,6 @@ is_any_text _ = false
 abbrev pub ShowsCell : Rows → Tree → List ℕ → Type 0
 ShowsCell (Lines delimiter) v cell = MatchBool (is_plain_text delimiter v) (cell ≡ text_bytes v) (IsCompact v cell)
 ShowsCell (Csv delimiter) v cell = (value : List ℕ) × MatchBool (is_any_text v) (value ≡ text_bytes v) (IsCompact v value) × (cell ≡ csv_cell delimiter value)
-
--- what is read along a path from the offset of a record
-abbrev pub read_at : List PathElement → List ℕ → ℕ → Option (Option Tree)
-read_at path s offset = answer_along path true (value_at true) s offset
-
--- what is read along a path in the record at an offset, where there is one
-abbrev pub reads_in : List ℕ → Option ℕ → List PathElement → Option (Option Tree)
-reads_in s None path = Some None
-reads_in s (Some offset) path = read_at path s offset
 
 -- the cell of what was read: empty where nothing is there, or the way or the value failed
 abbrev pub IsCell : Rows → Option (Option Tree) → List ℕ → Type 0

@@ -6,7 +6,7 @@ use Rattle.json.specs.Token.{Token, key, null, begin_object, end_object}
 use Rattle.mmdb_reader.specs.File.{Database, data_section}
 use Rattle.mmdb_reader.specs.declared.path.PathElement.{PathElement}
 use Rattle.mmdb_found.specs.Found.{WritesAlong}
-use Rattle.mmdb_cmd_enrich.specs.Cells.{read_at}
+use Rattle.mmdb_layout.specs.Reading.{read_at}
 use Rattle.mmdb_cmd_enrich.specs.declared.members.NamedField.{NamedField}
 
 -- the tokens of what is along a path in a record, or `null` where nothing is

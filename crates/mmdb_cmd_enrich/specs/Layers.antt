@@ -11,7 +11,8 @@ use Rattle.mmdb_filter.specs.declared.counts.Outcome.{Outcome}
 use Rattle.mmdb_filter.specs.declared.counts.Outcome.TheVariants.{Found, Absent, Unreadable, Failed}
 use Rattle.mmdb_addresses.specs.declared.readings.Reading.{Reading}
 use Rattle.mmdb_cmd_enrich.specs.Asked.{Asks, ReadsRow}
-use Rattle.mmdb_cmd_enrich.specs.Cells.{AreCells, blanks, are_read, reads_in}
+use Rattle.mmdb_cmd_enrich.specs.Cells.{AreCells, blanks, are_read}
+use Rattle.mmdb_layout.specs.Reading.{reads_in}
 
 -- Where a database has the record of an address: at an offset, or nowhere, also where it can't be asked for the address.
 abbrev pub Has : Database → IpAddr → Option ℕ → Type 0
@@ -43,12 +44,6 @@ Rejects db address = (asked : IpAddr) × Asks db address asked × IsInvalidAt db
 abbrev pub AnyRejects : List Database → IpAddr → Type 0
 AnyRejects [] address = ⊥
 AnyRejects (db ∷ dbs) address = Rejects db address ⊎ AnyRejects dbs address
-
--- what was read, or what is read next where nothing is there
-abbrev pub or_next : Option (Option Tree) → Option (Option Tree) → Option (Option Tree)
-or_next None next = None
-or_next (Some None) next = next
-or_next (Some (Some v)) next = Some (Some v)
 
 -- What is read along a path in the first record that has a value there: nothing where none has one, and no answer where a
 -- record before that one can't be read.

@@ -1,18 +1,14 @@
 -- What contracts of private functions and proofs name.
-use Rattle.std.specs.Prelude.{◌≡◌, ◌⊎◌, ◌<◌, ◌+◌, ◌*◌, ℕ, List, [], ◌∷◌, ◌++◌, map, Option, Some, None, option_map, Bool, true, false, is_some, Result, Ok, Err, ⊤}
+use Rattle.std.specs.Prelude.{◌≡◌, ◌⊎◌, ◌<◌, ◌+◌, ◌*◌, ℕ, List, [], ◌∷◌, ◌++◌, map, Option, Some, None, Bool, true, false, is_some, ⊤}
 use Rattle.std.specs.declared.convert.AsSlice.{Ghosts}
 use Rattle.mmdb_format.specs.Unfolding.{Tree}
-use Rattle.mmdb_format.specs.declared.error.MaxMindDbError.{MaxMindDbError}
-use Rattle.mmdb_decode.specs.Errors.{Fails}
-use Rattle.mmdb_value.specs.Values.{value_tree}
-use Rattle.mmdb_value.specs.declared.any_value.Value.{Value}
 use Rattle.mmdb_reader.specs.declared.path.PathElement.{PathElement}
 use Rattle.mmdb_filter.specs.declared.rows.Rows.{Rows}
 use Rattle.mmdb_cmd_enrich.specs.Columns.{delimiter_of}
-use Rattle.mmdb_reader.specs.Found.{database_asked, section_asked, offset_found}
+use Rattle.mmdb_reader.specs.Found.{database_asked, offset_found}
 use Rattle.mmdb_reader.specs.declared.lookup_result.LookupResult.{LookupResult}
-use Rattle.mmdb_cmd_enrich.specs.Cells.{ShowsCell, reads_in, IsCell, AreCells, are_read}
-use Rattle.mmdb_cmd_enrich.specs.Layers.{Has, HaveAll, or_next, digit_of, radix_of, AddsAtAll, AddsForAll}
+use Rattle.mmdb_cmd_enrich.specs.Cells.{ShowsCell, IsCell, AreCells, are_read}
+use Rattle.mmdb_cmd_enrich.specs.Layers.{Has, HaveAll, digit_of, radix_of, AddsAtAll, AddsForAll}
 use Rattle.std.specs.declared.net.ip_addr.IpAddr.{IpAddr}
 use Rattle.json.specs.Token.{Token}
 use Rattle.mmdb_reader.specs.File.{Database}
@@ -28,12 +24,6 @@ use Rattle.mmdb_filter.specs.declared.counts.Outcome.TheVariants.{Occupied}
 use Rattle.std.specs.Global.{Vec}
 use Rattle.mmdb_cmd_enrich.specs.Added.{AddsAt, AddsFor}
 use Rattle.mmdb_cmd_enrich.specs.Rows.{paths_of}
-
--- What a reading gave is this answer: the tree of the value, nothing where the path leads nowhere, and no answer where
--- the way or the value failed. Out of memory is any answer.
-abbrev pub IsReadAs : Option (Option Tree) → Result (Option Value) MaxMindDbError → Type 0
-IsReadAs answer (Ok value) = answer ≡ Some (option_map value_tree value)
-IsReadAs answer (Err e) = Fails false e answer
 
 -- bytes grow by the cell that shows a value
 abbrev pub PutsShown : Rows → Tree → List ℕ → List ℕ → Type 0
@@ -121,16 +111,6 @@ AreAnswersOf (db ∷ dbs) (answer ∷ answers) = IsAnswerOf db answer × AreAnsw
 -- what these databases have for an address
 abbrev pub AreAnswers : {S : Type 0} {G : Ghosts S ℕ} → List Database → IpAddr → List (Option (LookupResult S G)) → Type 0
 AreAnswers dbs address answers = AreAnswersOf dbs answers × HaveAll dbs address (map offset_in answers)
-
--- what is read along a path in the record of an answer
-abbrev pub reads_of : {S : Type 0} {G : Ghosts S ℕ} → Option (LookupResult S G) → List PathElement → Option (Option Tree)
-reads_of None path = Some None
-reads_of (Some found) path = reads_in (section_asked found) (offset_found found) path
-
--- what is read along a path in the first record of answers that has a value there
-abbrev pub first_read_of : {S : Type 0} {G : Ghosts S ℕ} → List (Option (LookupResult S G)) → List PathElement → Option (Option Tree)
-first_read_of [] path = Some None
-first_read_of (answer ∷ answers) path = or_next (reads_of answer path) (first_read_of answers path)
 
 -- one digit more: where this database has a record
 abbrev pub IsKeyAfter : Option ℕ → Database → Option ℕ → ℕ → Type 0

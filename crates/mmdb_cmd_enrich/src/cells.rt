@@ -4,12 +4,13 @@ ghost use Rattle.mmdb_filter.specs.declared.rows.Rows.TheVariants.{Lines, Csv};
 ghost use Rattle.mmdb_format.specs.Unfolding.{Tree};
 ghost use Rattle.mmdb_value.specs.Values.{value_tree};
 ghost use Rattle.mmdb_cmd_enrich.specs.Cells.{is_plain as spec_is_plain, blanks};
-ghost use Rattle.mmdb_cmd_enrich.specs.Working.{PutsShown, PutsCell, PutsNextCell, PutsCells, IsReadAs};
+ghost use Rattle.mmdb_cmd_enrich.specs.Working.{PutsShown, PutsCell, PutsNextCell, PutsCells};
+ghost use Rattle.mmdb_layout.specs.Reading.{IsReadAs};
 
 use crate::columns::delimiter_of;
-use crate::read_along::ReadAlong;
 use mmdb_filter::{Rows, put_csv_cell};
 use mmdb_json::compact;
+use mmdb_layout::ReadAlong;
 use mmdb_reader::{MaxMindDbError, PathElement};
 use mmdb_value::Value;
 use std::alloc::{AllocError, Global};

@@ -229,7 +229,8 @@ impl<'a, 'f, S: AsSlice<u8> + Drop> Additions for Enrichment<'a, 'f, S> {
     type Memory = RowMemory;
 
     ghost adds = { λ e text goes_on extra behind outcome. (behind ≡ 0)
-        × AddsTo e.reader.now e.rows e.reading e.column (paths_of e.paths) text goes_on extra outcome };
+        × AddsTo e.reader.now e.rows e.reading e.column (paths_of e.paths) text goes_on
+        extra outcome };
 
     ghost fits = { λ e memory.
         Remembers e.reader.now e.reading (cells e.reader.now e.rows (paths_of e.paths)) memory };

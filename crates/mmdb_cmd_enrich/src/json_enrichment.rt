@@ -252,8 +252,8 @@ impl<'a, 'f, S: AsSlice<u8> + Drop> Additions for JsonEnrichment<'a, 'f, S> {
 
     type Memory = JsonMemory;
 
-    ghost adds = { λ e text goes_on extra behind outcome. AddsMember e.reader.now e.reading e.path.items
-        e.nulls e.name.now e.fields.items text goes_on extra behind outcome };
+    ghost adds = { λ e text goes_on extra behind outcome. AddsMember e.reader.now e.reading
+        e.path.items e.nulls e.name.now e.fields.items text goes_on extra behind outcome };
 
     ghost fits = { λ e memory.
         AreKept (member e.reader.now e.name.now e.fields.items) memory.cache };

@@ -109,7 +109,8 @@ impl<'a, 'f, S: AsSlice<u8> + Drop> LayeredEnrichment<'a, 'f, S> {
         ensures kept { AreKeptForAll self.now.readers.now self.now.rows self.now.paths cache.new }
     {
         let before = out.len();
-        let are_read = put_cells(self.alloc, self.rows, layers, self.paths.as_slice(), out)?;
+        let paths = self.paths.as_slice();
+        let are_read = put_cells(self.alloc, self.rows, &layers.answers, paths, out)?;
         let outcome = outcome_of_all(layers.has_record(), are_read);
         cache.keep_numbered(layers.key, &out.as_slice()[before..], outcome);
         self.note(layers, are_read, notes);
@@ -173,10 +174,12 @@ impl<'a, 'f, S: AsSlice<u8> + Drop> LayeredEnrichment<'a, 'f, S> {
         memory: &mut LayeredMemory<'a, S>,
         out: &mut Vec<u8>,
     ) -> Result<Outcome, AllocError>
-        requires { AreKeptForAll self.now.readers.now self.now.rows self.now.paths memory.old.cache }
+        requires { AreKeptForAll self.now.readers.now self.now.rows self.now.paths
+            memory.old.cache }
         ensures added { IfOk result (λ outcome. AddsForAllTo self.now.readers.now self.now.rows
             self.now.paths (Some address) outcome out.old out.new) }
-        ensures kept { AreKeptForAll self.now.readers.now self.now.rows self.now.paths memory.new.cache }
+        ensures kept { AreKeptForAll self.now.readers.now self.now.rows self.now.paths
+            memory.new.cache }
     {
         if !can_ask_any(self.readers, address) {
             return self.put_rejected(address, &mut memory.notes, out);
@@ -195,7 +198,8 @@ impl<'a, 'f, S: AsSlice<u8> + Drop> Additions for LayeredEnrichment<'a, 'f, S> {
     type Memory = LayeredMemory<'a, S>;
 
     ghost adds = { λ e text goes_on extra behind outcome. (behind ≡ 0)
-        × AddsToAll e.readers.now e.rows e.reading e.column (paths_of e.paths) text goes_on extra outcome };
+        × AddsToAll e.readers.now e.rows e.reading e.column (paths_of e.paths) text goes_on
+        extra outcome };
 
     ghost fits = { λ e memory. AreKeptForAll e.readers.now e.rows e.paths memory.cache };
 

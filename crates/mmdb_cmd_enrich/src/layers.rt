@@ -3,12 +3,10 @@ ghost use Rattle.std.specs.Prelude.{◌≡◌, Option, None, IfOk, IfSome, OnErr
 ghost use Rattle.std.specs.Bool.{MatchBool};
 ghost use Rattle.mmdb_reader.specs.Lookup.{CanAsk};
 ghost use Rattle.mmdb_cmd_enrich.specs.Layers.{CanAskAny, CanAskNone, Rejects, AnyRejects, has_record, IsKey};
-ghost use Rattle.mmdb_cmd_enrich.specs.Working.{IsAnswer, AreAnswers, IsKeyAfter, IsReadAs, offset_in, reads_of, first_read_of};
+ghost use Rattle.mmdb_cmd_enrich.specs.Working.{IsAnswer, AreAnswers, IsKeyAfter, offset_in};
 
 use crate::asked::asked_of;
-use crate::read_along::ReadAlong;
-use mmdb_reader::{LookupResult, MaxMindDbError, PathElement, Reader};
-use mmdb_value::Value;
+use mmdb_reader::{LookupResult, MaxMindDbError, Reader};
 use std::alloc::{AllocError, Global};
 use std::convert::AsSlice;
 use std::net::IpAddr;
@@ -138,38 +136,5 @@ impl<'a, S: AsSlice<u8> + Drop> Layers<'a, S> {
             self.answers.push(answer)?;
         }
         Ok(true)
-    }
-}
-
-/// The value at the end of a path in the record of an answer, or none where there is none.
-pub(crate) fn read_in<'v, S: AsSlice<u8> + Drop>(
-    alloc: Global,
-    answer: &'v Option<LookupResult<'_, S>>,
-    path: &[PathElement<'_>],
-) -> Result<Option<Value<'v>>, MaxMindDbError>
-    ensures { IsReadAs (reads_of answer.now path.now) result }
-{
-    match answer {
-        Some(found) => found.read_along(alloc, path),
-        None => Ok(None),
-    }
-}
-
-impl<'a, S: AsSlice<u8> + Drop> ReadAlong for Layers<'a, S> {
-    ghost reads = { λ layers. first_read_of layers.answers.items };
-
-    fn read_along(
-        &self,
-        alloc: Global,
-        path: &[PathElement<'_>],
-    ) -> Result<Option<Value<'_>>, MaxMindDbError> {
-        for answer in &self.answers {
-            match read_in(alloc, answer, path) {
-                Ok(None) => {}
-                Ok(Some(value)) => return Ok(Some(value)),
-                Err(error) => return Err(error),
-            }
-        }
-        Ok(None)
     }
 }

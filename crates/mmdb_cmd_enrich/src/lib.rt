@@ -21,7 +21,6 @@ mod notes;
 mod opening;
 mod output;
 mod parts;
-mod read_along;
 mod reload;
 mod row_memory;
 mod task;

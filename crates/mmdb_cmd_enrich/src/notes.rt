@@ -1,6 +1,7 @@
 //! What is noted of the records that are read, so that it can be said at the end what was amiss.
 use crate::asked::asked_of;
-use crate::layers::{Layers, can_ask_any, read_in};
+use crate::layers::{Layers, can_ask_any};
+use mmdb_layout::ReadAlong;
 use mmdb_reader::{LookupResult, MaxMindDbError, PathElement, Reader};
 use mmdb_value::Value;
 use std::alloc::{AllocError, Global};
@@ -167,7 +168,10 @@ impl Notes {
             return;
         }
         for (at, answer) in layers.answers.iter().enumerate() {
-            match read_in(alloc, answer, path) {
+            let Some(found) = answer else {
+                continue;
+            };
+            match found.read_along(alloc, path) {
                 Ok(Some(_)) => {
                     let _ = self.note_met(field);
                     return;

@@ -1,7 +1,7 @@
 //! The command `show`.
 use crate::answer::{ADDRESS, AddressAnswer, DatabaseAnswer, Shown, put_records};
 use crate::asked::{AskedDatabases, AskedTexts, open_asked};
-use crate::databases::{ShownDatabase, answers_of, shown_databases};
+use crate::databases::{ShownDatabase, answers_of, name_at_fault, shown_databases};
 use mmdb_arguments::{NoRequest, ShowArguments};
 use mmdb_console::{BAD_ARGUMENTS, Console, DONE, FAILED, NOT_FOUND, ProgramError};
 use mmdb_layout::{ChosenFields, Database, DefaultName, FieldsMet, fields_of};
@@ -107,8 +107,24 @@ fn put_answers(
     put_records(alloc, address, asking.databases, answers, asking.lines, out)
 }
 
+// What an error of an address is said of: of several databases the one with the error is named.
+fn place_of_fault(
+    alloc: Global,
+    asking: &Asking<'_, '_>,
+    address: IpAddr,
+) -> Result<String, AllocError> {
+    let paths = asking.task.fields.paths.as_slice();
+    if asking.are_several
+        && let Some(name) = name_at_fault(alloc, asking.databases, address, paths)
+    {
+        return format!(in alloc; "{name}: {address}");
+    }
+    address.to_string(alloc)
+}
+
 // Writes what was made for an address, reports its error if it has one, and answers the status of it.
 fn put_shown<O: Write, E: Write>(
+    asking: &Asking<'_, '_>,
     address: IpAddr,
     text: &[u8],
     shown: &Result<bool, MaxMindDbError>,
@@ -119,7 +135,7 @@ fn put_shown<O: Write, E: Write>(
         Ok(true) => Ok(DONE),
         Ok(false) => Ok(NOT_FOUND),
         Err(error) => {
-            console.report_behind(address.to_string(console.alloc), error)?;
+            console.report_behind(place_of_fault(console.alloc, asking, address), error)?;
             Ok(FAILED)
         }
     }
@@ -157,7 +173,7 @@ fn show_one<O: Write, E: Write>(
     }
     let mut text = Vec::new(console.alloc);
     let shown = asking.put_answer(console.alloc, address, &mut text);
-    let status = put_shown(address, text.as_slice(), &shown, console);
+    let status = put_shown(asking, address, text.as_slice(), &shown, console);
     drop(shown);
     status
 }

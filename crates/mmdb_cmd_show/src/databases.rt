@@ -63,6 +63,17 @@ fn is_passed(database: &Database, others: &[ShownDatabase<'_>], address: IpAddr)
             .any(|other| can_be_asked(other.database, address))
 }
 
+// The value at a path in a database.
+fn value_in<'d>(
+    alloc: Global,
+    database: &'d Database,
+    address: IpAddr,
+    path: &[PathElement<'_>],
+) -> Result<Option<Value<'d>>, MaxMindDbError> {
+    let found = database.lookup(address)?;
+    found.decode_path(alloc, path)
+}
+
 /// The value at a path in the first of the databases that has one there. Fails where one that is asked before can't be read so.
 pub(crate) fn first_value<'d>(
     alloc: Global,
@@ -74,13 +85,47 @@ pub(crate) fn first_value<'d>(
         if is_passed(shown.database, databases, address) {
             continue;
         }
-        let found = shown.database.lookup(address)?;
-        let value: Option<Value<'d>> = found.decode_path(alloc, path)?;
+        let value = value_in(alloc, shown.database, address, path)?;
         if value.is_some() {
             return Ok(value);
         }
     }
     Ok(None)
+}
+
+// The name of the database that is asked for the value at a path in vain, since it can't be read there.
+fn name_at_fault_along<'d>(
+    alloc: Global,
+    databases: &[ShownDatabase<'d>],
+    address: IpAddr,
+    path: &[PathElement<'_>],
+) -> Option<&'d str> {
+    for shown in databases {
+        if is_passed(shown.database, databases, address) {
+            continue;
+        }
+        match value_in(alloc, shown.database, address, path) {
+            Ok(None) => {}
+            Ok(Some(_)) => return None,
+            Err(_) => return Some(shown.name),
+        }
+    }
+    None
+}
+
+/// The name of the first database in which the value at one of the paths is asked for and can't be read.
+pub(crate) fn name_at_fault<'d>(
+    alloc: Global,
+    databases: &[ShownDatabase<'d>],
+    address: IpAddr,
+    paths: &[Vec<PathElement<'_>>],
+) -> Option<&'d str> {
+    for path in paths {
+        if let Some(name) = name_at_fault_along(alloc, databases, address, path.as_slice()) {
+            return Some(name);
+        }
+    }
+    None
 }
 
 // What a database has for an address.

@@ -2,14 +2,9 @@
 use Rattle.std.specs.Prelude.{◌≡◌, ◌⊎◌, ℕ, ◌+◌, ◌%◌, ◌<◌, nat_eq, if◌then◌else◌, List, [], ◌∷◌, ◌++◌, length, slice_index, take, codes, map, Option, Some, None, Bool, true, false, not}
 use Rattle.std.specs.Borrow.{Bor}
 use Rattle.std.specs.List.{Contains}
-use Rattle.std.specs.declared.convert.AsSlice.{Ghosts}
 use Rattle.memchr.specs.Find.{OccursAt}
 use Rattle.mmdb_format.specs.Contents.{text}
 use Rattle.mmdb_format.specs.Unfolding.{Tree, scalar, array, table}
-use Rattle.mmdb_value.specs.AnyValue.{value_at}
-use Rattle.mmdb_reader.specs.Found.{section_asked, offset_found}
-use Rattle.mmdb_reader.specs.Selecting.{answer_along}
-use Rattle.mmdb_reader.specs.declared.lookup_result.LookupResult.{LookupResult}
 use Rattle.mmdb_reader.specs.declared.path.PathElement.{PathElement}
 use Rattle.mmdb_json.specs.Texts.{IsCompact}
 use Rattle.mmdb_layout.specs.declared.condition.Condition.{Condition}
@@ -85,20 +80,9 @@ abbrev pub SaysRead : Requirement → Option Tree → List (List ℕ) → Bool �
 SaysRead wanted None texts b = b ≡ false
 SaysRead wanted (Some v) texts b = SaysFits wanted v texts b
 
--- what is read along a path from the offset of a record; nothing where the way or the value can't be read
-abbrev pub read_at : List PathElement → List ℕ → ℕ → Option (Option Tree)
-read_at path s offset = answer_along path true (value_at true) s offset
-
--- A Bool says whether the value along a path of the record at an offset is what is asked for. Without a record it is not.
-abbrev pub SaysFoundAt : Requirement → List PathElement → List (List ℕ) → List ℕ → Option ℕ → Bool → Type 0
-SaysFoundAt wanted path texts s None b = b ≡ false
-SaysFoundAt wanted path texts s (Some offset) b =
-    (value : Option Tree) × (read_at path s offset ≡ Some value) × SaysRead wanted value texts b
-
--- there is a record, and the way of a path in it or the value at its end can't be read
-abbrev pub IsUnreadAt : List PathElement → List ℕ → Option ℕ → Type 0
-IsUnreadAt path s None = ⊥
-IsUnreadAt path s (Some offset) = read_at path s offset ≡ None
+-- A Bool says whether the value along a path is what is asked for, by what is read along paths.
+abbrev pub SaysFoundBy : Requirement → List PathElement → List (List ℕ) → (List PathElement → Option (Option Tree)) → Bool → Type 0
+SaysFoundBy wanted path texts reads b = (value : Option Tree) × (reads path ≡ Some value) × SaysRead wanted value texts b
 
 -- how many quotes there are
 abbrev pub quotes : List ℕ → ℕ
@@ -131,28 +115,24 @@ wants Below is_found = is_found
 abbrev pub texts_of : Condition → List (List ℕ)
 texts_of condition = map (λ t. t.now) condition.texts.items
 
--- a Bool says whether a condition is met by the record at an offset
-abbrev pub SaysMetAt : Condition → List ℕ → Option ℕ → Bool → Type 0
-SaysMetAt condition s offset b =
-    (is_found : Bool) × SaysFoundAt condition.wanted condition.path.items (texts_of condition) s offset is_found
+-- a Bool says whether a condition is met, by what is read along paths
+abbrev pub SaysMetBy : Condition → (List PathElement → Option (Option Tree)) → Bool → Type 0
+SaysMetBy condition reads b =
+    (is_found : Bool) × SaysFoundBy condition.wanted condition.path.items (texts_of condition) reads is_found
     × (b ≡ wants condition.wanted is_found)
 
 -- A Bool says whether all conditions are met: true, or false where one is not met and those before it are.
-abbrev pub SaysAllMetAt : List Condition → List ℕ → Option ℕ → Bool → Type 0
-SaysAllMetAt [] s offset b = b ≡ true
-SaysAllMetAt (condition ∷ conditions) s offset b =
-    (SaysMetAt condition s offset false × (b ≡ false)) ⊎ (SaysMetAt condition s offset true × SaysAllMetAt conditions s offset b)
+abbrev pub SaysAllMetBy : List Condition → (List PathElement → Option (Option Tree)) → Bool → Type 0
+SaysAllMetBy [] reads b = b ≡ true
+SaysAllMetBy (condition ∷ conditions) reads b =
+    (SaysMetBy condition reads false × (b ≡ false)) ⊎ (SaysMetBy condition reads true × SaysAllMetBy conditions reads b)
+
+-- what a condition is on can't be read
+abbrev pub IsUnreadBy : Condition → (List PathElement → Option (Option Tree)) → Type 0
+IsUnreadBy condition reads = reads condition.path.items ≡ None
 
 -- what a condition is on can't be read, and those before it are met
-abbrev pub HasUnreadAt : List Condition → List ℕ → Option ℕ → Type 0
-HasUnreadAt [] s offset = ⊥
-HasUnreadAt (condition ∷ conditions) s offset =
-    IsUnreadAt condition.path.items s offset ⊎ (SaysMetAt condition s offset true × HasUnreadAt conditions s offset)
-
--- a Bool says whether a condition is met by the record that a lookup found
-abbrev pub SaysMet : {S : Type 0} {G : Ghosts S ℕ} → Condition → LookupResult S G → Bool → Type 0
-SaysMet condition found b = SaysMetAt condition (section_asked found) (offset_found found) b
-
--- what a condition is on can't be read in the record that a lookup found
-abbrev pub IsUnread : {S : Type 0} {G : Ghosts S ℕ} → Condition → LookupResult S G → Type 0
-IsUnread condition found = IsUnreadAt condition.path.items (section_asked found) (offset_found found)
+abbrev pub HasUnreadBy : List Condition → (List PathElement → Option (Option Tree)) → Type 0
+HasUnreadBy [] reads = ⊥
+HasUnreadBy (condition ∷ conditions) reads =
+    IsUnreadBy condition reads ⊎ (SaysMetBy condition reads true × HasUnreadBy conditions reads)

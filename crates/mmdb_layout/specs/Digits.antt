@@ -1,7 +1,7 @@
 -- How numbers are read and compared.
 use Rattle.std.specs.Prelude.{◌≡◌, ℕ, ◌*◌, ◌^◌, List, length, Bool}
 use Rattle.std.specs.Str.Parse.{AllDigits, digits_value}
-use Rattle.fast_float.specs.Text.{digits_of, tens_up, tens_down, Parts}
+use Rattle.fast_float.specs.Text.{digits_of, Parts}
 use Rattle.mmdb_layout.specs.Numbers.{is_negative, parts_of, IsNumeric}
 
 -- a text is a number, with this sign and these parts

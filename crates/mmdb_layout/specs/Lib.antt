@@ -1,4 +1,5 @@
 -- What has to be believed: what contracts of public items name.
+pub mod Reading
 pub mod Conditions
 pub mod Numbers
 pub mod Choices

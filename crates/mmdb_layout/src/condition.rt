@@ -2,16 +2,16 @@
 ghost use Rattle.std.specs.Prelude.{◌≡◌, ◌<◌, ◌↔◌, ℕ, IsTrue, IfOk, IfErr, MatchOption, map, option_map};
 ghost use Rattle.mmdb_format.specs.Error.{MemoryApart};
 ghost use Rattle.mmdb_value.specs.Values.{value_tree};
-ghost use Rattle.mmdb_layout.specs.Conditions.{SaysOneOf, SaysAmong, HasPart, SaysAnyPart, SaysPart, SaysBeyond, SaysFits, text_of as spec_text_of, wants as spec_wants, SaysMet, IsUnread, IsSign, SplitsAtSign};
-ghost use Rattle.mmdb_layout.specs.Working.{is_container as spec_is_container, SaysFound};
+ghost use Rattle.mmdb_layout.specs.Conditions.{SaysOneOf, SaysAmong, HasPart, SaysAnyPart, SaysPart, SaysBeyond, SaysFits, SaysFoundBy, texts_of, text_of as spec_text_of, wants as spec_wants, SaysMetBy, IsUnreadBy, IsSign, SplitsAtSign};
+ghost use Rattle.mmdb_layout.specs.Working.{is_container as spec_is_container};
 
 use crate::number::{Side, is_beyond_all};
+use crate::read_along::ReadAlong;
 use memchr::memmem;
 use mmdb_json::compact;
-use mmdb_reader::{LookupResult, MaxMindDbError, PathElement};
+use mmdb_reader::{MaxMindDbError, PathElement};
 use mmdb_value::Value;
 use std::alloc::{AllocError, Global};
-use std::convert::AsSlice;
 
 /// What a condition wants of the value at its path.
 #[derive(Clone, Copy, PartialEq, Eq)]
@@ -170,30 +170,25 @@ impl Requirement {
 
 impl Condition<'_> {
     // Whether the value at the path is what is asked for.
-    fn finds<S: AsSlice<u8> + Drop>(
-        &self,
-        alloc: Global,
-        found: &LookupResult<'_, S>,
-    ) -> Result<bool, MaxMindDbError>
-        ensures found { IfOk result (SaysFound self.now found.now) }
-        ensures rejected { IfErr result (λ e. MemoryApart e (IsUnread self.now found.now)) }
+    fn finds<R: ReadAlong>(&self, alloc: Global, found: &R) -> Result<bool, MaxMindDbError>
+        ensures found { IfOk result (SaysFoundBy self.now.wanted self.now.path.items
+            (texts_of self.now) (R.reads found.now)) }
+        ensures rejected { IfErr result
+            (λ e. MemoryApart e (IsUnreadBy self.now (R.reads found.now))) }
     {
-        let value: Option<Value<'_>> = found.decode_path(alloc, self.path.as_slice())?;
-        match &value {
-            Some(value) => Ok(self.wanted.fits(alloc, value, self.texts.as_slice())?),
-            None => Ok(false),
+        match found.read_along(alloc, self.path.as_slice()) {
+            Ok(Some(value)) => Ok(self.wanted.fits(alloc, &value, self.texts.as_slice())?),
+            Ok(None) => Ok(false),
+            Err(error) => Err(error),
         }
     }
 
-    /// Whether the condition is met by a record. Fails, unless out of memory, exactly where the way of the path in the
-    /// record, or the value at its end, can't be read.
-    pub fn holds<S: AsSlice<u8> + Drop>(
-        &self,
-        alloc: Global,
-        found: &LookupResult<'_, S>,
-    ) -> Result<bool, MaxMindDbError>
-        ensures met { IfOk result (SaysMet self.now found.now) }
-        ensures rejected { IfErr result (λ e. MemoryApart e (IsUnread self.now found.now)) }
+    /// Whether the condition is met by a record, or by the first of several that has a value at its path. Fails, unless out of
+    /// memory, exactly where the way of the path in the record, or the value at its end, can't be read.
+    pub fn holds<R: ReadAlong>(&self, alloc: Global, found: &R) -> Result<bool, MaxMindDbError>
+        ensures met { IfOk result (SaysMetBy self.now (R.reads found.now)) }
+        ensures rejected { IfErr result
+            (λ e. MemoryApart e (IsUnreadBy self.now (R.reads found.now))) }
     {
         let is_found = self.finds(alloc, found)?;
         Ok(self.wanted.wants(is_found))

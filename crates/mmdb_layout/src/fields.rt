@@ -28,6 +28,8 @@ pub enum DefaultName {
 /// The text of a field: the name that it gives, if it gives one, and the path as it is written.
 #[derive(Clone, Copy)]
 struct FieldText<'a> {
+    /// All of it.
+    text: &'a str,
     name: Option<&'a str>,
     path: &'a str,
 }
@@ -47,10 +49,12 @@ fn unquoted(name: &str) -> &str {
 fn field_text(text: &str) -> FieldText<'_> {
     match split_condition(text) {
         Some((name, path)) => FieldText {
+            text,
             name: Some(unquoted(name)),
             path,
         },
         None => FieldText {
+            text,
             name: None,
             path: text,
         },
@@ -90,16 +94,18 @@ fn error_of(alloc: Global, text: &str, wanted: Result<String, AllocError>) -> No
     }
 }
 
-// That neither another field nor what is beside the fields has the name of a field.
+// That a field has a name if one is given, which neither another one nor what is beside the fields has.
 fn test_name(
     alloc: Global,
     name: &str,
-    text: &str,
+    field: FieldText<'_>,
     others: &[&str],
     taken: &[&str],
 ) -> Result<(), NoRequest> {
-    let path = field_text(text).path;
-    let wanted: Result<String, AllocError> = if others.contains(&name) {
+    let FieldText { text, path, .. } = field;
+    let wanted: Result<String, AllocError> = if name.is_empty() && field.name.is_some() {
+        format!(in alloc; "an empty name; give the field another one, as NAME={path}")
+    } else if others.contains(&name) {
         format!(in alloc;
             "another field has the name {name} too; give one of them a name of its own, as NAME={path}"
         )
@@ -120,34 +126,39 @@ pub fn path_texts<'a>(alloc: Global, texts: &[&'a str]) -> Result<Vec<&'a str>, 
     Ok(paths)
 }
 
-// Whether one of the texts gives a name.
-fn is_any_named(texts: &[&str]) -> bool {
-    texts.iter().any(|text| field_text(*text).name.is_some())
+// The parts of texts.
+fn field_texts<'a>(alloc: Global, texts: &[&'a str]) -> Result<Vec<FieldText<'a>>, AllocError> {
+    let mut fields = Vec::new(alloc);
+    for text in texts {
+        fields.push(field_text(*text))?;
+    }
+    Ok(fields)
 }
 
-/// The fields that texts ask for, each `PATH` or `NAME=PATH`. An `Err` where one is not a path, and where two have one name or one
-/// has a name that is taken, unless no name is given and each is called as its path is written.
+/// The fields that texts ask for, each `PATH` or `NAME=PATH`. An `Err` where one is not a path, and where a name is empty, two have one
+/// or one is taken, unless no name is given and each is called as its path is written.
 pub fn fields_of<'a>(
     alloc: Global,
     texts: &[&'a str],
     default: DefaultName,
     taken: &[&str],
 ) -> Result<ChosenFields<'a>, NoRequest> {
-    let is_named = is_any_named(texts);
+    let asked = field_texts(alloc, texts)?;
+    let is_named = asked.iter().any(|field| field.name.is_some());
     let are_distinct = is_named || default == DefaultName::LastStep;
     let mut fields = ChosenFields {
         names: Vec::new(alloc),
-        texts: path_texts(alloc, texts)?,
+        texts: Vec::new(alloc),
         paths: Vec::new(alloc),
         is_named,
     };
-    for text in texts {
-        let field = field_text(*text);
+    for field in &asked {
         let name = field.name_or(default);
         if are_distinct {
-            test_name(alloc, name, *text, fields.names.as_slice(), taken)?;
+            test_name(alloc, name, *field, fields.names.as_slice(), taken)?;
         }
         fields.names.push(name)?;
+        fields.texts.push(field.path)?;
         fields.paths.push(wanted_path(alloc, field.path)?)?;
     }
     Ok(fields)

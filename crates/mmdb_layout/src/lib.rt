@@ -9,6 +9,7 @@ mod database;
 mod fields;
 mod layout;
 mod number;
+mod read_along;
 
 pub use absent::{FieldsMet, RecordAt, absent_text};
 pub use choice::Choice;
@@ -19,3 +20,4 @@ pub use database::{
 pub use fields::{ChosenFields, DefaultName, fields_of, path_texts};
 pub use layout::{Layout, NETWORK, layout_of, line_of_cells, line_of_names, write_values};
 pub use number::is_comparable;
+pub use read_along::ReadAlong;

@@ -102,15 +102,15 @@ impl Number<'_> {
         }
     }
 
-    // Its digits with zeros after them, and before them as many as make them so wide.
-    fn digits(&self, alloc: Global, zeros: usize, width: usize) -> Result<Vec<u8>, AllocError>
-        requires { length self.now.numeral.whole + length self.now.numeral.fraction + zeros ≤ width }
-        ensures { IfOk result (λ digits. AreDigitsOf self.now.numeral zeros width digits.items) }
+    // Its digits with zeros after them, and before them as many as make them so many.
+    fn digits(&self, alloc: Global, zeros: usize, size: usize) -> Result<Vec<u8>, AllocError>
+        requires { length self.now.numeral.whole + length self.now.numeral.fraction + zeros ≤ size }
+        ensures { IfOk result (λ digits. AreDigitsOf self.now.numeral zeros size digits.items) }
     {
-        let mut digits = vec![in alloc; b'0'; width - zeros - self.count()]?;
+        let mut digits = vec![in alloc; b'0'; size - zeros - self.count()]?;
         digits.extend_from_slice(self.numeral.whole())?;
         digits.extend_from_slice(self.numeral.fraction())?;
-        digits.resize(width, b'0')?;
+        digits.resize(size, b'0')?;
         Ok(digits)
     }
 }
@@ -124,7 +124,9 @@ fn excess(number: u128, other: u128, most: usize) -> usize
 
 // Whether digits write a smaller number than other digits, as many.
 fn are_smaller(digits: &[u8], others: &[u8]) -> bool
-    requires { AllDigits 10 digits.now × AllDigits 10 others.now × (length digits.now ≡ length others.now) }
+    requires own { AllDigits 10 digits.now }
+    requires other { AllDigits 10 others.now }
+    requires wide { length digits.now ≡ length others.now }
     ensures { IsTrue result ↔ (digits_value 10 digits.now < digits_value 10 others.now) }
 {
     digits.cmp(&others).is_lt()

@@ -68,6 +68,8 @@ const WRONG: &[(&[&str], &str, &str)] = &[
 const REJECTED: &[(&[&str], &str)] = &[
     (&["export", "gone.mmdb", "--field", "network=n"], "mmdb: network=n: the name network is taken; give the field another one, as NAME=n\n"),
     (&["show", "gone.mmdb", "1.1.1.1", "--field", "address=n"], "mmdb: address=n: the name address is taken; give the field another one, as NAME=n\n"),
+    (&["show", "gone.mmdb", "1.1.1.1", "--field", "=n"], "mmdb: =n: an empty name; give the field another one, as NAME=n\n"),
+    (&["enrich", "gone.mmdb", "--field", "\"\"=n"], "mmdb: \"\"=n: an empty name; give the field another one, as NAME=n\n"),
     (&["export", "gone.mmdb", "--field", "a=b.\"c"], "mmdb: b.\"c: not a path\n"),
     (&["show", "gone.mmdb", "1.1.1.1", "--field", "a=b=c.+1"], "mmdb: b=c.+1: not a path\n"),
     (&["enrich", "gone.mmdb", "--header", "--field", "a\tb=c"], "mmdb: a\\tb: a name with what separates columns or lines\n"),

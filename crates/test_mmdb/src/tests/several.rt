@@ -128,11 +128,12 @@ const VALUES: &[Row<'static>] = &[
         "{\"address\":\"200.0.0.1\",\"cc\":\"DE\",\"org\":\"x\"}\n{\"address\":\"1.1.1.1\",\"cc\":null,\"org\":\"x\"}\n", &[],
     ),
     // what can't be read is an error, and no reason to ask the next
-    (UNREADABLE, PLAIN, &["here.mmdb", "new.mmdb", "200.0.0.1", "--field", ""], 1, "", &["mmdb: 200.0.0.1: invalid database at offset "]),
+    (UNREADABLE, PLAIN, &["here.mmdb", "new.mmdb", "200.0.0.1", "--field", ""], 1, "", &["mmdb: here.mmdb: 200.0.0.1: invalid database at offset "]),
     (UNREADABLE, PLAIN, &["new.mmdb", "here.mmdb", "200.0.0.1", "--field", ""], 0, "\"x\"\n", &[]),
+    (CITY, UNREADABLE, &["here.mmdb", "new.mmdb", "200.0.0.1", "--field", "n", "--field", "p"], 1, "7\n", &["mmdb: new.mmdb: 200.0.0.1: invalid database at offset "]),
     // a database of IPv4 has nothing of IPv6, unless all have not
     (CITY, LONG, &["here.mmdb", "new.mmdb", "ffff::1", "--field", ""], 0, "\"x\"\n", &[]),
-    (CITY, ASN, &["here.mmdb", "new.mmdb", "::1", "--field", ""], 1, "", &["mmdb: ::1: invalid input: cannot look up IPv6"]),
+    (CITY, ASN, &["here.mmdb", "new.mmdb", "::1", "--field", ""], 1, "", &["mmdb: here.mmdb: ::1: invalid input: cannot look up IPv6"]),
 ];
 
 #[rattlefmt::skip]

@@ -5,7 +5,7 @@ use Rattle.json.specs.Token.{key}
 use Rattle.mmdb_reader.specs.File.{data_section}
 use Rattle.mmdb_reader.specs.Found.{database_asked, offset_found}
 use Rattle.mmdb_cmd_enrich.proofs.MemberLaws.{FieldsWay, one_field, fields_done, written_at, rejected_in, declined}
-use Rattle.mmdb_cmd_enrich.specs.Cells.{read_at}
+use Rattle.mmdb_layout.specs.Reading.{read_at}
 use Rattle.mmdb_cmd_enrich.specs.Fields.{HasUnreadField}
 use Rattle.mmdb_cmd_enrich.proofs.members.put_fields.Goals as goal
 

@@ -9,7 +9,7 @@ pub returns : goal.returns
 returns c =
     let whole : List ℕ = c.args.self.now.numeral.whole in
     let fraction : List ℕ = c.args.self.now.numeral.fraction in
-    let before : ℕ = c.args.width - c.args.zeros - c.count.result in
+    let before : ℕ = c.args.size - c.args.zeros - c.count.result in
     let count = c.count.ensures.value in
     let room = c.requires in
     let first : c.in_ok-digits.digits.items ≡ zeros before = search rules in
@@ -17,9 +17,9 @@ returns c =
     let long : vec_len c.extend_from_slice-2.new.self ≡ length ((zeros before ++ whole) ++ fraction) = search rules in
     let made : c.resize.new.self.items ≡ padded before (whole ++ fraction) c.args.zeros =
     c.in_ok-resize.ensures.items
-    ∙ ap (λ (l : List ℕ). take c.args.width l ++ zeros (c.args.width - vec_len c.extend_from_slice-2.new.self)) joined
-    ∙ ap (λ n. take c.args.width ((zeros before ++ whole) ++ fraction) ++ zeros (c.args.width - n)) long
-    ∙ put_together before c.args.zeros c.args.width whole fraction (omega (arith, count, room)) in
+    ∙ ap (λ (l : List ℕ). take c.args.size l ++ zeros (c.args.size - vec_len c.extend_from_slice-2.new.self)) joined
+    ∙ ap (λ n. take c.args.size ((zeros before ++ whole) ++ fraction) ++ zeros (c.args.size - n)) long
+    ∙ put_together before c.args.zeros c.args.size whole fraction (omega (arith, count, room)) in
     let w = subst (AllDigits 10) c.whole.ensures.value c.whole.ensures.digits in
     let f = subst (AllDigits 10) c.fraction.ensures.value c.fraction.ensures.digits in
     record {

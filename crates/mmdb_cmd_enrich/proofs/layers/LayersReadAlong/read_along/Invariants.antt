@@ -1,6 +1,0 @@
-use Rattle.std.proofs.Common.{◌≡◌, drop}
-use Rattle.mmdb_cmd_enrich.specs.Working.{first_read_of}
-use Rattle.mmdb_cmd_enrich.proofs.layers.LayersReadAlong.read_along.Given as goal
-
-abbrev pub invariant-loop-answer : goal.invariant-loop-answer
-invariant-loop-answer g l = first_read_of l.fn.self.answers.items l.path ≡ first_read_of (drop l.answer-index l.fn.self.answers.items) l.path

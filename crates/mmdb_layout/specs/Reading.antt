@@ -1,0 +1,48 @@
+-- What is read along a path in a record, and in the first of several that has a value there.
+use Rattle.std.specs.Prelude.{◌≡◌, ℕ, List, [], ◌∷◌, Option, Some, None, option_map, true, false, Result, Ok, Err}
+use Rattle.std.specs.declared.convert.AsSlice.{Ghosts}
+use Rattle.mmdb_format.specs.Unfolding.{Tree}
+use Rattle.mmdb_format.specs.declared.error.MaxMindDbError.{MaxMindDbError}
+use Rattle.mmdb_decode.specs.Errors.{Fails}
+use Rattle.mmdb_value.specs.AnyValue.{value_at}
+use Rattle.mmdb_value.specs.Values.{value_tree}
+use Rattle.mmdb_value.specs.declared.any_value.Value.{Value}
+use Rattle.mmdb_reader.specs.Found.{section_asked, offset_found}
+use Rattle.mmdb_reader.specs.Selecting.{answer_along}
+use Rattle.mmdb_reader.specs.declared.lookup_result.LookupResult.{LookupResult}
+use Rattle.mmdb_reader.specs.declared.path.PathElement.{PathElement}
+
+-- what is read along a path from the offset of a record; nothing where the way or the value can't be read
+abbrev pub read_at : List PathElement → List ℕ → ℕ → Option (Option Tree)
+read_at path s offset = answer_along path true (value_at true) s offset
+
+-- what is read along a path in the record at an offset, where there is one
+abbrev pub reads_in : List ℕ → Option ℕ → List PathElement → Option (Option Tree)
+reads_in s None path = Some None
+reads_in s (Some offset) path = read_at path s offset
+
+-- what is read along a path in the record that a lookup found
+abbrev pub reads_found : {S : Type 0} {G : Ghosts S ℕ} → LookupResult S G → List PathElement → Option (Option Tree)
+reads_found found path = reads_in (section_asked found) (offset_found found) path
+
+-- what was read, or what is read next where nothing is there
+abbrev pub or_next : Option (Option Tree) → Option (Option Tree) → Option (Option Tree)
+or_next None next = None
+or_next (Some None) next = next
+or_next (Some (Some v)) next = Some (Some v)
+
+-- what is read in the record of an answer, if there is one
+abbrev pub reads_of : {S : Type 0} {G : Ghosts S ℕ} → Option (LookupResult S G) → List PathElement → Option (Option Tree)
+reads_of None path = Some None
+reads_of (Some found) path = reads_found found path
+
+-- what is read along a path in the first record of answers that has a value there
+abbrev pub first_read_of : {S : Type 0} {G : Ghosts S ℕ} → List (Option (LookupResult S G)) → List PathElement → Option (Option Tree)
+first_read_of [] path = Some None
+first_read_of (answer ∷ answers) path = or_next (reads_of answer path) (first_read_of answers path)
+
+-- What a reading gave is this answer: the tree of the value, nothing where the path leads nowhere, and no answer where
+-- the way or the value failed. Out of memory is any answer.
+abbrev pub IsReadAs : Option (Option Tree) → Result (Option Value) MaxMindDbError → Type 0
+IsReadAs answer (Ok value) = answer ≡ Some (option_map value_tree value)
+IsReadAs answer (Err e) = Fails false e answer
