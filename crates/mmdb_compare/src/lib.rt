@@ -19,3 +19,4 @@ pub use pairs::{KnownPairs, Offsets};
 pub use shown::{ShownPair, ShownPairs};
 pub use together::{Together, TogetherPart, TogetherStretch};
 pub use walk::UnreadLeaf;
+pub use walk_list::AskedDatabase;

@@ -6,9 +6,9 @@ ghost use Rattle.mmdb_compare.specs.Together.{IsNextOfAll, AreOver, AreBegun};
 
 use crate::comparison::{behind, next_to};
 use crate::walk::UnreadLeaf;
-use crate::walk_list::WalkList;
+use crate::walk_list::{AskedDatabase, WalkList};
 use mmdb_blocks::Block;
-use mmdb_reader::{IpNetwork, LookupResult, MaxMindDbError, Reader};
+use mmdb_reader::{IpNetwork, LookupResult, MaxMindDbError};
 use std::alloc::{AllocError, Global};
 use std::convert::AsSlice;
 use std::marker::Model;
@@ -33,7 +33,7 @@ pub enum TogetherPart {
 #[derive(Drop)]
 pub struct Together<'a, S: AsSlice<u8> + Drop> {
     list: WalkList<'a, S>,
-    /// Whether the range is one of IPv4, so that all blocks are.
+    /// Whether the ranges are ones of IPv4, so that all blocks are.
     is_ipv4: bool,
     /// The address up to which all was handed out, if there is one left.
     at: Option<u128>,
@@ -50,19 +50,26 @@ impl<'a, S: AsSlice<u8> + Drop> Model for Together<'a, S> {
     ghost view = { λ t. abreast t.at t.shown_at t.list.walks.items };
 }
 
+// Whether all databases are asked for networks of IPv4.
+fn are_all_ipv4<S: AsSlice<u8> + Drop>(databases: &[AskedDatabase<'_, S>]) -> bool {
+    databases
+        .iter()
+        .all(|asked| matches!(asked.range, IpNetwork::V4(_)))
+}
+
 impl<'a, S: AsSlice<u8> + Drop> Together<'a, S> {
-    /// The databases in a range. An error, with the place of its reader, where the range can't be asked of a database, or
+    /// Databases, each in its range. An error, with the place of its database, where that can't be asked for the range, or
     /// memory is out.
     pub fn new(
         alloc: Global,
-        readers: &'a [Reader<S>],
-        range: IpNetwork,
+        databases: &[AskedDatabase<'a, S>],
     ) -> Result<Together<'a, S>, (usize, MaxMindDbError)>
-        ensures { IfOk result (λ together. AreBegun (map (λ db. all_of db range) readers.now) together) }
+        ensures { IfOk result (λ together.
+          AreBegun (map (λ d. all_of d.reader.now d.range) databases.now) together) }
     {
         Ok(Together {
-            list: WalkList::new(alloc, readers, range)?,
-            is_ipv4: matches!(range, IpNetwork::V4(_)),
+            list: WalkList::new(alloc, databases)?,
+            is_ipv4: are_all_ipv4(databases),
             at: Some(0),
             shown_at: 0,
         })

@@ -10,6 +10,13 @@ use mmdb_reader::{IpNetwork, LookupResult, MaxMindDbError, Reader};
 use std::alloc::{AllocError, Global};
 use std::convert::AsSlice;
 
+/// A database, and the range for which it is asked.
+#[derive(Drop)]
+pub struct AskedDatabase<'a, S: AsSlice<u8> + Drop> {
+    pub reader: &'a Reader<S>,
+    pub range: IpNetwork,
+}
+
 /// The walks of databases, one of each.
 #[derive(Drop)]
 pub(crate) struct WalkList<'a, S: AsSlice<u8> + Drop> {
@@ -52,19 +59,19 @@ impl AllHere {
 }
 
 impl<'a, S: AsSlice<u8> + Drop> WalkList<'a, S> {
-    /// The walks of a range. An error, with the place of its reader, where the range can't be asked of a database, or memory
-    /// is out.
+    /// The walks of databases, each in its range. An error, with the place of its database, where that can't be asked for the
+    /// range, or memory is out.
     pub(crate) fn new(
         alloc: Global,
-        readers: &'a [Reader<S>],
-        range: IpNetwork,
+        databases: &[AskedDatabase<'a, S>],
     ) -> Result<WalkList<'a, S>, (usize, MaxMindDbError)>
         ensures { IfOk result (λ list.
-            map left_of list.walks.items ≡ map (λ db. all_of db range) readers.now) }
+            map left_of list.walks.items ≡ map (λ d. all_of d.reader.now d.range) databases.now) }
     {
         let mut walks = Vec::new(alloc);
-        for place in 0..readers.len() {
-            let walk = match Walk::new(alloc, &readers[place], range) {
+        for place in 0..databases.len() {
+            let asked = &databases[place];
+            let walk = match Walk::new(alloc, asked.reader, asked.range) {
                 Ok(walk) => walk,
                 Err(error) => return Err((place, error)),
             };
