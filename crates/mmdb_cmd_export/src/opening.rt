@@ -1,5 +1,5 @@
 //! Several databases that are opened.
-use mmdb_console::{Console, ProgramError, line_of, opened};
+use mmdb_console::{BAD_ARGUMENTS, Console, FAILED, ProgramError, line_of, opened};
 use mmdb_layout::{Database, Opened, open_found, path_or};
 use mmdb_reader::MaxMindDbError;
 use std::alloc::AllocError;
@@ -56,30 +56,57 @@ fn note_stranger<O: Write, E: Write>(name: &str, console: &mut Console<'_, O, E>
     console.note(line_of(console.alloc, text));
 }
 
-/// The databases of these names, or none where one of them can't be opened, which is reported of each. Where none of the names
-/// has a file, the first is that of a missing database.
+/// What was opened of several names.
+#[derive(Drop)]
+pub(crate) struct SeveralOpened<'a> {
+    /// The databases that could be opened.
+    pub(crate) open: Vec<NamedDatabase<'a>>,
+    /// Whether a name is that of a database that could not be.
+    has_failed: bool,
+    /// Whether a name is neither a network nor a file.
+    has_strangers: bool,
+}
+
+impl SeveralOpened<'_> {
+    /// The status where one of the names has no database.
+    pub(crate) fn failure(&self) -> Option<u8> {
+        if self.has_failed {
+            Some(FAILED)
+        } else if self.has_strangers {
+            Some(BAD_ARGUMENTS)
+        } else {
+            None
+        }
+    }
+}
+
+/// Opens the databases of these names. Reports of each that can't be opened why. Where none of the names has a file, the first
+/// is that of a missing database.
 pub(crate) fn open_several<'a, R: Files + Env, O: Write, E: Write>(
     rt: &R,
     names: &[&'a str],
     console: &mut Console<'_, O, E>,
-) -> Result<Option<Vec<NamedDatabase<'a>>>, ProgramError> {
+) -> Result<SeveralOpened<'a>, ProgramError> {
     let found = find_all(rt, names, console)?;
     let has_files = found.iter().any(|found| found.is_file());
-    let mut databases = Vec::new(console.alloc);
+    let mut all = SeveralOpened {
+        open: Vec::new(console.alloc),
+        has_failed: false,
+        has_strangers: false,
+    };
     for (place, found) in found.into_iter().enumerate() {
         let is_database = found.is_file() || (place == 0 && !has_files);
         let FoundName { name, opened: file } = found;
         if !is_database {
             note_stranger(name, console);
+            all.has_strangers = true;
             continue;
         }
         let Opened { path, got } = file;
-        if let Some(database) = opened(rt, path_or(&path, name), got, console) {
-            databases.push(NamedDatabase { name, database })?;
+        match opened(rt, path_or(&path, name), got, console) {
+            Some(database) => all.open.push(NamedDatabase { name, database })?,
+            None => all.has_failed = true,
         }
     }
-    if databases.len() < names.len() {
-        return Ok(None);
-    }
-    Ok(Some(databases))
+    Ok(all)
 }

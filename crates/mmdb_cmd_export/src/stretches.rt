@@ -360,12 +360,11 @@ pub(crate) fn export_files<'a, R: Files + Env, O: Write, E: Pace>(
     adjustment: Option<&Adjustment>,
     console: &mut Console<'_, O, E>,
 ) -> Result<u8, ProgramError> {
-    match open_several(rt, names, console)? {
-        Some(databases) => {
-            let done = export_databases(databases.as_slice(), task, adjustment, console);
-            drop(databases);
-            done
-        }
-        None => Ok(FAILED),
-    }
+    let databases = open_several(rt, names, console)?;
+    let done = match databases.failure() {
+        Some(status) => Ok(status),
+        None => export_databases(databases.open.as_slice(), task, adjustment, console),
+    };
+    drop(databases);
+    done
 }

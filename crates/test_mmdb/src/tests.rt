@@ -20,5 +20,6 @@ mod replaced;
 mod rows;
 mod runs;
 mod several;
+mod several_export;
 mod shared;
 mod texts;
