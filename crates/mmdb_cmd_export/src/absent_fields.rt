@@ -1,7 +1,7 @@
 //! Fields that no record of several databases has.
 use crate::several::{Answers, Several};
 use mmdb_console::{Console, ProgramError, line_of};
-use mmdb_layout::{Found, ReadAlong, RecordAt, absent_text};
+use mmdb_layout::{ReadAlong, RecordAt, absent_text};
 use mmdb_reader::{MaxMindDbError, PathElement};
 use mmdb_value::Value;
 use std::alloc::{AllocError, Global};
@@ -43,8 +43,8 @@ impl<'d> AbsentFields<'d> {
     }
 
     // Keeps where a record is, if it is one of the first.
-    fn keep(&mut self, section: &'d [u8], found: &Found<'d>) -> Result<(), AllocError> {
-        if let Some(offset) = found.offset()
+    fn keep(&mut self, section: &'d [u8], offset: Option<usize>) -> Result<(), AllocError> {
+        if let Some(offset) = offset
             && self.records.len() < MOST_RECORDS
         {
             self.records.push(RecordAt { section, offset })?;
@@ -56,7 +56,7 @@ impl<'d> AbsentFields<'d> {
     pub(crate) fn look(
         &mut self,
         several: &Several<'d>,
-        answers: &Answers<'d>,
+        answers: &Answers<'_>,
         paths: &[Vec<PathElement<'_>>],
     ) -> Result<(), AllocError> {
         if self.are_all_met() {
@@ -67,7 +67,7 @@ impl<'d> AbsentFields<'d> {
         }
         for (place, answer) in answers.iter().enumerate() {
             if let Some(found) = answer {
-                self.keep(several.section_at(place), found)?;
+                self.keep(several.section_at(place), found.offset())?;
             }
         }
         Ok(())

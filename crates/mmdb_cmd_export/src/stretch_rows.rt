@@ -163,7 +163,7 @@ impl<'a, 'd> StretchRows<'a, 'd> {
     }
 
     // The answer of the database at a place among all, if it is asked and has one.
-    fn answer_at<'s>(&self, place: usize, answers: &'s Answers<'d>) -> Option<&'s Found<'d>> {
+    fn answer_at<'s, 'r>(&self, place: usize, answers: &'s Answers<'r>) -> Option<&'s Found<'r>> {
         match answers.get(self.several.place_of(place)?) {
             Some(Some(found)) => Some(found),
             _ => None,
@@ -171,7 +171,7 @@ impl<'a, 'd> StretchRows<'a, 'd> {
     }
 
     // Adds the records of all databases to an object.
-    fn write_records(&self, answers: &Answers<'d>, out: &mut Writer) -> Result<(), MaxMindDbError> {
+    fn write_records(&self, answers: &Answers<'_>, out: &mut Writer) -> Result<(), MaxMindDbError> {
         for (place, key) in self.keys.iter().enumerate() {
             out.token(Token::Key(*key))?;
             write_record(self.alloc, self.answer_at(place, answers), out)?;
@@ -183,7 +183,7 @@ impl<'a, 'd> StretchRows<'a, 'd> {
     fn write_object(
         &self,
         network: &str,
-        answers: &Answers<'d>,
+        answers: &Answers<'_>,
         out: &mut Writer,
     ) -> Result<(), MaxMindDbError> {
         out.token(Token::BeginObject)?;
@@ -199,7 +199,7 @@ impl<'a, 'd> StretchRows<'a, 'd> {
     }
 
     // The row of a network.
-    fn row(&self, network: &str, answers: &Answers<'d>) -> Result<Vec<u8>, MaxMindDbError> {
+    fn row(&self, network: &str, answers: &Answers<'_>) -> Result<Vec<u8>, MaxMindDbError> {
         if let Layout::Cells(fields) = self.layout {
             return line_of_cells(self.alloc, fields, network, answers);
         }
@@ -217,10 +217,10 @@ impl<'a, 'd> StretchRows<'a, 'd> {
     }
 }
 
-impl<'d> StretchSink<'d> for StretchRows<'_, 'd> {
+impl StretchSink for StretchRows<'_, '_> {
     fn put<O: Write>(
         &mut self,
-        stretch: &AnsweredStretch<'d>,
+        stretch: &AnsweredStretch<'_>,
         out: &mut O,
     ) -> Result<(), ProgramError> {
         let network = stretch.network()?.to_string(self.alloc)?;
@@ -233,7 +233,7 @@ impl<'d> StretchSink<'d> for StretchRows<'_, 'd> {
         Ok(())
     }
 
-    fn fault_in(&self, answers: &Answers<'d>) -> Option<usize> {
+    fn fault_in(&self, answers: &Answers<'_>) -> Option<usize> {
         if self.layout.has_records() {
             return fault_in_records(self.alloc, answers);
         }

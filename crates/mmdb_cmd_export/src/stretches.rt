@@ -21,28 +21,28 @@ use std::rt::Files;
 const STEP: u64 = 1 << 16;
 
 /// What chosen stretches are put into.
-pub(crate) trait StretchSink<'d>: Drop {
+pub(crate) trait StretchSink: Drop {
     /// Takes a stretch. Where something of it can't be read, nothing is written of it.
     fn put<O: Write>(
         &mut self,
-        stretch: &AnsweredStretch<'d>,
+        stretch: &AnsweredStretch<'_>,
         out: &mut O,
     ) -> Result<(), ProgramError>;
 
     /// The place of the answer that it could not read, if there is one.
-    fn fault_in(&self, answers: &Answers<'d>) -> Option<usize>;
+    fn fault_in(&self, answers: &Answers<'_>) -> Option<usize>;
 }
 
-impl<'d> StretchSink<'d> for Addresses {
+impl StretchSink for Addresses {
     fn put<O: Write>(
         &mut self,
-        stretch: &AnsweredStretch<'d>,
+        stretch: &AnsweredStretch<'_>,
         _out: &mut O,
     ) -> Result<(), ProgramError> {
         self.add_block(stretch.kind, stretch.block)
     }
 
-    fn fault_in(&self, _answers: &Answers<'d>) -> Option<usize> {
+    fn fault_in(&self, _answers: &Answers<'_>) -> Option<usize> {
         None
     }
 }
@@ -62,11 +62,11 @@ fn meet_all(
 }
 
 // The place of the answer that can't be read as conditions or a sink ask, if it is one.
-fn fault_in<'d, W: StretchSink<'d>>(
+fn fault_in<W: StretchSink>(
     alloc: Global,
     conditions: &[Condition<'_>],
     sink: &W,
-    answers: &Answers<'d>,
+    answers: &Answers<'_>,
 ) -> Option<usize> {
     for condition in conditions {
         if let Some(place) = fault_along(alloc, answers, condition.path.as_slice()) {
@@ -105,7 +105,7 @@ fn name_of_leaf(alloc: Global, file: &str, leaf: &UnreadLeaf) -> Result<String, 
 
 // An export of the chosen stretches.
 #[derive(Drop)]
-struct StretchExport<'a, 'd, W: StretchSink<'d>> {
+struct StretchExport<'a, 'd, W: StretchSink> {
     several: &'d Several<'d>,
     conditions: &'a [Condition<'a>],
     task: &'a ExportTask<'a>,
@@ -115,7 +115,7 @@ struct StretchExport<'a, 'd, W: StretchSink<'d>> {
     passed: u64,
 }
 
-impl<'a, 'd, W: StretchSink<'d>> StretchExport<'a, 'd, W> {
+impl<'a, 'd, W: StretchSink> StretchExport<'a, 'd, W> {
     // Of no stretch yet.
     fn new(
         several: &'d Several<'d>,
@@ -135,7 +135,7 @@ impl<'a, 'd, W: StretchSink<'d>> StretchExport<'a, 'd, W> {
     // Puts a stretch, if it is chosen.
     fn put_chosen<O: Write, E: Write>(
         &mut self,
-        stretch: &AnsweredStretch<'d>,
+        stretch: &AnsweredStretch<'_>,
         console: &mut Console<'_, O, E>,
     ) -> Result<(), ProgramError> {
         if !meet_all(console.alloc, self.conditions, &stretch.answers)? {
@@ -147,7 +147,7 @@ impl<'a, 'd, W: StretchSink<'d>> StretchExport<'a, 'd, W> {
     // Reports why a stretch can't be written.
     fn report<O: Write, E: Write>(
         &mut self,
-        stretch: &AnsweredStretch<'d>,
+        stretch: &AnsweredStretch<'_>,
         error: &MaxMindDbError,
         console: &mut Console<'_, O, E>,
     ) -> Result<(), ProgramError> {
@@ -161,7 +161,7 @@ impl<'a, 'd, W: StretchSink<'d>> StretchExport<'a, 'd, W> {
     // Writes a stretch, if it is chosen, or reports why it can't be.
     fn write_answered<O: Write, E: Write>(
         &mut self,
-        stretch: &AnsweredStretch<'d>,
+        stretch: &AnsweredStretch<'_>,
         console: &mut Console<'_, O, E>,
     ) -> Result<(), ProgramError> {
         match self.put_chosen(stretch, console) {
@@ -340,8 +340,8 @@ fn export_asked<'a, 'd, O: Write, E: Pace>(
 }
 
 // Writes the chosen stretches of databases, and answers the status.
-fn export_databases<'a, O: Write, E: Pace>(
-    databases: &[NamedDatabase<'_>],
+fn export_databases<'a, 'd, O: Write, E: Pace>(
+    databases: &'d [NamedDatabase<'d>],
     task: &'a ExportTask<'a>,
     adjustment: Option<&Adjustment>,
     console: &mut Console<'_, O, E>,
