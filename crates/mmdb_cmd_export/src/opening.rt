@@ -1,5 +1,5 @@
 //! Several databases that are opened.
-use mmdb_console::{BAD_ARGUMENTS, Console, FAILED, ProgramError, line_of, opened};
+use mmdb_console::{Console, ProgramError, line_of, opened};
 use mmdb_layout::{Database, Opened, open_found, path_or};
 use mmdb_reader::MaxMindDbError;
 use std::alloc::AllocError;
@@ -61,23 +61,8 @@ fn note_stranger<O: Write, E: Write>(name: &str, console: &mut Console<'_, O, E>
 pub(crate) struct SeveralOpened<'a> {
     /// The databases that could be opened.
     pub(crate) open: Vec<NamedDatabase<'a>>,
-    /// Whether a name is that of a database that could not be.
-    has_failed: bool,
-    /// Whether a name is neither a network nor a file.
-    has_strangers: bool,
-}
-
-impl SeveralOpened<'_> {
-    /// The status where one of the names has no database.
-    pub(crate) fn failure(&self) -> Option<u8> {
-        if self.has_failed {
-            Some(FAILED)
-        } else if self.has_strangers {
-            Some(BAD_ARGUMENTS)
-        } else {
-            None
-        }
-    }
+    /// Whether each of the names has one.
+    pub(crate) are_all: bool,
 }
 
 /// Opens the databases of these names. Reports of each that can't be opened why. Where none of the names has a file, the first
@@ -91,21 +76,20 @@ pub(crate) fn open_several<'a, R: Files + Env, O: Write, E: Write>(
     let has_files = found.iter().any(|found| found.is_file());
     let mut all = SeveralOpened {
         open: Vec::new(console.alloc),
-        has_failed: false,
-        has_strangers: false,
+        are_all: true,
     };
     for (place, found) in found.into_iter().enumerate() {
         let is_database = found.is_file() || (place == 0 && !has_files);
         let FoundName { name, opened: file } = found;
         if !is_database {
             note_stranger(name, console);
-            all.has_strangers = true;
+            all.are_all = false;
             continue;
         }
         let Opened { path, got } = file;
         match opened(rt, path_or(&path, name), got, console) {
             Some(database) => all.open.push(NamedDatabase { name, database })?,
-            None => all.has_failed = true,
+            None => all.are_all = false,
         }
     }
     Ok(all)

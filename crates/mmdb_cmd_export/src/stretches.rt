@@ -361,9 +361,10 @@ pub(crate) fn export_files<'a, R: Files + Env, O: Write, E: Pace>(
     console: &mut Console<'_, O, E>,
 ) -> Result<u8, ProgramError> {
     let databases = open_several(rt, names, console)?;
-    let done = match databases.failure() {
-        Some(status) => Ok(status),
-        None => export_databases(databases.open.as_slice(), task, adjustment, console),
+    let done = if databases.are_all {
+        export_databases(databases.open.as_slice(), task, adjustment, console)
+    } else {
+        Ok(FAILED)
     };
     drop(databases);
     done

@@ -214,8 +214,8 @@ type Rejected<'a> = (&'a [&'a str], u8, &'a str, &'a [&'a str]);
 const REJECTED: &[Rejected<'static>] = &[
     (&["export", "192.0.0.0/3", "here.mmdb", "here.mmdb", "--format", "cidr"], 0, "192.0.0.0/3\n", &[]),
     (&["export", "new.mmdb", "0.0.0.0/2", "here.mmdb", "--format", "cidr"], 0, "0.0.0.0/3\n", &[]),
-    (&["export", "here.mmdb", "1.1.1/24"], 2, "", &["mmdb: 1.1.1/24: neither a network nor a file\n"]),
-    (&["export", "here.mmdb", "new.mmdb", "gone.mmdb"], 2, "", &["mmdb: gone.mmdb: neither a network nor a file\n"]),
+    (&["export", "here.mmdb", "1.1.1/24"], 1, "", &["mmdb: 1.1.1/24: neither a network nor a file\n"]),
+    (&["export", "here.mmdb", "new.mmdb", "gone.mmdb"], 1, "", &["mmdb: gone.mmdb: neither a network nor a file\n"]),
     (&["export", "gone.mmdb", "lost.mmdb"], 1, "", &["mmdb: gone.mmdb: i/o error: entity not found\nmmdb: lost.mmdb: neither a network nor a file\n"]),
     (&["export", "here.mmdb", "new.mmdb", "1.0.0.0/8", "2.0.0.0/8"], 2, "", &["mmdb: 2.0.0.0/8: a second network; one is asked for\n"]),
     (&["export", "1.0.0.0/8"], 2, "", &["mmdb: export: needs a file\n"]),
