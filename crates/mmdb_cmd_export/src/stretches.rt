@@ -346,7 +346,7 @@ fn export_databases<'a, 'd, O: Write, E: Pace>(
     adjustment: Option<&Adjustment>,
     console: &mut Console<'_, O, E>,
 ) -> Result<u8, ProgramError> {
-    let several = Several::new(console.alloc, databases, task.range)?;
+    let several = Several::new(console.alloc, &*databases, task.range)?;
     let done = export_asked(&several, task, adjustment, console);
     drop(several);
     done
