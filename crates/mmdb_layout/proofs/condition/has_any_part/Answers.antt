@@ -1,4 +1,4 @@
-use Rattle.std.proofs.Common.{◌≡◌, List, ℕ, map, false, refl, sym, subst, arith}
+use Rattle.std.proofs.Common.{List, ℕ, map, false, refl, sym, subst, arith}
 use Rattle.std.proofs.lemmas.Bool.{false≢true}
 use Rattle.std.proofs.lemmas.List.{take_all}
 use Rattle.mmdb_layout.specs.Conditions.{HasPart, SaysAnyPart}
