@@ -1,5 +1,5 @@
 -- Any number of databases side by side, and their parts, each of which is exactly the next one.
-use Rattle.std.specs.Prelude.{ℕ, ◌^◌, ◌<◌, ◌≤◌, ◌≡◌, Bool, true, false, ◌&&◌, List, length, map, get_or, set}
+use Rattle.std.specs.Prelude.{ℕ, ◌^◌, ◌<◌, ◌≤◌, ◌≡◌, Bool, true, false, ◌&&◌, List, length, map, get_or, set, Option, None}
 use Rattle.std.specs.List.{list_all, list_any}
 use Rattle.mmdb_blocks.specs.declared.block.Block.{Block}
 use Rattle.mmdb_blocks.specs.Blocks.{IsBlock, IsWithin, end}
@@ -41,6 +41,17 @@ is_record (Record offset) = true
 is_record Nothing = false
 is_record Unknown = false
 is_record Unreadable = false
+
+-- where the record is, if there is one
+abbrev pub offset_of : Answer → Option ℕ
+offset_of (Record offset) = offset
+offset_of Nothing = None
+offset_of Unknown = None
+offset_of Unreadable = None
+
+-- where the record of the database at a place is, by these answers
+abbrev pub offset_in : List Answer → ℕ → Option ℕ
+offset_in answers place = offset_of (get_or answers place Nothing)
 
 -- What is handed out: what each database has is known, and one of them has a record.
 abbrev pub are_shown : List Answer → Bool

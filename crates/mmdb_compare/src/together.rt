@@ -2,7 +2,7 @@
 ghost use Rattle.std.specs.Prelude.{MatchOption, IfOk, ◌≡◌, map};
 ghost use Rattle.mmdb_compare.specs.Listed.{all_of};
 ghost use Rattle.mmdb_compare.specs.Parts.{start_of};
-ghost use Rattle.mmdb_compare.specs.Together.{IsNextOfAll, AreOver, AreBegun};
+ghost use Rattle.mmdb_compare.specs.Together.{IsNextOfAll, AreOver, AreBegun, offset_in};
 
 use crate::comparison::{behind, next_to};
 use crate::walk::UnreadLeaf;
@@ -65,7 +65,7 @@ impl<'a, S: AsSlice<u8> + Drop> Together<'a, S> {
         databases: &[AskedDatabase<'a, S>],
     ) -> Result<Together<'a, S>, (usize, MaxMindDbError)>
         ensures { IfOk result (λ together.
-          AreBegun (map (λ d. all_of d.reader.now d.range) databases.now) together) }
+            AreBegun (map (λ d. all_of d.reader.now d.range) databases.now) together) }
     {
         Ok(Together {
             list: WalkList::new(alloc, databases)?,
@@ -102,6 +102,14 @@ impl<'a, S: AsSlice<u8> + Drop> Together<'a, S> {
         ensures { self.exit.now ≡ self.entry.now }
     {
         self.list.take_unread(place)
+    }
+
+    /// Where the record is of the database at a place in the last stretch, if it has one.
+    #[inline(always)]
+    pub fn offset(&self, place: usize) -> Option<usize>
+        ensures { result ≡ offset_in self.now.answers place }
+    {
+        self.list.offset(place, self.shown_at)
     }
 
     /// What each database has in the last stretch, in their order: none where it has no record there.

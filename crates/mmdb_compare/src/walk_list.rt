@@ -3,7 +3,8 @@ ghost use Rattle.std.specs.Prelude.{◌≡◌, ◌&&◌, ◌||◌, min, map, Mat
 ghost use Rattle.std.specs.List.{All};
 ghost use Rattle.mmdb_compare.specs.Listed.{all_of};
 ghost use Rattle.mmdb_compare.specs.Walks.{left_of, IsFrom, last_here, is_record_here};
-ghost use Rattle.mmdb_compare.specs.WalkList.{AllGone, IsMetOf, AreHere, is_known_here};
+ghost use Rattle.mmdb_compare.specs.Together.{offset_in};
+ghost use Rattle.mmdb_compare.specs.WalkList.{AllGone, IsMetOf, AreHere, is_known_here, held_at};
 
 use crate::walk::{Here, UnreadLeaf, Walk};
 use mmdb_reader::{IpNetwork, LookupResult, MaxMindDbError, Reader};
@@ -121,6 +122,22 @@ impl<'a, S: AsSlice<u8> + Drop> WalkList<'a, S> {
             }
         }
         false
+    }
+
+    /// Where the record is that the one at a place has for an address that it went on to, if it has one.
+    #[inline(always)]
+    pub(crate) fn offset(&self, place: usize, at: u128) -> Option<usize>
+        ensures { result ≡ offset_in (map (held_at at) self.now.walks.items) place }
+    {
+        if place >= self.walks.len() {
+            return None;
+        }
+        let walk = &self.walks[place];
+        if walk.has_begun(at) {
+            walk.offset()
+        } else {
+            None
+        }
     }
 
     /// What each has for an address that it went on to: none where it has no record there.
