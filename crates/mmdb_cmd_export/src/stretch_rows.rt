@@ -15,17 +15,17 @@ use std::io::Write;
 
 /// The rows of an export of several databases.
 #[derive(Drop)]
-pub(crate) struct StretchRows<'a, 'd> {
+pub(crate) struct StretchRows<'a, 's, 'd> {
     alloc: Global,
     layout: &'a Layout<'a>,
-    several: &'d Several<'d>,
+    several: &'s Several<'d>,
     /// What the records of all databases are called, where rows have whole ones.
     keys: Vec<&'d str>,
     absent: AbsentFields<'d>,
 }
 
 // What the records of all databases are called: by the type of each, or by its name as it was given where that is taken.
-fn keys_of<'d>(alloc: Global, several: &'d Several<'d>) -> Result<Vec<&'d str>, AllocError> {
+fn keys_of<'d>(alloc: Global, several: &Several<'d>) -> Result<Vec<&'d str>, AllocError> {
     let mut keys: Vec<&'d str> = Vec::new(alloc);
     for named in several.databases() {
         let own = named.database.metadata().database_type.as_str();
@@ -140,14 +140,14 @@ fn line_of_object(out: Writer) -> Result<Vec<u8>, AllocError> {
     Ok(row)
 }
 
-impl<'a, 'd> StretchRows<'a, 'd> {
+impl<'a, 's, 'd> StretchRows<'a, 's, 'd> {
     /// Rows, none yet. A header is written where the layout has one.
     pub(crate) fn begin<O: Write>(
         alloc: Global,
         layout: &'a Layout<'a>,
-        several: &'d Several<'d>,
+        several: &'s Several<'d>,
         out: &mut O,
-    ) -> Result<StretchRows<'a, 'd>, ProgramError> {
+    ) -> Result<StretchRows<'a, 's, 'd>, ProgramError> {
         let keys = keys_of(alloc, several)?;
         let absent = AbsentFields::new(alloc, layout.paths().len())?;
         if let Some(header) = layout.header(alloc)? {
@@ -217,7 +217,7 @@ impl<'a, 'd> StretchRows<'a, 'd> {
     }
 }
 
-impl StretchSink for StretchRows<'_, '_> {
+impl StretchSink for StretchRows<'_, '_, '_> {
     fn put<O: Write>(
         &mut self,
         stretch: &AnsweredStretch<'_>,

@@ -105,8 +105,8 @@ fn name_of_leaf(alloc: Global, file: &str, leaf: &UnreadLeaf) -> Result<String, 
 
 // An export of the chosen stretches.
 #[derive(Drop)]
-struct StretchExport<'a, 'd, W: StretchSink> {
-    several: &'d Several<'d>,
+struct StretchExport<'a, 's, 'd, W: StretchSink> {
+    several: &'s Several<'d>,
     conditions: &'a [Condition<'a>],
     task: &'a ExportTask<'a>,
     sink: W,
@@ -115,13 +115,13 @@ struct StretchExport<'a, 'd, W: StretchSink> {
     passed: u64,
 }
 
-impl<'a, 'd, W: StretchSink> StretchExport<'a, 'd, W> {
+impl<'a, 's, 'd, W: StretchSink> StretchExport<'a, 's, 'd, W> {
     // Of no stretch yet.
     fn new(
-        several: &'d Several<'d>,
+        several: &'s Several<'d>,
         task: &'a ExportTask<'a>,
         sink: W,
-    ) -> StretchExport<'a, 'd, W> {
+    ) -> StretchExport<'a, 's, 'd, W> {
         StretchExport {
             several,
             conditions: task.conditions.as_slice(),
@@ -238,8 +238,8 @@ impl<'a, 'd, W: StretchSink> StretchExport<'a, 'd, W> {
 }
 
 // Writes the rows of the chosen stretches, and answers the status.
-fn write_rows<'a, 'd, O: Write, E: Pace>(
-    several: &'d Several<'d>,
+fn write_rows<'a, 's, 'd, O: Write, E: Pace>(
+    several: &'s Several<'d>,
     task: &'a ExportTask<'a>,
     layout: &'a Layout<'a>,
     together: &mut Together<'d, Vec<u8>>,
@@ -258,8 +258,8 @@ fn write_rows<'a, 'd, O: Write, E: Pace>(
 }
 
 // Writes the list of the chosen stretches, with what is added and without what is taken away, and answers the status.
-fn write_list<'a, 'd, O: Write, E: Pace>(
-    several: &'d Several<'d>,
+fn write_list<'a, 's, 'd, O: Write, E: Pace>(
+    several: &'s Several<'d>,
     task: &'a ExportTask<'a>,
     syntax: Syntax<'a>,
     adjustment: &Adjustment,
@@ -279,8 +279,8 @@ fn write_list<'a, 'd, O: Write, E: Pace>(
 }
 
 // Writes the chosen stretches, and answers the status.
-fn write_shape<'a, 'd, O: Write, E: Pace>(
-    several: &'d Several<'d>,
+fn write_shape<'a, 's, 'd, O: Write, E: Pace>(
+    several: &'s Several<'d>,
     task: &'a ExportTask<'a>,
     adjustment: Option<&Adjustment>,
     together: &mut Together<'d, Vec<u8>>,
@@ -301,8 +301,8 @@ fn write_shape<'a, 'd, O: Write, E: Pace>(
 }
 
 // Whether what is asked for may be written: a list only where networks have the values of its conditions.
-fn may_be_written<'a, 'd, O: Write, E: Pace>(
-    several: &'d Several<'d>,
+fn may_be_written<'a, 's, 'd, O: Write, E: Pace>(
+    several: &'s Several<'d>,
     task: &'a ExportTask<'a>,
     console: &mut Console<'_, O, E>,
 ) -> Result<bool, ProgramError> {
@@ -315,8 +315,8 @@ fn may_be_written<'a, 'd, O: Write, E: Pace>(
 }
 
 // Writes the chosen stretches of databases that are asked, reports what can't be read, and answers the status.
-fn export_asked<'a, 'd, O: Write, E: Pace>(
-    several: &'d Several<'d>,
+fn export_asked<'a, 's, 'd, O: Write, E: Pace>(
+    several: &'s Several<'d>,
     task: &'a ExportTask<'a>,
     adjustment: Option<&Adjustment>,
     console: &mut Console<'_, O, E>,
