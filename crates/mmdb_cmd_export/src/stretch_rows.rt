@@ -163,7 +163,7 @@ impl<'a, 's, 'd> StretchRows<'a, 's, 'd> {
     }
 
     // The answer of the database at a place among all, if it is asked and has one.
-    fn answer_at<'n, 'r>(&self, place: usize, answers: &'s Answers<'r>) -> Option<&'n Found<'r>> {
+    fn answer_at<'n, 'r>(&self, place: usize, answers: &'n Answers<'r>) -> Option<&'n Found<'r>> {
         match answers.get(self.several.place_of(place)?) {
             Some(Some(found)) => Some(found),
             _ => None,
