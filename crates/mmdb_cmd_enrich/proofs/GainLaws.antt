@@ -1,11 +1,13 @@
 -- What is added to a line is the text of a member, so the longer line is JSON.
-use Rattle.std.proofs.Common.{◌≡◌, ℕ, ◌+◌, ◌-◌, ◌<◌, ◌≤◌, Bool, true, false, ◌&&◌, ◌==◌, nat_lt, if◌then◌else◌, List, [], ◌∷◌, ◌++◌, length, take, drop, get_or, Some, None, inl, inr, refl, sym, ap, ◌∙◌, subst, arith, take-append-drop, take-take, take_all, length-take-le, ltb-true, ltb-false, eqb-true}
+use Rattle.std.proofs.Common.{◌≡◌, ℕ, ◌+◌, ◌-◌, ◌<◌, ◌≤◌, Bool, true, false, ◌&&◌, ◌==◌, nat_lt, if◌then◌else◌, List, [], ◌∷◌, ◌++◌, length, take, drop, get_or, Option, Some, None, inl, inr, refl, sym, ap, ◌∙◌, subst, arith, take-append-drop, take-take, take_all, length-take-le, ltb-true, ltb-false, eqb-true}
 use Rattle.std.proofs.lemmas.List.{drop_more, drop_all, drop-append-le}
 use Rattle.json.specs.Json.{Json, null, object, Members, no_members, member, max_depth, document}
 use Rattle.json.specs.Lex.{tokens}
 use Rattle.json.specs.Print.{print}
 use Rattle.json.specs.Token.{Token, key, begin_object, end_object}
 use Rattle.json.specs.Tree.{json_tokens, depth}
+use Rattle.mmdb_format.specs.Unfolding.{Tree}
+use Rattle.mmdb_layout.specs.Reading.{reads_in}
 use Rattle.mmdb_reader.specs.File.{Database, data_section}
 use Rattle.mmdb_reader.specs.declared.path.PathElement.{PathElement}
 use Rattle.mmdb_objects.specs.declared.step.PathStep.{PathStep}
@@ -25,17 +27,18 @@ use Rattle.mmdb_objects.proofs.LongerLaws.{AllSpace, Brace, brace_and, last_brac
 
 -- ---- the tokens of the fields are those of an object
 
-value_of : (path : List PathElement) (s : List ℕ) (offset : ℕ) (ts : List Token) → AreValue path s offset ts → (j : Json) × (ts ≡ json_tokens j)
-value_of path s offset ts (false, none) = (null, none.1)
-value_of path s offset ts (true, found) = (found.2.0, found.2.2)
+value_of : (answer : Option (Option Tree)) (ts : List Token) → AreValue answer ts → (j : Json) × (ts ≡ json_tokens j)
+value_of None ts never = absurd never
+value_of (Some None) ts none = (null, none)
+value_of (Some (Some v)) ts (j, shows, are) = (j, are)
 
-shown_of : (fields : List NamedField) (s : List ℕ) (offset : ℕ) (ts : List Token) → AreFields fields s offset ts → (shown : Members) × AreShown fields s offset shown × (ts ≡ inner shown)
-shown_of [] s offset ts none = (no_members, refl, none)
-shown_of (field ∷ fields) s offset ts (here, rest, are, value, more) =
-    let found = value_of field.path.items s offset here value in
-    let others = shown_of fields s offset rest more in (
+shown_of : (reads : List PathElement → Option (Option Tree)) (fields : List NamedField) (ts : List Token) → AreFields reads fields ts → (shown : Members) × AreShown reads fields shown × (ts ≡ inner shown)
+shown_of reads [] ts none = (no_members, refl, none)
+shown_of reads (field ∷ fields) ts (here, rest, are, value, more) =
+    let found = value_of (reads field.path.items) here value in
+    let others = shown_of reads fields rest more in (
       member field.name.now found.0 others.0,
-      (found.0, others.0, refl, subst (AreValue field.path.items s offset) found.1 value, others.1),
+      (found.0, others.0, refl, subst (AreValue (reads field.path.items)) found.1 value, others.1),
       are ∙ (λ i. key field.name.now ∷ (found.1 i ++ others.2 i)),
     )
 
@@ -57,7 +60,7 @@ module _ (db : Database) (reading : Reading) (path : List PathStep) (nulls : Boo
   gains (inr (_, _, _, inr (_, Some _, Some _, _, _, inl (none, other, why)))) = absurd (cc)
   gains (inr (_, _, _, inr (_, Some _, Some _, _, _, inr (inl (other, why, none))))) = absurd (cc)
   gains (inr (ms, at, of, inr (fresh, Some address, Some asked, leads, asks, inr (inr (leaf, offset, put, answers, made, extra_is, same, outcome))))) =
-      let shown = shown_of fields (data_section db) offset made.0 made.1 in
+      let shown = shown_of (reads_in (data_section db) (Some offset)) fields made.0 made.1 in
       let here : IsObject text goes_on ms behind = subst (IsObject text goes_on ms) (sym same) of in
       let ts = key name ∷ json_tokens (object shown.0) in
       let is = member_is name made.0 shown.0 shown.2 in

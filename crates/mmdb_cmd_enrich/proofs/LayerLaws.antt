@@ -17,7 +17,8 @@ use Rattle.mmdb_cmd_enrich.specs.Cells.{IsCell, AreCells, are_read}
 use Rattle.mmdb_layout.specs.Reading.{reads_in, or_next, reads_of, first_read_of}
 use Rattle.mmdb_cmd_enrich.specs.Layers.{HaveAll, AnyRejects, first_read, has_record, outcome_of, AddsAtAll, digit_of, radix_of, IsKey}
 use Rattle.mmdb_cmd_enrich.specs.Wanted.{layers, AddsOf}
-use Rattle.mmdb_cmd_enrich.specs.Working.{offset_in, IsAnswerOf, IsAnswer, AreAnswersOf, AreAnswers, IsKeyAfter}
+use Rattle.mmdb_cmd_enrich.specs.Working.{offset_in, IsAnswerOf, IsAnswer, AreAnswersOf, AreAnswers, ShowNetworks, IsKeyAfter}
+use Rattle.mmdb_cmd_enrich.proofs.NetworkLaws.{answer_of, answer_has, answers_show}
 
 -- What the databases left have completes what was found of those before: answers, where records are, and the key.
 pub record LayersWay {S : Type 0} {G : Ghosts S ℕ} (dbs left : List Database) (address : IpAddr) (answers : List (Option (LookupResult S G))) (key : Option ℕ) : Type 0 where
@@ -25,11 +26,12 @@ pub record LayersWay {S : Type 0} {G : Ghosts S ℕ} (dbs left : List Database) 
   pub have : (more : List (Option (LookupResult S G))) → HaveAll left address (map offset_in more) → HaveAll dbs address (map offset_in (answers ++ more))
   pub numbered : (more : List (Option (LookupResult S G))) (last : ℕ) → IfSome key (λ before. IsKey before left (map offset_in more) last → IsKey 0 dbs (map offset_in (answers ++ more)) last)
   pub rejected : AnyRejects left address → AnyRejects dbs address
+  pub shown : (more : List (Option (LookupResult S G))) → ShowNetworks left address more → ShowNetworks dbs address (answers ++ more)
 
 pub layers_started : {S : Type 0} {G : Ghosts S ℕ} (dbs : List Database) (address : IpAddr) (answers : List (Option (LookupResult S G))) → answers ≡ [] → LayersWay dbs dbs address answers (Some 0)
 layers_started {S} {G} dbs address answers none =
     let P : List (Option (LookupResult S G)) → Type 0 = λ a. LayersWay dbs dbs address a (Some 0) in
-    subst P (sym none) (record { answered = λ more are. are; have = λ more are. are; numbered = λ more last is. is; rejected = λ one. one })
+    subst P (sym none) (record { answered = λ more are. are; have = λ more are. are; numbered = λ more last is. is; rejected = λ one. one; shown = λ more all. all })
 
 -- a number with one digit more completes the keys that the number before completes
 number_more : (dbs : List Database) (whole : List (Option ℕ)) (db : Database) (left : List Database) (offset : Option ℕ) (offsets : List (Option ℕ)) (last : ℕ) (before after : Option ℕ)
@@ -51,14 +53,15 @@ pub one_answer : {S : Type 0} {G : Ghosts S ℕ} (dbs left : List Database) (db 
 one_answer {S} {G} dbs left db address answers more answer before after way put is key =
     let both : (rest : List (Option (LookupResult S G))) → more ++ rest ≡ answers ++ (answer ∷ rest) = λ rest. ap (λ l. l ++ rest) put ∙ append_assoc answers (answer ∷ []) rest in
     record {
-      answered = λ rest are. subst (AreAnswersOf dbs) (sym (both rest)) (way.answered (answer ∷ rest) (is.0, are));
+      answered = λ rest are. subst (AreAnswersOf dbs) (sym (both rest)) (way.answered (answer ∷ rest) (answer_of db address answer is, are));
       have = λ rest are.
           let P : List (Option (LookupResult S G)) → Type 0 = λ l. HaveAll dbs address (map offset_in l) in
-          subst P (sym (both rest)) (way.have (answer ∷ rest) (is.1, are));
+          subst P (sym (both rest)) (way.have (answer ∷ rest) (answer_has db address answer is, are));
       numbered = λ rest last.
           let P : List (Option (LookupResult S G)) → Type 0 = λ l. IfSome after (λ n. IsKey n left (map offset_in rest) last → IsKey 0 dbs (map offset_in l) last) in
           subst P (sym (both rest)) (number_more dbs (map offset_in (answers ++ (answer ∷ rest))) db left (offset_in answer) (map offset_in rest) last before after (way.numbered (answer ∷ rest) last) key);
       rejected = λ one. way.rejected (inr one);
+      shown = λ rest all. subst (ShowNetworks dbs address) (sym (both rest)) (way.shown (answer ∷ rest) (answers_show db left address answer rest is all));
     }
 
 -- the key of all of them
@@ -66,13 +69,18 @@ key_done : (dbs : List Database) (offsets : List (Option ℕ)) (key : Option ℕ
 key_done dbs offsets None way = way 0
 key_done dbs offsets (Some key) way = way key refl
 
+-- no answers have no networks
+none_shown : (S : Type 0) (G : Ghosts S ℕ) (address : IpAddr) → ShowNetworks {S = S} {G = G} [] address []
+none_shown S G address [] are = tt
+none_shown S G address (network ∷ networks) are = absurd are
+
 pub answers_done : {S : Type 0} {G : Ghosts S ℕ} (dbs : List Database) (address : IpAddr) (answers : List (Option (LookupResult S G))) (key : Option ℕ)
     → LayersWay dbs [] address answers key → AreAnswers dbs address answers × IfSome key (IsKey 0 dbs (map offset_in answers))
 answers_done {S} {G} dbs address answers key way =
     let all : answers ++ [] ≡ answers = append-nil answers in
     let H : List (Option (LookupResult S G)) → Type 0 = λ l. HaveAll dbs address (map offset_in l) in
     let K : List (Option (LookupResult S G)) → Type 0 = λ l. IfSome key (IsKey 0 dbs (map offset_in l)) in (
-      (subst (AreAnswersOf dbs) all (way.answered [] tt), subst H all (way.have [] tt)),
+      (subst (AreAnswersOf dbs) all (way.answered [] tt), subst H all (way.have [] tt), subst (ShowNetworks dbs address) all (way.shown [] (none_shown S G address))),
       subst K all (key_done dbs (map offset_in (answers ++ [])) key (way.numbered [])),
     )
 
@@ -84,7 +92,7 @@ digit_same (Some a) None e = absurd (omega (arith, e))
 digit_same (Some a) (Some b) e = ap Some (omega (arith, e))
 
 -- no two lists of offsets have the same key
-keys_same : (dbs : List Database) (m n : ℕ) (some others : List (Option ℕ)) (key : ℕ) → IsKey m dbs some key → IsKey n dbs others key → (m ≡ n) × (some ≡ others)
+pub keys_same : (dbs : List Database) (m n : ℕ) (some others : List (Option ℕ)) (key : ℕ) → IsKey m dbs some key → IsKey n dbs others key → (m ≡ n) × (some ≡ others)
 keys_same [] m n [] [] key a b = (sym a ∙ b, refl)
 keys_same [] m n [] (o ∷ os) key a b = absurd b
 keys_same [] m n (o ∷ os) others key a b = absurd a

@@ -3,9 +3,11 @@ mod CellRunLaws
 mod KeptLaws
 mod ColumnLaws
 mod AddedLaws
+mod NetworkLaws
 mod LayerLaws
 mod AheadLaws
 mod AskedLaws
 mod MemberLaws
+mod LayeredMemberLaws
 mod PartLaws
 mod GainLaws

@@ -1,95 +1,96 @@
 -- Members, one after another.
-use Rattle.std.proofs.Common.{◌≡◌, ℕ, zero, suc, List, [], ◌∷◌, ◌++◌, Option, Some, None, MatchOption, ◌⊎◌, ◌≤◌, arith, IfSome, IfNone, Bool, true, false, inl, inr, subst, refl, sym, ap, ◌∙◌, drop, append_assoc, append-nil}
+use Rattle.std.proofs.Common.{◌≡◌, ℕ, zero, suc, List, [], ◌∷◌, ◌++◌, Option, Some, None, option_map, MatchOption, ◌⊎◌, ◌≤◌, arith, IfSome, IfNone, Bool, true, false, inl, inr, subst, refl, sym, ap, ◌∙◌, drop, append_assoc, append-nil}
 use Rattle.std.specs.Global.{Vec}
 use Rattle.std.specs.declared.net.ip_addr.IpAddr.{IpAddr}
-use Rattle.json.specs.Token.{Token, key}
+use Rattle.json.specs.Token.{Token, key, null}
+use Rattle.json.specs.Tree.{json_tokens}
 use Rattle.mmdb_format.specs.Error.{MemoryApart, kind_of, OfInput, OfDatabase}
 use Rattle.mmdb_format.specs.Unfolding.{Tree}
 use Rattle.mmdb_format.specs.declared.error.MaxMindDbError.{MaxMindDbError}
 use Rattle.mmdb_format.specs.declared.error.MaxMindDbError.TheVariants.{InvalidDatabase, Io, Decoding, ResourceLimit, InvalidNetwork, InvalidInput, Memory}
-use Rattle.mmdb_reader.specs.Decoding.{FailsToDecode}
+use Rattle.mmdb_decode.specs.Errors.{Fails}
+use Rattle.mmdb_json.specs.Shown.{WritesShown}
 use Rattle.mmdb_reader.specs.declared.path.PathElement.{PathElement}
-use Rattle.mmdb_found.specs.Found.{WritesAlong}
+use Rattle.mmdb_value.specs.Values.{value_tree}
+use Rattle.mmdb_value.specs.declared.any_value.Value.{Value}
 use Rattle.mmdb_reader.specs.File.{Database, data_section}
 use Rattle.mmdb_reader.specs.Lookup.{Answers, CanAsk, IsInvalidAt, outcome_at}
 use Rattle.mmdb_filter.specs.declared.counts.Outcome.{Outcome}
 use Rattle.mmdb_filter.specs.declared.counts.Outcome.TheVariants.{Found, Absent, Failed}
 use Rattle.mmdb_filter.specs.declared.filter.Added.{Added}
-use Rattle.mmdb_layout.specs.Reading.{read_at}
-use Rattle.mmdb_cmd_enrich.specs.Fields.{AreValue, AreFields, HasUnreadField, IsMember, IsNullMember}
+use Rattle.mmdb_layout.specs.Reading.{reads_in}
+use Rattle.mmdb_cmd_enrich.specs.Fields.{AreValue, AreFields, HasUnreadField, IsMemberAfter, IsNullMemberAfter}
 use Rattle.mmdb_cmd_enrich.specs.Members.{HasUnreadMember, PutsMember, PutsText}
 use Rattle.mmdb_objects.specs.Longer.{comma_behind}
-use Rattle.mmdb_cmd_enrich.specs.Working.{PutsMemberFor, PutsNone, PutsToObject}
+use Rattle.mmdb_cmd_enrich.specs.Working.{PutsValue, PutsMemberFor, PutsNone, PutsNoneAfter, PutsToObject}
 use Rattle.mmdb_cmd_enrich.specs.Asked.{AsksIfAny}
-use Rattle.mmdb_cmd_enrich.specs.Wanted.{MemberAt}
+use Rattle.mmdb_cmd_enrich.specs.Wanted.{MemberAfter, MemberOf}
 use Rattle.mmdb_cmd_enrich.specs.declared.members.NamedField.{NamedField}
 use Rattle.mmdb_objects.specs.declared.objects.Line.{Line}
 
--- tokens that grew by what is along a path
-pub grew_by_value : (path : List PathElement) (s : List ℕ) (offset : ℕ) (is_found : Bool) (old new : List Token) → WritesAlong path s (Some offset) is_found old new → (value : List Token) × AreValue path s offset value × (new ≡ old ++ value)
-grew_by_value path s offset false old new w = (_, (false, (w.0, refl)), w.1)
-grew_by_value path s offset true old new w =
-    let (part, stands, shown) = w in
-    let (j, shows, put) = shown in
-    (_, (true, (part, stands, (j, shows, refl))), put)
+-- tokens that grew by those of a value that was read, and by `null` where none was there
+pub value_put : (answer : Option (Option Tree)) (value : Option Value) (v : Value) (old new : List Token) → answer ≡ Some (option_map value_tree value) → value ≡ Some v → WritesShown (value_tree v) old new → PutsValue answer old new
+value_put answer value v old new is there (j, shows, put) =
+    subst (λ a. PutsValue a old new) (sym (is ∙ ap (λ x. Some (option_map value_tree x)) there)) (json_tokens j, (j, shows, refl), put)
+
+pub null_value_put : (answer : Option (Option Tree)) (value : Option Value) (old new : List Token) → answer ≡ Some (option_map value_tree value) → value ≡ None → new ≡ old ++ null ∷ [] → PutsValue answer old new
+null_value_put answer value old new is none put =
+    subst (λ a. PutsValue a old new) (sym (is ∙ ap (λ x. Some (option_map value_tree x)) none)) (null ∷ [], refl, put)
 
 -- whatever tokens the fields left have complete those of all
-abbrev pub FieldsWay : List NamedField → List NamedField → List ℕ → ℕ → List Token → List Token → Type 0
-FieldsWay all left s offset old now = (tokens : List Token) → AreFields left s offset tokens → (whole : List Token) × AreFields all s offset whole × (now ++ tokens ≡ old ++ whole)
+abbrev pub FieldsWay : (List PathElement → Option (Option Tree)) → List NamedField → List NamedField → List Token → List Token → Type 0
+FieldsWay reads all left old now = (tokens : List Token) → AreFields reads left tokens → (whole : List Token) × AreFields reads all whole × (now ++ tokens ≡ old ++ whole)
 
-pub fields_started : (all : List NamedField) (s : List ℕ) (offset : ℕ) (old : List Token) → FieldsWay all all s offset old old
-fields_started all s offset old = λ tokens are. (tokens, are, refl)
+pub fields_started : (reads : List PathElement → Option (Option Tree)) (all : List NamedField) (old : List Token) → FieldsWay reads all all old old
+fields_started reads all old = λ tokens are. (tokens, are, refl)
 
-pub one_field : (all left : List NamedField) (field : NamedField) (s : List ℕ) (offset : ℕ) (old now named new value : List Token)
-    → FieldsWay all (field ∷ left) s offset old now → named ≡ now ++ (key field.name.now ∷ []) → AreValue field.path.items s offset value → new ≡ named ++ value → FieldsWay all left s offset old new
-one_field all left field s offset old now named new value way name is put = λ tokens are.
+pub one_field : (reads : List PathElement → Option (Option Tree)) (all left : List NamedField) (field : NamedField) (old now named new value : List Token)
+    → FieldsWay reads all (field ∷ left) old now → named ≡ now ++ (key field.name.now ∷ []) → AreValue (reads field.path.items) value → new ≡ named ++ value → FieldsWay reads all left old new
+one_field reads all left field old now named new value way name is put = λ tokens are.
     let (whole, wholes, same) = way (key field.name.now ∷ (value ++ tokens)) (value, tokens, refl, is, are) in
     (whole, wholes, ap (λ t. t ++ tokens) (put ∙ ap (λ t. t ++ value) name ∙ append_assoc now (key field.name.now ∷ []) value) ∙ append_assoc now (key field.name.now ∷ value) tokens ∙ same)
 
-pub fields_done : (all : List NamedField) (s : List ℕ) (offset : ℕ) (old now : List Token) → FieldsWay all [] s offset old now → (whole : List Token) × AreFields all s offset whole × (now ≡ old ++ whole)
-fields_done all s offset old now way =
+pub fields_done : (reads : List PathElement → Option (Option Tree)) (all : List NamedField) (old now : List Token) → FieldsWay reads all [] old now → (whole : List Token) × AreFields reads all whole × (now ≡ old ++ whole)
+fields_done reads all old now way =
     let (whole, wholes, same) = way [] refl in
     (whole, wholes, sym (append-nil now) ∙ same)
 
--- the same where the offset of the record and the path are known by equations
-pub written_at : (path given : List PathElement) (s : List ℕ) (offset : ℕ) (found : Option ℕ) (old new : List Token) (is_found : Bool) → found ≡ Some offset → given ≡ path
-    → WritesAlong given s found is_found old new → (value : List Token) × AreValue path s offset value × (new ≡ old ++ value)
-written_at path given s offset found old new is_found there same w =
-    grew_by_value path s offset is_found old new (subst (λ f. WritesAlong path s f is_found old new) there (subst (λ p. WritesAlong p s found is_found old new) same w))
-
 -- one of the fields can't be read
-pub rejected_in : (fields : List NamedField) (at : ℕ) (field : NamedField) (rest : List NamedField) (s : List ℕ) (offset : ℕ)
-    → drop at fields ≡ field ∷ rest → read_at field.path.items s offset ≡ None → HasUnreadField fields s offset
-rejected_in fields zero field rest s offset here none = subst (λ l. HasUnreadField l s offset) (sym here) (inl none)
-rejected_in [] (suc at) field rest s offset here none = absurd (cc)
-rejected_in (x ∷ xs) (suc at) field rest s offset here none = inr (rejected_in xs at field rest s offset here none)
+pub rejected_in : (reads : List PathElement → Option (Option Tree)) (fields : List NamedField) (at : ℕ) (field : NamedField) (rest : List NamedField)
+    → drop at fields ≡ field ∷ rest → reads field.path.items ≡ None → HasUnreadField reads fields
+rejected_in reads fields zero field rest here none = subst (HasUnreadField reads) (sym here) (inl none)
+rejected_in reads [] (suc at) field rest here none = absurd (cc)
+rejected_in reads (x ∷ xs) (suc at) field rest here none = inr (rejected_in reads xs at field rest here none)
 
--- what follows of a record that could not be decoded, unless out of memory
-pub declined : (e : MaxMindDbError) (read : ℕ → Option (Option Tree)) (found : Option ℕ) (P : ℕ → Type 0)
-    → ((offset : ℕ) → read offset ≡ None → P offset) → MemoryApart e (FailsToDecode false e read found) → MemoryApart e ((offset : ℕ) → found ≡ Some offset → P offset)
-declined Memory read found P goes r = r
-declined (InvalidDatabase message o) read found P goes r = λ offset at. goes offset (subst (FailsToDecode false (InvalidDatabase message o) read) at r)
-declined (Io cause) read found P goes r = λ offset at. goes offset (subst (FailsToDecode false (Io cause) read) at r)
-declined (Decoding message o path) read found P goes r = λ offset at. goes offset (subst (FailsToDecode false (Decoding message o path) read) at r)
-declined (ResourceLimit message o path) read found P goes r = λ offset at. goes offset (subst (FailsToDecode false (ResourceLimit message o path) read) at r)
-declined (InvalidNetwork cause) read found P goes r = λ offset at. goes offset (subst (FailsToDecode false (InvalidNetwork cause) read) at r)
-declined (InvalidInput message) read found P goes r = λ offset at. goes offset (subst (FailsToDecode false (InvalidInput message) read) at r)
+-- what follows of a value that could not be read, unless out of memory
+pub declined : (e : MaxMindDbError) (answer : Option (Option Tree)) (P : Type 0) → (answer ≡ None → P) → Fails false e answer → MemoryApart e P
+declined Memory answer P goes r = r
+declined (InvalidDatabase message o) answer P goes r = goes r
+declined (Io cause) answer P goes r = goes r
+declined (Decoding message o path) answer P goes r = goes r
+declined (ResourceLimit message o path) answer P goes r = goes r
+declined (InvalidNetwork cause) answer P goes r = goes r
+declined (InvalidInput message) answer P goes r = goes r
 
--- the member of a record, or that a field can't be read
-pub member_kept : (db asked : Database) (name : List ℕ) (fields : List NamedField) (found : Option ℕ) (offset : ℕ) (member : Option (Vec ℕ)) (cells : List ℕ) (outcome : Outcome)
-    → asked ≡ db → found ≡ Some offset
-    → IfSome member (λ text. (here : ℕ) → found ≡ Some here → IsMember asked name fields here text.items)
-    → IfNone member ((here : ℕ) → found ≡ Some here → HasUnreadField fields (data_section asked) here)
+-- the member of what was read, after others, or that a field can't be read
+pub member_kept : (front : List Token) (reads others : List PathElement → Option (Option Tree)) (name : List ℕ) (fields : List NamedField) (member : Option (Vec ℕ)) (cells : List ℕ) (outcome : Outcome)
+    → reads ≡ others
+    → IfSome member (λ text. IsMemberAfter front reads name fields text.items)
+    → IfNone member (HasUnreadField reads fields)
     → MatchOption member ((cells ≡ []) × (outcome ≡ Failed)) (λ text. (cells ≡ text.items) × (outcome ≡ Found))
-    → MemberAt db name fields offset cells outcome
-member_kept db asked name fields found offset None cells outcome same at some none kept =
-    inr (subst (λ d. HasUnreadField fields (data_section d) offset) same (none offset at), kept.0, kept.1)
-member_kept db asked name fields found offset (Some text) cells outcome same at some none kept =
-    inl (subst (λ d. IsMember d name fields offset cells) same (subst (IsMember asked name fields offset) (sym kept.0) (some offset at)), kept.1)
+    → MemberAfter front others name fields cells outcome
+member_kept front reads others name fields None cells outcome same some none kept =
+    subst (λ r. MemberAfter front r name fields cells outcome) same (inr (none, kept.0, kept.1))
+member_kept front reads others name fields (Some text) cells outcome same some none kept =
+    subst (λ r. MemberAfter front r name fields cells outcome) same (inl (subst (IsMemberAfter front reads name fields) (sym kept.0) some, kept.1))
+
+-- what is read in the record that a lookup found
+pub reads_same : (db asked : Database) (found : Option ℕ) (offset : ℕ) → asked ≡ db → found ≡ Some offset → reads_in (data_section asked) found ≡ reads_in (data_section db) (Some offset)
+reads_same db asked found offset same at = ap (λ d. reads_in (data_section d) found) same ∙ ap (λ o. reads_in (data_section db) o) at
 
 -- the member of the record of an address
 pub member_put : (db : Database) (nulls : Bool) (name : List ℕ) (fields : List NamedField) (line : Line) (address : IpAddr) (leaf : List Bool) (found : Option ℕ) (offset : ℕ) (text : List ℕ) (outcome : Outcome) (addition : Added) (old new : List ℕ)
-    → found ≡ Some offset → Answers db address leaf (outcome_at found) → MemberAt db name fields offset text outcome → PutsMember line text outcome addition old new → PutsMemberFor db nulls name fields line (Some address) addition old new
+    → found ≡ Some offset → Answers db address leaf (outcome_at found) → MemberOf (reads_in (data_section db) (Some offset)) name fields text outcome → PutsMember line text outcome addition old new → PutsMemberFor db nulls name fields line (Some address) addition old new
 member_put db nulls name fields line address leaf found offset text outcome addition old new at answers (inl (is, here)) puts =
     let there = subst (λ f. Answers db address leaf (outcome_at f)) at answers in
     let (o, b, put) = subst (λ x. PutsMember line text x addition old new) here puts in
@@ -105,17 +106,17 @@ pub absent_put : (db : Database) (nulls : Bool) (name : List ℕ) (fields : List
 absent_put db nulls name fields line address leaf found addition old new none answers (o, (extra, adds, put)) =
     (extra, inr (inl (o, (leaf, subst (λ f. Answers db address leaf (outcome_at f)) none answers), adds)), put)
 
--- a member of which each field is null, or nothing
-pub null_put : (name : List ℕ) (fields : List NamedField) (line : Line) (outcome : Outcome) (text : List ℕ) (addition : Added) (old new : List ℕ) → IsNullMember name fields text
-    → PutsText line text outcome addition old new → PutsNone true name fields line outcome addition old new
-null_put name fields line outcome text addition old new is (o, b, put) = (o, (comma_behind line.is_empty ++ text, (text, is, refl, b), put))
+-- a member of which each field is null, after others, or nothing
+pub null_put : (front : List Token) (name : List ℕ) (fields : List NamedField) (line : Line) (outcome : Outcome) (text : List ℕ) (addition : Added) (old new : List ℕ) → IsNullMemberAfter front name fields text
+    → PutsText line text outcome addition old new → PutsNoneAfter front true name fields line outcome addition old new
+null_put front name fields line outcome text addition old new is (o, b, put) = (o, (comma_behind line.is_empty ++ text, (text, is, refl, b), put))
 
-pub nothing_put : (name : List ℕ) (fields : List NamedField) (line : Line) (outcome : Outcome) (addition : Added) (old : List ℕ) → addition.outcome ≡ outcome → PutsNone false name fields line outcome addition old old
-nothing_put name fields line outcome addition old o = (o, ([], refl, sym (append-nil old)))
+pub nothing_put : (front : List Token) (name : List ℕ) (fields : List NamedField) (line : Line) (outcome : Outcome) (addition : Added) (old : List ℕ) → addition.outcome ≡ outcome → PutsNoneAfter front false name fields line outcome addition old old
+nothing_put front name fields line outcome addition old o = (o, ([], refl, sym (append-nil old)))
 
-pub none_put : (nulls wanted : Bool) (name : List ℕ) (fields : List NamedField) (line : Line) (outcome : Outcome) (addition : Added) (old new : List ℕ) → nulls ≡ wanted
-    → PutsNone wanted name fields line outcome addition old new → PutsNone nulls name fields line outcome addition old new
-none_put nulls wanted name fields line outcome addition old new is puts = subst (λ b. PutsNone b name fields line outcome addition old new) (sym is) puts
+pub none_put : (front : List Token) (nulls wanted : Bool) (name : List ℕ) (fields : List NamedField) (line : Line) (outcome : Outcome) (addition : Added) (old new : List ℕ) → nulls ≡ wanted
+    → PutsNoneAfter front wanted name fields line outcome addition old new → PutsNoneAfter front nulls name fields line outcome addition old new
+none_put front nulls wanted name fields line outcome addition old new is puts = subst (λ b. PutsNoneAfter front b name fields line outcome addition old new) (sym is) puts
 
 -- the lookup of the address fails
 pub rejected_put : (db : Database) (nulls : Bool) (name : List ℕ) (fields : List NamedField) (line : Line) (address : IpAddr) (addition : Added) (old : List ℕ) → HasUnreadMember db fields address → addition.outcome ≡ Failed → PutsMemberFor db nulls name fields line (Some address) addition old old

@@ -1,23 +1,28 @@
--- The member of an object that the fields of a record make.
-use Rattle.std.specs.Prelude.{◌≡◌, ◌⊎◌, ℕ, List, [], ◌∷◌, ◌++◌, Some, None, Bool}
+-- The member of an object that fields make, each of what is read along its path.
+use Rattle.std.specs.Prelude.{◌≡◌, ◌⊎◌, ℕ, List, [], ◌∷◌, ◌++◌, Option, Some, None, codes}
+use Rattle.json.specs.Json.{Json}
 use Rattle.json.specs.Lex.{tokens as tokens_read}
 use Rattle.json.specs.Print.{print}
-use Rattle.json.specs.Token.{Token, key, null, begin_object, end_object}
-use Rattle.mmdb_reader.specs.File.{Database, data_section}
+use Rattle.json.specs.Token.{Token, key, null, string, begin_object, end_object}
+use Rattle.json.specs.Tree.{json_tokens}
+use Rattle.mmdb_format.specs.Unfolding.{Tree}
+use Rattle.mmdb_json.specs.Shown.{Shows}
+use Rattle.mmdb_net.specs.Network.{short_text_of}
+use Rattle.mmdb_net.specs.declared.network.IpNetwork.{IpNetwork}
 use Rattle.mmdb_reader.specs.declared.path.PathElement.{PathElement}
-use Rattle.mmdb_found.specs.Found.{WritesAlong}
-use Rattle.mmdb_layout.specs.Reading.{read_at}
 use Rattle.mmdb_cmd_enrich.specs.declared.members.NamedField.{NamedField}
 
--- the tokens of what is along a path in a record, or `null` where nothing is
-abbrev pub AreValue : List PathElement → List ℕ → ℕ → List Token → Type 0
-AreValue path s offset tokens = (is_found : Bool) × WritesAlong path s (Some offset) is_found [] tokens
+-- the tokens of what was read: of JSON that shows it, or `null` where nothing is there
+abbrev pub AreValue : Option (Option Tree) → List Token → Type 0
+AreValue None tokens = ⊥
+AreValue (Some None) tokens = tokens ≡ null ∷ []
+AreValue (Some (Some v)) tokens = (j : Json) × Shows v j × (tokens ≡ json_tokens j)
 
--- for each field its name, and the value along its path
-abbrev pub AreFields : List NamedField → List ℕ → ℕ → List Token → Type 0
-AreFields [] s offset tokens = tokens ≡ []
-AreFields (field ∷ fields) s offset tokens =
-    (value rest : List Token) × (tokens ≡ key field.name.now ∷ (value ++ rest)) × AreValue field.path.items s offset value × AreFields fields s offset rest
+-- for each field its name, and what is read along its path
+abbrev pub AreFields : (List PathElement → Option (Option Tree)) → List NamedField → List Token → Type 0
+AreFields reads [] tokens = tokens ≡ []
+AreFields reads (field ∷ fields) tokens =
+    (value rest : List Token) × (tokens ≡ key field.name.now ∷ (value ++ rest)) × AreValue (reads field.path.items) value × AreFields reads fields rest
 
 -- for each field its name and `null`
 abbrev pub null_fields : List NamedField → List Token
@@ -25,20 +30,34 @@ null_fields [] = []
 null_fields (field ∷ fields) = key field.name.now ∷ (null ∷ null_fields fields)
 
 -- the way to a field, or its value, can't be read
-abbrev pub HasUnreadField : List NamedField → List ℕ → ℕ → Type 0
-HasUnreadField [] s offset = ⊥
-HasUnreadField (field ∷ fields) s offset = (read_at field.path.items s offset ≡ None) ⊎ HasUnreadField fields s offset
+abbrev pub HasUnreadField : (List PathElement → Option (Option Tree)) → List NamedField → Type 0
+HasUnreadField reads [] = ⊥
+HasUnreadField reads (field ∷ fields) = (reads field.path.items ≡ None) ⊎ HasUnreadField reads fields
 
 -- a name, and an object of these members
 abbrev pub member_tokens : List ℕ → List Token → List Token
 member_tokens name tokens = key name ∷ (begin_object ∷ (tokens ++ end_object ∷ []))
 
--- the text of a member with the fields of a record: its name, and an object; a reader gets their tokens back
-abbrev pub IsMember : Database → List ℕ → List NamedField → ℕ → List ℕ → Type 0
-IsMember db name fields offset text =
-    (tokens : List Token) × AreFields fields (data_section db) offset tokens × (text ≡ print (member_tokens name tokens))
-    × (tokens_read text ≡ member_tokens name tokens)
+-- the member of a network, `null` where there is none
+abbrev pub network_tokens : Option IpNetwork → List Token
+network_tokens None = key (codes "network") ∷ (null ∷ [])
+network_tokens (Some network) = key (codes "network") ∷ (string (short_text_of network) ∷ [])
 
--- the text of a member with fields that are all null; a reader gets its tokens back
+-- the text of a member with other members before the fields: its name, and an object; a reader gets their tokens back
+abbrev pub IsMemberAfter : List Token → (List PathElement → Option (Option Tree)) → List ℕ → List NamedField → List ℕ → Type 0
+IsMemberAfter front reads name fields text =
+    (tokens : List Token) × AreFields reads fields tokens × (text ≡ print (member_tokens name (front ++ tokens)))
+    × (tokens_read text ≡ member_tokens name (front ++ tokens))
+
+-- the same with fields alone
+abbrev pub IsMember : (List PathElement → Option (Option Tree)) → List ℕ → List NamedField → List ℕ → Type 0
+IsMember reads name fields text = IsMemberAfter [] reads name fields text
+
+-- the text of a member with fields that are all null after other members; a reader gets its tokens back
+abbrev pub IsNullMemberAfter : List Token → List ℕ → List NamedField → List ℕ → Type 0
+IsNullMemberAfter front name fields text =
+    (text ≡ print (member_tokens name (front ++ null_fields fields))) × (tokens_read text ≡ member_tokens name (front ++ null_fields fields))
+
+-- the same with fields alone
 abbrev pub IsNullMember : List ℕ → List NamedField → List ℕ → Type 0
-IsNullMember name fields text = (text ≡ print (member_tokens name (null_fields fields))) × (tokens_read text ≡ member_tokens name (null_fields fields))
+IsNullMember name fields text = IsNullMemberAfter [] name fields text

@@ -1,6 +1,6 @@
 -- What is added to a row from several databases: for each path the text of the value to which it leads in the first record
 -- that has one there, of those that the databases have for the address in the row.
-use Rattle.std.specs.Prelude.{◌≡◌, ◌⊎◌, ◌<◌, ◌+◌, ◌*◌, ℕ, List, [], ◌∷◌, length, Option, Some, None, Bool, false, ◌||◌, is_some, ⊤, if◌then◌else◌}
+use Rattle.std.specs.Prelude.{◌≡◌, ◌⊎◌, ◌<◌, ◌+◌, ◌*◌, ℕ, List, [], ◌∷◌, ◌++◌, length, Option, Some, None, Bool, false, ◌||◌, is_some, ⊤, if◌then◌else◌}
 use Rattle.std.specs.declared.net.ip_addr.IpAddr.{IpAddr}
 use Rattle.mmdb_format.specs.Unfolding.{Tree}
 use Rattle.mmdb_reader.specs.File.{Database, data_section}
@@ -11,8 +11,9 @@ use Rattle.mmdb_filter.specs.declared.counts.Outcome.{Outcome}
 use Rattle.mmdb_filter.specs.declared.counts.Outcome.TheVariants.{Found, Absent, Unreadable, Failed}
 use Rattle.mmdb_addresses.specs.declared.readings.Reading.{Reading}
 use Rattle.mmdb_cmd_enrich.specs.Asked.{Asks, ReadsRow}
-use Rattle.mmdb_cmd_enrich.specs.Cells.{AreCells, blanks, are_read}
-use Rattle.mmdb_layout.specs.Reading.{reads_in}
+use Rattle.mmdb_cmd_enrich.specs.Cells.{AreCells, are_read}
+use Rattle.mmdb_cmd_enrich.specs.Networks.{AddsFront, all_blanks}
+use Rattle.mmdb_layout.specs.Reading.{reads_in, or_next}
 
 -- Where a database has the record of an address: at an offset, or nowhere, also where it can't be asked for the address.
 abbrev pub Has : Database → IpAddr → Option ℕ → Type 0
@@ -66,18 +67,20 @@ abbrev pub AddsAtAll : List Database → Rows → List (List PathElement) → Li
 AddsAtAll dbs rows paths offsets extra outcome =
     AreCells rows (first_read dbs offsets) paths extra × (outcome ≡ outcome_of (has_record offsets) (are_read (first_read dbs offsets) paths))
 
--- Those of the records of an address; empty ones where there is no address, no database can be asked for it, or the lookup
--- fails in one of them.
-abbrev pub AddsForAll : List Database → Rows → List (List PathElement) → Option IpAddr → List ℕ → Outcome → Type 0
-AddsForAll dbs rows paths None extra outcome = (extra ≡ blanks rows paths) × (outcome ≡ Unreadable)
-AddsForAll dbs rows paths (Some address) extra outcome =
-    ((CanAskNone dbs address ⊎ AnyRejects dbs address) × (extra ≡ blanks rows paths) × (outcome ≡ Failed))
-    ⊎ (CanAskAny dbs address × (offsets : List (Option ℕ)) × HaveAll dbs address offsets × AddsAtAll dbs rows paths offsets extra outcome)
+-- Those of the records of an address, with its network before them where that is wanted; empty ones where there is no
+-- address, no database can be asked for it, or the lookup fails in one of them.
+abbrev pub AddsForAll : List Database → Bool → Rows → List (List PathElement) → Option IpAddr → List ℕ → Outcome → Type 0
+AddsForAll dbs network rows paths None extra outcome = (extra ≡ all_blanks network rows paths) × (outcome ≡ Unreadable)
+AddsForAll dbs network rows paths (Some address) extra outcome =
+    ((CanAskNone dbs address ⊎ AnyRejects dbs address) × (extra ≡ all_blanks network rows paths) × (outcome ≡ Failed))
+    ⊎ (CanAskAny dbs address × (offsets : List (Option ℕ)) × HaveAll dbs address offsets
+    × (front cells : List ℕ) × (extra ≡ front ++ cells)
+    × AddsFront dbs network rows address (has_record offsets) front × AddsAtAll dbs rows paths offsets cells outcome)
 
 -- those of the address in the row, of which such a text is seen, that may go on
-abbrev pub AddsToAll : List Database → Rows → Reading → ℕ → List (List PathElement) → List ℕ → Bool → List ℕ → Outcome → Type 0
-AddsToAll dbs rows reading column paths text goes_on extra outcome =
-    (address : Option IpAddr) × ReadsRow rows reading column text goes_on address × AddsForAll dbs rows paths address extra outcome
+abbrev pub AddsToAll : List Database → Bool → Rows → Reading → ℕ → List (List PathElement) → List ℕ → Bool → List ℕ → Outcome → Type 0
+AddsToAll dbs network rows reading column paths text goes_on extra outcome =
+    (address : Option IpAddr) × ReadsRow rows reading column text goes_on address × AddsForAll dbs network rows paths address extra outcome
 
 -- the digit of a number that says where a database has a record
 abbrev pub digit_of : Option ℕ → ℕ

@@ -3,9 +3,11 @@ pub mod Columns
 pub mod Cells
 pub mod Asked
 pub mod Added
+pub mod Networks
 pub mod Layers
 pub mod Fields
 pub mod Members
+pub mod LayeredMembers
 pub mod Wanted
 pub mod KeptCells
 pub mod Kept

@@ -1,11 +1,14 @@
 -- A line that gains a member: it is JSON again, the object that it was with one member more.
-use Rattle.std.specs.Prelude.{◌≡◌, ◌<◌, ℕ, List, [], ◌∷◌, ◌++◌, Some, Bool, false}
+use Rattle.std.specs.Prelude.{◌≡◌, ◌<◌, ℕ, List, [], ◌∷◌, ◌++◌, Option, Some, Bool, false}
 use Rattle.std.specs.declared.net.ip_addr.IpAddr.{IpAddr}
 use Rattle.json.specs.Json.{Json, object, Members, no_members, member, max_depth, document}
 use Rattle.json.specs.Print.{print}
 use Rattle.json.specs.Token.{key}
 use Rattle.json.specs.Tree.{json_tokens, depth}
+use Rattle.mmdb_format.specs.Unfolding.{Tree}
+use Rattle.mmdb_layout.specs.Reading.{reads_in}
 use Rattle.mmdb_reader.specs.File.{Database, data_section}
+use Rattle.mmdb_reader.specs.declared.path.PathElement.{PathElement}
 use Rattle.mmdb_reader.specs.Lookup.{Answers, outcome_at}
 use Rattle.mmdb_filter.specs.Lines.{seen_of, is_long, row_with}
 use Rattle.mmdb_filter.specs.declared.counts.Outcome.TheVariants.{Found}
@@ -18,12 +21,12 @@ use Rattle.mmdb_objects.specs.declared.step.PathStep.{PathStep}
 use Rattle.mmdb_objects.specs.Objects.{LeadsToAddress, has_member, is_empty}
 use Rattle.mmdb_cmd_enrich.specs.declared.members.NamedField.{NamedField}
 
--- for each field a member of its name: JSON that shows what is along its path, or `null` where nothing is
-abbrev pub AreShown : List NamedField → List ℕ → ℕ → Members → Type 0
-AreShown [] s offset shown = shown ≡ no_members
-AreShown (field ∷ fields) s offset shown =
-    (j : Json) × (rest : Members) × (shown ≡ member field.name.now j rest) × AreValue field.path.items s offset (json_tokens j)
-    × AreShown fields s offset rest
+-- for each field a member of its name: JSON that shows what is read along its path, or `null` where nothing is
+abbrev pub AreShown : (List PathElement → Option (Option Tree)) → List NamedField → Members → Type 0
+AreShown reads [] shown = shown ≡ no_members
+AreShown reads (field ∷ fields) shown =
+    (j : Json) × (rest : Members) × (shown ≡ member field.name.now j rest) × AreValue (reads field.path.items) (json_tokens j)
+    × AreShown reads fields rest
 
 -- A line is an object, in which the path leads to an address. What is added is the text of a member, whose value is
 -- an object of the fields of that address's record. The longer line is the object with that member after its own,
@@ -41,7 +44,7 @@ pub record GainsMember (db : Database) (reading : Reading) (path : List PathStep
   pub offset : ℕ
   pub answers : Answers db asked leaf (outcome_at (Some offset))
   pub shown : Members
-  pub shows : AreShown fields (data_section db) offset shown
+  pub shows : AreShown (reads_in (data_section db) (Some offset)) fields shown
   pub added : extra ≡ comma_behind (is_empty members) ++ print (key name ∷ json_tokens (object shown))
   pub becomes : depth (object shown) < max_depth → document longer ≡ Some (object (and_last members name (object shown)))
 

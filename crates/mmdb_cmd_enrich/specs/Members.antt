@@ -2,6 +2,7 @@
 use Rattle.std.specs.Prelude.{◌≡◌, ◌⊎◌, ℕ, List, [], ◌++◌, Option, Some, None, Bool, true, false}
 use Rattle.std.specs.declared.net.ip_addr.IpAddr.{IpAddr}
 use Rattle.json.specs.Json.{Members, object}
+use Rattle.json.specs.Token.{Token}
 use Rattle.mmdb_reader.specs.File.{Database, data_section}
 use Rattle.mmdb_reader.specs.Lookup.{CanAsk, IsInvalidAt, Answers, outcome_at}
 use Rattle.mmdb_filter.specs.declared.counts.Outcome.{Outcome}
@@ -9,7 +10,8 @@ use Rattle.mmdb_filter.specs.declared.counts.Outcome.TheVariants.{Found, Absent,
 use Rattle.mmdb_addresses.specs.Addresses.{ReadsAddress}
 use Rattle.mmdb_addresses.specs.declared.readings.Reading.{Reading}
 use Rattle.mmdb_cmd_enrich.specs.Asked.{AsksIfAny}
-use Rattle.mmdb_cmd_enrich.specs.Fields.{IsMember, IsNullMember, HasUnreadField}
+use Rattle.mmdb_cmd_enrich.specs.Fields.{IsMember, IsNullMemberAfter, HasUnreadField}
+use Rattle.mmdb_layout.specs.Reading.{reads_in}
 use Rattle.mmdb_objects.specs.Longer.{comma_behind}
 use Rattle.mmdb_objects.specs.Objects.{IsObject, text_along, has_member, is_empty}
 use Rattle.mmdb_cmd_enrich.specs.declared.members.NamedField.{NamedField}
@@ -21,13 +23,17 @@ use Rattle.mmdb_filter.specs.declared.filter.Added.{Added}
 abbrev pub HasUnreadMember : Database → List NamedField → IpAddr → Type 0
 HasUnreadMember db fields address =
     (¬ CanAsk db address) ⊎ (IsInvalidAt db address
-    ⊎ ((leaf : List Bool) × (offset : ℕ) × Answers db address leaf (outcome_at (Some offset)) × HasUnreadField fields (data_section db) offset))
+    ⊎ ((leaf : List Bool) × (offset : ℕ) × Answers db address leaf (outcome_at (Some offset)) × HasUnreadField (reads_in (data_section db) (Some offset)) fields))
 
--- For an object without a record nothing is added, or, where that is wanted, a member of which each field is null.
+-- For an object without a record nothing is added, or, where that is wanted, a member of which each field is null, after others.
+abbrev pub AddsNoneAfter : List Token → Bool → List ℕ → List NamedField → Bool → ℕ → List ℕ → ℕ → Type 0
+AddsNoneAfter front false name fields empty at extra behind = extra ≡ []
+AddsNoneAfter front true name fields empty at extra behind =
+    (text : List ℕ) × IsNullMemberAfter front name fields text × (extra ≡ comma_behind empty ++ text) × (behind ≡ at)
+
+-- the same with fields alone
 abbrev pub AddsNone : Bool → List ℕ → List NamedField → Bool → ℕ → List ℕ → ℕ → Type 0
-AddsNone false name fields empty at extra behind = extra ≡ []
-AddsNone true name fields empty at extra behind =
-    (text : List ℕ) × IsNullMember name fields text × (extra ≡ comma_behind empty ++ text) × (behind ≡ at)
+AddsNone nulls name fields empty at extra behind = AddsNoneAfter [] nulls name fields empty at extra behind
 
 -- The member of the record of an address is added before the last brace, or nothing: where the address or a field is
 -- rejected. Where there is no address, or it has no record, that is added which an object without a record gets.
@@ -36,7 +42,7 @@ AddsMemberFor db nulls name fields empty at None extra behind outcome = (outcome
 AddsMemberFor db nulls name fields empty at (Some address) extra behind outcome =
     ((extra ≡ []) × (outcome ≡ Failed) × HasUnreadMember db fields address)
     ⊎ (((outcome ≡ Absent) × ((leaf : List Bool) × Answers db address leaf (outcome_at None)) × AddsNone nulls name fields empty at extra behind)
-    ⊎ ((leaf : List Bool) × (offset : ℕ) × (text : List ℕ) × Answers db address leaf (outcome_at (Some offset)) × IsMember db name fields offset text
+    ⊎ ((leaf : List Bool) × (offset : ℕ) × (text : List ℕ) × Answers db address leaf (outcome_at (Some offset)) × IsMember (reads_in (data_section db) (Some offset)) name fields text
     × (extra ≡ comma_behind empty ++ text) × (behind ≡ at) × (outcome ≡ Found)))
 
 -- An object that has a member of the name stays as it is. Any other gets what its address is given.

@@ -5,22 +5,27 @@ use Rattle.mmdb_format.specs.Unfolding.{Tree}
 use Rattle.mmdb_reader.specs.declared.path.PathElement.{PathElement}
 use Rattle.mmdb_filter.specs.declared.rows.Rows.{Rows}
 use Rattle.mmdb_cmd_enrich.specs.Columns.{delimiter_of}
-use Rattle.mmdb_reader.specs.Found.{database_asked, offset_found}
+use Rattle.mmdb_net.specs.declared.network.IpNetwork.{IpNetwork}
+use Rattle.mmdb_reader.specs.Found.{database_asked, leaf_of, offset_found, shown_as_ipv4}
+use Rattle.mmdb_reader.specs.Lookup.{CanAsk, Answers, outcome_at}
+use Rattle.mmdb_reader.specs.Shown.{IsShownBy, is_shown_as_ipv4}
 use Rattle.mmdb_reader.specs.declared.lookup_result.LookupResult.{LookupResult}
 use Rattle.mmdb_cmd_enrich.specs.Cells.{ShowsCell, IsCell, AreCells, are_read}
-use Rattle.mmdb_cmd_enrich.specs.Layers.{Has, HaveAll, digit_of, radix_of, AddsAtAll, AddsForAll}
+use Rattle.mmdb_cmd_enrich.specs.Layers.{HaveAll, first_read, has_record, digit_of, radix_of, AddsAtAll, AddsForAll}
+use Rattle.mmdb_cmd_enrich.specs.Networks.{HaveNetworks, smallest, shown_of, IsFront}
 use Rattle.std.specs.declared.net.ip_addr.IpAddr.{IpAddr}
 use Rattle.json.specs.Token.{Token}
 use Rattle.mmdb_reader.specs.File.{Database}
 use Rattle.mmdb_cmd_enrich.specs.declared.members.NamedField.{NamedField}
-use Rattle.mmdb_cmd_enrich.specs.Fields.{AreFields, member_tokens}
+use Rattle.mmdb_cmd_enrich.specs.Fields.{AreValue, AreFields, member_tokens, network_tokens}
 use Rattle.mmdb_filter.specs.declared.counts.Outcome.{Outcome}
-use Rattle.mmdb_cmd_enrich.specs.Wanted.{MemberAt}
+use Rattle.mmdb_cmd_enrich.specs.Wanted.{MemberAfter}
 use Rattle.mmdb_objects.specs.declared.objects.Line.{Line}
 use Rattle.mmdb_filter.specs.declared.filter.Added.{Added}
-use Rattle.mmdb_cmd_enrich.specs.Members.{AddsMemberFor, AddsNone, PutsMember}
-use Rattle.mmdb_cmd_enrich.specs.Asked.{AsksIfAny}
-use Rattle.mmdb_filter.specs.declared.counts.Outcome.TheVariants.{Occupied}
+use Rattle.mmdb_cmd_enrich.specs.LayeredMembers.{AddsMemberForAll, null_front}
+use Rattle.mmdb_cmd_enrich.specs.Members.{AddsMemberFor, AddsNoneAfter, PutsMember}
+use Rattle.mmdb_cmd_enrich.specs.Asked.{Asks, AsksIfAny}
+use Rattle.mmdb_filter.specs.declared.counts.Outcome.TheVariants.{Absent, Occupied}
 use Rattle.std.specs.Global.{Vec}
 use Rattle.mmdb_cmd_enrich.specs.Added.{AddsAt, AddsFor}
 use Rattle.mmdb_cmd_enrich.specs.Rows.{paths_of}
@@ -46,22 +51,33 @@ PutsCells rows reads paths is_read old new =
     (cells : List ℕ) × AreCells rows reads paths cells
     × (new ≡ old ++ cells) × (is_read ≡ are_read reads paths)
 
--- tokens grow by the fields of the record at an offset
-abbrev pub PutsFields : List NamedField → List ℕ → ℕ → List Token → List Token → Type 0
-PutsFields fields s offset old new =
-    (tokens : List Token) × AreFields fields s offset tokens × (new ≡ old ++ tokens)
+-- tokens grow by those of what was read
+abbrev pub PutsValue : Option (Option Tree) → List Token → List Token → Type 0
+PutsValue answer old new = (value : List Token) × AreValue answer value × (new ≡ old ++ value)
 
--- tokens grow by a member with these fields
-abbrev pub PutsFieldsOf : List ℕ → List NamedField → List ℕ → ℕ → List Token → List Token → Type 0
-PutsFieldsOf name fields s offset old new =
-    (tokens : List Token) × AreFields fields s offset tokens × (new ≡ old ++ member_tokens name tokens)
+-- tokens grow by fields, along whose paths this is read
+abbrev pub PutsFields : (List PathElement → Option (Option Tree)) → List NamedField → List Token → List Token → Type 0
+PutsFields reads fields old new =
+    (tokens : List Token) × AreFields reads fields tokens × (new ≡ old ++ tokens)
 
--- Bytes grow by the member of the record at an offset.
-abbrev pub PutsMemberAt : Database → List ℕ → List NamedField → ℕ → Line → Added → List ℕ → List ℕ →
-    Type 0
-PutsMemberAt db name fields offset line addition old new =
-    (text : List ℕ) × (outcome : Outcome) × MemberAt db name fields offset text outcome
+-- tokens grow by a member with these fields after others
+abbrev pub PutsFieldsAfter : List Token → (List PathElement → Option (Option Tree)) → List ℕ → List NamedField → List Token → List Token → Type 0
+PutsFieldsAfter front reads name fields old new =
+    (tokens : List Token) × AreFields reads fields tokens × (new ≡ old ++ member_tokens name (front ++ tokens))
+
+-- the same with fields alone
+abbrev pub PutsFieldsOf : (List PathElement → Option (Option Tree)) → List ℕ → List NamedField → List Token → List Token → Type 0
+PutsFieldsOf reads name fields old new = PutsFieldsAfter [] reads name fields old new
+
+-- Bytes grow by the member of what is read, with others before the fields, or by nothing where a field can't be read.
+abbrev pub PutsMemberAfter : List Token → (List PathElement → Option (Option Tree)) → List ℕ → List NamedField → Line → Added → List ℕ → List ℕ → Type 0
+PutsMemberAfter front reads name fields line addition old new =
+    (text : List ℕ) × (outcome : Outcome) × MemberAfter front reads name fields text outcome
     × PutsMember line text outcome addition old new
+
+-- the same with fields alone
+abbrev pub PutsMemberOf : (List PathElement → Option (Option Tree)) → List ℕ → List NamedField → Line → Added → List ℕ → List ℕ → Type 0
+PutsMemberOf reads name fields line addition old new = PutsMemberAfter [] reads name fields line addition old new
 
 -- Bytes grow by what is added to an object for its address.
 abbrev pub PutsMemberFor : Database → Bool → List ℕ → List NamedField → Line → Option IpAddr → Added → List ℕ → List ℕ → Type 0
@@ -74,10 +90,14 @@ AddsAtTo db rows fields offset outcome old new = (extra : List ℕ) × AddsAt db
 abbrev pub AddsForTo : Database → Rows → Vec (Vec PathElement) → Option IpAddr → Outcome → Vec ℕ → Vec ℕ → Type 0
 AddsForTo db rows fields address outcome old new = (extra : List ℕ) × AddsFor db rows (paths_of fields) address extra outcome × (new.items ≡ old.items ++ extra)
 
--- Bytes grow by what is added to an object without a record.
+-- Bytes grow by what is added to an object without a record, with others before the fields.
+abbrev pub PutsNoneAfter : List Token → Bool → List ℕ → List NamedField → Line → Outcome → Added → List ℕ → List ℕ → Type 0
+PutsNoneAfter front nulls name fields line outcome addition old new =
+    (addition.outcome ≡ outcome) × ((extra : List ℕ) × AddsNoneAfter front nulls name fields line.is_empty line.behind extra addition.behind × (new ≡ old ++ extra))
+
+-- the same with fields alone
 abbrev pub PutsNone : Bool → List ℕ → List NamedField → Line → Outcome → Added → List ℕ → List ℕ → Type 0
-PutsNone nulls name fields line outcome addition old new =
-    (addition.outcome ≡ outcome) × ((extra : List ℕ) × AddsNone nulls name fields line.is_empty line.behind extra addition.behind × (new ≡ old ++ extra))
+PutsNone nulls name fields line outcome addition old new = PutsNoneAfter [] nulls name fields line outcome addition old new
 
 -- Bytes grow by what is added to an object.
 abbrev pub PutsToObject : Database → Bool → List ℕ → List NamedField → Line → Added → List ℕ → List ℕ → Type 0
@@ -99,7 +119,50 @@ IsAnswerOf db (Some found) = database_asked found ≡ db
 
 -- what a database has for an address
 abbrev pub IsAnswer : {S : Type 0} {G : Ghosts S ℕ} → Database → IpAddr → Option (LookupResult S G) → Type 0
-IsAnswer db address answer = IsAnswerOf db answer × Has db address (offset_in answer)
+IsAnswer db address None = (asked : IpAddr) × Asks db address asked × (¬ CanAsk db asked)
+IsAnswer db address (Some found) =
+    (asked : IpAddr) × Asks db address asked × (database_asked found ≡ db)
+    × Answers db asked (leaf_of found) (outcome_at (offset_found found)) × (shown_as_ipv4 found ≡ is_shown_as_ipv4 db asked)
+
+-- the network of an answer, if there is one
+abbrev pub IsNetworkOf : {S : Type 0} {G : Ghosts S ℕ} → Option (LookupResult S G) → Option IpNetwork → Type 0
+IsNetworkOf None None = ⊤
+IsNetworkOf None (Some network) = ⊥
+IsNetworkOf (Some found) None = ⊥
+IsNetworkOf (Some found) (Some network) = IsShownBy (database_asked found) (leaf_of found) (shown_as_ipv4 found) network
+
+-- the same of each answer
+abbrev pub AreNetworks : {S : Type 0} {G : Ghosts S ℕ} → List (Option (LookupResult S G)) → List (Option IpNetwork) → Type 0
+AreNetworks [] [] = ⊤
+AreNetworks [] (network ∷ networks) = ⊥
+AreNetworks (answer ∷ answers) [] = ⊥
+AreNetworks (answer ∷ answers) (network ∷ networks) = IsNetworkOf answer network × AreNetworks answers networks
+
+-- the smallest of the networks of answers
+abbrev pub IsSmallest : {S : Type 0} {G : Ghosts S ℕ} → List (Option (LookupResult S G)) → Option IpNetwork → Type 0
+IsSmallest answers network = (networks : List (Option IpNetwork)) × AreNetworks answers networks × (network ≡ smallest networks)
+
+-- the network that is shown of answers
+abbrev pub IsShownOf : {S : Type 0} {G : Ghosts S ℕ} → List (Option (LookupResult S G)) → Option IpNetwork → Type 0
+IsShownOf answers network =
+    (networks : List (Option IpNetwork)) × AreNetworks answers networks × (network ≡ shown_of (has_record (map offset_in answers)) networks)
+
+-- the networks of answers are those in which these databases have an address
+abbrev pub ShowNetworks : {S : Type 0} {G : Ghosts S ℕ} → List Database → IpAddr → List (Option (LookupResult S G)) → Type 0
+ShowNetworks dbs address answers = (networks : List (Option IpNetwork)) → AreNetworks answers networks → HaveNetworks dbs address networks
+
+-- bytes grow by a delimiter and the cell of a network
+abbrev pub PutsFront : Rows → Option IpNetwork → List ℕ → List ℕ → Type 0
+PutsFront rows network old new = (front : List ℕ) × IsFront rows network front × (new ≡ old ++ front)
+
+-- what comes before the fields of such answers
+abbrev pub IsFrontOf : {S : Type 0} {G : Ghosts S ℕ} → Bool → Rows → List (Option (LookupResult S G)) → List ℕ → Type 0
+IsFrontOf false rows answers front = front ≡ []
+IsFrontOf true rows answers front = (network : Option IpNetwork) × IsShownOf answers network × IsFront rows network front
+
+-- bytes grow by what comes before the fields of such answers
+abbrev pub PutsFrontOf : {S : Type 0} {G : Ghosts S ℕ} → Bool → Rows → List (Option (LookupResult S G)) → List ℕ → List ℕ → Type 0
+PutsFrontOf wanted rows answers old new = (front : List ℕ) × IsFrontOf wanted rows answers front × (new ≡ old ++ front)
 
 -- answers of these databases
 abbrev pub AreAnswersOf : {S : Type 0} {G : Ghosts S ℕ} → List Database → List (Option (LookupResult S G)) → Type 0
@@ -110,7 +173,7 @@ AreAnswersOf (db ∷ dbs) (answer ∷ answers) = IsAnswerOf db answer × AreAnsw
 
 -- what these databases have for an address
 abbrev pub AreAnswers : {S : Type 0} {G : Ghosts S ℕ} → List Database → IpAddr → List (Option (LookupResult S G)) → Type 0
-AreAnswers dbs address answers = AreAnswersOf dbs answers × HaveAll dbs address (map offset_in answers)
+AreAnswers dbs address answers = AreAnswersOf dbs answers × HaveAll dbs address (map offset_in answers) × ShowNetworks dbs address answers
 
 -- one digit more: where this database has a record
 abbrev pub IsKeyAfter : Option ℕ → Database → Option ℕ → ℕ → Type 0
@@ -120,5 +183,30 @@ IsKeyAfter before db offset key =
 abbrev pub AddsAtAllTo : List Database → Rows → Vec (Vec PathElement) → List (Option ℕ) → Outcome → Vec ℕ → Vec ℕ → Type 0
 AddsAtAllTo dbs rows fields offsets outcome old new = (extra : List ℕ) × AddsAtAll dbs rows (paths_of fields) offsets extra outcome × (new.items ≡ old.items ++ extra)
 
-abbrev pub AddsForAllTo : List Database → Rows → Vec (Vec PathElement) → Option IpAddr → Outcome → Vec ℕ → Vec ℕ → Type 0
-AddsForAllTo dbs rows fields address outcome old new = (extra : List ℕ) × AddsForAll dbs rows (paths_of fields) address extra outcome × (new.items ≡ old.items ++ extra)
+abbrev pub AddsForAllTo : List Database → Bool → Rows → Vec (Vec PathElement) → Option IpAddr → Outcome → Vec ℕ → Vec ℕ → Type 0
+AddsForAllTo dbs network rows fields address outcome old new = (extra : List ℕ) × AddsForAll dbs network rows (paths_of fields) address extra outcome × (new.items ≡ old.items ++ extra)
+
+-- Bytes grow by the member of the records of such answers, with their network where it is wanted.
+abbrev pub PutsRead : {S : Type 0} {G : Ghosts S ℕ} → List Database → Bool → List ℕ → List NamedField → Line → List (Option (LookupResult S G)) → Added → List ℕ → List ℕ → Type 0
+PutsRead dbs false name fields line answers addition old new = PutsMemberOf (first_read dbs (map offset_in answers)) name fields line addition old new
+PutsRead dbs true name fields line answers addition old new =
+    (network : Option IpNetwork) × IsShownOf answers network
+    × PutsMemberAfter (network_tokens network) (first_read dbs (map offset_in answers)) name fields line addition old new
+
+-- Bytes grow by that, or by what is added to an object without a record.
+abbrev pub PutsFound : {S : Type 0} {G : Ghosts S ℕ} → List Database → Bool → Bool → List ℕ → List NamedField → Line → List (Option (LookupResult S G)) → Added → List ℕ → List ℕ → Type 0
+PutsFound dbs network nulls name fields line answers addition old new =
+    ((has_record (map offset_in answers) ≡ false) × PutsNoneAfter (null_front network) nulls name fields line Absent addition old new)
+    ⊎ ((has_record (map offset_in answers) ≡ true) × PutsRead dbs network name fields line answers addition old new)
+
+-- Bytes grow by what is added to an object for its address, from several databases.
+abbrev pub PutsMemberForAll : List Database → Bool → Bool → List ℕ → List NamedField → Line → Option IpAddr → Added → List ℕ → List ℕ → Type 0
+PutsMemberForAll dbs network nulls name fields line address addition old new =
+    (extra : List ℕ) × AddsMemberForAll dbs network nulls name fields line.is_empty line.behind address extra addition.behind addition.outcome × (new ≡ old ++ extra)
+
+-- Bytes grow by what is added to an object, from several databases.
+abbrev pub PutsToObjectAll : List Database → Bool → Bool → List ℕ → List NamedField → Line → Added → List ℕ → List ℕ → Type 0
+PutsToObjectAll dbs network nulls name fields line addition old new =
+    (extra : List ℕ) × (new ≡ old ++ extra)
+    × (((extra ≡ []) × (addition.outcome ≡ Occupied) × (line.is_taken ≡ true))
+    ⊎ ((line.is_taken ≡ false) × AddsMemberForAll dbs network nulls name fields line.is_empty line.behind line.address extra addition.behind addition.outcome))

@@ -1,16 +1,20 @@
 //! The cells of a record.
 ghost use Rattle.std.specs.Prelude.{◌≡◌, ◌++◌, Option, IfOk, OnOk, map};
 ghost use Rattle.mmdb_filter.specs.declared.rows.Rows.TheVariants.{Lines, Csv};
-ghost use Rattle.mmdb_format.specs.Unfolding.{Tree};
+ghost use Rattle.mmdb_format.specs.Contents.{text as text_content};
+ghost use Rattle.mmdb_format.specs.Unfolding.{Tree, scalar};
+ghost use Rattle.mmdb_net.specs.Network.{short_text_of};
 ghost use Rattle.mmdb_value.specs.Values.{value_tree};
 ghost use Rattle.mmdb_cmd_enrich.specs.Cells.{is_plain as spec_is_plain, blanks};
-ghost use Rattle.mmdb_cmd_enrich.specs.Working.{PutsShown, PutsCell, PutsNextCell, PutsCells};
+ghost use Rattle.mmdb_cmd_enrich.specs.Networks.{all_blanks};
+ghost use Rattle.mmdb_cmd_enrich.specs.Working.{PutsShown, PutsCell, PutsNextCell, PutsCells, PutsFront};
 ghost use Rattle.mmdb_layout.specs.Reading.{IsReadAs};
 
 use crate::columns::delimiter_of;
 use mmdb_filter::{Rows, put_csv_cell};
 use mmdb_json::compact;
 use mmdb_layout::ReadAlong;
+use mmdb_net::IpNetwork;
 use mmdb_reader::{MaxMindDbError, PathElement};
 use mmdb_value::Value;
 use std::alloc::{AllocError, Global};
@@ -75,6 +79,36 @@ fn put_value(
     match rows {
         Rows::Lines { delimiter } => put_line_value(alloc, delimiter, value, out),
         Rows::Csv { delimiter } => put_csv_value(alloc, delimiter, value, out),
+    }
+}
+
+// Adds the cell of a network.
+fn put_network(
+    alloc: Global,
+    rows: Rows,
+    network: IpNetwork,
+    out: &mut Vec<u8>,
+) -> Result<(), AllocError>
+    ensures { OnOk result (PutsShown rows (scalar (text_content (short_text_of network)))
+        out.old.items out.new.items) }
+{
+    let text: String = format!(in alloc; "{network}")?;
+    put_value(alloc, rows, &Value::String(text.as_str()), out)
+}
+
+/// Adds a delimiter and the cell of a network, an empty one where there is none.
+pub(crate) fn put_network_cell(
+    alloc: Global,
+    rows: Rows,
+    network: Option<IpNetwork>,
+    out: &mut Vec<u8>,
+) -> Result<(), AllocError>
+    ensures { OnOk result (PutsFront rows network out.old.items out.new.items) }
+{
+    out.push(delimiter_of(rows))?;
+    match network {
+        Some(network) => put_network(alloc, rows, network, out),
+        None => Ok(()),
     }
 }
 
@@ -147,4 +181,20 @@ pub(crate) fn put_blanks(
         out.push(delimiter_of(rows))?;
     }
     Ok(())
+}
+
+/// Adds a delimiter for the network, where it is wanted, and one for each path.
+pub(crate) fn put_all_blanks(
+    network: bool,
+    rows: Rows,
+    paths: &[Vec<PathElement<'_>>],
+    out: &mut Vec<u8>,
+) -> Result<(), AllocError>
+    ensures { OnOk result (out.new.items
+        ≡ out.old.items ++ all_blanks network rows (map (λ path. path.items) paths.now)) }
+{
+    if network {
+        out.push(delimiter_of(rows))?;
+    }
+    put_blanks(rows, paths, out)
 }

@@ -66,15 +66,15 @@ impl JsonMemory {
     }
 }
 
-// Nothing is added.
-fn nothing(outcome: Outcome) -> Added
+/// Nothing is added.
+pub(crate) fn nothing(outcome: Outcome) -> Added
     ensures { (result.outcome ≡ outcome) × (result.behind ≡ 0) }
 {
     Added { outcome, behind: 0 }
 }
 
-// What is kept of a record: the text of its member, or that a field failed.
-fn kept_of(member: &Option<Vec<u8>>) -> KeptRecord<'_>
+/// What is kept of a record: the text of its member, or that a field failed.
+pub(crate) fn kept_of(member: &Option<Vec<u8>>) -> KeptRecord<'_>
     ensures { MatchOption member.now ((result.cells.now ≡ []) × (result.outcome ≡ Failed))
         (λ text. (result.cells.now ≡ text.items) × (result.outcome ≡ Found)) }
 {
@@ -90,9 +90,9 @@ fn kept_of(member: &Option<Vec<u8>>) -> KeptRecord<'_>
     }
 }
 
-// Adds the text of a member to an object: as the first, or after a comma.
+/// Adds the text of a member to an object: as the first, or after a comma.
 #[inline(always)]
-fn put_text(
+pub(crate) fn put_text(
     line: &Line,
     text: &[u8],
     outcome: Outcome,
@@ -111,8 +111,12 @@ fn put_text(
     })
 }
 
-// Adds a member to an object. Nothing is added where a field failed.
-fn put_member(line: &Line, member: KeptRecord<'_>, out: &mut Vec<u8>) -> Result<Added, AllocError>
+/// Adds a member to an object. Nothing is added where a field failed.
+pub(crate) fn put_member(
+    line: &Line,
+    member: KeptRecord<'_>,
+    out: &mut Vec<u8>,
+) -> Result<Added, AllocError>
     ensures { IfOk result (λ addition. PutsMember line.now member.entry.cells.now
         member.entry.outcome addition out.old.items out.new.items) }
 {
@@ -123,10 +127,12 @@ fn put_member(line: &Line, member: KeptRecord<'_>, out: &mut Vec<u8>) -> Result<
 }
 
 impl<'a, 'f, S: AsSlice<u8> + Drop> JsonEnrichment<'a, 'f, S> {
+    ghost use Rattle.mmdb_layout.specs.Reading.{reads_in};
+    ghost use Rattle.mmdb_reader.specs.File.{data_section};
     ghost use Rattle.mmdb_reader.specs.Found.{database_asked, offset_found};
     ghost use Rattle.mmdb_cmd_enrich.specs.Kept.{AreKept};
     ghost use Rattle.mmdb_cmd_enrich.specs.Wanted.{member as spec_member};
-    ghost use Rattle.mmdb_cmd_enrich.specs.Working.{PutsMemberAt, PutsMemberFor, PutsNone, PutsToObject};
+    ghost use Rattle.mmdb_cmd_enrich.specs.Working.{PutsMemberOf, PutsMemberFor, PutsNone, PutsToObject};
 
     // Notes a record that was read, or was not.
     #[inline(never)]
@@ -153,8 +159,9 @@ impl<'a, 'f, S: AsSlice<u8> + Drop> JsonEnrichment<'a, 'f, S> {
         requires asked { database_asked found.now ≡ self.now.reader.now }
         requires kept { AreKept
             (spec_member self.now.reader.now self.now.name.now self.now.fields.items) cache.old }
-        ensures added { IfOk result (λ addition. PutsMemberAt self.now.reader.now self.now.name.now
-            self.now.fields.items offset line.now addition out.old.items out.new.items) }
+        ensures added { IfOk result (λ addition. PutsMemberOf
+            (reads_in (data_section self.now.reader.now) (Some offset)) self.now.name.now
+            self.now.fields.items line.now addition out.old.items out.new.items) }
         ensures kept { AreKept
             (spec_member self.now.reader.now self.now.name.now self.now.fields.items) cache.new }
     {

@@ -1,18 +1,18 @@
 //! What is added to a row from several databases.
-ghost use Rattle.std.specs.Prelude.{◌≡◌, ◌++◌, IfOk, IfSome, Some, map};
-ghost use Rattle.mmdb_cmd_enrich.specs.Cells.{blanks};
+ghost use Rattle.std.specs.Prelude.{◌≡◌, ◌++◌, IfOk, OnOk, IfSome, Some, map};
 ghost use Rattle.mmdb_cmd_enrich.specs.Kept.{AreKept};
 ghost use Rattle.mmdb_cmd_enrich.specs.Layers.{AddsToAll, IsKey, outcome_of as spec_outcome_of};
+ghost use Rattle.mmdb_cmd_enrich.specs.Networks.{all_blanks};
 ghost use Rattle.mmdb_cmd_enrich.specs.Rows.{paths_of, AreKeptForAll};
 ghost use Rattle.mmdb_cmd_enrich.specs.Wanted.{Wanted};
-ghost use Rattle.mmdb_cmd_enrich.specs.Working.{AddsAtAllTo, AddsForAllTo, AreAnswersOf, offset_in};
+ghost use Rattle.mmdb_cmd_enrich.specs.Working.{AddsAtAllTo, AddsForAllTo, AreAnswersOf, PutsFrontOf, offset_in};
 ghost use Rattle.mmdb_filter.specs.declared.counts.Outcome.TheVariants.{Failed};
 
 use crate::asked::row_address;
 use crate::cache::AddedCache;
-use crate::cells::{put_blanks, put_cells};
+use crate::cells::{put_all_blanks, put_cells, put_network_cell};
 use crate::enrichment::{outcome_of, put_kept};
-use crate::layers::{Layers, can_ask_any, offset_of};
+use crate::layers::{Layers, can_ask_any};
 use crate::notes::{Notes, note_rejected_by};
 use mmdb_addresses::Reading;
 use mmdb_filter::{Added, Additions, Outcome, Rows};
@@ -22,7 +22,7 @@ use std::convert::AsSlice;
 use std::net::IpAddr;
 
 /// Fields of the records of the address in a column, as columns after each row: each field of the first database that has
-/// it.
+/// it, and before them, where it is wanted, the network of the address.
 #[derive(Drop)]
 pub struct LayeredEnrichment<'a, 'f, S: AsSlice<u8> + Drop> {
     pub alloc: Global,
@@ -36,6 +36,8 @@ pub struct LayeredEnrichment<'a, 'f, S: AsSlice<u8> + Drop> {
     pub reading: Reading,
     /// The column of the address, from 0.
     pub column: usize,
+    /// Whether the network of the address comes before the fields: the smallest in which a database has it.
+    pub network: bool,
     /// The paths of the fields.
     pub paths: Vec<Vec<PathElement<'f>>>,
 }
@@ -80,11 +82,7 @@ impl<'a, 'f, S: AsSlice<u8> + Drop> LayeredEnrichment<'a, 'f, S> {
     // Notes the records that were read, or were not.
     #[inline(never)]
     fn note(&self, layers: &Layers<'a, S>, are_read: bool, notes: &mut Notes) {
-        for (at, answer) in layers.answers.iter().enumerate() {
-            if let Some(offset) = offset_of(answer) {
-                notes.note_record(at, offset);
-            }
-        }
+        notes.note_records(layers);
         for at in 0..self.paths.len() {
             let path = self.paths[at].as_slice();
             notes.note_layered(self.alloc, self.names, layers, at, path, are_read);
@@ -120,9 +118,10 @@ impl<'a, 'f, S: AsSlice<u8> + Drop> LayeredEnrichment<'a, 'f, S> {
     // Adds empty cells.
     fn put_none(&self, outcome: Outcome, out: &mut Vec<u8>) -> Result<Outcome, AllocError>
         ensures { IfOk result (λ addition. (addition ≡ outcome)
-            × (out.new.items ≡ out.old.items ++ blanks self.now.rows (paths_of self.now.paths))) }
+            × (out.new.items ≡ out.old.items
+            ++ all_blanks self.now.network self.now.rows (paths_of self.now.paths))) }
     {
-        put_blanks(self.rows, self.paths.as_slice(), out)?;
+        put_all_blanks(self.network, self.rows, self.paths.as_slice(), out)?;
         Ok(outcome)
     }
 
@@ -135,7 +134,8 @@ impl<'a, 'f, S: AsSlice<u8> + Drop> LayeredEnrichment<'a, 'f, S> {
         out: &mut Vec<u8>,
     ) -> Result<Outcome, AllocError>
         ensures { IfOk result (λ addition. (addition ≡ Failed)
-            × (out.new.items ≡ out.old.items ++ blanks self.now.rows (paths_of self.now.paths))) }
+            × (out.new.items ≡ out.old.items
+            ++ all_blanks self.now.network self.now.rows (paths_of self.now.paths))) }
     {
         note_rejected_by(self.alloc, self.readers, self.names, address, notes);
         self.put_none(Outcome::Failed, out)
@@ -166,6 +166,19 @@ impl<'a, 'f, S: AsSlice<u8> + Drop> LayeredEnrichment<'a, 'f, S> {
         self.put_records(layers, cache, notes, out)
     }
 
+    // Adds what comes before the fields: the network of the address, where it is wanted.
+    #[inline(always)]
+    fn put_front(&self, layers: &Layers<'a, S>, out: &mut Vec<u8>) -> Result<(), AllocError>
+        ensures { OnOk result (PutsFrontOf self.now.network self.now.rows
+            layers.now.answers.items out.old.items out.new.items) }
+    {
+        if self.network {
+            put_network_cell(self.alloc, self.rows, layers.shown_network(), out)
+        } else {
+            Ok(())
+        }
+    }
+
     // Adds the cells of an address.
     #[inline(always)]
     fn put_address(
@@ -176,8 +189,8 @@ impl<'a, 'f, S: AsSlice<u8> + Drop> LayeredEnrichment<'a, 'f, S> {
     ) -> Result<Outcome, AllocError>
         requires { AreKeptForAll self.now.readers.now self.now.rows self.now.paths
             memory.old.cache }
-        ensures added { IfOk result (λ outcome. AddsForAllTo self.now.readers.now self.now.rows
-            self.now.paths (Some address) outcome out.old out.new) }
+        ensures added { IfOk result (λ outcome. AddsForAllTo self.now.readers.now self.now.network
+            self.now.rows self.now.paths (Some address) outcome out.old out.new) }
         ensures kept { AreKeptForAll self.now.readers.now self.now.rows self.now.paths
             memory.new.cache }
     {
@@ -187,6 +200,7 @@ impl<'a, 'f, S: AsSlice<u8> + Drop> LayeredEnrichment<'a, 'f, S> {
         if !memory.layers.look_up(self.readers, address)? {
             return self.put_rejected(address, &mut memory.notes, out);
         }
+        self.put_front(&memory.layers, out)?;
         self.put_found(&memory.layers, &mut memory.cache, &mut memory.notes, out)
     }
 }
@@ -198,8 +212,8 @@ impl<'a, 'f, S: AsSlice<u8> + Drop> Additions for LayeredEnrichment<'a, 'f, S> {
     type Memory = LayeredMemory<'a, S>;
 
     ghost adds = { λ e text goes_on extra behind outcome. (behind ≡ 0)
-        × AddsToAll e.readers.now e.rows e.reading e.column (paths_of e.paths) text goes_on
-        extra outcome };
+        × AddsToAll e.readers.now e.network e.rows e.reading e.column (paths_of e.paths) text
+        goes_on extra outcome };
 
     ghost fits = { λ e memory. AreKeptForAll e.readers.now e.rows e.paths memory.cache };
 

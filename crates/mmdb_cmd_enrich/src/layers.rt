@@ -3,9 +3,11 @@ ghost use Rattle.std.specs.Prelude.{◌≡◌, Option, None, IfOk, IfSome, OnErr
 ghost use Rattle.std.specs.Bool.{MatchBool};
 ghost use Rattle.mmdb_reader.specs.Lookup.{CanAsk};
 ghost use Rattle.mmdb_cmd_enrich.specs.Layers.{CanAskAny, CanAskNone, Rejects, AnyRejects, has_record, IsKey};
-ghost use Rattle.mmdb_cmd_enrich.specs.Working.{IsAnswer, AreAnswers, IsKeyAfter, offset_in};
+ghost use Rattle.mmdb_cmd_enrich.specs.Networks.{smaller as spec_smaller, depth_of as spec_depth_of};
+ghost use Rattle.mmdb_cmd_enrich.specs.Working.{IsAnswer, AreAnswers, IsKeyAfter, IsNetworkOf, IsSmallest, IsShownOf, offset_in};
 
 use crate::asked::asked_of;
+use mmdb_net::IpNetwork;
 use mmdb_reader::{LookupResult, MaxMindDbError, Reader};
 use std::alloc::{AllocError, Global};
 use std::convert::AsSlice;
@@ -75,6 +77,38 @@ pub(crate) fn offset_of<S: AsSlice<u8> + Drop>(
     }
 }
 
+// The network of an answer, if there is one.
+#[inline(always)]
+fn network_of<S: AsSlice<u8> + Drop>(answer: &Option<LookupResult<'_, S>>) -> Option<IpNetwork>
+    ensures { IsNetworkOf answer.now result }
+{
+    match answer {
+        Some(found) => Some(found.network().unwrap()),
+        None => None,
+    }
+}
+
+// How many of the 128 bits of an address of IPv6 those of a network share; one of IPv4 comes after 96 bits.
+fn depth_of(network: IpNetwork) -> u8
+    ensures { result ≡ spec_depth_of network }
+{
+    match network {
+        IpNetwork::V4(inner) => 96 + inner.prefix(),
+        IpNetwork::V6(inner) => inner.prefix(),
+    }
+}
+
+// The smaller of two networks, and the first of equal ones.
+fn smaller(first: Option<IpNetwork>, second: Option<IpNetwork>) -> Option<IpNetwork>
+    ensures { result ≡ spec_smaller first second }
+{
+    match (first, second) {
+        (Some(one), Some(other)) if depth_of(one) < depth_of(other) => second,
+        (Some(_), _) => first,
+        (None, _) => second,
+    }
+}
+
 // A number with one more digit, which says where a database has a record; none where it is too large.
 #[inline(always)]
 fn longer_key<S: AsSlice<u8> + Drop>(
@@ -112,6 +146,25 @@ impl<'a, S: AsSlice<u8> + Drop> Layers<'a, S> {
             }
         }
         false
+    }
+
+    // The smallest of the networks that have the address, and the first of equal ones.
+    fn smallest_network(&self) -> Option<IpNetwork>
+        ensures { IsSmallest self.now.answers.items result }
+    {
+        let mut smallest = None;
+        for answer in &self.answers {
+            smallest = smaller(smallest, network_of(answer));
+        }
+        smallest
+    }
+
+    /// The network that is shown: the smallest that has the address, where one of the databases has a record.
+    pub(crate) fn shown_network(&self) -> Option<IpNetwork>
+        ensures { IsShownOf self.now.answers.items result }
+    {
+        let smallest = self.smallest_network();
+        if self.has_record() { smallest } else { None }
     }
 
     /// Looks an address up in each database, and says whether no lookup failed.

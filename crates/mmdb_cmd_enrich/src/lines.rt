@@ -5,6 +5,7 @@ use crate::header::column_of;
 use crate::input::{Counted, InputKind, copy_mark, kind_of_input};
 use crate::json_enrichment::{JsonEnrichment, JsonMemory};
 use crate::layered_enrichment::{LayeredEnrichment, LayeredMemory};
+use crate::layered_json_enrichment::{LayeredJsonEnrichment, LayeredJsonMemory};
 use crate::notes::Notes;
 use crate::opening::open_all;
 use crate::output::Output;
@@ -13,7 +14,7 @@ use crate::row_memory::RowMemory;
 use crate::task::{JsonTask, LINES, RowsTask, json_task, rows_task};
 use crate::warnings::{AddressPlace, Remembering, Warnings};
 use crate::watch::Watch;
-use mmdb_arguments::{EnrichArguments, NoRequest};
+use mmdb_arguments::EnrichArguments;
 use mmdb_console::{Console, Pace, ProgramError, ProgressLine, line_of};
 use mmdb_filter::{Additions, Counts, Live, Rows, filter_rows};
 use mmdb_layout::Database;
@@ -259,6 +260,14 @@ fn enrich_layered<R: Files + Clock, I: Live, O: Write, E: Pace>(
     done
 }
 
+// What databases are called where a record of one can't be read: one alone needs no name.
+fn names_said<'n>(names: &'n [&'n str]) -> &'n [&'n str] {
+    match names {
+        [_] => &[],
+        _ => names,
+    }
+}
+
 // Copies rows with fields after each, up to the input's end or until a file was replaced, and says whether that was the end.
 fn enrich_columns<R: Files + Clock, I: Live, O: Write, E: Pace>(
     rt: &R,
@@ -270,7 +279,9 @@ fn enrich_columns<R: Files + Clock, I: Live, O: Write, E: Pace>(
     passage: &mut Passage<'_, '_>,
     console: &mut Console<'_, O, E>,
 ) -> Result<bool, ProgramError> {
-    if let [database] = databases {
+    if let [database] = databases
+        && !task.network
+    {
         let enrichment = Enrichment {
             alloc: console.alloc,
             reader: database,
@@ -284,10 +295,11 @@ fn enrich_columns<R: Files + Clock, I: Live, O: Write, E: Pace>(
     let enrichment = LayeredEnrichment {
         alloc: console.alloc,
         readers: databases,
-        names,
+        names: names_said(names),
         reading: task.reading,
         rows: task.rows,
         column,
+        network: task.network,
         paths: task.paths,
     };
     enrich_layered(rt, &enrichment, input, passage, console)
@@ -298,25 +310,38 @@ fn enrich_columns<R: Files + Clock, I: Live, O: Write, E: Pace>(
 fn enrich_json<R: Files + Clock, I: Live, O: Write, E: Pace>(
     rt: &R,
     databases: &[Database],
+    names: &[&str],
     task: JsonTask<'_>,
     input: &mut I,
     passage: &mut Passage<'_, '_>,
     console: &mut Console<'_, O, E>,
 ) -> Result<bool, ProgramError> {
-    let Some(database) = databases.first() else {
-        drop(task);
-        return Ok(true);
-    };
-    let enrichment = JsonEnrichment {
+    if let [database] = databases
+        && !task.network
+    {
+        let enrichment = JsonEnrichment {
+            alloc: console.alloc,
+            reader: database,
+            reading: task.reading,
+            path: task.path,
+            name: task.into,
+            nulls: task.nulls,
+            fields: task.fields,
+        };
+        return enrich_objects(rt, &enrichment, databases, input, passage, console);
+    }
+    let enrichment = LayeredJsonEnrichment {
         alloc: console.alloc,
-        reader: database,
+        readers: databases,
+        names: names_said(names),
         reading: task.reading,
         path: task.path,
         name: task.into,
         nulls: task.nulls,
+        network: task.network,
         fields: task.fields,
     };
-    enrich_objects(rt, &enrichment, databases, input, passage, console)
+    enrich_layered_objects(rt, &enrichment, input, passage, console)
 }
 
 // Copies lines with a member more in each object.
@@ -336,6 +361,30 @@ fn enrich_objects<R: Files + Clock, I: Live, O: Write, E: Pace>(
         enrichment,
         &mut memory,
         databases,
+        input,
+        passage,
+        console,
+    );
+    passage.records = mem::replace(&mut memory.notes, Notes::new(alloc));
+    done
+}
+
+// Copies lines with a member more in each object, of several databases.
+fn enrich_layered_objects<R: Files + Clock, I: Live, O: Write, E: Pace>(
+    rt: &R,
+    enrichment: &LayeredJsonEnrichment<'_, '_, Vec<u8>>,
+    input: &mut I,
+    passage: &mut Passage<'_, '_>,
+    console: &mut Console<'_, O, E>,
+) -> Result<bool, ProgramError> {
+    let alloc = console.alloc;
+    let mut memory = LayeredJsonMemory::with_notes(alloc, passage.take_records(alloc))?;
+    let done = copy_rows(
+        rt,
+        LINES,
+        enrichment,
+        &mut memory,
+        enrichment.readers,
         input,
         passage,
         console,
@@ -384,6 +433,7 @@ fn copy_columns<R: Files + Clock, I: Live, O: Write, E: Pace>(
 fn copy_objects<R: Files + Clock, I: Live, O: Write, E: Pace>(
     rt: &R,
     databases: &mut Vec<Database>,
+    names: &[&str],
     arguments: &EnrichArguments<'_>,
     input: &mut I,
     passage: &mut Passage<'_, '_>,
@@ -393,7 +443,15 @@ fn copy_objects<R: Files + Clock, I: Live, O: Write, E: Pace>(
     for _ in 0..u64::MAX {
         take_new(rt, databases, passage, console);
         let task = json_task(console.alloc, path, &*arguments)?;
-        if enrich_json(rt, databases.as_slice(), task, input, passage, console)? {
+        if enrich_json(
+            rt,
+            databases.as_slice(),
+            names,
+            task,
+            input,
+            passage,
+            console,
+        )? {
             return Ok(());
         }
     }
@@ -424,6 +482,7 @@ fn enrich_all_rows<R: Files + Clock, I: Live, O: Write, E: Pace>(
 fn enrich_all_objects<R: Files + Clock, I: Live, O: Write, E: Pace>(
     rt: &R,
     databases: &mut Vec<Database>,
+    names: &[&str],
     name: &str,
     arguments: &EnrichArguments<'_>,
     input: &mut I,
@@ -431,7 +490,7 @@ fn enrich_all_objects<R: Files + Clock, I: Live, O: Write, E: Pace>(
     console: &mut Console<'_, O, E>,
 ) -> Result<u8, ProgramError> {
     copy_mark(input, console.out)?;
-    copy_objects(rt, databases, arguments, input, passage, console)?;
+    copy_objects(rt, databases, names, arguments, input, passage, console)?;
     let first = passage.notes.occupied;
     let text = text_of_members(console.alloc, passage.counts, name, first);
     finish(databases.as_slice(), text, passage, console)
@@ -488,6 +547,7 @@ fn enrich_to_objects<R: Files + Env + Clock, I: Live, O: Write, E: Pace>(
     enrich_all_objects(
         rt,
         &mut databases,
+        names,
         name,
         &*arguments,
         input,
@@ -520,9 +580,6 @@ pub fn enrich<R: Files + Env + Clock, I: Live, O: Write, E: Pace>(
     console.names_found = !arguments.quiet;
     let names = names_of(console.alloc, arguments)?;
     match arguments.json {
-        Some(_) if !arguments.others.is_empty() => {
-            Err(NoRequest::bad_argument(console.alloc, "--json", "takes one database").into())
-        }
         Some(_) => enrich_to_objects(rt, names.as_slice(), arguments, input, console),
         None => enrich_to_rows(rt, names.as_slice(), arguments, input, console),
     }

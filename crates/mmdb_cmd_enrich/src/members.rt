@@ -1,15 +1,16 @@
 //! The member that is added to an object.
-ghost use Rattle.std.specs.Prelude.{◌≡◌, ◌++◌, ℕ, Some, OnOk, IfOk, IfErr, IfSome, IfNone};
-ghost use Rattle.mmdb_reader.specs.Found.{database_asked, section_asked, offset_found};
-ghost use Rattle.mmdb_cmd_enrich.specs.Fields.{HasUnreadField, IsMember, IsNullMember, null_fields};
-ghost use Rattle.mmdb_cmd_enrich.specs.Working.{PutsFields, PutsFieldsOf};
+ghost use Rattle.std.specs.Prelude.{◌≡◌, ◌++◌, None, false, OnOk, IfOk, IfErr, IfSome, IfNone};
+ghost use Rattle.mmdb_cmd_enrich.specs.Fields.{HasUnreadField, IsMember, IsMemberAfter, IsNullMember, IsNullMemberAfter, network_tokens, null_fields};
+ghost use Rattle.mmdb_cmd_enrich.specs.Working.{PutsValue, PutsFields, PutsFieldsAfter, PutsFieldsOf};
+ghost use Rattle.mmdb_decode.specs.Errors.{Fails};
 ghost use Rattle.mmdb_format.specs.Error.{MemoryApart};
 
 use json::{Token, Writer};
-use mmdb_found::write_found;
-use mmdb_reader::{LookupResult, MaxMindDbError, PathElement};
+use mmdb_json::write_value;
+use mmdb_layout::{NETWORK, ReadAlong};
+use mmdb_net::IpNetwork;
+use mmdb_reader::{MaxMindDbError, PathElement};
 use std::alloc::{AllocError, Global};
-use std::convert::AsSlice;
 
 /// A field of a record, under a name.
 #[derive(Drop)]
@@ -19,42 +20,77 @@ pub struct NamedField<'f> {
     pub path: Vec<PathElement<'f>>,
 }
 
-// Writes for each field its name, and the value along its path or null.
-fn put_fields<S: AsSlice<u8> + Drop>(
+// Writes the value along a path, or null where there is none.
+fn put_value<R: ReadAlong>(
     alloc: Global,
-    found: &LookupResult<'_, S>,
+    found: &R,
+    path: &[PathElement<'_>],
+    out: &mut Writer,
+) -> Result<(), MaxMindDbError>
+    ensures value { OnOk result
+        (PutsValue (R.reads found.now path.now) out.old.tokens out.new.tokens) }
+    ensures rejected { IfErr result (λ e. Fails false e (R.reads found.now path.now)) }
+    ensures before { out.new.before ≡ out.old.before }
+{
+    match &found.read_along(alloc, path)? {
+        Some(value) => write_value(alloc, value, out)?,
+        None => out.token(Token::Null)?,
+    }
+    Ok(())
+}
+
+// Writes for each field its name, and the value along its path or null.
+fn put_fields<R: ReadAlong>(
+    alloc: Global,
+    found: &R,
     fields: &[NamedField<'_>],
     out: &mut Writer,
 ) -> Result<(), MaxMindDbError>
-    ensures fields { OnOk result ((offset : ℕ) → offset_found found.now ≡ Some offset
-        → PutsFields fields.now (section_asked found.now) offset out.old.tokens out.new.tokens) }
-    ensures rejected { IfErr result (λ e. MemoryApart e ((offset : ℕ)
-        → offset_found found.now ≡ Some offset
-        → HasUnreadField fields.now (section_asked found.now) offset)) }
+    ensures fields { OnOk result
+        (PutsFields (R.reads found.now) fields.now out.old.tokens out.new.tokens) }
+    ensures rejected { IfErr result (λ e.
+        MemoryApart e (HasUnreadField (R.reads found.now) fields.now)) }
     ensures before { out.new.before ≡ out.old.before }
 {
     for at in 0..fields.len() {
         let field = &fields[at];
         out.token(Token::Key(field.name))?;
-        write_found(alloc, found, field.path.as_slice(), out)?;
+        put_value(alloc, found, field.path.as_slice(), out)?;
     }
     Ok(())
 }
 
-// Writes a member with the fields.
-fn put_member<S: AsSlice<u8> + Drop>(
+// Writes the member of a network, null where there is none.
+fn put_network(
     alloc: Global,
-    found: &LookupResult<'_, S>,
+    network: Option<IpNetwork>,
+    out: &mut Writer,
+) -> Result<(), AllocError>
+    ensures tokens { OnOk result (out.new.tokens ≡ out.old.tokens ++ network_tokens network) }
+    ensures before { out.new.before ≡ out.old.before }
+{
+    out.token(Token::Key(NETWORK))?;
+    match network {
+        Some(network) => {
+            let text: String = format!(in alloc; "{network}")?;
+            out.token(Token::String(text.as_str()))
+        }
+        None => out.token(Token::Null),
+    }
+}
+
+// Writes a member with the fields.
+fn put_member<R: ReadAlong>(
+    alloc: Global,
+    found: &R,
     name: &str,
     fields: &[NamedField<'_>],
     out: &mut Writer,
 ) -> Result<(), MaxMindDbError>
-    ensures member { OnOk result ((offset : ℕ) → offset_found found.now ≡ Some offset
-        → PutsFieldsOf name.now fields.now (section_asked found.now) offset
-        out.old.tokens out.new.tokens) }
-    ensures rejected { IfErr result (λ e. MemoryApart e ((offset : ℕ)
-        → offset_found found.now ≡ Some offset
-        → HasUnreadField fields.now (section_asked found.now) offset)) }
+    ensures member { OnOk result
+        (PutsFieldsOf (R.reads found.now) name.now fields.now out.old.tokens out.new.tokens) }
+    ensures rejected { IfErr result (λ e.
+        MemoryApart e (HasUnreadField (R.reads found.now) fields.now)) }
     ensures before { out.new.before ≡ out.old.before }
 {
     out.token(Token::Key(name))?;
@@ -64,22 +100,64 @@ fn put_member<S: AsSlice<u8> + Drop>(
     Ok(())
 }
 
-/// The text of a member with the fields of a record, or none where one failed.
-pub(crate) fn member_of<S: AsSlice<u8> + Drop>(
+/// The text of a member with fields, or none where one failed.
+pub(crate) fn member_of<R: ReadAlong>(
     alloc: Global,
-    found: &LookupResult<'_, S>,
+    found: &R,
     name: &str,
     fields: &[NamedField<'_>],
 ) -> Result<Option<Vec<u8>>, AllocError>
-    ensures some { IfOk result (λ member. IfSome member (λ text. (offset : ℕ)
-        → offset_found found.now ≡ Some offset
-        → IsMember (database_asked found.now) name.now fields.now offset text.items)) }
-    ensures none { IfOk result (λ member. IfNone member ((offset : ℕ)
-        → offset_found found.now ≡ Some offset
-        → HasUnreadField fields.now (section_asked found.now) offset)) }
+    ensures some { IfOk result (λ member. IfSome member (λ text.
+        IsMember (R.reads found.now) name.now fields.now text.items)) }
+    ensures none { IfOk result (λ member.
+        IfNone member (HasUnreadField (R.reads found.now) fields.now)) }
 {
     let mut out = Writer::new(Vec::with_capacity(alloc, 256)?);
     match put_member(alloc, found, name, fields, &mut out) {
+        Ok(()) => Ok(Some(out.into_inner())),
+        Err(MaxMindDbError::Memory) => Err(AllocError),
+        Err(_) => Ok(None),
+    }
+}
+
+// Writes a member with a network and the fields.
+fn put_network_member<R: ReadAlong>(
+    alloc: Global,
+    network: Option<IpNetwork>,
+    found: &R,
+    name: &str,
+    fields: &[NamedField<'_>],
+    out: &mut Writer,
+) -> Result<(), MaxMindDbError>
+    ensures member { OnOk result (PutsFieldsAfter (network_tokens network) (R.reads found.now)
+        name.now fields.now out.old.tokens out.new.tokens) }
+    ensures rejected { IfErr result (λ e.
+        MemoryApart e (HasUnreadField (R.reads found.now) fields.now)) }
+    ensures before { out.new.before ≡ out.old.before }
+{
+    out.token(Token::Key(name))?;
+    out.token(Token::BeginObject)?;
+    put_network(alloc, network, out)?;
+    put_fields(alloc, found, fields, out)?;
+    out.token(Token::EndObject)?;
+    Ok(())
+}
+
+/// The text of a member with a network and fields, or none where one of these failed.
+pub(crate) fn network_member_of<R: ReadAlong>(
+    alloc: Global,
+    network: Option<IpNetwork>,
+    found: &R,
+    name: &str,
+    fields: &[NamedField<'_>],
+) -> Result<Option<Vec<u8>>, AllocError>
+    ensures some { IfOk result (λ member. IfSome member (λ text. IsMemberAfter
+        (network_tokens network) (R.reads found.now) name.now fields.now text.items)) }
+    ensures none { IfOk result (λ member.
+        IfNone member (HasUnreadField (R.reads found.now) fields.now)) }
+{
+    let mut out = Writer::new(Vec::with_capacity(alloc, 256)?);
+    match put_network_member(alloc, network, found, name, fields, &mut out) {
         Ok(()) => Ok(Some(out.into_inner())),
         Err(MaxMindDbError::Memory) => Err(AllocError),
         Err(_) => Ok(None),
@@ -110,6 +188,24 @@ pub(crate) fn null_member(
     let mut out = Writer::new(Vec::with_capacity(alloc, 256)?);
     out.token(Token::Key(name))?;
     out.token(Token::BeginObject)?;
+    put_nulls(fields, &mut out)?;
+    out.token(Token::EndObject)?;
+    Ok(out.into_inner())
+}
+
+/// The text of a member with a network and every field null.
+pub(crate) fn null_network_member(
+    alloc: Global,
+    name: &str,
+    fields: &[NamedField<'_>],
+) -> Result<Vec<u8>, AllocError>
+    ensures { IfOk result (λ text.
+        IsNullMemberAfter (network_tokens None) name.now fields.now text.items) }
+{
+    let mut out = Writer::new(Vec::with_capacity(alloc, 256)?);
+    out.token(Token::Key(name))?;
+    out.token(Token::BeginObject)?;
+    put_network(alloc, None, &mut out)?;
     put_nulls(fields, &mut out)?;
     out.token(Token::EndObject)?;
     Ok(out.into_inner())

@@ -1,6 +1,6 @@
 //! What is noted of the records that are read, so that it can be said at the end what was amiss.
 use crate::asked::asked_of;
-use crate::layers::{Layers, can_ask_any};
+use crate::layers::{Layers, can_ask_any, offset_of};
 use mmdb_layout::ReadAlong;
 use mmdb_reader::{LookupResult, MaxMindDbError, PathElement, Reader};
 use mmdb_value::Value;
@@ -107,6 +107,15 @@ impl Notes {
         let record = NotedRecord { database, offset };
         if self.records.len() < MOST_RECORDS && !self.records.as_slice().contains(&record) {
             let _ = self.records.push(record);
+        }
+    }
+
+    /// Notes the records of several databases.
+    pub(crate) fn note_records<S: AsSlice<u8> + Drop>(&mut self, layers: &Layers<'_, S>) {
+        for (at, answer) in layers.answers.iter().enumerate() {
+            if let Some(offset) = offset_of(answer) {
+                self.note_record(at, offset);
+            }
         }
     }
 

@@ -5,10 +5,10 @@ use mmdb_addresses::Reading;
 use mmdb_arguments::{EnrichArguments, Hop, NoRequest};
 use mmdb_console::wanted_path;
 use mmdb_filter::Rows;
-use mmdb_layout::{ChosenFields, DefaultName, fields_of};
+use mmdb_layout::{ChosenFields, DefaultName, NETWORK, fields_of};
 use mmdb_objects::PathStep;
 use mmdb_reader::PathElement;
-use std::alloc::Global;
+use std::alloc::{AllocError, Global};
 
 /// A column of lines.
 #[derive(Clone, Copy)]
@@ -25,8 +25,11 @@ pub(crate) struct RowsTask<'a> {
     pub(crate) rows: Rows,
     pub(crate) reading: Reading,
     pub(crate) column: Column<'a>,
+    /// What the columns are called that are added.
     pub(crate) names: Vec<&'a str>,
     pub(crate) paths: Vec<Vec<PathElement<'a>>>,
+    /// Whether the network of the address comes before the fields.
+    pub(crate) network: bool,
     pub(crate) header: bool,
 }
 
@@ -53,6 +56,8 @@ pub(crate) struct JsonTask<'a> {
     pub(crate) into: &'a str,
     /// Whether objects without a record get it too.
     pub(crate) nulls: bool,
+    /// Whether the network of the address comes before the fields.
+    pub(crate) network: bool,
     pub(crate) fields: Vec<NamedField<'a>>,
 }
 
@@ -123,14 +128,41 @@ type FieldColumns<'a> = (Vec<&'a str>, Vec<Vec<PathElement<'a>>>);
 /// What a name of a column is that no row can have.
 const BROKEN_ROW: &str = "a name with what separates columns or lines";
 
+/// What `--json` is without a field where there are several databases.
+const FIELDLESS: &str = "needs a --field where there are several databases";
+
+/// What `--network` is without a field in objects.
+const FIELDLESS_NETWORK: &str = "with --json needs a --field; --field record= has the whole record";
+
+// That there is a field where objects need one: with the network, and of several databases.
+fn test_fields(alloc: Global, arguments: &EnrichArguments<'_>) -> Result<(), NoRequest> {
+    if !arguments.fields.is_empty() {
+        Ok(())
+    } else if arguments.network {
+        Err(NoRequest::bad_argument(alloc, "--network", FIELDLESS_NETWORK))
+    } else if !arguments.others.is_empty() {
+        Err(NoRequest::bad_argument(alloc, "--json", FIELDLESS))
+    } else {
+        Ok(())
+    }
+}
+
 // The fields of objects.
-fn members_of<'a>(alloc: Global, texts: &[&'a str]) -> Result<Vec<NamedField<'a>>, NoRequest> {
+fn members_of<'a>(
+    alloc: Global,
+    arguments: &EnrichArguments<'a>,
+) -> Result<Vec<NamedField<'a>>, NoRequest> {
     let ChosenFields {
         names,
         texts: _,
         paths,
         is_named: _,
-    } = fields_of(alloc, texts, DefaultName::LastStep, &[])?;
+    } = fields_of(
+        alloc,
+        arguments.fields.as_slice(),
+        DefaultName::LastStep,
+        taken_names(arguments.network),
+    )?;
     let mut members = Vec::new(alloc);
     for (name, path) in names.iter().zip(paths) {
         members.push(NamedField { name: *name, path })?;
@@ -149,7 +181,27 @@ fn breaks_row(rows: Rows, name: &str) -> bool {
     }
 }
 
-// What the columns of fields are called, and where the fields are. An `Err` where a given name would break the first row.
+// What the columns are called that are added: that of the network, where it is wanted, before those of the fields.
+fn names_of<'a>(
+    alloc: Global,
+    network: bool,
+    fields: Vec<&'a str>,
+) -> Result<Vec<&'a str>, AllocError> {
+    if !network {
+        return Ok(fields);
+    }
+    let mut names = Vec::new(alloc);
+    names.push(NETWORK)?;
+    names.extend_from_slice(fields.as_slice())?;
+    Ok(names)
+}
+
+// The names that no field may have.
+fn taken_names(network: bool) -> &'static [&'static str] {
+    if network { &[NETWORK] } else { &[] }
+}
+
+// What the columns are called that are added, and where the fields are. An `Err` where a given name would break the first row.
 fn columns_of<'a>(
     alloc: Global,
     rows: Rows,
@@ -160,7 +212,12 @@ fn columns_of<'a>(
         texts: _,
         paths,
         is_named,
-    } = fields_of(alloc, arguments.fields.as_slice(), DefaultName::Path, &[])?;
+    } = fields_of(
+        alloc,
+        arguments.fields.as_slice(),
+        DefaultName::Path,
+        taken_names(arguments.network),
+    )?;
     if is_named && arguments.header {
         for name in &names {
             if breaks_row(rows, *name) {
@@ -168,7 +225,7 @@ fn columns_of<'a>(
             }
         }
     }
-    Ok((names, paths))
+    Ok((names_of(alloc, arguments.network, names)?, paths))
 }
 
 // A step of the path of an address in an object: a key, or an index from the front.
@@ -209,12 +266,14 @@ pub(crate) fn json_task<'a>(
     if into.is_empty() {
         return Err(NoRequest::bad_argument(alloc, "--into", "an empty name"));
     }
+    test_fields(alloc, arguments)?;
     Ok(JsonTask {
         reading: tested_reading(alloc, arguments)?,
         path: address_path(alloc, path)?,
         into,
         nulls: arguments.nulls,
-        fields: members_of(alloc, arguments.fields.as_slice())?,
+        network: arguments.network,
+        fields: members_of(alloc, arguments)?,
     })
 }
 
@@ -234,7 +293,7 @@ pub(crate) fn rows_task<'a>(
     }
     let rows = rows_of(alloc, arguments.delimiter, arguments.no_quotes)?;
     let column = column_of(alloc, arguments.column, arguments.header)?;
-    if arguments.fields.is_empty() {
+    if arguments.fields.is_empty() && !arguments.network {
         return Err(NoRequest::bad_argument(alloc, "enrich", "needs a --field"));
     }
     let reading = tested_reading(alloc, arguments)?;
@@ -245,6 +304,7 @@ pub(crate) fn rows_task<'a>(
         column,
         names,
         paths,
+        network: arguments.network,
         header: arguments.header,
     })
 }

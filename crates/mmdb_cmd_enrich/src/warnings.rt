@@ -2,6 +2,7 @@
 use crate::fields::AskedField;
 use crate::json_enrichment::JsonMemory;
 use crate::layered_enrichment::LayeredMemory;
+use crate::layered_json_enrichment::LayeredJsonMemory;
 use crate::notes::Notes as Records;
 use crate::row_memory::RowMemory;
 use mmdb_arguments::EnrichArguments;
@@ -44,6 +45,12 @@ impl<S: AsSlice<u8> + Drop> Remembering for LayeredMemory<'_, S> {
 }
 
 impl Remembering for JsonMemory {
+    fn records(&self) -> &Records {
+        &self.notes
+    }
+}
+
+impl<S: AsSlice<u8> + Drop> Remembering for LayeredJsonMemory<'_, S> {
     fn records(&self) -> &Records {
         &self.notes
     }

@@ -5,7 +5,7 @@ use std::alloc::{AllocError, Global};
 use std::process::Abort;
 
 /// A database: its nodes, their count as it is encoded, its IP version as it is encoded, and its data.
-type Database<'a> = (&'a [(u32, u32)], &'a [u8], &'a [u8], &'a [u8]);
+pub(super) type Database<'a> = (&'a [(u32, u32)], &'a [u8], &'a [u8], &'a [u8]);
 
 const IPV4: &[u8] = b"\xA1\x04";
 
@@ -15,13 +15,18 @@ const IPV6: &[u8] = b"\xA1\x06";
 const OWN_DATA: &[u8] = b"\xE1\x41c\x43own\xE1\x41n\xA1\x07\xE1\x41c\x41\xFF";
 
 /// In 64.0.0.0/2, 128.0.0.0/2 and 192.0.0.0/2. Of three nodes: offset o is 19 + o, 3 is none.
-const OWN: Database<'static> = (&[(1, 2), (3, 19), (26, 31)], b"\xC1\x03", IPV4, OWN_DATA);
+pub(super) const OWN: Database<'static> = (
+    &[(1, 2), (3, 19), (26, 31)],
+    b"\xC1\x03",
+    IPV4,
+    OWN_DATA,
+);
 
 /// {"c": "city", "n": 9}, and at 12 {"c": "q\",t\tab"}.
 const CITY_DATA: &[u8] = b"\xE2\x41c\x44city\x41n\xA1\x09\xE1\x41c\x47q\",t\tab";
 
 /// The second in 128.0.0.0/2, none in 0.0.0.0/3, the first one else. Of four nodes: offset o is 20 + o, 4 is none.
-const CITY: Database<'static> = (
+pub(super) const CITY: Database<'static> = (
     &[(1, 2), (3, 20), (32, 20), (4, 20)],
     b"\xC1\x04",
     IPV4,
@@ -29,16 +34,21 @@ const CITY: Database<'static> = (
 );
 
 /// {"c": "six"} everywhere.
-const SIX: Database<'static> = (&[(17, 17)], b"\xC1\x01", IPV6, b"\xE1\x41c\x43six");
+pub(super) const SIX: Database<'static> = (&[(17, 17)], b"\xC1\x01", IPV6, b"\xE1\x41c\x43six");
 
 /// {"organization": "x"} everywhere.
-const NAMED: Database<'static> = (&[(17, 17)], b"\xC1\x01", IPV4, b"\xE1\x4Corganization\x41x");
+pub(super) const NAMED: Database<'static> = (
+    &[(17, 17)],
+    b"\xC1\x01",
+    IPV4,
+    b"\xE1\x4Corganization\x41x",
+);
 
 /// No offset of the data in 0.0.0.0/1, {"c": "six"} in 128.0.0.0/1.
-const TORN: Database<'static> = (&[(4096, 17)], b"\xC1\x01", IPV4, b"\xE1\x41c\x43six");
+pub(super) const TORN: Database<'static> = (&[(4096, 17)], b"\xC1\x01", IPV4, b"\xE1\x41c\x43six");
 
 /// The databases, words after these, standard input, the status, standard output, and what standard error has to hold.
-type Row<'a> = (
+pub(super) type Row<'a> = (
     Database<'a>,
     Database<'a>,
     &'a [&'a str],
@@ -49,10 +59,10 @@ type Row<'a> = (
 );
 
 /// An address of each kind.
-const ALL: &str = "1.1.1.1\n33.0.0.1\n70.0.0.1\n130.0.0.1\n200.0.0.1\n-\n";
+pub(super) const ALL: &str = "1.1.1.1\n33.0.0.1\n70.0.0.1\n130.0.0.1\n200.0.0.1\n-\n";
 
 /// An address for each pair of a database with IPv6 and one without.
-const BOTH: &str = "1.1.1.1\n70.0.0.1\n::ffff:70.0.0.1\n2001:db8::1\n::1\n";
+pub(super) const BOTH: &str = "1.1.1.1\n70.0.0.1\n::ffff:70.0.0.1\n2001:db8::1\n::1\n";
 
 #[rattlefmt::skip]
 const ROWS: &[Row<'static>] = &[
@@ -143,11 +153,10 @@ const REJECTED: &[Rejected<'static>] = &[
     ),
     (&["enrich", "new.mmdb", "here.mmdb", "--field", "c"], 1, &["mmdb: new.mmdb: invalid database"]),
     (&["enrich", "here.mmdb", "gone.mmdb"], 2, &["enrich: needs a --field"]),
-    (&["enrich", "here.mmdb", "gone.mmdb", "--field", "c", "--json", "ip"], 2, &["--json: takes one database"]),
 ];
 
-// The file of a database, or none without memory.
-fn file_with(alloc: Global, database: &Database<'_>) -> Vec<u8> {
+/// The file of a database, or none without memory.
+pub(super) fn file_with(alloc: Global, database: &Database<'_>) -> Vec<u8> {
     let (nodes, count, version, data) = *database;
     let changes = &[(Field::NodeCount, count), (Field::IpVersion, version)];
     match nodes_24(alloc, nodes) {
@@ -158,8 +167,8 @@ fn file_with(alloc: Global, database: &Database<'_>) -> Vec<u8> {
     }
 }
 
-// Whether standard error holds each of these texts.
-fn holds_all(run: &Run, texts: &[&str]) -> bool {
+/// Whether standard error holds each of these texts.
+pub(super) fn holds_all(run: &Run, texts: &[&str]) -> bool {
     for text in texts {
         if !run.err().contains(*text) {
             return false;
@@ -168,16 +177,22 @@ fn holds_all(run: &Run, texts: &[&str]) -> bool {
     true
 }
 
-// A run of `enrich` over two databases.
-fn run_both(alloc: Global, old: &[u8], newer: &[u8], words: &[&str], lines: &str) -> Run {
+/// A run of `enrich` over two databases.
+pub(super) fn run_both(
+    alloc: Global,
+    old: &[u8],
+    newer: &[u8],
+    words: &[&str],
+    lines: &str,
+) -> Run {
     let mut all: Vec<&str> = Vec::new(alloc);
     let _ = all.extend_from_slice(&["enrich", "here.mmdb", "new.mmdb"]);
     let _ = all.extend_from_slice(words);
     run_over(alloc, &two_files(old, newer), all.as_slice(), lines, false)
 }
 
-// Asserts what a run leaves.
-fn assert_row(rt: &impl Abort, alloc: Global, row: &Row<'_>) {
+/// Asserts what a run leaves.
+pub(super) fn assert_row(rt: &impl Abort, alloc: Global, row: &Row<'_>) {
     let (first, second, words, lines, status, out, err) = *row;
     let old = file_with(alloc, &first);
     let newer = file_with(alloc, &second);
@@ -217,7 +232,7 @@ fn files_that_are_no_databases(rt: HostRuntime) {
 }
 
 /// How many records each of the databases of many has: one for each value of six bits.
-const MANY: u32 = 64;
+pub(super) const MANY: u32 = 64;
 
 /// The nodes of a tree of six bits that has so many nodes before it, of which both halves are the next one. The record of
 /// each value is five bytes after that of the value before.
@@ -256,8 +271,13 @@ fn many_records(alloc: Global, key: u8) -> Result<Vec<u8>, AllocError> {
     Ok(data)
 }
 
-// The file of such a database.
-fn many_file(alloc: Global, before: u32, count: &[u8], key: u8) -> Result<Vec<u8>, AllocError> {
+/// The file of such a database, whose records have their values at a key of one byte.
+pub(super) fn many_file(
+    alloc: Global,
+    before: u32,
+    count: &[u8],
+    key: u8,
+) -> Result<Vec<u8>, AllocError> {
     let nodes = many_nodes(alloc, before)?;
     let nodes = nodes_24(alloc, nodes.as_slice())?;
     let data = many_records(alloc, key)?;

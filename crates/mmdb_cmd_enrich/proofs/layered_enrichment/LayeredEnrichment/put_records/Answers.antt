@@ -14,9 +14,9 @@ returns-clause-added g c =
     let rows = c.args.self.now.rows in
     let answers = c.args.layers.now.answers.items in
     let (found, are, put, read) = c.in_ok-are_read.ensures in
-    let fields = c.as_slice.result.now in (
+    let fields = c.as_slice-paths.result.now in (
       found,
-      subst (λ fs. AddsAtAll dbs rows (map (λ field. field.items) fs) (map offset_in answers) found c.outcome_of_all-outcome.result) c.as_slice.ensures.value
+      subst (λ fs. AddsAtAll dbs rows (map (λ field. field.items) fs) (map offset_in answers) found c.outcome_of_all-outcome.result) c.as_slice-paths.ensures.value
           (answers_added dbs rows (map (λ field. field.items) fields) answers found found c.has_record.result c.in_ok-are_read.are_read c.outcome_of_all-outcome.result c.requires.asked refl are read c.has_record.ensures c.outcome_of_all-outcome.ensures),
       put,
     )
@@ -27,13 +27,13 @@ returns-clause-kept g c =
     let rows = c.args.self.now.rows in
     let answers = c.args.layers.now.answers.items in
     let (found, are, put, read) = c.in_ok-are_read.ensures in
-    let fields = c.as_slice.result.now in
-    let whole : c.as_slice-2.result.now ≡ c.args.out.now.items ++ found = c.as_slice-2.ensures.value ∙ put in
-    let all = c.as_slice-2.result.now in
+    let fields = c.as_slice-paths.result.now in
+    let whole : c.as_slice.result.now ≡ c.args.out.now.items ++ found = c.as_slice.ensures.value ∙ put in
+    let all = c.as_slice.result.now in
     let before = c.len-before.result in
     let cells = take (length all - before) (drop before all) in
     let shown : cells ≡ found = take_rest all before ∙ behind c.args.out.now.items all found before (search rules) whole in
-    let adds = subst (λ fs. AddsAtAll dbs rows (map (λ field. field.items) fs) (map offset_in answers) cells c.outcome_of_all-outcome.result) c.as_slice.ensures.value
+    let adds = subst (λ fs. AddsAtAll dbs rows (map (λ field. field.items) fs) (map offset_in answers) cells c.outcome_of_all-outcome.result) c.as_slice-paths.ensures.value
     (answers_added dbs rows (map (λ field. field.items) fields) answers cells found c.has_record.result c.in_ok-are_read.are_read c.outcome_of_all-outcome.result c.requires.asked shown are read c.has_record.ensures c.outcome_of_all-outcome.ensures) in
     c.keep_numbered.ensures (layers dbs rows (paths_of c.args.self.now.paths)) c.requires.kept
     (added_of_keys dbs rows (paths_of c.args.self.now.paths) (map offset_in answers) c.args.layers.now.key cells c.outcome_of_all-outcome.result c.requires.key adds)

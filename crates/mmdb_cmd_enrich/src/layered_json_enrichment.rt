@@ -1,0 +1,370 @@
+//! What is added to a line of JSON from several databases.
+ghost use Rattle.std.specs.Prelude.{◌≡◌, ◌≤◌, IfOk, IfSome, Some, true, map};
+ghost use Rattle.mmdb_cmd_enrich.specs.Fields.{IsNullMemberAfter};
+ghost use Rattle.mmdb_cmd_enrich.specs.Kept.{AreKept};
+ghost use Rattle.mmdb_cmd_enrich.specs.LayeredMembers.{null_front};
+ghost use Rattle.mmdb_cmd_enrich.specs.Layers.{IsKey, first_read};
+ghost use Rattle.mmdb_cmd_enrich.specs.Wanted.{Wanted, layered_member};
+ghost use Rattle.mmdb_cmd_enrich.specs.Working.{AreAnswersOf, PutsFound, PutsMemberForAll, PutsMemberOf, PutsNoneAfter, PutsRead, PutsToObjectAll, offset_in};
+ghost use Rattle.mmdb_filter.specs.declared.counts.Outcome.TheVariants.{Failed};
+
+use crate::cache::AddedCache;
+use crate::json_enrichment::{kept_of, nothing, put_member, put_text};
+use crate::layers::{Layers, can_ask_any};
+use crate::members::{NamedField, member_of, network_member_of, null_member, null_network_member};
+use crate::notes::{Notes, note_rejected_by};
+use json::Scratch;
+use mmdb_addresses::Reading;
+use mmdb_filter::{Added, Additions, Outcome};
+use mmdb_objects::{Line, PathStep, ReadLine, read_line};
+use mmdb_reader::Reader;
+use std::alloc::{AllocError, Global};
+use std::convert::AsSlice;
+use std::net::IpAddr;
+
+/// Fields of the records of the address in an object, as its last member: each field of the first database that has it, and
+/// before them, where it is wanted, the network of the address.
+#[derive(Drop)]
+pub struct LayeredJsonEnrichment<'a, 'f, S: AsSlice<u8> + Drop> {
+    pub alloc: Global,
+    /// Where addresses are looked up, the first of these first.
+    pub readers: &'a [Reader<S>],
+    /// What the databases are called where a record of one can't be read.
+    pub names: &'a [&'a str],
+    /// Where in a string the address is.
+    pub reading: Reading,
+    /// The path to the address in an object.
+    pub path: Vec<PathStep<'f>>,
+    /// The name of the member.
+    pub name: &'f str,
+    /// Whether an object without a record gets the member too, with every field null.
+    pub nulls: bool,
+    /// Whether the member has the network of the address before the fields: the smallest in which a database has it.
+    pub network: bool,
+    /// What the member has.
+    pub fields: Vec<NamedField<'f>>,
+}
+
+/// What is remembered from line to line.
+#[derive(Drop)]
+pub struct LayeredJsonMemory<'a, S: AsSlice<u8> + Drop> {
+    scratch: Scratch,
+    cache: AddedCache,
+    layers: Layers<'a, S>,
+    /// What is noted of the records that were read.
+    pub notes: Notes,
+}
+
+impl<'a, S: AsSlice<u8> + Drop> LayeredJsonMemory<'a, S> {
+    /// Of no line, with what is noted of records that were read before. It takes memory for the members of records at once.
+    pub(crate) fn with_notes(
+        alloc: Global,
+        notes: Notes,
+    ) -> Result<LayeredJsonMemory<'a, S>, AllocError>
+        ensures { IfOk result (λ memory. (wanted : Wanted) → AreKept wanted memory.cache) }
+    {
+        Ok(LayeredJsonMemory {
+            cache: AddedCache::new(alloc)?,
+            scratch: Scratch::new(alloc),
+            layers: Layers::new(alloc),
+            notes,
+        })
+    }
+}
+
+impl<'a, 'f, S: AsSlice<u8> + Drop> LayeredJsonEnrichment<'a, 'f, S> {
+    // Notes the records that were read, or were not.
+    #[inline(never)]
+    fn note(&self, layers: &Layers<'a, S>, are_read: bool, notes: &mut Notes) {
+        notes.note_records(layers);
+        for at in 0..self.fields.len() {
+            let path = self.fields[at].path.as_slice();
+            notes.note_layered(self.alloc, self.names, layers, at, path, are_read);
+        }
+    }
+
+    // Adds the member of records that were not kept, and keeps it.
+    #[inline(never)]
+    fn put_records(
+        &self,
+        line: &Line,
+        layers: &Layers<'a, S>,
+        cache: &mut AddedCache,
+        notes: &mut Notes,
+        out: &mut Vec<u8>,
+    ) -> Result<Added, AllocError>
+        requires asked { AreAnswersOf self.now.readers.now layers.now.answers.items }
+        requires key { IfSome layers.now.key
+            (IsKey 0 self.now.readers.now (map offset_in layers.now.answers.items)) }
+        requires kept { AreKept (layered_member self.now.readers.now self.now.name.now
+            self.now.fields.items) cache.old }
+        ensures added { IfOk result (λ addition. PutsMemberOf
+            (first_read self.now.readers.now (map offset_in layers.now.answers.items))
+            self.now.name.now self.now.fields.items line.now addition
+            out.old.items out.new.items) }
+        ensures kept { AreKept (layered_member self.now.readers.now self.now.name.now
+            self.now.fields.items) cache.new }
+    {
+        let member = member_of(
+            self.alloc,
+            &layers.answers,
+            self.name,
+            self.fields.as_slice(),
+        )?;
+        let kept = kept_of(&member);
+        cache.keep_numbered(layers.key, kept.cells, kept.outcome);
+        self.note(layers, kept.outcome == Outcome::Found, notes);
+        put_member(line, kept, out)
+    }
+
+    // The member of which everything is null.
+    fn null_member(&self) -> Result<Vec<u8>, AllocError>
+        ensures { IfOk result (λ text. IsNullMemberAfter (null_front self.now.network)
+            self.now.name.now self.now.fields.items text.items) }
+    {
+        let fields = self.fields.as_slice();
+        if self.network {
+            null_network_member(self.alloc, self.name, fields)
+        } else {
+            null_member(self.alloc, self.name, fields)
+        }
+    }
+
+    // Adds what an object without a record gets.
+    #[inline(never)]
+    fn put_none(
+        &self,
+        line: &Line,
+        outcome: Outcome,
+        out: &mut Vec<u8>,
+    ) -> Result<Added, AllocError>
+        ensures added { IfOk result (λ addition. PutsNoneAfter (null_front self.now.network)
+            self.now.nulls self.now.name.now self.now.fields.items line.now outcome addition
+            out.old.items out.new.items) }
+        ensures behind { IfOk result (λ addition. addition.behind ≤ line.now.behind) }
+    {
+        if !self.nulls {
+            return Ok(nothing(outcome));
+        }
+        let member = self.null_member()?;
+        put_text(line, member.as_slice(), outcome, out)
+    }
+
+    // Adds nothing for an address that is rejected.
+    #[inline(never)]
+    fn put_rejected(&self, address: IpAddr, notes: &mut Notes) -> Added
+        ensures { (result.outcome ≡ Failed) × (result.behind ≡ 0) }
+    {
+        note_rejected_by(self.alloc, self.readers, self.names, address, notes);
+        nothing(Outcome::Failed)
+    }
+
+    // Adds the member of records: the one that is kept, or that of what is read.
+    #[inline(always)]
+    fn put_kept(
+        &self,
+        line: &Line,
+        layers: &Layers<'a, S>,
+        cache: &mut AddedCache,
+        notes: &mut Notes,
+        out: &mut Vec<u8>,
+    ) -> Result<Added, AllocError>
+        requires asked { AreAnswersOf self.now.readers.now layers.now.answers.items }
+        requires key { IfSome layers.now.key
+            (IsKey 0 self.now.readers.now (map offset_in layers.now.answers.items)) }
+        requires kept { AreKept (layered_member self.now.readers.now self.now.name.now
+            self.now.fields.items) cache.old }
+        ensures added { IfOk result (λ addition. PutsMemberOf
+            (first_read self.now.readers.now (map offset_in layers.now.answers.items))
+            self.now.name.now self.now.fields.items line.now addition
+            out.old.items out.new.items) }
+        ensures kept { AreKept (layered_member self.now.readers.now self.now.name.now
+            self.now.fields.items) cache.new }
+    {
+        if let Some(key) = layers.key
+            && let Some(kept) = cache.kept(key)
+        {
+            return put_member(line, kept, out);
+        }
+        self.put_records(line, layers, cache, notes, out)
+    }
+
+    // Adds the member of records with the network of the address. It is not kept: other addresses have these records in
+    // other networks.
+    #[inline(never)]
+    fn put_networked(
+        &self,
+        line: &Line,
+        layers: &Layers<'a, S>,
+        notes: &mut Notes,
+        out: &mut Vec<u8>,
+    ) -> Result<Added, AllocError>
+        requires asked { AreAnswersOf self.now.readers.now layers.now.answers.items }
+        ensures { IfOk result (λ addition. PutsRead self.now.readers.now true self.now.name.now
+            self.now.fields.items line.now layers.now.answers.items addition
+            out.old.items out.new.items) }
+    {
+        let network = layers.shown_network();
+        let fields = self.fields.as_slice();
+        let member = network_member_of(self.alloc, network, &layers.answers, self.name, fields)?;
+        let made = kept_of(&member);
+        self.note(layers, made.outcome == Outcome::Found, notes);
+        put_member(line, made, out)
+    }
+
+    // Adds the member of records, with the network of the address where it is wanted.
+    #[inline(always)]
+    fn put_read(
+        &self,
+        line: &Line,
+        layers: &Layers<'a, S>,
+        cache: &mut AddedCache,
+        notes: &mut Notes,
+        out: &mut Vec<u8>,
+    ) -> Result<Added, AllocError>
+        requires asked { AreAnswersOf self.now.readers.now layers.now.answers.items }
+        requires key { IfSome layers.now.key
+            (IsKey 0 self.now.readers.now (map offset_in layers.now.answers.items)) }
+        requires kept { AreKept (layered_member self.now.readers.now self.now.name.now
+            self.now.fields.items) cache.old }
+        ensures added { IfOk result (λ addition. PutsRead self.now.readers.now self.now.network
+            self.now.name.now self.now.fields.items line.now layers.now.answers.items addition
+            out.old.items out.new.items) }
+        ensures kept { AreKept (layered_member self.now.readers.now self.now.name.now
+            self.now.fields.items) cache.new }
+    {
+        if self.network {
+            self.put_networked(line, layers, notes, out)
+        } else {
+            self.put_kept(line, layers, cache, notes, out)
+        }
+    }
+
+    // Adds the member of what was found, or what an object without a record gets.
+    #[inline(always)]
+    fn put_found(
+        &self,
+        line: &Line,
+        layers: &Layers<'a, S>,
+        cache: &mut AddedCache,
+        notes: &mut Notes,
+        out: &mut Vec<u8>,
+    ) -> Result<Added, AllocError>
+        requires asked { AreAnswersOf self.now.readers.now layers.now.answers.items }
+        requires key { IfSome layers.now.key
+            (IsKey 0 self.now.readers.now (map offset_in layers.now.answers.items)) }
+        requires kept { AreKept (layered_member self.now.readers.now self.now.name.now
+            self.now.fields.items) cache.old }
+        ensures added { IfOk result (λ addition. PutsFound self.now.readers.now self.now.network
+            self.now.nulls self.now.name.now self.now.fields.items line.now
+            layers.now.answers.items addition out.old.items out.new.items) }
+        ensures behind { IfOk result (λ addition. addition.behind ≤ line.now.behind) }
+        ensures kept { AreKept (layered_member self.now.readers.now self.now.name.now
+            self.now.fields.items) cache.new }
+    {
+        if layers.has_record() {
+            self.put_read(line, layers, cache, notes, out)
+        } else {
+            self.put_none(line, Outcome::Absent, out)
+        }
+    }
+
+    // Adds the member of an address.
+    #[inline(always)]
+    fn put_address(
+        &self,
+        line: &Line,
+        address: IpAddr,
+        memory: &mut LayeredJsonMemory<'a, S>,
+        out: &mut Vec<u8>,
+    ) -> Result<Added, AllocError>
+        requires { AreKept (layered_member self.now.readers.now self.now.name.now
+            self.now.fields.items) memory.old.cache }
+        ensures added { IfOk result (λ addition. PutsMemberForAll self.now.readers.now
+            self.now.network self.now.nulls self.now.name.now self.now.fields.items line.now
+            (Some address) addition out.old.items out.new.items) }
+        ensures behind { IfOk result (λ addition. addition.behind ≤ line.now.behind) }
+        ensures kept { AreKept (layered_member self.now.readers.now self.now.name.now
+            self.now.fields.items) memory.new.cache }
+    {
+        if !can_ask_any(self.readers, address) {
+            return Ok(self.put_rejected(address, &mut memory.notes));
+        }
+        if !memory.layers.look_up(self.readers, address)? {
+            return Ok(self.put_rejected(address, &mut memory.notes));
+        }
+        self.put_found(
+            line,
+            &memory.layers,
+            &mut memory.cache,
+            &mut memory.notes,
+            out,
+        )
+    }
+
+    // Adds to a line what it is given by its address.
+    #[inline(always)]
+    fn put_object(
+        &self,
+        line: &Line,
+        memory: &mut LayeredJsonMemory<'a, S>,
+        out: &mut Vec<u8>,
+    ) -> Result<Added, AllocError>
+        requires { AreKept (layered_member self.now.readers.now self.now.name.now
+            self.now.fields.items) memory.old.cache }
+        ensures added { IfOk result (λ addition. PutsToObjectAll self.now.readers.now
+            self.now.network self.now.nulls self.now.name.now self.now.fields.items line.now
+            addition out.old.items out.new.items) }
+        ensures behind { IfOk result (λ addition. addition.behind ≤ line.now.behind) }
+        ensures kept { AreKept (layered_member self.now.readers.now self.now.name.now
+            self.now.fields.items) memory.new.cache }
+    {
+        if line.is_taken {
+            return Ok(nothing(Outcome::Occupied));
+        }
+        match line.address {
+            Some(address) => self.put_address(line, address, memory, out),
+            None => self.put_none(line, Outcome::Unreadable, out),
+        }
+    }
+}
+
+impl<'a, 'f, S: AsSlice<u8> + Drop> Additions for LayeredJsonEnrichment<'a, 'f, S> {
+    ghost use Rattle.mmdb_cmd_enrich.specs.Kept.{AreKept};
+    ghost use Rattle.mmdb_cmd_enrich.specs.LayeredMembers.{AddsMemberAll};
+    ghost use Rattle.mmdb_cmd_enrich.specs.Wanted.{layered_member};
+
+    type Memory = LayeredJsonMemory<'a, S>;
+
+    ghost adds = { λ e text goes_on extra behind outcome. AddsMemberAll e.readers.now e.network
+        e.reading e.path.items e.nulls e.name.now e.fields.items text goes_on extra behind outcome };
+
+    ghost fits = { λ e memory.
+        AreKept (layered_member e.readers.now e.name.now e.fields.items) memory.cache };
+
+    fn add(
+        &self,
+        memory: &mut LayeredJsonMemory<'a, S>,
+        text: &[u8],
+        is_long: bool,
+        out: &mut Vec<u8>,
+    ) -> Result<Added, AllocError> {
+        memory.notes.pass_row();
+        let path = self.path.as_slice();
+        let scratch = &mut memory.scratch;
+        match read_line(
+            self.alloc,
+            self.reading,
+            text,
+            is_long,
+            path,
+            self.name,
+            scratch,
+        )? {
+            ReadLine::Object(line) => Ok(self.put_object(&line, memory, out)?),
+            ReadLine::NoObject => Ok(nothing(Outcome::Malformed)),
+        }
+    }
+
+    fn foresee(&self, _memory: &mut LayeredJsonMemory<'a, S>, _bytes: &[u8]) {}
+}
