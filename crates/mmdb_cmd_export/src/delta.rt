@@ -9,8 +9,9 @@ use crate::networks::{
 use crate::task::{ExportTask, Shape, export_task};
 use mmdb_arguments::ListDiffArguments;
 use mmdb_blocks::{Action, Block, BlockKind, List, RangesError, Syntax, blocks_without};
-use mmdb_console::{Console, DIFFERENT, DONE, FAILED, Pace, ProgramError, note_range};
+use mmdb_console::{Console, DIFFERENT, DONE, FAILED, Pace, ProgramError, note_range, range_of};
 use mmdb_layout::{Database, open_database};
+use mmdb_reader::IpNetwork;
 use std::alloc::Global;
 use std::env::Env;
 use std::io::{BufRead, Write};
@@ -184,11 +185,12 @@ fn compare<O: Write, E: Pace>(
 fn compare_files<R: Files + Env, I: BufRead, O: Write, E: Pace>(
     rt: &R,
     arguments: &ListDiffArguments<'_>,
+    range: Option<IpNetwork>,
     files: &[ValueFile<'_>],
     input: &mut I,
     console: &mut Console<'_, O, E>,
 ) -> Result<u8, ProgramError> {
-    let task = export_task(console.alloc, &arguments.newer, files)?;
+    let task = export_task(console.alloc, &arguments.newer, range, files)?;
     note_range(task.range, console);
     let Some(adjustment) = read_adjustment(rt, &arguments.newer.list, input, console)? else {
         return Ok(FAILED);
@@ -218,9 +220,10 @@ pub fn list_diff<R: Files + Env, I: BufRead, O: Write, E: Pace>(
     input: &mut I,
     console: &mut Console<'_, O, E>,
 ) -> Result<u8, ProgramError> {
-    check_arguments(console.alloc, &arguments.newer)?;
+    let range = range_of(console.alloc, arguments.newer.range)?;
+    check_arguments(console.alloc, &arguments.newer, range)?;
     let Some(files) = read_value_files(rt, &arguments.newer, input, console)? else {
         return Ok(FAILED);
     };
-    compare_files(rt, arguments, files.as_slice(), input, console)
+    compare_files(rt, arguments, range, files.as_slice(), input, console)
 }

@@ -49,8 +49,8 @@ impl Addresses {
         }
     }
 
-    // Adds the addresses of a block of a kind.
-    fn add_block(&mut self, kind: BlockKind, block: Block) -> Result<(), ProgramError> {
+    /// Adds the addresses of a block of a kind. They come ascending.
+    pub(crate) fn add_block(&mut self, kind: BlockKind, block: Block) -> Result<(), ProgramError> {
         let added = match kind {
             BlockKind::Ipv4 => self.ipv4.add_block(block),
             BlockKind::Ipv6 => self.ipv6.add_block(block),
@@ -70,6 +70,14 @@ pub(crate) struct Adjustment {
 }
 
 impl Adjustment {
+    /// By which nothing is added and nothing taken away.
+    pub(crate) fn of_nothing(alloc: Global) -> Adjustment {
+        Adjustment {
+            also: Addresses::new(alloc),
+            except: Addresses::new(alloc),
+        }
+    }
+
     /// The fewest blocks of a kind that have the chosen addresses, with what is added and without what is taken away.
     pub(crate) fn blocks_of(
         &self,

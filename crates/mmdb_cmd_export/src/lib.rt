@@ -1,7 +1,9 @@
 //! The command `export`: the chosen networks of a range, with what their records have or as the fewest blocks.
 #![tactic(auto)]
 
+mod absent_fields;
 mod adjusted;
+mod asked;
 mod blocks;
 mod chosen;
 mod clip;
@@ -13,9 +15,13 @@ mod listed_values;
 mod missing;
 mod names;
 mod networks;
+mod opening;
 mod rows;
+mod several;
 mod sink;
 mod spelling;
+mod stretch_rows;
+mod stretches;
 mod task;
 
 pub use delta::list_diff;

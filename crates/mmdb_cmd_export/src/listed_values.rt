@@ -3,7 +3,7 @@ use crate::inputs::{ValueFile, shown_start, values_in};
 use mmdb_arguments::NoRequest;
 use mmdb_console::{Console, ProgramError, line_of, wanted_path};
 use mmdb_json::compact;
-use mmdb_layout::{Found, Requirement, split_condition};
+use mmdb_layout::{ReadAlong, Requirement, split_condition};
 use mmdb_reader::{MaxMindDbError, PathElement};
 use mmdb_value::Value;
 use std::alloc::{AllocError, Global};
@@ -104,11 +104,12 @@ impl FileSearch<'_> {
     }
 
     /// Takes out the value that a record has. One that can't be read has none: it is reported when the networks are written.
-    pub(crate) fn meet(&mut self, alloc: Global, found: &Found<'_>) -> Result<(), ProgramError> {
-        let value: Result<Option<Value<'_>>, MaxMindDbError> = found.decode_path(
-            alloc,
-            self.path.as_slice(),
-        );
+    pub(crate) fn meet<R: ReadAlong>(
+        &mut self,
+        alloc: Global,
+        found: &R,
+    ) -> Result<(), ProgramError> {
+        let value = found.read_along(alloc, self.path.as_slice());
         match &value {
             Ok(Some(value)) => Ok(self.take_value(alloc, value)?),
             Err(MaxMindDbError::Memory) => Err(ProgramError::Memory),

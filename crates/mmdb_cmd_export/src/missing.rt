@@ -1,12 +1,16 @@
 //! Values of conditions that no network has: a list by a value that is misspelt would have nothing, or too much.
 use crate::conditions::{NamedValue, Role};
 use crate::listed_values::{FileSearch, searches_of};
+use crate::several::{Several, kind_of_stretch};
 use crate::sink::kind_of;
 use crate::task::ExportTask;
 use mmdb_blocks::Kinds;
+use mmdb_compare::{Together, TogetherPart};
 use mmdb_console::{Console, ProgramError, Similar, line_of};
 use mmdb_json::compact;
-use mmdb_layout::{Choice, Database, Found, Networks, Requirement, networks_in, split_condition};
+use mmdb_layout::{
+    Choice, Database, Networks, ReadAlong, Requirement, networks_in, split_condition,
+};
 use mmdb_reader::{MaxMindDbError, PathElement};
 use mmdb_value::Value;
 use std::alloc::{AllocError, Global};
@@ -69,8 +73,20 @@ struct Search<'t, 'a> {
     files: Vec<FileSearch<'a>>,
 }
 
+/// Where values are looked for.
+#[derive(Clone, Copy)]
+enum Sought<'d> {
+    One(&'d Database),
+    /// Several side by side.
+    Several(&'d Several<'d>),
+}
+
 // Whether a value is met by a record. One that can't be read meets none: it is reported when the networks are written.
-fn meets(alloc: Global, named: &NamedValue<'_>, found: &Found<'_>) -> Result<bool, ProgramError> {
+fn meets<R: ReadAlong>(
+    alloc: Global,
+    named: &NamedValue<'_>,
+    found: &R,
+) -> Result<bool, ProgramError> {
     match named.condition.holds(alloc, found) {
         Ok(is_met) => Ok(is_met),
         Err(MaxMindDbError::Memory) => Err(ProgramError::Memory),
@@ -96,8 +112,8 @@ impl<'t, 'a> Search<'t, 'a> {
         self.are_met.iter().all(|is_met| *is_met) && self.files.iter().all(|file| file.is_done())
     }
 
-    // Marks the values that a record meets.
-    fn meet(&mut self, found: &Found<'_>) -> Result<(), ProgramError> {
+    // Marks the values that a record meets, or several by the first that has a value.
+    fn meet<R: ReadAlong>(&mut self, found: &R) -> Result<(), ProgramError> {
         for (named, is_met) in self.named.iter().zip(&mut self.are_met) {
             if !*is_met {
                 *is_met = meets(self.alloc, named, found)?;
@@ -129,6 +145,28 @@ impl<'t, 'a> Search<'t, 'a> {
             }
             if let Err(MaxMindDbError::Memory) = choice.chooses(&found) {
                 return Err(ProgramError::Memory);
+            }
+        }
+        Ok(())
+    }
+
+    // Marks the values that databases have side by side.
+    fn meet_stretches<'r>(
+        &mut self,
+        together: &mut Together<'r, Vec<u8>>,
+        kinds: Kinds,
+    ) -> Result<(), ProgramError> {
+        for _ in 0..u64::MAX {
+            match together.next_part() {
+                Some(TogetherPart::Stretch(stretch)) if kinds.has(kind_of_stretch(stretch)) => {
+                    let answers = together.answers(self.alloc, stretch)?;
+                    self.meet(&answers)?;
+                    if self.is_done() {
+                        break;
+                    }
+                }
+                Some(_) => {}
+                None => break,
             }
         }
         Ok(())
@@ -178,13 +216,13 @@ impl<'t, 'a> Search<'t, 'a> {
 }
 
 // Offers the value that a record has at a path: a text as it is, and any other as JSON. One that can't be read is passed.
-fn offer_value(
+fn offer_value<R: ReadAlong>(
     alloc: Global,
-    found: &Found<'_>,
+    found: &R,
     named: &NamedValue<'_>,
     similar: &mut Similar<'_>,
 ) -> Result<(), AllocError> {
-    let value: Option<Value<'_>> = match found.decode_path(alloc, named.condition.path.as_slice()) {
+    let value = match found.read_along(alloc, named.condition.path.as_slice()) {
         Ok(value) => value,
         Err(_) => None,
     };
@@ -220,16 +258,61 @@ fn offer_all(
     Ok(())
 }
 
+// Offers the values that databases have at a path side by side.
+fn offer_stretches<'r>(
+    alloc: Global,
+    together: &mut Together<'r, Vec<u8>>,
+    named: &NamedValue<'_>,
+    similar: &mut Similar<'_>,
+) -> Result<(), AllocError> {
+    let mut count = 0usize;
+    for _ in 0..u64::MAX {
+        match together.next_part() {
+            Some(TogetherPart::Stretch(stretch)) if count < MOST_RECORDS => {
+                count = count.saturating_add(1);
+                let answers = together.answers(alloc, stretch)?;
+                offer_value(alloc, &answers, named, similar)?;
+            }
+            Some(TogetherPart::Unread(_)) => {}
+            _ => break,
+        }
+    }
+    Ok(())
+}
+
+// Offers the values that are at a path where they are looked for.
+fn offer_sought(
+    sought: Sought<'_>,
+    task: &ExportTask<'_>,
+    named: &NamedValue<'_>,
+    similar: &mut Similar<'_>,
+    alloc: Global,
+) -> Result<(), ProgramError> {
+    match sought {
+        Sought::One(database) => {
+            let networks = networks_in(alloc, database, task.range)?;
+            offer_all(alloc, networks, named, similar)
+        }
+        Sought::Several(several) => match several.begin(alloc) {
+            Ok(mut together) => {
+                let offered = offer_stretches(alloc, &mut together, named, similar);
+                drop(together);
+                Ok(offered?)
+            }
+            Err((_, error)) => Err(ProgramError::from(error)),
+        },
+    }
+}
+
 // The value that is most like one that no network has.
 fn similar_value(
-    database: &Database,
+    sought: Sought<'_>,
     task: &ExportTask<'_>,
     named: &NamedValue<'_>,
     alloc: Global,
 ) -> Result<Option<String>, ProgramError> {
     let mut similar = Similar::new(alloc, named.value)?;
-    let networks = networks_in(alloc, database, task.range)?;
-    offer_all(alloc, networks, named, &mut similar)?;
+    offer_sought(sought, task, named, &mut similar, alloc)?;
     match similar.best() {
         Some(best) => Ok(Some(String::from_str(alloc, best)?)),
         None => Ok(None),
@@ -238,14 +321,14 @@ fn similar_value(
 
 // What may be meant in place of what no network has: another value, or one where a path is asked for.
 fn meant_by(
-    database: &Database,
+    sought: Sought<'_>,
     task: &ExportTask<'_>,
     named: &NamedValue<'_>,
     alloc: Global,
 ) -> Result<Option<String>, ProgramError> {
     match named.condition.wanted {
         Requirement::OneOf | Requirement::NoneOf | Requirement::Part => {
-            similar_value(database, task, named, alloc)
+            similar_value(sought, task, named, alloc)
         }
         Requirement::Present => match split_condition(named.text) {
             Some((path, value)) => Ok(Some(format!(in alloc; "--where {path}={value}")?)),
@@ -291,7 +374,7 @@ fn missing_line(
 
 // Reports a value that no network has, with what may be meant, where that is looked for.
 fn report_missing<O: Write, E: Write>(
-    database: &Database,
+    sought: Sought<'_>,
     task: &ExportTask<'_>,
     named: &NamedValue<'_>,
     is_sought: bool,
@@ -300,7 +383,7 @@ fn report_missing<O: Write, E: Write>(
 ) -> Result<(), ProgramError> {
     let alloc = console.alloc;
     let meant = if is_sought {
-        meant_by(database, task, named, alloc)?
+        meant_by(sought, task, named, alloc)?
     } else {
         None
     };
@@ -311,7 +394,7 @@ fn report_missing<O: Write, E: Write>(
 
 // Reports the values that no network has, and answers how many there are without which the list is not written.
 fn report_named<O: Write, E: Write>(
-    database: &Database,
+    sought: Sought<'_>,
     task: &ExportTask<'_>,
     search: &Search<'_, '_>,
     console: &mut Console<'_, O, E>,
@@ -330,7 +413,7 @@ fn report_named<O: Write, E: Write>(
             }
         };
         count = count.saturating_add(1);
-        report_missing(database, task, named, count <= MOST_SOUGHT, hint, console)?;
+        report_missing(sought, task, named, count <= MOST_SOUGHT, hint, console)?;
     }
     Ok(refused)
 }
@@ -355,6 +438,18 @@ fn report_files<O: Write, E: Write>(
     refused
 }
 
+// Reports the values that no network has, and answers whether the list is written for all that.
+fn report_search<O: Write, E: Write>(
+    sought: Sought<'_>,
+    task: &ExportTask<'_>,
+    search: &Search<'_, '_>,
+    console: &mut Console<'_, O, E>,
+) -> Result<bool, ProgramError> {
+    let named = report_named(sought, task, search, console)?;
+    let files = report_files(task, search, console);
+    Ok(named == 0 && files == 0)
+}
+
 /// Whether networks of a range have all the values that a list's conditions name, or may lack them. Those that none has are
 /// reported, each with one that may be meant. It is known before anything is written.
 pub(crate) fn are_values_met<O: Write, E: Write>(
@@ -367,7 +462,25 @@ pub(crate) fn are_values_met<O: Write, E: Write>(
     let mut search = Search::new(console.alloc, task.named.as_slice(), files)?;
     let networks = networks_in(console.alloc, database, task.range)?;
     search.meet_all(networks, task.kinds, choice)?;
-    let named = report_named(database, task, &search, console)?;
-    let files = report_files(task, &search, console);
-    Ok(named == 0 && files == 0)
+    report_search(Sought::One(database), task, &search, console)
+}
+
+/// The same of several databases side by side.
+pub(crate) fn are_values_met_in<O: Write, E: Write>(
+    several: &Several<'_>,
+    task: &ExportTask<'_>,
+    console: &mut Console<'_, O, E>,
+) -> Result<bool, ProgramError> {
+    let files = searches_of(console.alloc, task.files)?;
+    let mut search = Search::new(console.alloc, task.named.as_slice(), files)?;
+    let met = match several.begin(console.alloc) {
+        Ok(mut together) => {
+            let met = search.meet_stretches(&mut together, task.kinds);
+            drop(together);
+            met
+        }
+        Err((_, error)) => Err(ProgramError::from(error)),
+    };
+    met?;
+    report_search(Sought::Several(several), task, &search, console)
 }

@@ -1,5 +1,6 @@
 //! The chosen networks of a range, written out.
 use crate::adjusted::write_adjusted;
+use crate::asked::{AskedTexts, asked_texts};
 use crate::blocks::Blocks;
 use crate::chosen::Export;
 use crate::gathering::{AddressGathering, Adjustment};
@@ -7,12 +8,13 @@ use crate::inputs::{ValueFile, check_inputs, read_adjustment, read_value_files};
 use crate::missing::are_values_met;
 use crate::rows::ExportRows;
 use crate::sink::NetworkSink;
+use crate::stretches::export_files;
 use crate::task::{ExportTask, Shape, export_task};
 use mmdb_arguments::{ExportArguments, NoRequest};
 use mmdb_blocks::Syntax;
 use mmdb_console::{Console, DONE, FAILED, Pace, ProgramError, note_range};
 use mmdb_layout::{Choice, Condition, Database, Networks, networks_in, open_database};
-use mmdb_reader::MaxMindDbError;
+use mmdb_reader::{IpNetwork, MaxMindDbError};
 use std::alloc::{AllocError, Global};
 use std::env::Env;
 use std::io::{BufRead, Write};
@@ -260,20 +262,25 @@ fn adjustment_of<R: Files, I: BufRead, O: Write, E: Pace>(
 // Writes the chosen networks by conditions with the values of files, and answers the status.
 fn export_with_values<R: Files + Env, I: BufRead, O: Write, E: Pace>(
     rt: &R,
+    asked: &AskedTexts<'_>,
     arguments: &ExportArguments<'_>,
     files: &[ValueFile<'_>],
     input: &mut I,
     console: &mut Console<'_, O, E>,
 ) -> Result<u8, ProgramError> {
-    let task = export_task(console.alloc, arguments, files)?;
+    let task = export_task(console.alloc, arguments, asked.range, files)?;
     note_range(task.range, console);
     let Some(adjustment) = adjustment_of(rt, arguments, input, console)? else {
         return Ok(FAILED);
     };
-    export_file(rt, arguments.file, &task, adjustment.as_ref(), console)
+    match asked.files.as_slice() {
+        [file] => export_file(rt, *file, &task, adjustment.as_ref(), console),
+        files => export_files(rt, files, &task, adjustment.as_ref(), console),
+    }
 }
 
-/// Writes the chosen networks of a range, reports each that can't be read, and answers the status. An `Err` where an
+/// Writes the chosen networks of a range, of one database or of several side by side, reports each that can't be read, and
+/// answers the status. An `Err` where an
 /// argument is not what is wanted in its place, before a file is opened; where the range can't be asked, standard output
 /// can't be written, the networks do not ascend, or out of memory.
 pub fn export<R: Files + Env, I: BufRead, O: Write, E: Pace>(
@@ -282,20 +289,22 @@ pub fn export<R: Files + Env, I: BufRead, O: Write, E: Pace>(
     input: &mut I,
     console: &mut Console<'_, O, E>,
 ) -> Result<u8, ProgramError> {
-    check_arguments(console.alloc, arguments)?;
+    let asked = asked_texts(console.alloc, arguments)?;
+    check_arguments(console.alloc, arguments, asked.range)?;
     let Some(files) = read_value_files(rt, arguments, input, console)? else {
         return Ok(FAILED);
     };
-    export_with_values(rt, arguments, files.as_slice(), input, console)
+    export_with_values(rt, &asked, arguments, files.as_slice(), input, console)
 }
 
 /// An `Err` where an argument is not what is wanted in its place.
 pub(crate) fn check_arguments(
     alloc: Global,
     arguments: &ExportArguments<'_>,
+    range: Option<IpNetwork>,
 ) -> Result<(), NoRequest> {
     check_inputs(alloc, arguments)?;
-    let task = export_task(alloc, arguments, &[])?;
+    let task = export_task(alloc, arguments, range, &[])?;
     drop(task);
     Ok(())
 }

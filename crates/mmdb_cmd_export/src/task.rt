@@ -4,7 +4,6 @@ use crate::inputs::ValueFile;
 use crate::names::{fault_of_name, fault_of_table};
 use mmdb_arguments::{ExportArguments, Format, ListArguments, NoRequest};
 use mmdb_blocks::{BlockKind, Kinds, Syntax, is_list_value, is_set_name};
-use mmdb_console::range_of;
 use mmdb_layout::{Condition, Layout, NETWORK, layout_of};
 use mmdb_reader::IpNetwork;
 use std::alloc::Global;
@@ -214,14 +213,15 @@ fn kinds_of(ipv4: bool, ipv6: bool) -> Kinds {
     }
 }
 
-/// What the arguments of `export` ask for, with the values of files. An `Err` where one is not what is wanted in its place.
+/// What the arguments of `export` ask for in a range, with the values of files. An `Err` where one is not what is wanted in its place.
 pub(crate) fn export_task<'a>(
     alloc: Global,
     arguments: &'a ExportArguments<'a>,
+    range: Option<IpNetwork>,
     files: &'a [ValueFile<'a>],
 ) -> Result<ExportTask<'a>, NoRequest> {
     Ok(ExportTask {
-        range: range_of(alloc, arguments.range)?,
+        range,
         conditions: conditions_of(alloc, &arguments.conditions, files)?,
         named: named_values(alloc, &arguments.conditions)?,
         files,

@@ -2,6 +2,7 @@ mod BlockLaws
 mod ComingLaws
 mod WalkLaws
 mod PartLaws
+mod TogetherLaws
 mod ListedLaws
 mod Placing
 mod Same

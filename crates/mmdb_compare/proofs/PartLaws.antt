@@ -72,7 +72,7 @@ reached_stretch before at next old new block has_old has_new is_even stretch r c
 behind_left : (stand : Stand) (s : Standing) → s.stand ≡ Nowhere → s.is_unknown ≡ true → left_of s ≡ coming s.leaves true
 behind_left stand s e u = rw (e, u) refl
 
-past : (before : Coming) (at : ℕ) (c : Coming) (s : Standing) → IsMet c s → c ≡ coming_from at before → IsPast at before (coming_from at (left_of s))
+pub past : (before : Coming) (at : ℕ) (c : Coming) (s : Standing) → IsMet c s → c ≡ coming_from at before → IsPast at before (coming_from at (left_of s))
 past before at c s met same = record {
   leaves = s.leaves;
   is_unknown = met.is_unknown;

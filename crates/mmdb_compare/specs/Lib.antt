@@ -2,8 +2,10 @@
 pub mod Coming
 pub mod Listed
 pub mod Parts
+pub mod Together
 pub mod Same
 pub mod Kept
 -- What only contracts of private functions and proofs name.
 pub mod Walks
+pub mod WalkList
 pub mod SideBySide

@@ -61,17 +61,17 @@ impl<'a, S: AsSlice<u8> + Drop> Model for Comparison<'a, S> {
     ghost invariant = { λ c. IsComparing c.at c.are_even c.walks.old c.walks.new };
 }
 
-// The address after another one, if there is one.
+/// The address after another one, if there is one.
 #[inline(always)]
-fn next_to(last: u128) -> Option<u128>
+pub(crate) fn next_to(last: u128) -> Option<u128>
     ensures { start_of result ≡ last + 1 }
 {
     last.checked_add(1)
 }
 
-// The address after a block, if there is one.
+/// The address after a block, if there is one.
 #[inline(always)]
-fn behind(block: Block) -> Option<u128>
+pub(crate) fn behind(block: Block) -> Option<u128>
     requires { IsBlock block }
     ensures { start_of result ≡ end block }
 {

@@ -8,11 +8,15 @@ mod equality;
 mod pairs;
 mod place;
 mod shown;
+mod together;
 mod walk;
+mod walk_list;
 mod walks;
 
 pub use comparison::{Comparison, ComparisonPart, Side, Stretch};
 pub use equality::SideBySide;
 pub use pairs::{KnownPairs, Offsets};
 pub use shown::{ShownPair, ShownPairs};
+pub use together::{Together, TogetherPart, TogetherStretch};
 pub use walk::UnreadLeaf;
+pub use walk_list::AskedDatabase;

@@ -22,5 +22,6 @@ mod replaced;
 mod rows;
 mod runs;
 mod several;
+mod several_export;
 mod shared;
 mod texts;

@@ -44,7 +44,7 @@ const BASE_RUNS: &[Row<'static>] = &[
     (&["export", "here.mmdb", "200.0.0.1"], 0, "{\"network\":\"128.0.0.0/1\",\"record\":\"x\"}\n", ""),
     (&["export", "here.mmdb", "1.0.0.0/8"], 0, "", ""),
     (&["export", "here.mmdb", "::/0"], 1, "", "here.mmdb: invalid input: cannot iterate IPv6"),
-    (&["export", "gone.mmdb", "x"], 2, "", "x: not a network"),
+    (&["export", "gone.mmdb", "x"], 1, "", "x: neither a network nor a file"),
     (&["export", "here.mmdb", "--format", "csv"], 2, "", "--format csv: needs a --field"),
     (&["export", "here.mmdb", "--format", "xml"], 2, "", "xml"),
     (&["export", "here.mmdb", "--field", "a.\"b"], 2, "", "a.\"b: not a path"),

@@ -1,0 +1,8 @@
+use Rattle.std.proofs.Common.{◌≡◌, map, take}
+use Rattle.mmdb_compare.specs.Listed.{all_of}
+use Rattle.mmdb_compare.specs.Walks.{left_of}
+use Rattle.mmdb_compare.proofs.walk_list.WalkList.new.Given as goal
+
+-- the walks of the databases so far
+abbrev pub invariant-loop-place : goal.invariant-loop-place
+invariant-loop-place g l = map left_of l.walks.items ≡ map (λ d. all_of d.reader.now d.range) (take l.place l.databases)

@@ -1,0 +1,123 @@
+//! Any number of databases side by side.
+ghost use Rattle.std.specs.Prelude.{MatchOption, IfOk, ◌≡◌, map};
+ghost use Rattle.mmdb_compare.specs.Listed.{all_of};
+ghost use Rattle.mmdb_compare.specs.Parts.{start_of};
+ghost use Rattle.mmdb_compare.specs.Together.{IsNextOfAll, AreOver, AreBegun, offset_in};
+
+use crate::comparison::{behind, next_to};
+use crate::walk::UnreadLeaf;
+use crate::walk_list::{AskedDatabase, WalkList};
+use mmdb_blocks::Block;
+use mmdb_reader::{IpNetwork, LookupResult, MaxMindDbError};
+use std::alloc::{AllocError, Global};
+use std::convert::AsSlice;
+use std::marker::Model;
+
+/// A block in which each database has one answer, and at least one of them a record.
+#[derive(Clone, Copy)]
+pub struct TogetherStretch {
+    pub block: Block,
+    pub is_ipv4: bool,
+}
+
+/// What comes next of the addresses.
+#[derive(Clone, Copy)]
+pub enum TogetherPart {
+    Stretch(TogetherStretch),
+    /// A leaf of the database at this place can't be read, which `take_unread` gives. What that database has up to its next
+    /// network is not handed out.
+    Unread(usize),
+}
+
+/// Any number of databases side by side. Memory is taken by `new` alone.
+#[derive(Drop)]
+pub struct Together<'a, S: AsSlice<u8> + Drop> {
+    list: WalkList<'a, S>,
+    /// Whether the ranges are ones of IPv4, so that all blocks are.
+    is_ipv4: bool,
+    /// The address up to which all was handed out, if there is one left.
+    at: Option<u128>,
+    /// The first address of the last stretch.
+    shown_at: u128,
+}
+
+impl<'a, S: AsSlice<u8> + Drop> Model for Together<'a, S> {
+    ghost use Rattle.mmdb_compare.specs.Together.{Abreast};
+    ghost use Rattle.mmdb_compare.specs.WalkList.{abreast};
+
+    ghost Value = { Abreast };
+
+    ghost view = { λ t. abreast t.at t.shown_at t.list.walks.items };
+}
+
+// Whether all databases are asked for networks of IPv4.
+fn are_all_ipv4<S: AsSlice<u8> + Drop>(databases: &[AskedDatabase<'_, S>]) -> bool {
+    databases
+        .iter()
+        .all(|asked| matches!(asked.range, IpNetwork::V4(_)))
+}
+
+impl<'a, S: AsSlice<u8> + Drop> Together<'a, S> {
+    /// Databases, each in its range. An error, with the place of its database, where that can't be asked for the range, or
+    /// memory is out.
+    pub fn new(
+        alloc: Global,
+        databases: &[AskedDatabase<'a, S>],
+    ) -> Result<Together<'a, S>, (usize, MaxMindDbError)>
+        ensures { IfOk result (λ together.
+            AreBegun (map (λ d. all_of d.reader.now d.range) databases.now) together) }
+    {
+        Ok(Together {
+            list: WalkList::new(alloc, databases)?,
+            is_ipv4: are_all_ipv4(databases),
+            at: Some(0),
+            shown_at: 0,
+        })
+    }
+
+    /// The next part. A stretch begins where the one before ends, or later. None where all is handed out.
+    pub fn next_part(&mut self) -> Option<TogetherPart>
+        ensures { MatchOption result (AreOver self.entry.now self.exit.now)
+            (λ part. IsNextOfAll self.entry.now self.exit.now part) }
+    {
+        while let Some(at) = self.at {
+            if let Some(place) = self.list.go_to(at) {
+                return Some(TogetherPart::Unread(place));
+            }
+            let here = self.list.at(at);
+            if here.is_shown() {
+                let block = Block::largest(at, here.last);
+                self.at = behind(block);
+                self.shown_at = at;
+                let is_ipv4 = self.is_ipv4 || self.list.shows_ipv4(at);
+                return Some(TogetherPart::Stretch(TogetherStretch { block, is_ipv4 }));
+            }
+            self.at = next_to(here.last);
+        }
+        None
+    }
+
+    /// The leaf that can't be read of the database at a place, where the last part names one.
+    pub fn take_unread(&mut self, place: usize) -> Option<UnreadLeaf>
+        ensures { self.exit.now ≡ self.entry.now }
+    {
+        self.list.take_unread(place)
+    }
+
+    /// Where the record is of the database at a place in the last stretch, if it has one.
+    #[inline(always)]
+    pub fn offset(&self, place: usize) -> Option<usize>
+        ensures { result ≡ offset_in self.now.answers place }
+    {
+        self.list.offset(place, self.shown_at)
+    }
+
+    /// What each database has in the last stretch, in their order: none where it has no record there.
+    pub fn answers(
+        &self,
+        alloc: Global,
+        stretch: TogetherStretch,
+    ) -> Result<Vec<Option<LookupResult<'a, S>>>, AllocError> {
+        self.list.found(alloc, stretch.block.first, stretch.is_ipv4)
+    }
+}

@@ -1,0 +1,172 @@
+//! The walks of any number of databases side by side.
+ghost use Rattle.std.specs.Prelude.{◌≡◌, ◌&&◌, ◌||◌, min, map, MatchOption, IfOk};
+ghost use Rattle.std.specs.List.{All};
+ghost use Rattle.mmdb_compare.specs.Listed.{all_of};
+ghost use Rattle.mmdb_compare.specs.Walks.{left_of, IsFrom, last_here, is_record_here};
+ghost use Rattle.mmdb_compare.specs.Together.{offset_in};
+ghost use Rattle.mmdb_compare.specs.WalkList.{AllGone, IsMetOf, AreHere, is_known_here, held_at};
+
+use crate::walk::{Here, UnreadLeaf, Walk};
+use mmdb_reader::{IpNetwork, LookupResult, MaxMindDbError, Reader};
+use std::alloc::{AllocError, Global};
+use std::convert::AsSlice;
+
+/// A database, and the range for which it is asked.
+#[derive(Drop)]
+pub struct AskedDatabase<'a, S: AsSlice<u8> + Drop> {
+    pub reader: &'a Reader<S>,
+    pub range: IpNetwork,
+}
+
+/// The walks of databases, one of each.
+#[derive(Drop)]
+pub(crate) struct WalkList<'a, S: AsSlice<u8> + Drop> {
+    pub(crate) walks: Vec<Walk<'a, S>>,
+}
+
+/// What all databases have at an address, as far as the same holds.
+#[derive(Clone, Copy)]
+pub(crate) struct AllHere {
+    pub(crate) last: u128,
+    pub(crate) is_known: bool,
+    pub(crate) has_record: bool,
+}
+
+impl AllHere {
+    // With what one more database has there.
+    fn and(self, here: Here) -> AllHere
+        ensures last { result.last ≡ min (last_here here) self.last }
+        ensures known { result.is_known ≡ (self.is_known && is_known_here here) }
+        ensures some { result.has_record ≡ (self.has_record || is_record_here here) }
+    {
+        let (last, is_known, has_record) = match here {
+            Here::Record(last) => (last, true, true),
+            Here::Nothing(last) => (last, true, false),
+            Here::Unknown(last) => (last, false, false),
+        };
+        AllHere {
+            last: last.min(self.last),
+            is_known: self.is_known && is_known,
+            has_record: self.has_record || has_record,
+        }
+    }
+
+    /// Whether it is handed out: what each database has is known, and one of them has a record.
+    pub(crate) fn is_shown(self) -> bool
+        ensures { result ≡ (self.is_known && self.has_record) }
+    {
+        self.is_known && self.has_record
+    }
+}
+
+impl<'a, S: AsSlice<u8> + Drop> WalkList<'a, S> {
+    /// The walks of databases, each in its range. An error, with the place of its database, where that can't be asked for the
+    /// range, or memory is out.
+    pub(crate) fn new(
+        alloc: Global,
+        databases: &[AskedDatabase<'a, S>],
+    ) -> Result<WalkList<'a, S>, (usize, MaxMindDbError)>
+        ensures { IfOk result (λ list.
+            map left_of list.walks.items ≡ map (λ d. all_of d.reader.now d.range) databases.now) }
+    {
+        let mut walks = Vec::new(alloc);
+        for place in 0..databases.len() {
+            let asked = &databases[place];
+            let walk = match Walk::new(alloc, asked.reader, asked.range) {
+                Ok(walk) => walk,
+                Err(error) => return Err((place, error)),
+            };
+            if let Err(error) = walks.push(walk) {
+                return Err((place, MaxMindDbError::from(error)));
+            }
+        }
+        Ok(WalkList { walks })
+    }
+
+    /// Goes on to an address in all, or names the place of a leaf that can't be read.
+    pub(crate) fn go_to(&mut self, at: u128) -> Option<usize>
+        ensures { MatchOption result
+            (AllGone at self.entry.now.walks.items self.exit.now.walks.items)
+            (λ place. IsMetOf place at self.entry.now.walks.items self.exit.now.walks.items) }
+    {
+        for place in 0..self.walks.len() {
+            let walk = &mut self.walks[place];
+            if !walk.go_to(at) {
+                return Some(place);
+            }
+        }
+        None
+    }
+
+    /// What all have at an address.
+    pub(crate) fn at(&self, at: u128) -> AllHere
+        requires { All (IsFrom at) self.now.walks.items }
+        ensures { AreHere self.now.walks.items at result }
+    {
+        let mut all = AllHere {
+            last: u128::MAX,
+            is_known: true,
+            has_record: false,
+        };
+        for walk in &self.walks {
+            all = all.and(walk.at(at));
+        }
+        all
+    }
+
+    /// Whether a network of IPv4 holds an address, in one of them.
+    pub(crate) fn shows_ipv4(&self, at: u128) -> bool {
+        for walk in &self.walks {
+            if walk.has_begun(at) && walk.is_ipv4() {
+                return true;
+            }
+        }
+        false
+    }
+
+    /// Where the record is that the one at a place has for an address that it went on to, if it has one.
+    #[inline(always)]
+    pub(crate) fn offset(&self, place: usize, at: u128) -> Option<usize>
+        ensures { result ≡ offset_in (map (held_at at) self.now.walks.items) place }
+    {
+        if place >= self.walks.len() {
+            return None;
+        }
+        let walk = &self.walks[place];
+        if walk.has_begun(at) {
+            walk.offset()
+        } else {
+            None
+        }
+    }
+
+    /// What each has for an address that it went on to: none where it has no record there.
+    pub(crate) fn found(
+        &self,
+        alloc: Global,
+        at: u128,
+        is_ipv4: bool,
+    ) -> Result<Vec<Option<LookupResult<'a, S>>>, AllocError> {
+        let mut all = Vec::with_capacity(alloc, self.walks.len())?;
+        for walk in &self.walks {
+            let found = if walk.has_begun(at) {
+                walk.found_at(at, is_ipv4)
+            } else {
+                None
+            };
+            all.push(found)?;
+        }
+        Ok(all)
+    }
+
+    /// The last leaf that can't be read of the database at a place.
+    pub(crate) fn take_unread(&mut self, place: usize) -> Option<UnreadLeaf>
+        ensures { self.exit.now.walks.items ≡ self.entry.now.walks.items }
+    {
+        if place >= self.walks.len() {
+            return None;
+        }
+        let walk = &mut self.walks[place];
+        walk.take_unread()
+    }
+}
