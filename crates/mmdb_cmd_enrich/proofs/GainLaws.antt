@@ -32,7 +32,7 @@ value_of None ts never = absurd never
 value_of (Some None) ts none = (null, none)
 value_of (Some (Some v)) ts (j, shows, are) = (j, are)
 
-shown_of : (reads : List PathElement → Option (Option Tree)) (fields : List NamedField) (ts : List Token) → AreFields reads fields ts → (shown : Members) × AreShown reads fields shown × (ts ≡ inner shown)
+pub shown_of : (reads : List PathElement → Option (Option Tree)) (fields : List NamedField) (ts : List Token) → AreFields reads fields ts → (shown : Members) × AreShown reads fields shown × (ts ≡ inner shown)
 shown_of reads [] ts none = (no_members, refl, none)
 shown_of reads (field ∷ fields) ts (here, rest, are, value, more) =
     let found = value_of (reads field.path.items) here value in
@@ -42,7 +42,7 @@ shown_of reads (field ∷ fields) ts (here, rest, are, value, more) =
       are ∙ (λ i. key field.name.now ∷ (found.1 i ++ others.2 i)),
     )
 
-member_is : (name : List ℕ) (ts : List Token) (shown : Members) → ts ≡ inner shown → member_tokens name ts ≡ key name ∷ json_tokens (object shown)
+pub member_is : (name : List ℕ) (ts : List Token) (shown : Members) → ts ≡ inner shown → member_tokens name ts ≡ key name ∷ json_tokens (object shown)
 member_is name ts shown e = ap (λ l. key name ∷ begin_object ∷ l) (ap (λ l. l ++ end_object ∷ []) e ∙ sym (inner-closed shown))
 
 -- ---- of any line that holds such a text
@@ -85,7 +85,7 @@ module _ (db : Database) (reading : Reading) (path : List PathStep) (nulls : Boo
 
 -- ---- of the text itself
 
-text_longer : (name text : List ℕ) (goes_on : Bool) (extra : List ℕ) (behind : ℕ) (ms shown : Members) → IsObject text goes_on ms behind
+pub text_longer : (name text : List ℕ) (goes_on : Bool) (extra : List ℕ) (behind : ℕ) (ms shown : Members) → IsObject text goes_on ms behind
     → extra ≡ comma_behind (is_empty ms) ++ print (key name ∷ json_tokens (object shown)) → tokens (print (key name ∷ json_tokens (object shown))) ≡ key name ∷ json_tokens (object shown) → depth (object shown) < max_depth
     → document (put_in text extra behind) ≡ Some (object (and_last ms name (object shown)))
 text_longer name text goes_on extra behind ms shown of added read shallow =
@@ -161,12 +161,12 @@ module _ (name row extra : List ℕ) (behind : ℕ) (ms : Members) (of : IsObjec
   seen_was : document (front ++ back) ≡ Some (object ms)
   seen_was = ap document (take-append-drop (length (seen_of row) - behind) (seen_of row)) ∙ of.value
 
-  row_was : document row ≡ Some (object ms)
+  pub row_was : document row ≡ Some (object ms)
   row_was =
       let c = cut row behind of.whole in
       ap document (sym (take-append-drop (text_length row - behind) row) ∙ (λ i. sym c.front i ++ sym c.back i)) ∙ object_again front back whole_back ms brace whole_brace seen_was
 
-  row_longer : (shown : Members) → extra ≡ comma_behind (is_empty ms) ++ print (key name ∷ json_tokens (object shown)) → tokens (print (key name ∷ json_tokens (object shown))) ≡ key name ∷ json_tokens (object shown) → depth (object shown) < max_depth
+  pub row_longer : (shown : Members) → extra ≡ comma_behind (is_empty ms) ++ print (key name ∷ json_tokens (object shown)) → tokens (print (key name ∷ json_tokens (object shown))) ≡ key name ∷ json_tokens (object shown) → depth (object shown) < max_depth
       → document (row_with row extra behind) ≡ Some (object (and_last ms name (object shown)))
   row_longer shown added read shallow =
       let c = cut row behind of.whole in

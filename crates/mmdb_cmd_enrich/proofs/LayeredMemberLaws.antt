@@ -1,5 +1,5 @@
 -- Members of what several databases have.
-use Rattle.std.proofs.Common.{◌≡◌, ℕ, List, [], ◌++◌, map, Option, Some, None, IfSome, Bool, true, false, inl, inr, ◌≤◌, ◌⊎◌, refl, sym, ap, ◌∙◌, subst, arith, append-nil}
+use Rattle.std.proofs.Common.{◌≡◌, ℕ, List, [], ◌++◌, map, Option, Some, None, IfSome, Bool, true, false, inl, inr, ◌≤◌, ◌⊎◌, refl, sym, ap, ◌∙◌, subst, append-nil}
 use Rattle.std.specs.declared.convert.AsSlice.{Ghosts}
 use Rattle.std.specs.declared.net.ip_addr.IpAddr.{IpAddr}
 use Rattle.json.specs.Token.{Token}
@@ -9,7 +9,7 @@ use Rattle.mmdb_reader.specs.File.{Database}
 use Rattle.mmdb_reader.specs.declared.lookup_result.LookupResult.{LookupResult}
 use Rattle.mmdb_reader.specs.declared.path.PathElement.{PathElement}
 use Rattle.mmdb_filter.specs.declared.counts.Outcome.{Outcome}
-use Rattle.mmdb_filter.specs.declared.counts.Outcome.TheVariants.{Absent, Failed}
+use Rattle.mmdb_filter.specs.declared.counts.Outcome.TheVariants.{Failed}
 use Rattle.mmdb_filter.specs.declared.filter.Added.{Added}
 use Rattle.mmdb_cmd_enrich.specs.Layers.{HaveAll, CanAskAny, CanAskNone, AnyRejects, first_read, has_record, IsKey}
 use Rattle.mmdb_cmd_enrich.specs.Fields.{IsNullMemberAfter, network_tokens}
@@ -17,7 +17,7 @@ use Rattle.mmdb_cmd_enrich.specs.LayeredMembers.{AreFront, null_front}
 use Rattle.mmdb_cmd_enrich.specs.Networks.{shown_of}
 use Rattle.mmdb_cmd_enrich.specs.Wanted.{MemberOf, layered_member, AddsOf}
 use Rattle.mmdb_cmd_enrich.specs.Members.{PutsMember}
-use Rattle.mmdb_cmd_enrich.specs.Working.{offset_in, AreAnswers, AreAnswersOf, PutsMemberAfter, PutsNoneAfter, PutsRead, PutsFound, PutsMemberForAll, PutsToObjectAll}
+use Rattle.mmdb_cmd_enrich.specs.Working.{offset_in, AreAnswers, AreAnswersOf, PutsMemberAfter, PutsRead, PutsFound, PutsMemberForAll, PutsToObjectAll}
 use Rattle.mmdb_cmd_enrich.specs.declared.members.NamedField.{NamedField}
 use Rattle.mmdb_cmd_enrich.proofs.LayerLaws.{first_same, keys_same}
 use Rattle.mmdb_cmd_enrich.proofs.MemberLaws.{behind_put}

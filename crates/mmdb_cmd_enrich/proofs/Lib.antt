@@ -11,3 +11,4 @@ mod MemberLaws
 mod LayeredMemberLaws
 mod PartLaws
 mod GainLaws
+mod LayeredGainLaws

@@ -13,6 +13,7 @@ pub mod KeptCells
 pub mod Kept
 pub mod Rows
 pub mod Longer
+pub mod LayeredLonger
 pub mod Ahead
 pub mod Remembers
 -- What only contracts of private functions and proofs name.
