@@ -9,7 +9,7 @@ _mmdb_table() {
   case $1 in
     show) options='--field --lines --help -h' valued='--field' files=1 ;;
     info) options='--json --fields --help -h' valued='' files=9 ;;
-    enrich) options='--column --delimiter --field --header --json --into --nulls --hop --anywhere --exact --no-quotes --strict --quiet --reload --help -h' valued='--column --delimiter --field --json --into --hop' files=9 ;;
+    enrich) options='--column --delimiter --field --network --header --json --into --nulls --hop --anywhere --exact --no-quotes --strict --quiet --reload --help -h' valued='--column --delimiter --field --json --into --hop' files=9 ;;
     export) options='--field --format --where --where-not --where-contains --where-has --where-above --where-below --also --except --ipv4 --ipv6 --name --table --family --jump --value --allow-empty --allow-missing --help -h' valued='--field --format --where --where-not --where-contains --where-has --where-above --where-below --also --except --name --table --family --jump --value' files=1 ;;
     diff) options='--field --format --where --where-not --where-contains --where-has --where-above --where-below --also --except --ipv4 --ipv6 --name --table --family --allow-empty --allow-missing --exit-code --help -h' valued='--field --format --where --where-not --where-contains --where-has --where-above --where-below --also --except --name --table --family' files=2 ;;
     verify) options='--whole --database-type --newer-than --max-age --json --quiet --help -h' valued='--database-type --newer-than --max-age' files=9 ;;
