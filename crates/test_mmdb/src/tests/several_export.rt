@@ -321,35 +321,75 @@ fn reader_of(rt: &impl Abort, alloc: Global, database: &Database<'_>) -> Reader<
     opened.expect(rt, "a database")
 }
 
+// The readers of three databases.
+fn readers_of(rt: &impl Abort, alloc: Global) -> Vec<Reader<Vec<u8>>> {
+    let mut readers = Vec::new(alloc);
+    for database in [&CITY, &ASN, &NETWORK] {
+        let reader = reader_of(rt, alloc, database);
+        readers.push(reader).expect(rt, "memory");
+    }
+    readers
+}
+
+// Databases in all addresses of IPv4.
+fn asked_of<'a>(
+    rt: &impl Abort,
+    alloc: Global,
+    readers: &'a [Reader<Vec<u8>>],
+) -> Vec<AskedDatabase<'a, Vec<u8>>> {
+    let mut asked = Vec::new(alloc);
+    for reader in readers {
+        asked.push(asked_in(rt, reader)).expect(rt, "memory");
+    }
+    asked
+}
+
+// Asserts what comes next of three databases.
+fn assert_next(
+    rt: &impl Abort,
+    alloc: Global,
+    together: &mut Together<'_, Vec<u8>>,
+    wanted: &(u128, u8, [bool; 3]),
+) {
+    let (first, prefix, has) = wanted;
+    let part = together.next_part();
+    assert!(rt; matches!(part, Some(TogetherPart::Stretch(_))));
+    let Some(TogetherPart::Stretch(stretch)) = part else {
+        return;
+    };
+    assert!(rt; stretch.block.first == *first);
+    assert!(rt; stretch.block.prefix == *prefix);
+    assert!(rt; stretch.is_ipv4);
+    let answers = together.answers(alloc, stretch).expect(rt, "memory");
+    assert!(rt; answers.len() == 3);
+    for (answer, is_there) in answers.iter().zip(has) {
+        assert!(rt; answer.is_some() == *is_there);
+    }
+}
+
+// Asserts the stretches of three databases.
+fn assert_three<'a>(rt: &impl Abort, alloc: Global, asked: &[AskedDatabase<'a, Vec<u8>>]) {
+    let begun = Together::new(alloc, asked);
+    assert!(rt; begun.is_ok());
+    let mut together = match begun {
+        Ok(together) => together,
+        Err((_, error)) => {
+            drop(error);
+            return;
+        }
+    };
+    for wanted in STRETCHES {
+        assert_next(rt, alloc, &mut together, wanted);
+    }
+    let is_over = together.next_part().is_none();
+    drop(together);
+    assert!(rt; is_over);
+}
+
 #[test]
 fn three_databases_side_by_side(rt: HostRuntime) {
     let alloc = rt.alloc();
-    let city = reader_of(&rt, alloc, &CITY);
-    let asn = reader_of(&rt, alloc, &ASN);
-    let network = reader_of(&rt, alloc, &NETWORK);
-    let mut asked = Vec::new(alloc);
-    for reader in [&city, &asn, &network] {
-        asked.push(asked_in(&rt, reader)).expect(&rt, "memory");
-    }
-    let begun = Together::new(alloc, asked.as_slice());
-    assert!(rt; begun.is_ok());
-    let Ok(mut together) = begun else {
-        return;
-    };
-    for (first, prefix, has) in STRETCHES {
-        let part = together.next_part();
-        assert!(rt; matches!(part, Some(TogetherPart::Stretch(_))));
-        let Some(TogetherPart::Stretch(stretch)) = part else {
-            return;
-        };
-        assert!(rt; stretch.block.first == *first);
-        assert!(rt; stretch.block.prefix == *prefix);
-        assert!(rt; stretch.is_ipv4);
-        let answers = together.answers(alloc, stretch).expect(&rt, "memory");
-        assert!(rt; answers.len() == 3);
-        for (answer, is_there) in answers.iter().zip(has) {
-            assert!(rt; answer.is_some() == *is_there);
-        }
-    }
-    assert!(rt; together.next_part().is_none());
+    let readers = readers_of(&rt, alloc);
+    let asked = asked_of(&rt, alloc, readers.as_slice());
+    assert_three(&rt, alloc, asked.as_slice());
 }
