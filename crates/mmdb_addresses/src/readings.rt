@@ -64,6 +64,7 @@ pub fn address_in(reading: Reading, text: &[u8]) -> Option<IpAddr>
 }
 
 /// The address in a text, where there is a text.
+#[inline(always)]
 pub fn address_of(reading: Reading, text: Option<&[u8]>) -> Option<IpAddr>
     ensures { ReadsAddress reading (option_map (λ s. s.now) text.entry) result }
 {

@@ -62,8 +62,9 @@ column is the network of the address, the smallest that it is in in one of them.
 
 A field has the name that NAME=PATH gives it, or its path's text. With --json a
 line that is an object gets an object of the fields as its last member, named by
---into; without a name a field has its path's last step for one. All other lines
-stay as they are.";
+--into; without a name a field has its path's last step for one. It gets the whole
+record where no field is asked for, of one file and without --network. All other
+lines stay as they are.";
 
 const EXPORT_EXAMPLE: &str = "Examples:
   mmdb export GeoLite2-Country.mmdb 81.2.69.0/24 --field country.iso_code
@@ -99,8 +100,8 @@ ipset restore, a chain NAME for iptables-restore --noflush and ip6tables-restore
 a geo block of $NAME for nginx, or a map of haproxy. A list has no address
 outside RANGE but those of --also. Where it would have no network, or no network
 has a value of a condition, nothing is written, so that a wrong value empties no
-set, and the status is 1. A row names a network as it is, even if it is wider
-than RANGE.";
+set, and the status is 1. A row of one file names a network as it is, even if it
+is wider than RANGE; a row of several ends where RANGE does.";
 
 const DIFF_EXAMPLE: &str = "Examples:
   mmdb diff old/GeoLite2-Country.mmdb GeoLite2-Country.mmdb --field country.iso_code
@@ -367,7 +368,7 @@ const READING: &[Usage] = &[
                 "field",
                 "path",
                 "PATH",
-                "A field to add, or NAME=PATH; may be repeated; needed unless with --json",
+                "A field to add, or NAME=PATH; may be repeated; needed in rows unless with --network",
             ),
             Argument::Flag(
                 "network",

@@ -15,7 +15,6 @@ mod listed_values;
 mod missing;
 mod names;
 mod networks;
-mod opening;
 mod rows;
 mod several;
 mod sink;

@@ -1,9 +1,8 @@
 //! Several databases side by side.
-use crate::opening::NamedDatabase;
 use mmdb_blocks::{Block, BlockKind};
 use mmdb_compare::{AskedDatabase, Together, TogetherStretch};
 use mmdb_console::ProgramError;
-use mmdb_layout::{Database, Found, ReadAlong};
+use mmdb_layout::{Database, Found, NamedDatabase, ReadAlong};
 use mmdb_reader::{IpNetwork, MaxMindDbError, PathElement};
 use mmdb_value::Value;
 use std::alloc::{AllocError, Global};

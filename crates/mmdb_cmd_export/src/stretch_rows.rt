@@ -7,7 +7,7 @@ use mmdb_console::{Console, ProgramError, put};
 use mmdb_filter::put_csv_cell;
 use mmdb_found::write_found;
 use mmdb_json::{compact, write_value};
-use mmdb_layout::{ChosenFields, Found, Layout, NETWORK, ReadAlong};
+use mmdb_layout::{ChosenFields, Found, Layout, NETWORK, ReadAlong, keys_of};
 use mmdb_reader::{MaxMindDbError, PathElement};
 use mmdb_value::Value;
 use std::alloc::{AllocError, Global};
@@ -20,19 +20,8 @@ pub(crate) struct StretchRows<'a, 's, 'd> {
     layout: &'a Layout<'a>,
     several: &'s Several<'d>,
     /// What the records of all databases are called, where rows have whole ones.
-    keys: Vec<&'d str>,
+    keys: Vec<String>,
     absent: AbsentFields<'d>,
-}
-
-// What the records of all databases are called: by the type of each, or by its name as it was given where that is taken.
-fn keys_of<'d>(alloc: Global, several: &Several<'d>) -> Result<Vec<&'d str>, AllocError> {
-    let mut keys: Vec<&'d str> = Vec::new(alloc);
-    for named in several.databases() {
-        let own = named.database.metadata().database_type.as_str();
-        let is_taken = own == NETWORK || keys.contains(&own);
-        keys.push(if is_taken { named.name } else { own })?;
-    }
-    Ok(keys)
 }
 
 // The cell of a value: a text as it is, any other value as JSON, and empty where there is none.
@@ -148,7 +137,7 @@ impl<'a, 's, 'd> StretchRows<'a, 's, 'd> {
         several: &'s Several<'d>,
         out: &mut O,
     ) -> Result<StretchRows<'a, 's, 'd>, ProgramError> {
-        let keys = keys_of(alloc, several)?;
+        let keys = keys_of(alloc, several.databases(), NETWORK)?;
         let absent = AbsentFields::new(alloc, layout.paths().len())?;
         if let Some(header) = layout.header(alloc)? {
             put(header.as_slice(), out)?;
@@ -173,7 +162,7 @@ impl<'a, 's, 'd> StretchRows<'a, 's, 'd> {
     // Adds the records of all databases to an object.
     fn write_records(&self, answers: &Answers<'_>, out: &mut Writer) -> Result<(), MaxMindDbError> {
         for (place, key) in self.keys.iter().enumerate() {
-            out.token(Token::Key(*key))?;
+            out.token(Token::Key(key.as_str()))?;
             write_record(self.alloc, self.answer_at(place, answers), out)?;
         }
         Ok(())

@@ -3,14 +3,13 @@ use crate::adjusted::write_adjusted;
 use crate::gathering::{Addresses, Adjustment};
 use crate::missing::are_values_met_in;
 use crate::networks::report_faults;
-use crate::opening::{NamedDatabase, open_several};
 use crate::several::{AnsweredStretch, Answers, Several, answered, fault_along, kind_of_stretch};
 use crate::stretch_rows::StretchRows;
 use crate::task::{ExportTask, Shape};
 use mmdb_blocks::Syntax;
 use mmdb_compare::{Together, TogetherPart, TogetherStretch, UnreadLeaf};
 use mmdb_console::{Console, FAILED, Pace, Passed, ProgramError, Where};
-use mmdb_layout::{Condition, Layout};
+use mmdb_layout::{BesideFiles, Condition, Layout, NamedDatabase, open_named};
 use mmdb_reader::MaxMindDbError;
 use std::alloc::{AllocError, Global};
 use std::env::Env;
@@ -360,11 +359,11 @@ pub(crate) fn export_files<'a, R: Files + Env, O: Write, E: Pace>(
     adjustment: Option<&Adjustment>,
     console: &mut Console<'_, O, E>,
 ) -> Result<u8, ProgramError> {
-    let databases = open_several(rt, names, console)?;
-    let done = if databases.are_all {
-        export_databases(databases.open.as_slice(), task, adjustment, console)
-    } else {
+    let databases = open_named(rt, names, BesideFiles::Networks, true, console)?;
+    let done = if databases.has_failed() {
         Ok(FAILED)
+    } else {
+        export_databases(databases.open.as_slice(), task, adjustment, console)
     };
     drop(databases);
     done

@@ -1,10 +1,13 @@
 //! The command `show`.
 use crate::answer::{ADDRESS, AddressAnswer, DatabaseAnswer, Shown, put_records};
-use crate::asked::{AskedDatabases, AskedTexts, open_asked};
+use crate::asked::AskedTexts;
 use crate::databases::{ShownDatabase, answers_of, name_at_fault, shown_databases};
 use mmdb_arguments::{NoRequest, ShowArguments};
 use mmdb_console::{BAD_ARGUMENTS, Console, DONE, FAILED, NOT_FOUND, ProgramError};
-use mmdb_layout::{ChosenFields, Database, DefaultName, FieldsMet, fields_of};
+use mmdb_layout::{
+    BesideFiles, ChosenFields, Database, DefaultName, FieldsMet, NamedDatabases, fields_of,
+    keys_of, open_named,
+};
 use mmdb_reader::{MaxMindDbError, PathElement};
 use std::alloc::{AllocError, Global};
 use std::env::Env;
@@ -23,7 +26,7 @@ struct ShowTask<'a> {
 // What the arguments of `show` ask for. An `Err` where a field is not a path, and where all are addresses.
 fn show_task<'a>(alloc: Global, arguments: &ShowArguments<'a>) -> Result<ShowTask<'a>, NoRequest> {
     let fields = arguments.fields.as_slice();
-    let fields = fields_of(alloc, fields, DefaultName::Path, &[ADDRESS])?;
+    let fields = fields_of(alloc, fields, DefaultName::PathBesideNames, &[ADDRESS])?;
     let asked = AskedTexts::new(alloc, arguments.asked.as_slice())?;
     if asked.names.is_empty() {
         return Err(NoRequest::bad_argument(alloc, "show", "needs a file"));
@@ -253,14 +256,16 @@ fn note_absent<O: Write, E: Write>(
 
 // Shows what open databases have, and answers the status.
 fn show_open<O: Write, E: Write>(
-    databases: &AskedDatabases<'_>,
+    databases: &NamedDatabases<'_>,
     task: &ShowTask<'_>,
     console: &mut Console<'_, O, E>,
 ) -> Result<u8, ProgramError> {
     if databases.open.is_empty() {
         return Ok(FAILED);
     }
-    let shown = shown_databases(console.alloc, databases.open.as_slice())?;
+    let open = databases.open.as_slice();
+    let keys = keys_of(console.alloc, open, ADDRESS)?;
+    let shown = shown_databases(console.alloc, open, keys.as_slice())?;
     let asking = Asking {
         databases: shown.as_slice(),
         are_several: databases.named > 1,
@@ -278,7 +283,7 @@ fn show_open<O: Write, E: Write>(
 // The status where no argument is an address. An `Err` where each is a file.
 fn status_without_address(
     alloc: Global,
-    databases: &AskedDatabases<'_>,
+    databases: &NamedDatabases<'_>,
 ) -> Result<u8, ProgramError> {
     if databases.strangers == 0 {
         let reason = NoRequest::bad_argument(alloc, "show", "needs an address");
@@ -296,7 +301,11 @@ pub fn show<R: Files + Env, O: Write, E: Write>(
     console: &mut Console<'_, O, E>,
 ) -> Result<u8, ProgramError> {
     let task = show_task(console.alloc, arguments)?;
-    let databases = open_asked(rt, &task.asked, console)?;
+    let (names, is_needed) = (
+        task.asked.names.as_slice(),
+        !task.asked.addresses.is_empty(),
+    );
+    let databases = open_named(rt, names, BesideFiles::Addresses, is_needed, console)?;
     if task.asked.addresses.is_empty() {
         return status_without_address(console.alloc, &databases);
     }

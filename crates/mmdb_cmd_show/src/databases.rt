@@ -1,7 +1,6 @@
 //! Databases that are asked in turn.
-use crate::answer::{ADDRESS, DatabaseAnswer};
-use crate::asked::NamedDatabase;
-use mmdb_layout::Database;
+use crate::answer::DatabaseAnswer;
+use mmdb_layout::{Database, NamedDatabase};
 use mmdb_reader::{MaxMindDbError, PathElement};
 use mmdb_value::Value;
 use std::alloc::{AllocError, Global};
@@ -20,26 +19,16 @@ pub(crate) struct ShownDatabase<'d> {
     pub(crate) database: &'d Database,
 }
 
-// Whether answers of one of the databases are called so, or what is beside them.
-fn is_taken(key: &str, shown: &[ShownDatabase<'_>]) -> bool {
-    key == ADDRESS || shown.iter().any(|other| other.key == key)
-}
-
-/// The databases with what their answers are called: by the type of each, or as it was given where that is taken.
+/// The databases with what their answers are called.
 pub(crate) fn shown_databases<'d>(
     alloc: Global,
     open: &'d [NamedDatabase<'d>],
+    keys: &'d [String],
 ) -> Result<Vec<ShownDatabase<'d>>, AllocError> {
-    let mut shown: Vec<ShownDatabase<'d>> = Vec::new(alloc);
-    for named in open {
-        let own = named.database.metadata().database_type.as_str();
-        let key = if is_taken(own, shown.as_slice()) {
-            named.name
-        } else {
-            own
-        };
+    let mut shown = Vec::new(alloc);
+    for (named, key) in open.iter().zip(keys) {
         shown.push(ShownDatabase {
-            key,
+            key: key.as_str(),
             name: named.name,
             database: &named.database,
         })?;
@@ -64,6 +53,7 @@ fn is_passed(database: &Database, others: &[ShownDatabase<'_>], address: IpAddr)
 }
 
 // The value at a path in a database.
+#[inline(always)]
 fn value_in<'d>(
     alloc: Global,
     database: &'d Database,
@@ -75,6 +65,7 @@ fn value_in<'d>(
 }
 
 /// The value at a path in the first of the databases that has one there. Fails where one that is asked before can't be read so.
+#[inline(always)]
 pub(crate) fn first_value<'d>(
     alloc: Global,
     databases: &[ShownDatabase<'d>],

@@ -21,6 +21,8 @@ pub struct ChosenFields<'a> {
 pub enum DefaultName {
     /// As its path is written. Fields may be asked for twice so.
     Path,
+    /// The same, where a name is given to any of them; else no name is shown.
+    PathBesideNames,
     /// As the last step of its path is, which no other field may be.
     LastStep,
 }
@@ -80,7 +82,7 @@ impl<'a> FieldText<'a> {
     fn name_or(self, default: DefaultName) -> &'a str {
         match (self.name, default) {
             (Some(name), _) => name,
-            (None, DefaultName::Path) => self.path,
+            (None, DefaultName::Path | DefaultName::PathBesideNames) => self.path,
             (None, DefaultName::LastStep) => last_step(self.path),
         }
     }
@@ -135,8 +137,8 @@ fn field_texts<'a>(alloc: Global, texts: &[&'a str]) -> Result<Vec<FieldText<'a>
     Ok(fields)
 }
 
-/// The fields that texts ask for, each `PATH` or `NAME=PATH`. An `Err` where one is not a path, and where a name is empty, two have one
-/// or one is taken, unless no name is given and each is called as its path is written.
+/// The fields that texts ask for, each `PATH` or `NAME=PATH`. An `Err` where one is not a path, and where a name that is shown
+/// is empty or taken, or two have one, unless no name is given and each is called as its path is written.
 pub fn fields_of<'a>(
     alloc: Global,
     texts: &[&'a str],
@@ -145,7 +147,9 @@ pub fn fields_of<'a>(
 ) -> Result<ChosenFields<'a>, NoRequest> {
     let asked = field_texts(alloc, texts)?;
     let is_named = asked.iter().any(|field| field.name.is_some());
+    let are_shown = is_named || default != DefaultName::PathBesideNames;
     let are_distinct = is_named || default == DefaultName::LastStep;
+    let taken = if are_shown { taken } else { &[] };
     let mut fields = ChosenFields {
         names: Vec::new(alloc),
         texts: Vec::new(alloc),
@@ -154,9 +158,12 @@ pub fn fields_of<'a>(
     };
     for field in &asked {
         let name = field.name_or(default);
-        if are_distinct {
-            test_name(alloc, name, *field, fields.names.as_slice(), taken)?;
-        }
+        let others = if are_distinct {
+            fields.names.as_slice()
+        } else {
+            &[]
+        };
+        test_name(alloc, name, *field, others, taken)?;
         fields.names.push(name)?;
         fields.texts.push(field.path)?;
         fields.paths.push(wanted_path(alloc, field.path)?)?;

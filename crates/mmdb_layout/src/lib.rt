@@ -8,6 +8,7 @@ mod condition;
 mod database;
 mod fields;
 mod layout;
+mod named;
 mod number;
 mod read_along;
 
@@ -19,5 +20,6 @@ pub use database::{
 };
 pub use fields::{ChosenFields, DefaultName, fields_of, path_texts};
 pub use layout::{Layout, NETWORK, layout_of, line_of_cells, line_of_names, write_values};
+pub use named::{BesideFiles, NamedDatabase, NamedDatabases, keys_of, open_named};
 pub use number::is_comparable;
 pub use read_along::ReadAlong;

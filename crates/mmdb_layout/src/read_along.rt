@@ -29,6 +29,7 @@ impl<'a, S: AsSlice<u8> + Drop> ReadAlong for LookupResult<'a, S> {
 
     ghost reads = { λ found. reads_found found };
 
+    #[inline(always)]
     fn read_along(
         &self,
         alloc: Global,
