@@ -381,7 +381,9 @@ fn follow_object<'a>(
         let key = read_key(text, at)?;
         let is_named = is_name(&text[at + 1..key.quote], name);
         let is_other = is_name(&text[at + 1..key.quote], other);
-        is_taken = is_taken || is_other;
+        if is_other {
+            is_taken = true;
+        }
         let member = follow_member(text, is_named, key.value, path, depth, found)?;
         let next = behind_member(text, member.end)?;
         if next.is_end {

@@ -67,6 +67,8 @@ const WRONG: &[(&[&str], &str, &str)] = &[
 #[rattlefmt::skip]
 const REJECTED: &[(&[&str], &str)] = &[
     (&["export", "gone.mmdb", "--field", "network=n"], "mmdb: network=n: the name network is taken; give the field another one, as NAME=n\n"),
+    (&["export", "gone.mmdb", "--format", "csv", "--field", "n", "--field", "network"], "mmdb: network: the name network is taken; give the field another one, as NAME=network\n"),
+    (&["enrich", "gone.mmdb", "--network", "--header", "--field", "network"], "mmdb: network: the name network is taken; give the field another one, as NAME=network\n"),
     (&["show", "gone.mmdb", "1.1.1.1", "--field", "address=n"], "mmdb: address=n: the name address is taken; give the field another one, as NAME=n\n"),
     (&["show", "gone.mmdb", "1.1.1.1", "--field", "=n"], "mmdb: =n: an empty name; give the field another one, as NAME=n\n"),
     (&["enrich", "gone.mmdb", "--field", "\"\"=n"], "mmdb: \"\"=n: an empty name; give the field another one, as NAME=n\n"),

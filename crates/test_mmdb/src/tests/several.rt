@@ -44,6 +44,13 @@ const ADDRESS: Database<'static> = (
     &[(Field::DatabaseType, b"\x47address")],
 );
 
+/// A type that is the name of a file.
+const FILE: Database<'static> = (
+    BASE_NODE,
+    BASE_DATA,
+    &[(Field::DatabaseType, b"\x48new.mmdb")],
+);
+
 /// A text that is not UTF-8 in 128.0.0.0/1.
 const UNREADABLE: Database<'static> = (
     BASE_NODE,
@@ -97,6 +104,11 @@ const RECORDS: &[Row<'static>] = &[
         ADDRESS, PLAIN, &["here.mmdb", "new.mmdb", "200.0.0.1"], 0,
         "{\"address\":\"200.0.0.1\",\"here.mmdb\":{\"network\":\"128.0.0.0/1\",\"record\":\"x\"},\"T\":{\"network\":\"128.0.0.0/1\",\"record\":\"x\"}}\n", &[],
     ),
+    // a type and a name that are both taken
+    (
+        FILE, FILE, &["here.mmdb", "new.mmdb", "200.0.0.1"], 0,
+        "{\"address\":\"200.0.0.1\",\"new.mmdb\":{\"network\":\"128.0.0.0/1\",\"record\":\"x\"},\"new.mmdb (2)\":{\"network\":\"128.0.0.0/1\",\"record\":\"x\"}}\n", &[],
+    ),
     // one that can't be opened, one whose record can't be read, and one that can't be asked
     (
         CITY, DAMAGED, &["here.mmdb", "new.mmdb", "200.0.0.1"], 1,
@@ -127,6 +139,8 @@ const VALUES: &[Row<'static>] = &[
         CITY, ASN, &["here.mmdb", "new.mmdb", "200.0.0.1", "1.1.1.1", "--field", "cc=c.i", "--field", "org=o"], 6,
         "{\"address\":\"200.0.0.1\",\"cc\":\"DE\",\"org\":\"x\"}\n{\"address\":\"1.1.1.1\",\"cc\":null,\"org\":\"x\"}\n", &[],
     ),
+    // a path that is called as the address, which no name is beside
+    (CITY, ASN, &["here.mmdb", "200.0.0.1", "--path", "address"], 6, "null\n", &["mmdb: no record has address\n"]),
     // what can't be read is an error, and no reason to ask the next
     (UNREADABLE, PLAIN, &["here.mmdb", "new.mmdb", "200.0.0.1", "--field", ""], 1, "", &["mmdb: here.mmdb: 200.0.0.1: invalid database at offset "]),
     (UNREADABLE, PLAIN, &["new.mmdb", "here.mmdb", "200.0.0.1", "--field", ""], 0, "\"x\"\n", &[]),

@@ -6,7 +6,7 @@ use Rattle.mmdb_objects.specs.Scanned.{lexemes_at, bytes_between}
 use Rattle.mmdb_objects.proofs.FoundLaws.{first_members, no_member, last_member, next_member, text_found, text_goes_on, taken_found, taken_goes_on, mark_of}
 use Rattle.mmdb_objects.proofs.ScanLaws.{inside}
 use Rattle.mmdb_objects.proofs.one_pass.follow_object.Goals as goal
-use Rattle.mmdb_objects.proofs.one_pass.follow_object.Goals.{then-is_taken, else-is_taken}
+use Rattle.mmdb_objects.proofs.one_pass.follow_object.Goals.{then-is_other, else-is_other}
 
 pub returns-then-byte-eq125-clause-value : goal.returns-then-byte-eq125-clause-value
 returns-then-byte-eq125-clause-value c =
@@ -43,7 +43,7 @@ returns-then-next-clause-value c =
     (last_member text at key.quote key.value.at end next.at c.args.depth j c.in_ok-key.ensures.key has (mark_of text end next.at next.is_end true ended c.in_ok-next.ensures.at)) in
     let same : c.is_name-is_named.result ≡ bytes_eq k c.args.name.now = c.is_name-is_named.ensures in
     let other : c.is_name-is_other.result ≡ bytes_eq k c.args.other.now = c.is_name-is_other.ensures in
-    let now : c.if-is_taken.is_taken ≡ (c.loop-key.is_taken || c.is_name-is_other.result) = elim c.if-is_taken.branch [ then-is_taken w ↦ search rules | else-is_taken w ↦ search rules ] in (
+    let now : c.if-is_other.is_taken ≡ (c.loop-key.is_taken || c.is_name-is_other.result) = elim c.if-is_other.branch [ then-is_other w ↦ search rules | else-is_other w ↦ search rules ] in (
       all,
       begins,
       record {
@@ -67,7 +67,7 @@ loop-key-preserved c =
     let first = c.in_ok-next.ensures.key more in
     let same : c.is_name-is_named.result ≡ bytes_eq k c.args.name.now = c.is_name-is_named.ensures in
     let other : c.is_name-is_other.result ≡ bytes_eq k c.args.other.now = c.is_name-is_other.ensures in
-    let now : c.if-is_taken.is_taken ≡ (c.loop-key.is_taken || c.is_name-is_other.result) = elim c.if-is_taken.branch [ then-is_taken w ↦ search rules | else-is_taken w ↦ search rules ] in
+    let now : c.if-is_other.is_taken ≡ (c.loop-key.is_taken || c.is_name-is_other.result) = elim c.if-is_other.branch [ then-is_other w ↦ search rules | else-is_other w ↦ search rules ] in
     record {
       low = omega (arith, c.in_ok-member.ensures.bounds, c.in_ok-key.ensures.key.low, c.in_ok-key.ensures.key.high, mark.low, mark.high);
       within = first.0;
