@@ -1,6 +1,6 @@
 //! Lines of JSON with fields of several databases.
 use super::layers::{
-    CITY, Database, MANY, OWN, Row, SIX, TORN, assert_row, file_with, holds_all, many_file,
+    CITY, Database, KINDS, MANY, OWN, Row, SIX, TORN, assert_row, file_with, holds_all, many_file,
     run_both,
 };
 use super::program::{assert_of, run_of, run_over, two_files};
@@ -59,6 +59,17 @@ const ROWS: &[Row<'static>] = &[
         "{\"ip\":\"70.0.0.1\",\"geo\":{\"c\":\"own\"}}\n{\"ip\":\"200.0.0.1\"}\n{\"a\":1,\"ip\":\"70.0.0.2\",\"geo\":{\"c\":\"own\"}} \n{\"ip\":\"200.0.0.2\"}\n{\"ip\":\"33.0.0.1\",\"geo\":{\"c\":\"city\"}}\n{\"ip\":\"70.0.0.1\",\"geo\":{\"c\":\"own\"}}\n",
         &["mmdb: row 2: here.mmdb: ", "4 lines with a record, 0 without, 0 without an address, 2 with an error"],
     ),
+    // a record beside one after another, each read once or more
+    (
+        KINDS, CITY, &["--json", "ip", "--field", "t", "--field", "w", "--field", "d", "--field", "a", "--field", "c"],
+        "{\"ip\":\"33.0.0.1\"}\n{\"ip\":\"130.0.0.1\"}\n{\"ip\":\"1.1.1.1\"}\n{\"ip\":\"70.0.0.1\"}\n", 0,
+        "{\"ip\":\"33.0.0.1\",\"geo\":{\"t\":\"text\",\"w\":70000,\"d\":1.5,\"a\":[1],\"c\":\"city\"}}
+{\"ip\":\"130.0.0.1\",\"geo\":{\"t\":\"text\",\"w\":70000,\"d\":1.5,\"a\":[1],\"c\":\"q\\\",t\\tab\"}}
+{\"ip\":\"1.1.1.1\",\"geo\":{\"t\":\"text\",\"w\":70000,\"d\":1.5,\"a\":[1],\"c\":null}}
+{\"ip\":\"70.0.0.1\",\"geo\":{\"t\":\"text\",\"w\":70000,\"d\":1.5,\"a\":[1],\"c\":\"city\"}}
+",
+        &["mmdb: 4 lines with a record, 0 without"],
+    ),
     // a member of the name that is there already
     (
         OWN, CITY, &["--json", "ip", "--field", "c"], "{\"ip\":\"70.0.0.1\",\"geo\":1}\n{\"geo\":{},\"ip\":\"200.0.0.1\"}\n", 0,
@@ -100,6 +111,16 @@ const NETWORK_ROWS: &[Row<'static>] = &[
         OWN, CITY, &["--json", "ip", "--network", "--field", "c", "--field", "n"], ALL, 1,
         "{\"ip\":\"1.1.1.1\"}\n{\"ip\":\"33.0.0.1\",\"geo\":{\"network\":\"32.0.0.0/3\",\"c\":\"city\",\"n\":9}}\n{\"ip\":\"70.0.0.1\",\"geo\":{\"network\":\"64.0.0.0/2\",\"c\":\"own\",\"n\":9}}\n{\"ip\":\"130.0.0.1\",\"geo\":{\"network\":\"128.0.0.0/2\",\"c\":\"q\\\",t\\tab\",\"n\":7}}\n{\"ip\":\"200.0.0.1\"}\n{\"ip\":\"-\"}\n[]\n{}\n",
         &["mmdb: row 5: here.mmdb: ", "mmdb: 3 lines with a record, 1 without, 2 without an address, 1 with an error, 1 not objects of JSON\n"],
+    ),
+    // a record beside one after another, in the networks of those
+    (
+        KINDS, CITY, &["--json", "ip", "--network", "--field", "u", "--field", "c"],
+        "{\"ip\":\"33.0.0.1\"}\n{\"ip\":\"130.0.0.1\"}\n{\"ip\":\"1.1.1.1\"}\n", 0,
+        "{\"ip\":\"33.0.0.1\",\"geo\":{\"network\":\"32.0.0.0/3\",\"u\":300,\"c\":\"city\"}}
+{\"ip\":\"130.0.0.1\",\"geo\":{\"network\":\"128.0.0.0/2\",\"u\":300,\"c\":\"q\\\",t\\tab\"}}
+{\"ip\":\"1.1.1.1\",\"geo\":{\"network\":\"0.0.0.0/3\",\"u\":300,\"c\":null}}
+",
+        &["3 lines with a record, 0 without"],
     ),
     // null where there is no record or no address
     (

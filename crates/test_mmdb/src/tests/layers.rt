@@ -44,6 +44,23 @@ pub(super) const NAMED: Database<'static> = (
     b"\xE1\x4Corganization\x41x",
 );
 
+/// {"t": "text", "b": true, "i": -2, "u": 300, "w": 70000, "x": 2^40, "d": 1.5, "f": 2.5, "y": the byte 255, "a": [1], "z": 1}
+/// everywhere: of numbers an int32, a uint16, a uint32, a uint64, a double, a float, and uint16 and uint128.
+#[rattlefmt::skip]
+pub(super) const KINDS: Database<'static> = (
+    &[(17, 17)],
+    b"\xC1\x01",
+    IPV4,
+    b"\xEB\x41t\x44text\x41b\x01\x07\x41i\x04\x01\xFF\xFF\xFF\xFE\x41u\xA2\x01\x2C\x41w\xC3\x01\x11\x70\x41x\x06\x02\x01\x00\x00\x00\x00\x00\x41d\x68\x3F\xF8\x00\x00\x00\x00\x00\x00\x41f\x04\x08\x40\x20\x00\x00\x41y\x81\xFF\x41a\x01\x04\xA1\x01\x41z\x01\x03\x01",
+);
+
+/// A field of each of these kinds, and three of other records or of none.
+#[rattlefmt::skip]
+pub(super) const KIND_FIELDS: &[&str] = &[
+    "--field", "t", "--field", "b", "--field", "i", "--field", "u", "--field", "w", "--field", "x", "--field", "d", "--field", "f",
+    "--field", "y", "--field", "a", "--field", "z", "--field", "q", "--field", "c", "--field", "n",
+];
+
 /// No offset of the data in 0.0.0.0/1, {"c": "six"} in 128.0.0.0/1.
 pub(super) const TORN: Database<'static> = (&[(4096, 17)], b"\xC1\x01", IPV4, b"\xE1\x41c\x43six");
 
@@ -82,6 +99,28 @@ const ROWS: &[Row<'static>] = &[
     (
         OWN, CITY, &["--field", "c.d", "--field", "n"], "70.0.0.1\n", 1, "70.0.0.1\t\t9\n",
         &["mmdb: row 1: here.mmdb: decoding error", "0 lines with a record, 0 without, 0 without an address, 1 with an error\n"],
+    ),
+    // a record beside one after another, each read once or more
+    (
+        KINDS, CITY, KIND_FIELDS, "33.0.0.1\n130.0.0.1\n1.1.1.1\n70.0.0.1\n", 0,
+        "33.0.0.1\ttext\ttrue\t-2\t300\t70000\t1099511627776\t1.5\t2.5\t\"/w==\"\t[1]\t1\t\tcity\t9
+130.0.0.1\ttext\ttrue\t-2\t300\t70000\t1099511627776\t1.5\t2.5\t\"/w==\"\t[1]\t1\t\t\"q\\\",t\\tab\"\t
+1.1.1.1\ttext\ttrue\t-2\t300\t70000\t1099511627776\t1.5\t2.5\t\"/w==\"\t[1]\t1\t\t\t
+70.0.0.1\ttext\ttrue\t-2\t300\t70000\t1099511627776\t1.5\t2.5\t\"/w==\"\t[1]\t1\t\tcity\t9
+",
+        &["mmdb: no record has q\nmmdb: 4 lines with a record, 0 without"],
+    ),
+    // the same in the other order
+    (
+        CITY, KINDS, &["--field", "n", "--field", "w", "--field", "t", "--field", "c"], "33.0.0.1\n130.0.0.1\n1.1.1.1\n70.0.0.1\n", 0,
+        "33.0.0.1\t9\t70000\ttext\tcity\n130.0.0.1\t\t70000\ttext\t\"q\\\",t\\tab\"\n1.1.1.1\t\t70000\ttext\t\n70.0.0.1\t9\t70000\ttext\tcity\n",
+        &["4 lines with a record, 0 without"],
+    ),
+    // one that can't be read, each time, beside others
+    (
+        KINDS, OWN, &["--field", "c", "--field", "u"], "200.0.0.1\n130.0.0.1\n70.0.0.1\n200.0.0.2\n", 1,
+        "200.0.0.1\t\t300\n130.0.0.1\t\t300\n70.0.0.1\town\t300\n200.0.0.2\t\t300\n",
+        &["mmdb: row 1: new.mmdb: ", "2 lines with a record, 0 without, 0 without an address, 2 with an error\n"],
     ),
     // CSV, with quotes where a cell needs them
     (
