@@ -1,4 +1,4 @@
-//! Tests of the program `mmdb` and of the JSON and the rows that it writes.
+//! Tests of the program `mmdb`.
 #![tactic(auto)]
 
 #[cfg(test)]
