@@ -96,6 +96,23 @@ fn error_of(alloc: Global, text: &str, wanted: Result<String, AllocError>) -> No
     }
 }
 
+// That what is beside the fields has another name than a field.
+fn test_taken(
+    alloc: Global,
+    name: &str,
+    field: FieldText<'_>,
+    taken: &[&str],
+) -> Result<(), NoRequest> {
+    if !taken.contains(&name) {
+        return Ok(());
+    }
+    let FieldText { text, path, .. } = field;
+    let wanted = format!(in alloc;
+        "the name {name} is taken; give the field another one, as NAME={path}"
+    );
+    Err(error_of(alloc, text, wanted))
+}
+
 // That a field has a name if one is given, which neither another one nor what is beside the fields has.
 fn test_name(
     alloc: Global,
@@ -111,10 +128,8 @@ fn test_name(
         format!(in alloc;
             "another field has the name {name} too; give one of them a name of its own, as NAME={path}"
         )
-    } else if taken.contains(&name) {
-        format!(in alloc; "the name {name} is taken; give the field another one, as NAME={path}")
     } else {
-        return Ok(());
+        return test_taken(alloc, name, field, taken);
     };
     Err(error_of(alloc, text, wanted))
 }
@@ -149,7 +164,6 @@ pub fn fields_of<'a>(
     let is_named = asked.iter().any(|field| field.name.is_some());
     let are_shown = is_named || default != DefaultName::PathBesideNames;
     let are_distinct = is_named || default == DefaultName::LastStep;
-    let taken = if are_shown { taken } else { &[] };
     let mut fields = ChosenFields {
         names: Vec::new(alloc),
         texts: Vec::new(alloc),
@@ -158,12 +172,11 @@ pub fn fields_of<'a>(
     };
     for field in &asked {
         let name = field.name_or(default);
-        let others = if are_distinct {
-            fields.names.as_slice()
-        } else {
-            &[]
-        };
-        test_name(alloc, name, *field, others, taken)?;
+        if are_distinct {
+            test_name(alloc, name, *field, fields.names.as_slice(), taken)?;
+        } else if are_shown {
+            test_taken(alloc, name, *field, taken)?;
+        }
         fields.names.push(name)?;
         fields.texts.push(field.path)?;
         fields.paths.push(wanted_path(alloc, field.path)?)?;
