@@ -4,13 +4,16 @@
 
 mod header;
 pub mod laws;
+mod moved;
 mod pointer;
 mod scalar;
 mod section;
+mod uses;
 mod value;
 mod write;
 
 pub use header::{MOST_SIZE, push_header};
+pub use moved::{MovedSection, in_line};
 pub use scalar::{push_number, push_text};
 pub use section::{Section, SectionError};
 pub use value::{Number, SectionPart, WrittenValue};
