@@ -1,5 +1,5 @@
 //! The data section of a MaxMind DB file, made value by value: equal values are written once, one after the other, and pointers
-//! lead to them.
+//! lead to them. `in_line` makes it anew, with each value that is used once in place of its pointer.
 #![tactic(auto)]
 
 mod header;

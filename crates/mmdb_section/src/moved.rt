@@ -261,6 +261,7 @@ impl MovedSection {
             moved: Vec::new(alloc),
         };
         let mut at = 0;
+        // There are no more values than bytes.
         for _ in 0..section.len() {
             if at < section.len() {
                 at = now.take(alloc, section, &uses, at)?;

@@ -53,6 +53,7 @@ impl Uses {
             uses.add(*offset as usize);
         }
         let mut at = 0;
+        // There are no more values than bytes.
         for _ in 0..section.len() {
             if at < section.len() {
                 at = uses.add_value(section, at)?;
