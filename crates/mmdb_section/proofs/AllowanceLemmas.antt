@@ -40,7 +40,7 @@ tile_at (t ∷ ts) q h = found_by t ts q (eqb q t.start) refl (tile_at ts q) h
 abbrev Fits : Tile → Type 0
 Fits t = t.start + own_cost t.tree ≤ t.end
 
-own_positive : (t : Tree) → 1 ≤ own_cost t
+pub own_positive : (t : Tree) → 1 ≤ own_cost t
 own_positive (scalar c) = omega arith
 own_positive (array ts) = omega arith
 own_positive (table ps) = omega arith

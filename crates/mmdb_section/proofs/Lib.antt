@@ -8,3 +8,4 @@ pub mod AllowanceLemmas
 mod KnownLemmas
 mod SectionLemmas
 pub mod OnceLemmas
+pub mod MovedLemmas

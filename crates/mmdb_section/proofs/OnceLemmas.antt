@@ -7,8 +7,8 @@ use Rattle.mmdb_section.specs.declared.value.Number.{Number as SpecNumber}
 use Rattle.mmdb_section.specs.declared.value.Number.TheVariants as numbers
 use Rattle.mmdb_section.specs.declared.value.SectionPart.{SectionPart}
 use Rattle.mmdb_section.specs.declared.value.SectionPart.TheVariants.{Number, At}
-use Rattle.mmdb_section.specs.Sections.{Tile, IsTile, SectionView, start_of, Shape, plain, elements, entries, scalar_of, IsSection, IsFor, HoldsAt}
-use Rattle.mmdb_section.specs.Known.{IsNumber, IsDirect, IsKnown, AreKnown, PairsAreKnown, IsKnownPart, KnowsAll, IsKnownTile, HasEachOnce, KnownAtOneOffset, NoneStandsTwice}
+use Rattle.mmdb_section.specs.Sections.{Tile, SectionView, start_of, plain, elements, entries, scalar_of, IsFor, HoldsAt}
+use Rattle.mmdb_section.specs.Known.{IsDirect, IsKnown, AreKnown, PairsAreKnown, IsKnownPart, KnowsAll, IsKnownTile, HasEachOnce, NoneStandsTwice}
 use Rattle.mmdb_section.proofs.WriteLemmas.{laid_tile}
 
 -- ---- numbers by their scalars

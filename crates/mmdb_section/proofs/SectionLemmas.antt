@@ -1,5 +1,5 @@
 -- Sections with one value more, and values that are in them already.
-use Rattle.std.proofs.Common.{◌≡◌, inl, inr, ℕ, zero, suc, ◌+◌, eqb, Bool, true, false, cond, List, [], ◌∷◌, ◌++◌, length, Some, arith, refl, ap, sym, ◌∙◌, subst, append-nil, append_assoc, length-append}
+use Rattle.std.proofs.Common.{◌≡◌, inl, inr, ℕ, ◌+◌, eqb, Bool, true, false, cond, List, [], ◌∷◌, ◌++◌, length, Some, arith, refl, ap, sym, ◌∙◌, subst, append-nil, append_assoc, length-append}
 use Rattle.std.specs.Prelude.{◌||◌}
 use Rattle.std.specs.List.{AllByRecursion}
 use Rattle.std.specs.Str.{bytes_eq}
@@ -26,7 +26,7 @@ or_weaker : (a b c : Bool) → (b ≡ true → c ≡ true) → (a || b) ≡ true
 or_weaker true b c h k = refl
 or_weaker false b c h k = h k
 
-earlier_start : (q : ℕ) (ts : List Tile) (t : Tile) → is_start ts q ≡ true → is_start (ts ++ t ∷ []) q ≡ true
+pub earlier_start : (q : ℕ) (ts : List Tile) (t : Tile) → is_start ts q ≡ true → is_start (ts ++ t ∷ []) q ≡ true
 earlier_start q [] t h = absurd (false≢true h)
 earlier_start q (u ∷ us) t h = or_weaker (eqb q u.start) (is_start us q) (is_start (us ++ t ∷ []) q) (earlier_start q us t) h
 
@@ -49,47 +49,55 @@ still_laid tiles u old more t laid = record {
   levels = laid.levels;
 }
 
-module _ (tiles : List Tile) (v : Tree) (old new : SectionView) (start : ℕ) (xs : List ℕ) (section : IsSection tiles old) (w : IsWrittenDirect tiles old.bytes v xs)
-    (bytes : new.bytes ≡ old.bytes ++ xs) (known : (shape : Shape) → start_of new shape ≡ cond (bytes_eq xs (shape_bytes shape)) (Some start) (start_of old shape)) (at : start ≡ length old.bytes) where
-  added : Tile
-  added = record { start = length old.bytes; tree = w.written.t; end = length old.bytes + length xs }
+module _ (tiles : List Tile) (v : Tree) (old xs : List ℕ) (are : AreTiles tiles old) (w : IsWrittenDirect tiles old v xs) where
+  -- the value behind the others
+  unfoldable pub added : Tile
+  added = record { start = length old; tree = w.written.t; end = length old + length xs }
 
-  added_laid : IsLaid (tiles ++ added ∷ []) (old.bytes ++ xs) added
+  added_laid : IsLaid (tiles ++ added ∷ []) (old ++ xs) added
   unfolding added
   added_laid = record {
     unfolds = λ behind.
-        subst (λ (s : List ℕ). Unfolds s (length old.bytes) w.written.t (length old.bytes + length xs)) (sym (append_assoc old.bytes xs behind))
-        (w.written.unfolds old.bytes behind (xs ++ behind, refl));
+        subst (λ (s : List ℕ). Unfolds s (length old) w.written.t (length old + length xs)) (sym (append_assoc old xs behind)) (w.written.unfolds old behind (xs ++ behind, refl));
     direct = w.direct;
     texts = w.written.texts;
     closed = λ q h. earlier_start q tiles added (w.written.closed q h);
     levels = let e = ap levels w.written.value in let f = w.levels in omega arith;
   }
 
-  more_tiles : AreTiles (tiles ++ added ∷ []) (old.bytes ++ xs)
+  pub more_tiles : AreTiles (tiles ++ added ∷ []) (old ++ xs)
   unfolding added
   more_tiles = record {
-    chain = subst (λ (n : ℕ). IsChain 0 (tiles ++ added ∷ []) n) (sym (length-append old.bytes xs)) (chain_snoc 0 (length old.bytes) tiles added section.are.chain refl);
-    each = all_snoc (IsLaid (tiles ++ added ∷ []) (old.bytes ++ xs)) tiles added
-        (all_weaker (IsLaid tiles old.bytes) (IsLaid (tiles ++ added ∷ []) (old.bytes ++ xs)) (still_laid tiles added old.bytes xs) tiles section.are.each) added_laid;
+    chain = subst (λ (n : ℕ). IsChain 0 (tiles ++ added ∷ []) n) (sym (length-append old xs)) (chain_snoc 0 (length old) tiles added are.chain refl);
+    each = all_snoc (IsLaid (tiles ++ added ∷ []) (old ++ xs)) tiles added
+        (all_weaker (IsLaid tiles old) (IsLaid (tiles ++ added ∷ []) (old ++ xs)) (still_laid tiles added old xs) tiles are.each) added_laid;
   }
 
-  known_start : (shape : Shape) (offset : ℕ) → start_of new shape ≡ Some offset → is_start (tiles ++ added ∷ []) offset ≡ true
+  pub added_part : IsPart (tiles ++ added ∷ []) (At (length old)) v
+  unfolding added
+  added_part = (added, last_tile added tiles, refl, w.written.value)
+
+module _ (tiles : List Tile) (v : Tree) (old new : SectionView) (start : ℕ) (xs : List ℕ) (section : IsSection tiles old) (w : IsWrittenDirect tiles old.bytes v xs)
+    (bytes : new.bytes ≡ old.bytes ++ xs) (known : (shape : Shape) → start_of new shape ≡ cond (bytes_eq xs (shape_bytes shape)) (Some start) (start_of old shape)) (at : start ≡ length old.bytes) where
+  abbrev tile : Tile
+  tile = added tiles v old.bytes xs section.are w
+
+  known_start : (shape : Shape) (offset : ℕ) → start_of new shape ≡ Some offset → is_start (tiles ++ tile ∷ []) offset ≡ true
   unfolding added
   known_start shape offset is = by (bytes_eq xs (shape_bytes shape)) (sym (known shape) ∙ is) where
-    by : (b : Bool) → cond b (Some start) (start_of old shape) ≡ Some offset → is_start (tiles ++ added ∷ []) offset ≡ true
+    by : (b : Bool) → cond b (Some start) (start_of old shape) ≡ Some offset → is_start (tiles ++ tile ∷ []) offset ≡ true
     by true h =
         let same : start ≡ offset = cc in
-        subst (λ (n : ℕ). is_start (tiles ++ added ∷ []) n ≡ true) (sym at ∙ same) (start_of_tile added (tiles ++ added ∷ []) (last_tile added tiles))
-    by false h = earlier_start offset tiles added (section.known shape offset h)
+        subst (λ (n : ℕ). is_start (tiles ++ tile ∷ []) n ≡ true) (sym at ∙ same) (start_of_tile tile (tiles ++ tile ∷ []) (last_tile tile tiles))
+    by false h = earlier_start offset tiles tile (section.known shape offset h)
 
   pub value_added : HoldsAt tiles v new start
   unfolding added
   value_added = record {
     holds = record {
-      more = added ∷ [];
-      has = record { are = subst (AreTiles (tiles ++ added ∷ [])) (sym bytes) more_tiles; known = known_start };
-      is_part = (added, last_tile added tiles, sym at, w.written.value);
+      more = tile ∷ [];
+      has = record { are = subst (AreTiles (tiles ++ tile ∷ [])) (sym bytes) (more_tiles tiles v old.bytes xs section.are w); known = known_start };
+      is_part = (tile, last_tile tile tiles, sym at, w.written.value);
     };
     only = ((sym at, w.written.value), tt);
   }

@@ -1,5 +1,5 @@
 -- Bytes, wherever they are.
-use Rattle.std.proofs.Common.{◌≡◌, ℕ, ◌+◌, leb, cond, true, List, [], ◌∷◌, ◌++◌, length, take, drop, Option, Some, Result, Ok, Err, OnOk, refl, ap, sym, ◌∙◌, subst, arith, append_assoc, length-append}
+use Rattle.std.proofs.Common.{◌≡◌, ℕ, ◌+◌, leb, cond, true, List, [], ◌∷◌, ◌++◌, length, take, drop, Option, Some, Result, Ok, Err, IfOk, OnOk, refl, ap, sym, ◌∙◌, subst, arith, append_assoc, length-append}
 use Rattle.std.specs.Result.{is_ok}
 use Rattle.std.specs.List.{slice_get}
 use Rattle.std.proofs.lemmas.Bool.Decides.{nat_tests}
@@ -12,6 +12,10 @@ pub put : {E : Type 0} (r : Result (Unit {0}) E) (P : List ℕ → Type 0) (old 
 put (Ok x) P old xs new is h = record { more = xs; grown = is; is = h }
 put (Err e) P old xs new is h = tt
 
+-- what was put after no bytes
+pub alone : (P : List ℕ → Type 0) (old new : List ℕ) → old ≡ [] → Appends P old new → P new
+alone P old new none a = subst P (sym (a.grown ∙ ap (λ (xs : List ℕ). xs ++ a.more) none)) a.is
+
 -- two of them, one after the other
 pub both : (P Q R : List ℕ → Type 0) (old mid new : List ℕ) → ((xs ys : List ℕ) → P xs → Q ys → R (xs ++ ys)) → Appends P old mid → Appends Q mid new → Appends R old new
 both P Q R old mid new f a b = record { more = a.more ++ b.more; grown = b.grown ∙ ap (λ (xs : List ℕ). xs ++ b.more) a.grown ∙ append_assoc old a.more b.more; is = f a.more b.more a.is b.is }
@@ -23,6 +27,15 @@ both_put (Err e) P Q R old mid new f a b = tt
 pub weaker_put : {E : Type 0} (r : Result (Unit {0}) E) (P Q : List ℕ → Type 0) (old new : List ℕ) → ((xs : List ℕ) → P xs → Q xs) → OnOk r (Appends P old new) → OnOk r (Appends Q old new)
 weaker_put (Ok x) P Q old new f a = record { more = a.more; grown = a.grown; is = f a.more a.is }
 weaker_put (Err e) P Q old new f a = tt
+
+-- what was put, with a number that the call answers
+pub weaker_if : {E : Type 0} (r : Result ℕ E) (P Q : ℕ → List ℕ → Type 0) (old new : List ℕ) → ((n : ℕ) (xs : List ℕ) → P n xs → Q n xs) → IfOk r (λ n. Appends (P n) old new) → IfOk r (λ n. Appends (Q n) old new)
+weaker_if (Ok n) P Q old new f a = record { more = a.more; grown = a.grown; is = f n a.more a.is }
+weaker_if (Err e) P Q old new f a = tt
+
+pub both_if : {E : Type 0} (r : Result ℕ E) (P : List ℕ → Type 0) (Q R : ℕ → List ℕ → Type 0) (old mid new : List ℕ) → ((n : ℕ) (xs ys : List ℕ) → P xs → Q n ys → R n (xs ++ ys)) → Appends P old mid → IfOk r (λ n. Appends (Q n) mid new) → IfOk r (λ n. Appends (R n) old new)
+both_if (Ok n) P Q R old mid new f a b = both P (Q n) (R n) old mid new (f n) a b
+both_if (Err e) P Q R old mid new f a b = tt
 
 -- ---- the first and the second of two
 

@@ -182,23 +182,38 @@ more_parts ps p xs ys a w tiles section vs are parts =
     let one = one_more_part tiles section (length ps) e.front e.value xs ys (a tiles section e.front are e.before) (w tiles section e.value are e.value_is) in
     subst (λ (n : ℕ). AreWritten tiles section n vs (xs ++ ys)) (count_snoc ps p) (subst (λ (us : Trees). AreWritten tiles section (suc (length ps)) us (xs ++ ys)) (sym e.whole) one)
 
+-- an array of values that are written
+pub array_of : (tiles : List Tile) (section : List ℕ) (n : ℕ) (vs : Trees) (xs ys : List ℕ) → IsHeader 11 n xs → AreWritten tiles section n vs ys → IsWrittenDirect tiles section (array vs) (xs ++ ys)
+array_of tiles section n vs xs ys header w = record {
+  written = record {
+    t = array w.ts;
+    unfolds = λ before behind g.
+        array_here (first_of (λ s p q. header_at s p ≡ Some (record { kind = 11; size = n; body = q })) xs ys header before behind) refl
+        (second_of (λ s p q. Grows section s → AllUnfold s p n w.ts q) xs ys w.unfolds before behind g);
+    value = ap array w.value;
+    texts = w.texts;
+    closed = w.closed;
+    levels = let l = w.levels in omega arith;
+  };
+  direct = refl;
+  levels = let l = w.levels in omega arith;
+}
+
 pub array_written : (ps : List SectionPart) (xs ys : List ℕ) → IsHeader 11 (length ps) xs → WritesParts ps ys → WritesArray ps (xs ++ ys)
-array_written ps xs ys header a tiles section vs are parts =
-    let w = a tiles section vs are parts in
-    record {
-      written = record {
-        t = array w.ts;
-        unfolds = λ before behind g.
-            array_here (first_of (λ s p q. header_at s p ≡ Some (record { kind = 11; size = length ps; body = q })) xs ys header before behind) refl
-            (second_of (λ s p q. Grows section s → AllUnfold s p (length ps) w.ts q) xs ys w.unfolds before behind g);
-        value = ap array w.value;
-        texts = w.texts;
-        closed = w.closed;
-        levels = let l = w.levels in omega arith;
-      };
-      direct = refl;
-      levels = let l = w.levels in omega arith;
-    }
+array_written ps xs ys header a tiles section vs are parts = array_of tiles section (length ps) vs xs ys header (a tiles section vs are parts)
+
+-- a first element
+pub first_part : (tiles : List Tile) (section : List ℕ) (n : ℕ) (v : Tree) (vs : Trees) (xs ys : List ℕ) → IsWritten tiles section v xs → AreWritten tiles section n vs ys → AreWritten tiles section (suc n) (tree v vs) (xs ++ ys)
+first_part tiles section n v vs xs ys w a = record {
+  ts = tree w.t a.ts;
+  unfolds = λ before behind g.
+      one_more (first_of (λ s p q. Grows section s → Unfolds s p w.t q) xs ys w.unfolds before behind g)
+      (second_of (λ s p q. Grows section s → AllUnfold s p n a.ts q) xs ys a.unfolds before behind g);
+  value = ap (λ (u : Tree). tree u (trees_without a.ts)) w.value ∙ ap (tree v) a.value;
+  levels = let g = a.levels in let h = w.levels in omega arith;
+  texts = (let e = w.texts in let f = a.texts in rw (e, f) refl);
+  closed = λ q h. elim (or_cases (leads_to w.t q) (trees_lead_to a.ts q) h) [ inl first ↦ w.closed q first | inr more ↦ a.closed q more ];
+}
 
 -- ---- one pair more
 
@@ -320,27 +335,57 @@ more_pairs ps p xs zs key w tiles section vs are pairs =
     (subst (λ (n : ℕ). ArePairsWritten tiles section n vs ((key.0 ++ key.1) ++ zs)) (count_snoc ps p)
     (subst (λ (us : Pairs). ArePairsWritten tiles section (suc (length ps)) us ((key.0 ++ key.1) ++ zs)) (sym e.whole) one))
 
+-- a map of pairs that are written
+pub map_of : (tiles : List Tile) (section : List ℕ) (n : ℕ) (vs : Pairs) (xs ys : List ℕ) → IsHeader 7 n xs → ArePairsWritten tiles section n vs ys → IsWrittenDirect tiles section (table vs) (xs ++ ys)
+map_of tiles section n vs xs ys header w = record {
+  written = record {
+    t = table w.ps;
+    unfolds = λ before behind g.
+        table_here (first_of (λ s p q. header_at s p ≡ Some (record { kind = 7; size = n; body = q })) xs ys header before behind) refl
+        (second_of (λ s p q. Grows section s → PairsUnfold s p n w.ps q) xs ys w.unfolds before behind g);
+    value = ap table w.value;
+    texts = w.texts;
+    closed = w.closed;
+    levels = let l = w.levels in omega arith;
+  };
+  direct = refl;
+  levels = let l = w.levels in omega arith;
+}
+
 pub map_written : (ps : List (SectionPart × SectionPart)) (xs ys : List ℕ) → IsHeader 7 (length ps) xs → WritesPairs ps ys → WritesMap ps (xs ++ ys)
-map_written ps xs ys header a tiles section vs are pairs =
-    let w = a tiles section vs are pairs in
-    record {
-      written = record {
-        t = table w.ps;
-        unfolds = λ before behind g.
-            table_here (first_of (λ s p q. header_at s p ≡ Some (record { kind = 7; size = length ps; body = q })) xs ys header before behind) refl
-            (second_of (λ s p q. Grows section s → PairsUnfold s p (length ps) w.ps q) xs ys w.unfolds before behind g);
-        value = ap table w.value;
-        texts = w.texts;
-        closed = w.closed;
-        levels = let l = w.levels in omega arith;
-      };
-      direct = refl;
-      levels = let l = w.levels in omega arith;
-    }
+map_written ps xs ys header a tiles section vs are pairs = map_of tiles section (length ps) vs xs ys header (a tiles section vs are pairs)
+
+-- a key and a value unfold from one offset to another
+abbrev IsPair : List ℕ → Tree → Tree → List ℕ → ℕ → ℕ → Type 0
+IsPair section k v s p q = Grows section s → (r : ℕ) × Unfolds s p k r × Unfolds s r v q
+
+is_pair : (tiles : List Tile) (section : List ℕ) (k v : Tree) (xs ys : List ℕ) (key : IsWritten tiles section k xs) (value : IsWritten tiles section v ys) → Stands (IsPair section key.t value.t) (xs ++ ys)
+is_pair tiles section k v xs ys key value before behind g = (
+  length before + length xs,
+  first_of (λ s p q. Grows section s → Unfolds s p key.t q) xs ys key.unfolds before behind g,
+  second_of (λ s p q. Grows section s → Unfolds s p value.t q) xs ys value.unfolds before behind g,
+)
+
+-- a first pair
+pub first_pair : (tiles : List Tile) (section : List ℕ) (n : ℕ) (k v : Tree) (vs : Pairs) (xs ys zs : List ℕ) → IsWritten tiles section k xs → IsWritten tiles section v ys → ArePairsWritten tiles section n vs zs
+    → ArePairsWritten tiles section (suc n) (pair k v vs) ((xs ++ ys) ++ zs)
+first_pair tiles section n k v vs xs ys zs key value a = record {
+  ps = pair key.t value.t a.ps;
+  unfolds = λ before behind g.
+      let first = first_of (IsPair section key.t value.t) (xs ++ ys) zs (is_pair tiles section k v xs ys key value) before behind g in
+      one_more_pair first.1 first.2 (second_of (λ s p q. Grows section s → PairsUnfold s p n a.ps q) (xs ++ ys) zs a.unfolds before behind g);
+  value = ap (λ (u : Tree). pair u (without_pointers value.t) (pairs_without a.ps)) key.value ∙ ap (λ (u : Tree). pair k u (pairs_without a.ps)) value.value ∙ ap (pair k v) a.value;
+  levels = let g = a.levels in let h = key.levels in let i = value.levels in omega arith;
+  texts = (let d = key.texts in let e = value.texts in let f = a.texts in rw (d, e, f) refl);
+  closed = λ q h. elim (or_cases (leads_to key.t q) (leads_to value.t q || pairs_lead_to a.ps q) h) [
+    | inl first ↦ key.closed q first
+    | inr more ↦ elim (or_cases (leads_to value.t q) (pairs_lead_to a.ps q) more) [ inl second ↦ value.closed q second | inr last ↦ a.closed q last ]
+  ];
+}
 
 -- ---- values
 
-value_written : (tiles : List Tile) (section : List ℕ) (c : Scalar) (v : Tree) (xs : List ℕ) → scalar_is_text c ≡ true → IsScalar c xs → v ≡ scalar c → IsWrittenDirect tiles section v xs
+pub value_written : (tiles : List Tile) (section : List ℕ) (c : Scalar) (v : Tree) (xs : List ℕ) → scalar_is_text c ≡ true → IsScalar c xs → v ≡ scalar c → IsWrittenDirect tiles section v xs
 unfolding scalar_written
 value_written tiles section c v xs utf8 is same = subst (λ (w : Tree). IsWrittenDirect tiles section w xs) (sym same) (record { written = scalar_written tiles section c xs utf8 is; direct = refl; levels = omega arith })
 

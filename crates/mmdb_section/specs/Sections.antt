@@ -5,7 +5,7 @@ use Rattle.std.specs.Prelude.{◌≡◌, ℕ, ◌*◌, ◌<◌, ◌≤◌, ◌^�
 use Rattle.std.specs.List.{AllByRecursion}
 use Rattle.std.specs.Map.{lookup}
 use Rattle.std.specs.Str.{bytes_eq}
-use Rattle.mmdb_format.specs.Contents.{Scalar, text, bytes}
+use Rattle.mmdb_format.specs.Contents.{text, bytes}
 use Rattle.mmdb_format.specs.Unfolding.{Tree, scalar, array, table, pointer, Trees, no_trees, tree, Pairs, no_pairs, pair, Unfolds, levels, has_texts, without_pointers}
 use Rattle.mmdb_check.specs.Checking.{leads_to}
 use Rattle.mmdb_section.specs.declared.value.SectionPart.{SectionPart}

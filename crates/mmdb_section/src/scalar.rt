@@ -74,6 +74,15 @@ pub fn push_text(out: &mut Vec<u8>, text: &str) -> Result<(), AllocError>
     push_sized(out, TEXT, text.as_bytes())
 }
 
+// A text, by its bytes.
+pub(crate) fn push_text_bytes(out: &mut Vec<u8>, text: &[u8]) -> Result<(), AllocError>
+    requires { length text.now ≤ most_size }
+    ensures { let scalar = text_scalar text.now in
+        OnOk result (Appends (IsScalar scalar) out.old.items out.new.items) }
+{
+    push_sized(out, TEXT, text)
+}
+
 // A string of bytes.
 pub(crate) fn push_bytes(out: &mut Vec<u8>, bytes: &[u8]) -> Result<(), AllocError>
     requires { length bytes.now ≤ most_size }

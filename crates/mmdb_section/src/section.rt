@@ -135,4 +135,11 @@ impl Section {
     {
         &self.bytes
     }
+
+    /// The bytes of the section, without what is kept to find values by.
+    pub fn into_bytes(self) -> Vec<u8>
+        ensures { result.items ≡ self.bytes }
+    {
+        self.bytes
+    }
 }

@@ -27,9 +27,8 @@ use Rattle.mmdb_blocks.specs.Blocks.{IsBlock}
 use Rattle.mmdb_nodes.specs.Trees.{bits_in, tree_in, leaf_of, LeadsByPrefix, HasSplitNodes, HasOneWayToEach, IsSizeFor, numbers_of}
 use Rattle.mmdb_nodes.proofs.TreeLemmas.{some_bits}
 use Rattle.mmdb_nodes.proofs.LongestLemmas.{last_is_longest}
-use Rattle.mmdb_section.specs.Sections.{Tile, SectionView, AreTiles, IsPart}
-use Rattle.mmdb_section.specs.Known.{HasEachOnce}
-use Rattle.mmdb_section.proofs.OnceLemmas.{none_twice}
+use Rattle.mmdb_section.specs.Moved.{NoneTwice}
+use Rattle.mmdb_section.specs.Sections.{Tile, AreTiles, IsPart}
 use Rattle.mmdb_section.specs.declared.value.SectionPart.TheVariants.{At}
 use Rattle.mmdb_value.specs.declared.any_value.Value.{Value}
 use Rattle.mmdb_value.specs.Values.{value_tree}
@@ -50,10 +49,9 @@ use Rattle.mmdb_writer.specs.declared.row.Row.{Row}
 use Rattle.mmdb_writer.specs.Limits.{CanBeRead}
 use Rattle.mmdb_writer.specs.Rows.{wide_bits, IsValueOf, Says}
 use Rattle.mmdb_writer.specs.Written.{version_number, asked as asked_metadata, widened as wide_in, IsRead, LookupsAgree, SharesEqualValues, IsMixed, HasLargestBlocks, HasNoAliases, IsNetwork, IsListedWith, HandsOutNetworks, IsAsked, IsWritten}
-use Rattle.mmdb_writer.specs.Making.{AllBegin, IsOffsetOf, IsEntryOf, IsMadeOf}
+use Rattle.mmdb_writer.specs.Making.{AllBegin, IsOffsetOf, IsEntryOf, HasAdded}
 use Rattle.mmdb_writer.specs.Making.{IsCertified, BeginsWith}
 use Rattle.mmdb_writer.specs.Working.{AreInOrder, IsFileOf}
-use Rattle.mmdb_writer.specs.declared.writer.Writer.{Writer}
 use Rattle.mmdb_writer.proofs.NetworkLemmas.{says_one, full_number, length-zero_bits, zeros_begin, no_rest, ends_in}
 use Rattle.mmdb_writer.proofs.ReadLemmas.{part_is_read}
 use Rattle.mmdb_writer.proofs.RowLemmas.{GivesRow, zip_left, gives_given, gives_row}
@@ -83,10 +81,10 @@ IsBegun tiles (Some offset) v = (t : Tree) × (v ≡ Some t) × IsPart tiles (At
 same_some : (t u : Tree) → Some t ≡ Some u → t ≡ u
 same_some t u h = cc
 
-module _ (tiles : List Tile) (section : SectionView) (once : HasEachOnce tiles section) where
+module _ (tiles : List Tile) (once : NoneTwice tiles) where
   -- equal values begin at one offset
   pub same_start : (x y : ℕ) (v w : Tree) → IsPart tiles (At x) v → IsPart tiles (At y) w → v ≡ w → x ≡ y
-  same_start x y v w p q same = sym p.2 ∙ none_twice tiles section p.0 q.0 once p.1 q.1 (p.3 ∙ same ∙ sym q.3) ∙ q.2
+  same_start x y v w p q same = sym p.2 ∙ once p.0 q.0 p.1 q.1 (p.3 ∙ same ∙ sym q.3) ∙ q.2
 
   pub same_found : (f g : Option ℕ) (v w : Option Tree) → IsBegun tiles f v → IsBegun tiles g w → v ≡ w → f ≡ g
   same_found None None v w h k same = refl
@@ -236,7 +234,7 @@ module _ (file : List ℕ) (options : Options) (tree : SearchTree) (section : Li
       ∙ ap (record_of tree.node_count (length section)) number ∙ leads in
       ap for_lookup same ∙ for_leaf found
 
-  module _ (values : List Value) (rows : List Row) (can : AllByRecursion (λ v. CanBeRead (value_tree v)) values) (tiles : List Tile) (view : SectionView) (once : HasEachOnce tiles view) (laid : AreTiles tiles section) (offsets : List ℕ)
+  module _ (values : List Value) (rows : List Row) (can : AllByRecursion (λ v. CanBeRead (value_tree v)) values) (tiles : List Tile) (once : NoneTwice tiles) (laid : AreTiles tiles section) (offsets : List ℕ)
       (all : AllBegin tiles (map value_tree values) offsets) (given entries : List NodeEntry) (of_rows : AllZip (IsEntryOf offsets) rows given)
       (order : AreInOrder options.ip_version (length section) given entries) (leads : LeadsByPrefix options.ip_version (length section) entries tree) (split : HasSplitNodes options.ip_version entries tree) (one_way : HasOneWayToEach tree) where
     -- what is said of an address, and where it begins
@@ -325,7 +323,7 @@ module _ (file : List ℕ) (options : Options) (tree : SearchTree) (section : Li
     pub shares_values : SharesEqualValues db
     shares_values a b p q x y v w one other first second = (
       λ same. one_whole (data_section db) y v w (subst (λ (n : ℕ). WholeValue true (data_section db) n v) same first) second,
-      same_start tiles view once x y v w (data_begins a p x v one first) (data_begins b q y w other second),
+      same_start tiles once x y v w (data_begins a p x v one first) (data_begins b q y w other second),
     )
 
     -- ---- largest blocks
@@ -356,7 +354,7 @@ module _ (file : List ℕ) (options : Options) (tree : SearchTree) (section : Li
           w = other.v;
           one_has = subst (λ (bits : List Bool). Says values rows bits one.v) (sym (wide_number db options.ip_version version_is h.one h.fits)) one.says;
           other_has = subst (λ (bits : List Bool). Says values rows bits other.v) (sym (wide_number db options.ip_version version_is h.other h.other_fits)) other.says;
-          differ = λ same. h.differ (same_found tiles view once (offset_in entries h.one) (offset_in entries h.other) one.v other.v one.begun other.begun same);
+          differ = λ same. h.differ (same_found tiles once (offset_in entries h.one) (offset_in entries h.other) one.v other.v one.begun other.begun same);
         }
 
     -- ---- no aliases
@@ -500,7 +498,7 @@ module _ (file : List ℕ) (options : Options) (tree : SearchTree) (section : Li
             says_one values rows (bits_of 128 number) said.v (Some v) said.says (subst (λ (b : List Bool). Says values rows b (Some v)) (wide_number db options.ip_version version_is number fits) says) in
             let one = some_says h.one h.fits in
             let other = some_says h.other h.other_fits in
-            h.differ (same_found tiles view once (offset_in entries h.one) (offset_in entries h.other) one.v other.v one.begun other.begun
+            h.differ (same_found tiles once (offset_in entries h.one) (offset_in entries h.other) one.v other.v one.begun other.begun
             (is_v h.one h.fits h.in_block one ∙ sym (is_v h.other h.other_fits h.other_in_block other)))
 
         out : db.metadata.node_count ≤ walk (tree_of db) block
@@ -557,10 +555,8 @@ module _ (file : List ℕ) (options : Options) (tree : SearchTree) (section : Li
     is_written : IsSizeFor options.record_size (numbers_of tree.node_count (length section)) tree.record_size → IsWritten values rows options file
     is_written serves = record { db = db; database = certified.database; asked = asked_is serves; whole = certified.whole; lookups = lookups_agree; shared = shares_values; largest = largest_blocks; clear = no_aliases; networks = hands_out }
 
--- the file of a writer has what was added
-pub writes_of : (writer : Writer) (section file : List ℕ) (values : List Value) (rows : List Row) → section ≡ writer.section.bytes
-    → IsFileOf writer.options section writer.entries.items file → (options : Options) → IsMadeOf values rows options writer → IsWritten values rows options file
-writes_of writer section file values rows same f options made =
-    let laid : AreTiles made.tiles section = subst (AreTiles made.tiles) (sym same) made.once.has.are in
-    subst (λ (o : Options). IsWritten values rows o file) made.options_are
-    (is_written file writer.options f.tree section f.certified f.begins f.len values rows made.readable made.tiles writer.section made.once laid writer.offsets.items made.begin writer.entries.items f.entries made.entries_are f.order f.leads f.split f.one_way f.serves)
+-- a file of a data section and entries that have what was added has it
+pub writes_of : (options : Options) (section : List ℕ) (entries : List NodeEntry) (file : List ℕ) (values : List Value) (rows : List Row) → IsFileOf options section entries file → AllByRecursion (λ value. CanBeRead (value_tree value)) values
+    → HasAdded values rows section entries → IsWritten values rows options file
+writes_of options section entries file values rows f readable h =
+    is_written file options f.tree section f.certified f.begins f.len values rows readable h.tiles h.once h.laid h.offsets h.begin entries f.entries h.entries_are f.order f.leads f.split f.one_way f.serves

@@ -1,5 +1,5 @@
 -- Values that are within limits are too large for no header.
-use Rattle.std.proofs.Common.{◌≡◌, ◌⊎◌, inl, inr, ℕ, zero, suc, ◌+◌, ◌^◌, ◌<◌, ◌≤◌, List, [], ◌∷◌, length, map, take, get_or, Bor, refl, ap, sym, ◌∙◌, subst, arith}
+use Rattle.std.proofs.Common.{◌≡◌, inl, inr, ℕ, zero, suc, ◌^◌, ◌<◌, ◌≤◌, List, [], ◌∷◌, length, map, get_or, Bor, refl, ap, sym, subst, arith}
 use Rattle.mmdb_format.specs.Contents.{text, bytes}
 use Rattle.mmdb_format.specs.Unfolding.{Tree, scalar, array, table, pointer, value_count, payload, trees_count, trees_payload, pairs_count, pairs_payload}
 use Rattle.mmdb_section.specs.declared.value.Number.{Number as SpecNumber}

@@ -6,4 +6,5 @@ mod LastLemmas
 mod RowLemmas
 mod NetworkLemmas
 mod FileLemmas
+mod LayoutLemmas
 mod MakingLemmas

@@ -21,7 +21,9 @@ use Rattle.mmdb_writer.specs.declared.row.RowError.{RowError}
 use Rattle.mmdb_writer.specs.declared.writer.Writer.{Writer}
 use Rattle.mmdb_writer.specs.Errors.{IsWrongRow, IsErrorOf, IsOfOptions, IsOfRow}
 use Rattle.mmdb_writer.specs.Limits.{CanBeRead, Exceeds}
-use Rattle.mmdb_writer.specs.Making.{AllBegin, IsOffsetOf, IsEntryOf, IsMadeOf, Stays, IsErrorAfterValue, IsErrorAfterRow, IsErrorAfter, Writes, HasFullSection, DoesNotFit, IsTooLarge}
+use Rattle.mmdb_writer.specs.Making.{AllBegin, IsOffsetOf, IsEntryOf, IsMadeOf, Stays, IsErrorAfterValue, IsErrorAfterRow, IsErrorAfter, Writes, HasFullSection, DoesNotFit, IsNotMeant, DoesNotFitAfter, IsNotMeantAfter, IsTooLarge}
+use Rattle.mmdb_writer.specs.Layout.{IsLaidOut}
+use Rattle.mmdb_writer.proofs.LayoutLemmas.{has_added, still_large}
 use Rattle.mmdb_writer.specs.Written.{IsWritten}
 use Rattle.mmdb_writer.specs.Working.{HoldsBeside, Keeps, IsFileOf}
 use Rattle.mmdb_writer.proofs.FileLemmas.{writes_of}
@@ -154,9 +156,24 @@ more_rows values rows more options errors.Memory h = h
 more_rows values rows more options errors.TooLarge h = h
 more_rows values rows more options errors.NotAsMeant h = h
 
-pub written_if : (writer : Writer) (section : List ℕ) (r : Result (Vec ℕ Global) WriteError) → section ≡ writer.section.bytes → IfOk r (λ file. IsFileOf writer.options section writer.entries.items file.items) → IfOk r (λ file. Writes writer file.items)
-written_if writer section (Ok file) same f = λ values rows options made. writes_of writer section file.items values rows same f options made
-written_if writer section (Err e) same f = tt
+-- the file of what was laid out has what was added
+pub written_if : (writer : Writer) (section : List ℕ) (entries : List NodeEntry) (r : Result (Vec ℕ Global) WriteError) → IsLaidOut writer.section.bytes writer.offsets.items writer.entries.items section entries
+    → IfOk r (λ file. IsFileOf writer.options section entries file.items) → IfOk r (λ file. Writes writer file.items)
+written_if writer section entries (Ok file) laid f = λ values rows options made.
+    subst (λ (o : Options). IsWritten values rows o file.items) made.options_are (writes_of writer.options section entries file.items values rows f made.readable (has_added values rows options writer made section entries laid))
+written_if writer section entries (Err e) laid f = tt
+
+pub large_if : (writer : Writer) (section : List ℕ) (entries : List NodeEntry) (r : Result (Vec ℕ Global) WriteError) → IsLaidOut writer.section.bytes writer.offsets.items writer.entries.items section entries
+    → IfErr r (λ e. e ≡ errors.TooLarge → DoesNotFit writer.options section entries) → IfErr r (λ e. e ≡ errors.TooLarge → DoesNotFitAfter writer)
+large_if writer section entries (Ok file) laid f = tt
+large_if writer section entries (Err e) laid f = λ is values rows options made.
+    still_large values rows options writer made section entries laid (subst (λ (o : Options). DoesNotFit o section entries) made.options_are (f is))
+
+pub not_meant_if : (writer : Writer) (section : List ℕ) (entries : List NodeEntry) (r : Result (Vec ℕ Global) WriteError) → IsLaidOut writer.section.bytes writer.offsets.items writer.entries.items section entries
+    → IfErr r (λ e. e ≡ errors.NotAsMeant → IsNotMeant writer.options section entries) → IfErr r (λ e. e ≡ errors.NotAsMeant → IsNotMeantAfter writer)
+not_meant_if writer section entries (Ok file) laid f = tt
+not_meant_if writer section entries (Err e) laid f = λ is values rows options made.
+    (section, entries, has_added values rows options writer made section entries laid, subst (λ (o : Options). IsNotMeant o section entries) made.options_are (f is))
 
 pub file_written : (writer : Writer) (values : List Value) (rows : List Row) (options : Options) (r : Result (Vec ℕ Global) WriteError) → IsMadeOf values rows options writer → IfOk r (λ file. Writes writer file.items) → IfOk r (λ file. IsWritten values rows options file.items)
 file_written writer values rows options (Ok file) made writes = writes values rows options made
@@ -199,7 +216,6 @@ pub no_large_options : (e : WriteError) → IsOfOptions e → e ≡ errors.TooLa
 no_large_options e (error, same) is = let h : errors.Options error ≡ errors.TooLarge = sym same ∙ is in cc
 
 pub file_too_large : (writer : Writer) (values : List Value) (rows : List Row) (options : Options) (r : Result (Vec ℕ Global) WriteError) → IsMadeOf values rows options writer
-    → IfErr r (λ e. e ≡ errors.TooLarge → DoesNotFit writer.options writer.section.bytes writer.entries.items) → IfErr r (λ e. e ≡ errors.TooLarge → IsTooLarge values rows options)
+    → IfErr r (λ e. e ≡ errors.TooLarge → DoesNotFitAfter writer) → IfErr r (λ e. e ≡ errors.TooLarge → IsTooLarge values rows options)
 file_too_large writer values rows options (Ok file) made large = tt
-file_too_large writer values rows options (Err e) made large = λ is.
-    inr (writer, made, subst (λ (o : Options). DoesNotFit o writer.section.bytes writer.entries.items) made.options_are (large is))
+file_too_large writer values rows options (Err e) made large = λ is. inr (writer, made, large is values rows options made)

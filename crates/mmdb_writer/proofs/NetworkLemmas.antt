@@ -1,5 +1,5 @@
 -- What rows say of an address is one value; bits of all of an address.
-use Rattle.std.proofs.Common.{◌≡◌, ◌⊎◌, inl, inr, ℕ, zero, suc, ◌+◌, ◌-◌, ◌<◌, ◌≤◌, Bool, true, false, List, [], ◌∷◌, ◌++◌, length, take, Option, Some, None, refl, ap, sym, ◌∙◌, subst, arith, append-nil}
+use Rattle.std.proofs.Common.{◌≡◌, inl, inr, ℕ, zero, suc, Bool, true, List, [], ◌∷◌, ◌++◌, length, Option, Some, None, refl, ap, sym, ◌∙◌, subst, arith, append-nil}
 use Rattle.std.specs.List.{slice_get}
 use Rattle.std.proofs.lemmas.List.{take_all}
 use Rattle.mmdb_net.specs.Bits.{bits_of, zero_bits, number_of}
@@ -10,7 +10,7 @@ use Rattle.mmdb_reader.proofs.NumberLemmas.{take-bits-number}
 use Rattle.mmdb_value.specs.declared.any_value.Value.{Value}
 use Rattle.mmdb_value.specs.Values.{value_tree}
 use Rattle.mmdb_writer.specs.declared.row.Row.{Row}
-use Rattle.mmdb_writer.specs.Rows.{prefix_of, IsRowOf, IsValueOf, Says}
+use Rattle.mmdb_writer.specs.Rows.{IsRowOf, IsValueOf, Says}
 
 -- ---- one value
 

@@ -14,7 +14,7 @@ use Rattle.mmdb_section.specs.Sections.{Tile, IsTile, IsSection, IsPart, ArePart
 use Rattle.mmdb_section.proofs.OnceLemmas.{still_list, still_list_of_pairs, still_part as still_known_part, once_more}
 use Rattle.mmdb_value.specs.AnyValue.{trees_of, pairs_of}
 use Rattle.mmdb_writer.specs.Making.{AllBegin}
-use Rattle.mmdb_writer.specs.Working.{HoldsOnce, HoldsBeside, Puts, Keeps, HoldsParts, HoldsPairs, PutsParts, PutsPairs}
+use Rattle.mmdb_writer.specs.Working.{HoldsOnce, HoldsBeside, Puts, Keeps, PutsParts, PutsPairs}
 
 -- ---- more values
 

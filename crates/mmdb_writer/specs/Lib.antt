@@ -7,3 +7,4 @@ pub mod Written
 pub mod Making
 -- What only contracts of private functions and proofs name.
 pub mod Working
+pub mod Layout

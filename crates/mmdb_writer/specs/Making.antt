@@ -14,7 +14,8 @@ use Rattle.mmdb_reader.specs.Source.{IsDatabaseOf}
 use Rattle.mmdb_reader.specs.Whole.{IsWhole}
 use Rattle.mmdb_section.specs.declared.value.SectionPart.TheVariants.{At}
 use Rattle.mmdb_section.specs.Known.{HasEachOnce}
-use Rattle.mmdb_section.specs.Sections.{Tile, IsPart}
+use Rattle.mmdb_section.specs.Moved.{NoneTwice}
+use Rattle.mmdb_section.specs.Sections.{Tile, AreTiles, IsPart}
 use Rattle.mmdb_value.specs.declared.any_value.Value.{Value}
 use Rattle.mmdb_value.specs.Values.{value_tree}
 use Rattle.mmdb_writer.specs.declared.error.WriteError.{WriteError}
@@ -52,6 +53,15 @@ pub record IsMadeOf (values : List Value) (rows : List Row) (options : Options) 
   pub once : HasEachOnce tiles writer.section
   pub begin : AllBegin tiles (map value_tree values) writer.offsets.items
   pub entries_are : AllZip (IsEntryOf writer.offsets.items) rows writer.entries.items
+
+-- The data section and the entries have these values and rows: each value begins at one offset.
+pub record HasAdded (values : List Value) (rows : List Row) (section : List ℕ) (entries : List NodeEntry) : Type 0 where
+  pub tiles : List Tile
+  pub laid : AreTiles tiles section
+  pub once : NoneTwice tiles
+  pub offsets : List ℕ
+  pub begin : AllBegin tiles (map value_tree values) offsets
+  pub entries_are : AllZip (IsEntryOf offsets) rows entries
 
 -- Whatever was added before: now this value was added too, which has the next index.
 abbrev pub AddsValue : Value → Writer → Writer → ℕ → Type 0
@@ -136,6 +146,15 @@ IsErrorAfterRow row writer e = (values : List Value) (rows : List Row) (options 
 -- the data section has more bytes than pointers can lead to
 abbrev pub HasFullSection : Writer → Type 0
 HasFullSection writer = 2 ^ 32 ≤ length writer.section.bytes
+
+-- with what was added a file does not fit
+abbrev pub DoesNotFitAfter : Writer → Type 0
+DoesNotFitAfter writer = (values : List Value) (rows : List Row) (options : Options) → IsMadeOf values rows options writer → DoesNotFit options writer.section.bytes writer.entries.items
+
+-- a file of a data section and entries that have what was added is not read back as it was meant
+abbrev pub IsNotMeantAfter : Writer → Type 0
+IsNotMeantAfter writer = (values : List Value) (rows : List Row) (options : Options) → IsMadeOf values rows options writer
+    → (section : List ℕ) × (entries : List NodeEntry) × HasAdded values rows section entries × IsNotMeant options section entries
 
 -- The first of the values fill the data section, or all of them with the rows do not fit.
 abbrev pub IsTooLarge : List Value → List Row → Options → Type 0

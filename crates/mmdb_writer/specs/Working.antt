@@ -1,5 +1,5 @@
 -- What contracts of private functions and proofs name.
-use Rattle.std.specs.Prelude.{◌≡◌, ◌≤◌, ◌<◌, ◌+◌, ◌==◌, ◌&&◌, ◌⊎◌, Bool, ℕ, true, List, [], ◌∷◌, ◌++◌, ◌*◌, length, Option, Some, ⊤}
+use Rattle.std.specs.Prelude.{◌≡◌, ◌≤◌, ◌<◌, ◌+◌, ◌⊎◌, Bool, ℕ, true, List, [], ◌∷◌, ◌++◌, ◌*◌, length, Option, Some}
 use Rattle.mmdb_format.specs.Unfolding.{Tree, Pairs, is_keyed, value_count, payload, levels}
 use Rattle.mmdb_section.specs.declared.value.SectionPart.{SectionPart}
 use Rattle.mmdb_section.specs.Known.{AreKnown, PairsAreKnown, IsKnownPart, KnowsAll, HasEachOnce}

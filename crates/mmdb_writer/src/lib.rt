@@ -5,6 +5,7 @@ mod certify;
 mod entries;
 mod error;
 mod keys;
+mod layout;
 mod limits;
 mod metadata;
 mod options;

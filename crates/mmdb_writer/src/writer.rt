@@ -4,12 +4,13 @@ ghost use Rattle.mmdb_value.specs.Values.{value_tree};
 ghost use Rattle.mmdb_writer.specs.declared.options.OptionsError.{OptionsError};
 ghost use Rattle.mmdb_writer.specs.Errors.{IsErrorOf, IsWrongOption, IsGeneral, IsOfOptions, IsOfValue, IsOfRow};
 ghost use Rattle.mmdb_writer.specs.Limits.{CanBeRead};
-ghost use Rattle.mmdb_writer.specs.Making.{IsMadeOf, AddsValue, AddsRow, Stays, IsErrorAfterValue, IsErrorAfterRow, IsErrorAfter, Writes, HasFullSection, DoesNotFit, IsNotMeant, IsTooLarge};
+ghost use Rattle.mmdb_writer.specs.Making.{IsMadeOf, AddsValue, AddsRow, Stays, IsErrorAfterValue, IsErrorAfterRow, IsErrorAfter, Writes, HasFullSection, DoesNotFitAfter, IsNotMeantAfter, IsTooLarge};
 ghost use Rattle.mmdb_writer.specs.Written.{IsWritten};
 
 use crate::entries::entry_of;
 use crate::error::WriteError;
 use crate::keys::has_keys_once;
+use crate::layout::lay_out;
 use crate::limits::{ValueError, check_value};
 use crate::options::Options;
 use crate::row::Row;
@@ -99,7 +100,8 @@ impl Writer {
     /// On `Ok` a reader opens the file, with the metadata that the options ask for, and records of the size that was asked for or
     /// of the least that serves; `verify` accepts it; and each lookup that may be asked succeeds and finds what the rows say, which
     /// `decode::<Value>` gives back. A list of all networks has exactly the largest blocks that have one value, save that all
-    /// addresses are two of them. The file is read back before it is handed out: what is not proved of it is tested then.
+    /// addresses are two of them. Equal values are written once, and a part of one other value alone in that value. The file is read
+    /// back before it is handed out: what is not proved of it is tested then.
     ///
     /// It fails for memory; as `TooLarge`, where nodes, the 16 bytes of the separator and the bytes of the values are together more
     /// than the numbers of a record (2^32, or 2 to the power of the bits that were asked for), or a text of the metadata is longer,
@@ -109,18 +111,17 @@ impl Writer {
         ensures written { IfOk result (λ file. Writes self file.items) }
         ensures explained { IfErr result (IsErrorAfter self) }
         ensures no_other { IfErr result IsGeneral }
-        ensures too_large { IfErr result (λ e. e ≡ WriteError.TooLarge
-            → DoesNotFit self.options self.section.bytes self.entries.items) }
-        ensures not_meant { IfErr result (λ e. e ≡ WriteError.NotAsMeant
-            → IsNotMeant self.options self.section.bytes self.entries.items) }
+        ensures too_large { IfErr result (λ e. e ≡ WriteError.TooLarge → DoesNotFitAfter self) }
+        ensures not_meant { IfErr result (λ e. e ≡ WriteError.NotAsMeant → IsNotMeantAfter self) }
     {
         let Writer {
             options,
             section,
+            offsets,
             mut entries,
-            ..
         } = self;
-        write_file(alloc, &options, section.bytes(), &mut entries)
+        let bytes = lay_out(alloc, section, &offsets, &mut entries)?;
+        write_file(alloc, &options, &bytes, &mut entries)
     }
 }
 

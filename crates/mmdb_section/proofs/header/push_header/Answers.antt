@@ -1,7 +1,7 @@
 use Rattle.mmdb_section.specs.Working.{IsControl, IsSize, IsHeader}
 use Rattle.mmdb_section.proofs.StandLemmas.{both_put}
 use Rattle.mmdb_section.proofs.HeaderLemmas.{header_made}
-use Rattle.std.proofs.Common.{◌∙◌, ap, ◌++◌, List, ℕ}
+use Rattle.std.proofs.Common.{ap, ◌++◌, ℕ}
 use Rattle.mmdb_section.specs.Bytes.{control_bytes, size_bytes, header_bytes}
 use Rattle.mmdb_section.proofs.BytesLemmas.{then_put, same_put}
 use Rattle.mmdb_section.proofs.header.push_header.Goals as goal

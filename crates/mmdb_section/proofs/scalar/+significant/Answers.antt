@@ -1,4 +1,4 @@
-use Rattle.std.proofs.Common.{rules, arith}
+use Rattle.std.proofs.Common.{rules}
 use Rattle.mmdb_section.proofs.BytesLemmas.{a_zero, no_zero, no_bytes}
 use Rattle.mmdb_section.proofs.scalar.+significant.Goals as goal
 

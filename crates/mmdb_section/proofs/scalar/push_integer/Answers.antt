@@ -1,4 +1,3 @@
-use Rattle.std.proofs.Common.{ℕ, List, length, subst}
 use Rattle.mmdb_section.specs.Working.{IsSized, IsInteger}
 use Rattle.mmdb_section.proofs.StandLemmas.{weaker_put}
 use Rattle.mmdb_section.proofs.scalar.push_integer.Goals as goal

@@ -1,4 +1,4 @@
-use Rattle.std.proofs.Common.{◌≡◌, ℕ, ◌+◌, ◌++◌, List, [], ◌∷◌, take, get_or, sym, subst, ap, ◌∙◌, append-nil, false}
+use Rattle.std.proofs.Common.{◌≡◌, ◌+◌, ◌++◌, List, [], ◌∷◌, take, get_or, sym, subst, ap, ◌∙◌, append-nil, false}
 use Rattle.std.proofs.lemmas.List.{take_more, take_all}
 use Rattle.mmdb_section.specs.declared.value.SectionPart.{SectionPart}
 use Rattle.mmdb_section.specs.declared.value.SectionPart.TheVariants.{Number}

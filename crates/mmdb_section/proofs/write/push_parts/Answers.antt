@@ -1,9 +1,9 @@
-use Rattle.std.proofs.Common.{◌≡◌, ℕ, ◌+◌, ◌++◌, List, [], ◌∷◌, take, get_or, sym, subst, ap, ◌∙◌, append-nil, append_assoc, false}
+use Rattle.std.proofs.Common.{◌≡◌, ◌+◌, ◌++◌, List, [], ◌∷◌, take, get_or, sym, subst, ap, ◌∙◌, append-nil, false}
 use Rattle.std.proofs.lemmas.List.{take_more, take_all}
 use Rattle.mmdb_section.specs.declared.value.SectionPart.{SectionPart}
 use Rattle.mmdb_section.specs.declared.value.SectionPart.TheVariants.{Number}
 use Rattle.mmdb_section.specs.declared.value.Number.TheVariants.{Bool as BoolNumber}
-use Rattle.mmdb_section.specs.Bytes.{part_bytes, parts_bytes}
+use Rattle.mmdb_section.specs.Bytes.{parts_bytes}
 use Rattle.mmdb_section.specs.Working.{Appends, WritesPart, WritesParts}
 use Rattle.mmdb_section.proofs.BytesLemmas.{no_parts_put, part_put}
 use Rattle.mmdb_section.proofs.StandLemmas.{both}

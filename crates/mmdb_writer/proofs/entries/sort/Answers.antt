@@ -1,4 +1,4 @@
-use Rattle.std.proofs.Common.{◌+◌, ◌<◌, suc, length, get_or, rules, ◌≡◌, ◌⊎◌, inl, inr, ℕ, eqb, Bool, true, false, not, ◌&&◌, arith, Ordering, Less, Equal, Greater, is_lt, nat_cmp, List, [], ◌∷◌, refl, sym, ap, ◌∙◌, subst, Vec, Global}
+use Rattle.std.proofs.Common.{◌+◌, ◌<◌, suc, length, get_or, rules, ◌≡◌, ◌⊎◌, inl, inr, ℕ, eqb, Bool, true, false, not, ◌&&◌, arith, Ordering, Less, Equal, Greater, is_lt, nat_cmp, List, [], ◌∷◌, refl, sym, ap, ◌∙◌, subst}
 use Rattle.std.specs.Cmp.{nat_cmp_is}
 use Rattle.std.specs.Ordering.{ordering_then}
 use Rattle.std.proofs.lemmas.Bool.{cases_lt, false≢true}

@@ -1,5 +1,4 @@
-use Rattle.std.proofs.Common.{rules, ◌≡◌, inl, inr, Some, length, string_bytes, subst}
-use Rattle.std.specs.List.{slice_get}
+use Rattle.std.proofs.Common.{rules, ◌≡◌, inl, inr, length, string_bytes, subst}
 use Rattle.std.specs.Map.Iter.{deref_pair}
 use Rattle.std.proofs.lemmas.Map.Iter.{iter_turn}
 use Rattle.mmdb_section.specs.declared.section.SectionError.TheVariants.{TooLarge}

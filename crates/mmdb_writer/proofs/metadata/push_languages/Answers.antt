@@ -1,4 +1,4 @@
-use Rattle.std.proofs.Common.{rules, ◌≡◌, ◌<◌, inr, ℕ, zero, suc, List, [], ◌∷◌, String, Global, Some, length, get_or, string_bytes, sym, ap, ◌∙◌, subst, arith}
+use Rattle.std.proofs.Common.{rules, ◌≡◌, ◌<◌, inr, ℕ, zero, suc, List, [], ◌∷◌, String, Global, Some, length, get_or, string_bytes, sym, ap, subst, arith}
 use Rattle.std.specs.List.{slice_get}
 use Rattle.mmdb_section.specs.declared.section.SectionError.TheVariants.{TooLarge}
 use Rattle.mmdb_writer.specs.Errors.{IsLong, AreLanguagesLarge}

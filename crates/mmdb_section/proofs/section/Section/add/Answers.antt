@@ -1,14 +1,11 @@
-use Rattle.std.proofs.Common.{rules, ◌≡◌, ◌++◌, length, List, [], ℕ, Some, ap, sym, subst, ◌∙◌}
+use Rattle.std.proofs.Common.{rules, ◌≡◌, ◌++◌, length, List, [], ℕ, ap, sym, subst, ◌∙◌}
 use Rattle.mmdb_section.specs.Bytes.{shape_bytes}
 use Rattle.mmdb_section.specs.Sections.{SectionView, shape_of}
-use Rattle.mmdb_section.specs.Working.{Appends, IsWrittenDirect, WritesValue}
+use Rattle.mmdb_section.specs.Working.{IsWrittenDirect, WritesValue}
 use Rattle.mmdb_section.proofs.KnownLemmas.{known_new, stays_known, is_new}
+use Rattle.mmdb_section.proofs.StandLemmas.{alone}
 use Rattle.mmdb_section.proofs.SectionLemmas.{value_added, value_found}
 use Rattle.mmdb_section.proofs.section.Section.add.Goals as goal
-
--- what was put after no bytes
-alone : (P : List ℕ → Type 0) (old new : List ℕ) → old ≡ [] → Appends P old new → P new
-alone P old new none a = subst P (sym (a.grown ∙ ap (λ (xs : List ℕ). xs ++ a.more) none)) a.is
 
 -- the bytes that were put after none
 alone_are : (old new xs : List ℕ) → old ≡ [] → new ≡ old ++ xs → new ≡ xs

@@ -1,4 +1,4 @@
-use Rattle.std.proofs.Common.{rules, ◌≡◌, ◌++◌, ℕ, List, Option, Some, cond, length, ap, sym, ◌∙◌, subst}
+use Rattle.std.proofs.Common.{◌≡◌, ◌++◌, ℕ, List, Some, cond, length, ap, sym, ◌∙◌, subst}
 use Rattle.std.specs.Str.{bytes_eq}
 use Rattle.mmdb_section.specs.Bytes.{shape_bytes}
 use Rattle.mmdb_section.specs.Sections.{SectionView, start_of}
