@@ -1,11 +1,12 @@
 //! Values of conditions that no network has: a list by a value that is misspelt would have nothing, or too much.
 use crate::conditions::{NamedValue, Role};
+use crate::kept_checks::KeptChecks;
 use crate::listed_values::{FileSearch, searches_of};
-use crate::several::{Several, kind_of_stretch};
+use crate::several::{Answers, Offsets, Several, kind_of_stretch};
 use crate::sink::kind_of;
 use crate::task::ExportTask;
 use mmdb_blocks::Kinds;
-use mmdb_compare::{Together, TogetherPart};
+use mmdb_compare::{Together, TogetherPart, TogetherStretch};
 use mmdb_console::{Console, ProgramError, Similar, line_of};
 use mmdb_json::compact;
 use mmdb_layout::{
@@ -150,17 +151,77 @@ impl<'t, 'a> Search<'t, 'a> {
         Ok(())
     }
 
+    // Marks the values that the records at offsets meet, where that is kept. Whether it is of all.
+    fn meet_kept(&mut self, checks: &KeptChecks, offsets: &Offsets) -> bool {
+        let mut are_kept = true;
+        for (number, (named, is_met)) in self.named.iter().zip(&mut self.are_met).enumerate() {
+            if *is_met {
+                continue;
+            }
+            match checks.says(number, &named.condition, offsets) {
+                Some(says) => *is_met = says,
+                None => are_kept = false,
+            }
+        }
+        are_kept && self.are_files_kept(checks, offsets)
+    }
+
+    // Whether the values of the records at offsets were taken out of those of all files.
+    fn are_files_kept(&self, checks: &KeptChecks, offsets: &Offsets) -> bool {
+        for (place, file) in self.files.iter().enumerate() {
+            let number = self.named.len().saturating_add(place);
+            if !file.is_done() && checks.says(number, &file.present, offsets).is_none() {
+                return false;
+            }
+        }
+        true
+    }
+
+    // Keeps of the records of answers what was marked.
+    fn learn(&self, checks: &mut KeptChecks, answers: &Answers<'_>) {
+        for (number, (named, is_met)) in self.named.iter().zip(&self.are_met).enumerate() {
+            if !*is_met {
+                checks.learn(number, &named.condition, answers);
+            }
+        }
+        for (place, file) in self.files.iter().enumerate() {
+            let number = self.named.len().saturating_add(place);
+            checks.learn(number, &file.present, answers);
+        }
+    }
+
+    // Marks the values that databases have in a stretch.
+    fn meet_stretch<'r>(
+        &mut self,
+        together: &Together<'r, Vec<u8>>,
+        stretch: TogetherStretch,
+        offsets: &Offsets,
+        checks: &mut KeptChecks,
+    ) -> Result<(), ProgramError> {
+        if self.meet_kept(checks, offsets) {
+            return Ok(());
+        }
+        let answers = together.answers(self.alloc, stretch)?;
+        self.meet(&answers)?;
+        self.learn(checks, &answers);
+        Ok(())
+    }
+
     // Marks the values that databases have side by side.
     fn meet_stretches<'r>(
         &mut self,
+        several: &Several<'r>,
         together: &mut Together<'r, Vec<u8>>,
         kinds: Kinds,
     ) -> Result<(), ProgramError> {
+        let conditions = self.named.len().saturating_add(self.files.len());
+        let mut checks = KeptChecks::new(self.alloc, conditions, several.asked_count());
+        let mut offsets = several.no_offsets(self.alloc)?;
         for _ in 0..u64::MAX {
             match together.next_part() {
                 Some(TogetherPart::Stretch(stretch)) if kinds.has(kind_of_stretch(stretch)) => {
-                    let answers = together.answers(self.alloc, stretch)?;
-                    self.meet(&answers)?;
+                    several.put_offsets(together, &mut offsets)?;
+                    self.meet_stretch(together, stretch, &offsets, &mut checks)?;
                     if self.is_done() {
                         break;
                     }
@@ -206,7 +267,7 @@ impl<'t, 'a> Search<'t, 'a> {
         if task.allow_empty || task.allow_missing || !file.is_all_missing() {
             Lack::Noted
         } else if file.wanted != Requirement::NoneOf
-            && !self.is_served(file.path.as_slice(), file.wanted)
+            && !self.is_served(file.present.path.as_slice(), file.wanted)
         {
             lack_of_all(task, GO_ON)
         } else {
@@ -475,7 +536,7 @@ pub(crate) fn are_values_met_in<O: Write, E: Write>(
     let mut search = Search::new(console.alloc, task.named.as_slice(), files)?;
     let met = match several.begin(console.alloc) {
         Ok(mut together) => {
-            let met = search.meet_stretches(&mut together, task.kinds);
+            let met = search.meet_stretches(several, &mut together, task.kinds);
             drop(together);
             met
         }
