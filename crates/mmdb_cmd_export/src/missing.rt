@@ -69,6 +69,8 @@ fn lack_of_all(task: &ExportTask<'_>, hint: &'static str) -> Lack {
 struct Search<'t, 'a> {
     alloc: Global,
     named: &'t [NamedValue<'a>],
+    /// The number of the first of those at each path.
+    firsts: Vec<usize>,
     are_met: Vec<bool>,
     /// The values of files that no network has so far.
     files: Vec<FileSearch<'a>>,
@@ -95,6 +97,25 @@ fn meets<R: ReadAlong>(
     }
 }
 
+// The number of the first of the values at each path.
+fn firsts_of(alloc: Global, all: &[NamedValue<'_>]) -> Result<Vec<usize>, AllocError> {
+    let mut firsts: Vec<usize> = Vec::new(alloc);
+    for (number, named) in all.iter().enumerate() {
+        if !firsts.iter().any(|first| has_path_of(all, *first, named)) {
+            firsts.push(number)?;
+        }
+    }
+    Ok(firsts)
+}
+
+// Whether the value of a number is at the path of another one.
+fn has_path_of(all: &[NamedValue<'_>], number: usize, other: &NamedValue<'_>) -> bool {
+    match all.get(number) {
+        Some(named) => named.condition.path.as_slice() == other.condition.path.as_slice(),
+        None => false,
+    }
+}
+
 impl<'t, 'a> Search<'t, 'a> {
     fn new(
         alloc: Global,
@@ -104,6 +125,7 @@ impl<'t, 'a> Search<'t, 'a> {
         Ok(Search {
             alloc,
             named,
+            firsts: firsts_of(alloc, named)?,
             are_met: vec![in alloc; false; named.len()]?,
             files,
         })
@@ -151,37 +173,29 @@ impl<'t, 'a> Search<'t, 'a> {
         Ok(())
     }
 
-    // Marks the values that the records at offsets meet, where that is kept. Whether it is of all.
-    fn meet_kept(&mut self, checks: &KeptChecks, offsets: &Offsets) -> bool {
-        let mut are_kept = true;
-        for (number, (named, is_met)) in self.named.iter().zip(&mut self.are_met).enumerate() {
-            if *is_met {
-                continue;
-            }
-            match checks.says(number, &named.condition, offsets) {
-                Some(says) => *is_met = says,
-                None => are_kept = false,
+    // Whether the records at offsets that have values were looked at before, as far as that is kept.
+    fn are_seen(&self, checks: &KeptChecks, offsets: &Offsets) -> bool {
+        for number in &self.firsts {
+            if let Some(named) = self.named.get(*number)
+                && checks.says(*number, &named.condition, offsets).is_none()
+            {
+                return false;
             }
         }
-        are_kept && self.are_files_kept(checks, offsets)
-    }
-
-    // Whether the values of the records at offsets were taken out of those of all files.
-    fn are_files_kept(&self, checks: &KeptChecks, offsets: &Offsets) -> bool {
         for (place, file) in self.files.iter().enumerate() {
             let number = self.named.len().saturating_add(place);
-            if !file.is_done() && checks.says(number, &file.present, offsets).is_none() {
+            if checks.says(number, &file.present, offsets).is_none() {
                 return false;
             }
         }
         true
     }
 
-    // Keeps of the records of answers what was marked.
-    fn learn(&self, checks: &mut KeptChecks, answers: &Answers<'_>) {
-        for (number, (named, is_met)) in self.named.iter().zip(&self.are_met).enumerate() {
-            if !*is_met {
-                checks.learn(number, &named.condition, answers);
+    // Keeps which of the records of answers that have values were looked at.
+    fn see(&self, checks: &mut KeptChecks, answers: &Answers<'_>) {
+        for number in &self.firsts {
+            if let Some(named) = self.named.get(*number) {
+                checks.learn(*number, &named.condition, answers);
             }
         }
         for (place, file) in self.files.iter().enumerate() {
@@ -190,7 +204,7 @@ impl<'t, 'a> Search<'t, 'a> {
         }
     }
 
-    // Marks the values that databases have in a stretch.
+    // Marks the values that databases have in a stretch, unless its records were looked at before.
     fn meet_stretch<'r>(
         &mut self,
         together: &Together<'r, Vec<u8>>,
@@ -198,12 +212,12 @@ impl<'t, 'a> Search<'t, 'a> {
         offsets: &Offsets,
         checks: &mut KeptChecks,
     ) -> Result<(), ProgramError> {
-        if self.meet_kept(checks, offsets) {
+        if self.are_seen(checks, offsets) {
             return Ok(());
         }
         let answers = together.answers(self.alloc, stretch)?;
         self.meet(&answers)?;
-        self.learn(checks, &answers);
+        self.see(checks, &answers);
         Ok(())
     }
 
