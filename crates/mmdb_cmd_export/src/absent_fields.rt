@@ -1,5 +1,5 @@
 //! Fields that no record of several databases has.
-use crate::several::{Answers, Several};
+use crate::several::{Answers, Offsets, Several};
 use mmdb_console::{Console, ProgramError, line_of};
 use mmdb_layout::{ReadAlong, RecordAt, absent_text};
 use mmdb_reader::{MaxMindDbError, PathElement};
@@ -34,40 +34,54 @@ impl<'d> AbsentFields<'d> {
         Ok(AbsentFields {
             alloc,
             are_met: vec![in alloc; false; fields]?,
-            records: Vec::new(alloc),
+            records: Vec::with_capacity(alloc, MOST_RECORDS)?,
         })
     }
 
-    fn are_all_met(&self) -> bool {
+    /// Whether a record had each field.
+    pub(crate) fn are_all_met(&self) -> bool {
         self.are_met.iter().all(|is_met| *is_met)
     }
 
-    // Keeps where a record is, if it is one of the first.
-    fn keep(&mut self, section: &'d [u8], offset: Option<usize>) -> Result<(), AllocError> {
-        if let Some(offset) = offset
-            && self.records.len() < MOST_RECORDS
-        {
+    /// Whether it is still to be noted where records are.
+    pub(crate) fn wants_records(&self) -> bool {
+        self.records.len() < MOST_RECORDS && !self.are_all_met()
+    }
+
+    /// Notes the fields that answers have. One that can't be read was reported.
+    pub(crate) fn meet_values(&mut self, answers: &Answers<'_>, paths: &[Vec<PathElement<'_>>]) {
+        for (is_met, path) in self.are_met.iter_mut().zip(paths) {
+            *is_met = *is_met || have_value(self.alloc, answers, path.as_slice());
+        }
+    }
+
+    /// Notes that a record has the field of a number.
+    pub(crate) fn meet(&mut self, field: usize) {
+        if let Some(is_met) = self.are_met.get_mut(field) {
+            *is_met = true;
+        }
+    }
+
+    // Notes where a record is, if it is one of the first.
+    fn keep(&mut self, section: &'d [u8], offset: usize) -> Result<(), AllocError> {
+        if self.records.len() < MOST_RECORDS {
             self.records.push(RecordAt { section, offset })?;
         }
         Ok(())
     }
 
-    /// Looks at the records of a stretch.
+    /// Notes where the records of a stretch are, unless there are enough.
     pub(crate) fn look(
         &mut self,
         several: &Several<'d>,
-        answers: &Answers<'_>,
-        paths: &[Vec<PathElement<'_>>],
+        offsets: &Offsets,
     ) -> Result<(), AllocError> {
-        if self.are_all_met() {
+        if !self.wants_records() {
             return Ok(());
         }
-        for (is_met, path) in self.are_met.iter_mut().zip(paths) {
-            *is_met = *is_met || have_value(self.alloc, answers, path.as_slice());
-        }
-        for (place, answer) in answers.iter().enumerate() {
-            if let Some(found) = answer {
-                self.keep(several.section_at(place), found.offset())?;
+        for (place, offset) in offsets.iter().enumerate() {
+            if let Some(offset) = offset {
+                self.keep(several.section_at(place), *offset)?;
             }
         }
         Ok(())

@@ -3,7 +3,7 @@ use crate::inputs::{ValueFile, shown_start, values_in};
 use mmdb_arguments::NoRequest;
 use mmdb_console::{Console, ProgramError, line_of, wanted_path};
 use mmdb_json::compact;
-use mmdb_layout::{ReadAlong, Requirement, split_condition};
+use mmdb_layout::{Condition, ReadAlong, Requirement, split_condition};
 use mmdb_reader::{MaxMindDbError, PathElement};
 use mmdb_value::Value;
 use std::alloc::{AllocError, Global};
@@ -18,7 +18,8 @@ const MOST_NAMED: usize = 10;
 pub(crate) struct FileSearch<'a> {
     /// The condition as it is written.
     condition: &'a str,
-    pub(crate) path: Vec<PathElement<'a>>,
+    /// The condition that there is a value at its path.
+    pub(crate) present: Condition<'a>,
     pub(crate) wanted: Requirement,
     values: Vec<&'a str>,
     /// The values that no network has so far.
@@ -41,7 +42,11 @@ fn search_of<'a>(alloc: Global, file: &'a ValueFile<'a>) -> Result<FileSearch<'a
     let count = left.len();
     Ok(FileSearch {
         condition: file.condition,
-        path,
+        present: Condition {
+            path,
+            texts: Vec::new(alloc),
+            wanted: Requirement::Present,
+        },
         wanted: file.wanted,
         values,
         left,
@@ -74,7 +79,9 @@ impl FileSearch<'_> {
 
     /// Whether some network has one of the values, of those of which this is wanted at this path.
     pub(crate) fn serves(&self, path: &[PathElement<'_>], wanted: Requirement) -> bool {
-        self.left.len() < self.count && self.wanted == wanted && self.path.as_slice() == path
+        self.left.len() < self.count
+            && self.wanted == wanted
+            && self.present.path.as_slice() == path
     }
 
     // Takes out the text that a record has, or what is in it.
@@ -109,7 +116,7 @@ impl FileSearch<'_> {
         alloc: Global,
         found: &R,
     ) -> Result<(), ProgramError> {
-        let value = found.read_along(alloc, self.path.as_slice());
+        let value = found.read_along(alloc, self.present.path.as_slice());
         match &value {
             Ok(Some(value)) => Ok(self.take_value(alloc, value)?),
             Err(MaxMindDbError::Memory) => Err(ProgramError::Memory),

@@ -1,11 +1,12 @@
 //! Values of conditions that no network has: a list by a value that is misspelt would have nothing, or too much.
 use crate::conditions::{NamedValue, Role};
+use crate::kept_checks::KeptChecks;
 use crate::listed_values::{FileSearch, searches_of};
-use crate::several::{Several, kind_of_stretch};
+use crate::several::{Answers, Offsets, Several, kind_of_stretch};
 use crate::sink::kind_of;
 use crate::task::ExportTask;
 use mmdb_blocks::Kinds;
-use mmdb_compare::{Together, TogetherPart};
+use mmdb_compare::{Together, TogetherPart, TogetherStretch};
 use mmdb_console::{Console, ProgramError, Similar, line_of};
 use mmdb_json::compact;
 use mmdb_layout::{
@@ -68,6 +69,8 @@ fn lack_of_all(task: &ExportTask<'_>, hint: &'static str) -> Lack {
 struct Search<'t, 'a> {
     alloc: Global,
     named: &'t [NamedValue<'a>],
+    /// The number of the first of those at each path.
+    firsts: Vec<usize>,
     are_met: Vec<bool>,
     /// The values of files that no network has so far.
     files: Vec<FileSearch<'a>>,
@@ -94,6 +97,25 @@ fn meets<R: ReadAlong>(
     }
 }
 
+// The number of the first of the values at each path.
+fn firsts_of(alloc: Global, all: &[NamedValue<'_>]) -> Result<Vec<usize>, AllocError> {
+    let mut firsts: Vec<usize> = Vec::new(alloc);
+    for (number, named) in all.iter().enumerate() {
+        if !firsts.iter().any(|first| has_path_of(all, *first, named)) {
+            firsts.push(number)?;
+        }
+    }
+    Ok(firsts)
+}
+
+// Whether the value of a number is at the path of another one.
+fn has_path_of(all: &[NamedValue<'_>], number: usize, other: &NamedValue<'_>) -> bool {
+    match all.get(number) {
+        Some(named) => named.condition.path.as_slice() == other.condition.path.as_slice(),
+        None => false,
+    }
+}
+
 impl<'t, 'a> Search<'t, 'a> {
     fn new(
         alloc: Global,
@@ -103,6 +125,7 @@ impl<'t, 'a> Search<'t, 'a> {
         Ok(Search {
             alloc,
             named,
+            firsts: firsts_of(alloc, named)?,
             are_met: vec![in alloc; false; named.len()]?,
             files,
         })
@@ -150,17 +173,69 @@ impl<'t, 'a> Search<'t, 'a> {
         Ok(())
     }
 
+    // Whether the records at offsets that have values were looked at before, as far as that is kept.
+    fn are_seen(&self, checks: &KeptChecks, offsets: &Offsets) -> bool {
+        for number in &self.firsts {
+            if let Some(named) = self.named.get(*number)
+                && checks.says(*number, &named.condition, offsets).is_none()
+            {
+                return false;
+            }
+        }
+        for (place, file) in self.files.iter().enumerate() {
+            let number = self.named.len().saturating_add(place);
+            if checks.says(number, &file.present, offsets).is_none() {
+                return false;
+            }
+        }
+        true
+    }
+
+    // Keeps which of the records of answers that have values were looked at.
+    fn see(&self, checks: &mut KeptChecks, answers: &Answers<'_>) {
+        for number in &self.firsts {
+            if let Some(named) = self.named.get(*number) {
+                checks.learn(*number, &named.condition, answers);
+            }
+        }
+        for (place, file) in self.files.iter().enumerate() {
+            let number = self.named.len().saturating_add(place);
+            checks.learn(number, &file.present, answers);
+        }
+    }
+
+    // Marks the values that databases have in a stretch, unless its records were looked at before.
+    fn meet_stretch<'r>(
+        &mut self,
+        together: &Together<'r, Vec<u8>>,
+        stretch: TogetherStretch,
+        offsets: &Offsets,
+        checks: &mut KeptChecks,
+    ) -> Result<(), ProgramError> {
+        if self.are_seen(checks, offsets) {
+            return Ok(());
+        }
+        let answers = together.answers(self.alloc, stretch)?;
+        self.meet(&answers)?;
+        self.see(checks, &answers);
+        Ok(())
+    }
+
     // Marks the values that databases have side by side.
     fn meet_stretches<'r>(
         &mut self,
+        several: &Several<'r>,
         together: &mut Together<'r, Vec<u8>>,
         kinds: Kinds,
     ) -> Result<(), ProgramError> {
+        let conditions = self.named.len().saturating_add(self.files.len());
+        let mut checks = KeptChecks::new(self.alloc, conditions, several.asked_count());
+        let mut offsets = several.no_offsets(self.alloc)?;
         for _ in 0..u64::MAX {
             match together.next_part() {
                 Some(TogetherPart::Stretch(stretch)) if kinds.has(kind_of_stretch(stretch)) => {
-                    let answers = together.answers(self.alloc, stretch)?;
-                    self.meet(&answers)?;
+                    several.put_offsets(together, &mut offsets)?;
+                    self.meet_stretch(together, stretch, &offsets, &mut checks)?;
                     if self.is_done() {
                         break;
                     }
@@ -206,7 +281,7 @@ impl<'t, 'a> Search<'t, 'a> {
         if task.allow_empty || task.allow_missing || !file.is_all_missing() {
             Lack::Noted
         } else if file.wanted != Requirement::NoneOf
-            && !self.is_served(file.path.as_slice(), file.wanted)
+            && !self.is_served(file.present.path.as_slice(), file.wanted)
         {
             lack_of_all(task, GO_ON)
         } else {
@@ -475,7 +550,7 @@ pub(crate) fn are_values_met_in<O: Write, E: Write>(
     let mut search = Search::new(console.alloc, task.named.as_slice(), files)?;
     let met = match several.begin(console.alloc) {
         Ok(mut together) => {
-            let met = search.meet_stretches(&mut together, task.kinds);
+            let met = search.meet_stretches(several, &mut together, task.kinds);
             drop(together);
             met
         }

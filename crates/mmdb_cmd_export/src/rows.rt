@@ -9,11 +9,11 @@ use mmdb_reader::{IpNetwork, MaxMindDbError};
 use std::alloc::{AllocError, Global};
 use std::io::Write;
 
-/// The most bytes of a row that is kept.
-const MOST_BYTES: usize = 4096;
+/// The most bytes of a row that is kept, or of what is kept of a record.
+pub(crate) const MOST_BYTES: usize = 4096;
 
 /// The most bytes of all that an export keeps, and of the texts of records among them.
-const MOST_KEPT: usize = 8 << 20;
+pub(crate) const MOST_KEPT: usize = 8 << 20;
 
 const MOST_OF_TEXTS: usize = 4 << 20;
 

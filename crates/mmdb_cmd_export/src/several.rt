@@ -17,6 +17,9 @@ const IPV4_PREFIX: u8 = 96;
 /// What each of several databases has in a block, in their order: none where it has no record there.
 pub(crate) type Answers<'r> = Vec<Option<Found<'r>>>;
 
+/// Where the record is that each of several databases has in a block, in their order.
+pub(crate) type Offsets = Vec<Option<usize>>;
+
 /// Databases that are asked side by side.
 #[derive(Drop)]
 pub(crate) struct Several<'d> {
@@ -25,14 +28,6 @@ pub(crate) struct Several<'d> {
     asked: Vec<AskedDatabase<'d, Vec<u8>>>,
     /// The places of those among all.
     places: Vec<usize>,
-}
-
-/// A block in which each database has one answer.
-#[derive(Drop)]
-pub(crate) struct AnsweredStretch<'r> {
-    pub(crate) kind: BlockKind,
-    pub(crate) block: Block,
-    pub(crate) answers: Answers<'r>,
 }
 
 // Whether a database has networks of IPv6.
@@ -85,26 +80,11 @@ pub(crate) fn kind_of_stretch(stretch: TogetherStretch) -> BlockKind {
     }
 }
 
-/// A stretch with what databases have in it.
-pub(crate) fn answered<'r>(
-    alloc: Global,
-    together: &Together<'r, Vec<u8>>,
-    stretch: TogetherStretch,
-) -> Result<AnsweredStretch<'r>, AllocError> {
-    Ok(AnsweredStretch {
-        kind: kind_of_stretch(stretch),
-        block: stretch.block,
-        answers: together.answers(alloc, stretch)?,
-    })
-}
-
-impl AnsweredStretch<'_> {
-    /// The network of the block.
-    pub(crate) fn network(&self) -> Result<IpNetwork, ProgramError> {
-        match self.kind.network_of(self.block) {
-            Ok(network) => Ok(network),
-            Err(_) => Err(ProgramError::OutOfOrder),
-        }
+/// The network of a stretch.
+pub(crate) fn network_of_stretch(stretch: TogetherStretch) -> Result<IpNetwork, ProgramError> {
+    match kind_of_stretch(stretch).network_of(stretch.block) {
+        Ok(network) => Ok(network),
+        Err(_) => Err(ProgramError::OutOfOrder),
     }
 }
 
@@ -181,6 +161,24 @@ impl<'d> Several<'d> {
         alloc: Global,
     ) -> Result<Together<'d, Vec<u8>>, (usize, MaxMindDbError)> {
         Together::new(alloc, self.asked.as_slice())
+    }
+
+    /// Of no stretch yet, with room for those of all that are asked.
+    pub(crate) fn no_offsets(&self, alloc: Global) -> Result<Offsets, AllocError> {
+        Vec::with_capacity(alloc, self.asked.len())
+    }
+
+    /// Puts where the records of the last stretch are in place of others.
+    pub(crate) fn put_offsets(
+        &self,
+        together: &Together<'_, Vec<u8>>,
+        offsets: &mut Offsets,
+    ) -> Result<(), AllocError> {
+        offsets.clear();
+        for place in 0..self.asked.len() {
+            offsets.push(together.offset(place))?;
+        }
+        Ok(())
     }
 
     /// All databases.

@@ -1,17 +1,21 @@
 //! The rows of an export of several databases.
 use crate::absent_fields::AbsentFields;
-use crate::several::{AnsweredStretch, Answers, Several, fault_along};
+use crate::kept_texts::{KeptTexts, text_along};
+use crate::several::{Answers, Offsets, Several, fault_along, network_of_stretch};
 use crate::stretches::StretchSink;
-use json::{Token, Writer};
+use mmdb_compare::TogetherStretch;
 use mmdb_console::{Console, ProgramError, put};
-use mmdb_filter::put_csv_cell;
-use mmdb_found::write_found;
-use mmdb_json::{compact, write_value};
-use mmdb_layout::{ChosenFields, Found, Layout, NETWORK, ReadAlong, keys_of};
-use mmdb_reader::{MaxMindDbError, PathElement};
+use mmdb_json::compact;
+use mmdb_layout::{Layout, NETWORK, keys_of};
+use mmdb_reader::{IpNetwork, MaxMindDbError};
 use mmdb_value::Value;
 use std::alloc::{AllocError, Global};
 use std::io::Write;
+
+/// What comes before the network in a line of JSON, and behind it.
+const BEFORE_NETWORK: &[u8] = b"{\"network\":\"";
+
+const BEHIND_NETWORK: &[u8] = b"\"";
 
 /// The rows of an export of several databases.
 #[derive(Drop)]
@@ -19,93 +23,99 @@ pub(crate) struct StretchRows<'a, 's, 'd> {
     alloc: Global,
     layout: &'a Layout<'a>,
     several: &'s Several<'d>,
-    /// What the records of all databases are called, where rows have whole ones.
-    keys: Vec<String>,
+    /// What comes before each value of a row: of each field, or of the record of each database.
+    labels: Vec<Vec<u8>>,
+    texts: KeptTexts<'a, 'd>,
     absent: AbsentFields<'d>,
+    /// What a row is put together in.
+    line: Vec<u8>,
 }
 
-// The cell of a value: a text as it is, any other value as JSON, and empty where there is none.
-fn put_cell(alloc: Global, value: Option<&Value<'_>>, row: &mut Vec<u8>) -> Result<(), AllocError> {
-    row.push(b',')?;
-    match value {
-        Some(Value::String(text)) => put_csv_cell(b',', text.as_bytes(), row),
-        Some(value) => put_csv_cell(b',', compact(alloc, value)?.as_slice(), row),
-        None => Ok(()),
+// What comes before the value of a name in an object, behind others.
+fn label_of(alloc: Global, name: &str) -> Result<Vec<u8>, AllocError> {
+    let mut label = Vec::new(alloc);
+    label.push(b',')?;
+    label.extend_from_slice(compact(alloc, &Value::String(name))?.as_slice())?;
+    label.push(b':')?;
+    Ok(label)
+}
+
+// What comes before the values of fields.
+fn labels_of_fields(
+    alloc: Global,
+    layout: &Layout<'_>,
+    names: &[&str],
+) -> Result<Vec<Vec<u8>>, AllocError> {
+    let mut labels = Vec::with_capacity(alloc, names.len())?;
+    for name in names {
+        labels.push(match layout {
+            Layout::Cells(_) => Vec::from_slice(alloc, b",")?,
+            _ => label_of(alloc, *name)?,
+        })?;
     }
+    Ok(labels)
 }
 
-// Adds the cell of the first value that answers have at a path.
-fn put_cell_along(
-    alloc: Global,
-    answers: &Answers<'_>,
-    path: &[PathElement<'_>],
-    row: &mut Vec<u8>,
-) -> Result<(), MaxMindDbError> {
-    let value = answers.read_along(alloc, path)?;
-    let put = put_cell(alloc, value.as_ref(), row);
-    drop(value);
-    Ok(put?)
-}
-
-// A line of a network and the cells of fields.
-fn line_of_cells(
-    alloc: Global,
-    fields: &ChosenFields<'_>,
-    network: &str,
-    answers: &Answers<'_>,
-) -> Result<Vec<u8>, MaxMindDbError> {
-    let mut row = Vec::new(alloc);
-    row.extend_from_slice(network.as_bytes())?;
-    for path in &fields.paths {
-        put_cell_along(alloc, answers, path.as_slice(), &mut row)?;
+// What comes before the records of all databases.
+fn labels_of_records(alloc: Global, several: &Several<'_>) -> Result<Vec<Vec<u8>>, AllocError> {
+    let keys = keys_of(alloc, several.databases(), NETWORK)?;
+    let mut labels = Vec::with_capacity(alloc, keys.len())?;
+    for key in &keys {
+        labels.push(label_of(alloc, key.as_str())?)?;
     }
-    row.push(b'\n')?;
-    Ok(row)
+    Ok(labels)
 }
 
-// Adds the first value that answers have at a path, null where none has one.
-fn write_along(
+// What comes before each value of a row.
+fn labels_of(
     alloc: Global,
-    answers: &Answers<'_>,
-    path: &[PathElement<'_>],
-    out: &mut Writer,
-) -> Result<(), MaxMindDbError> {
-    let value = answers.read_along(alloc, path)?;
-    let written = match &value {
-        Some(value) => write_value(alloc, value, out),
-        None => out.token(Token::Null),
-    };
-    drop(value);
-    Ok(written?)
-}
-
-// Adds the values of fields to an object.
-fn write_fields(
-    alloc: Global,
-    fields: &ChosenFields<'_>,
-    answers: &Answers<'_>,
-    out: &mut Writer,
-) -> Result<(), MaxMindDbError> {
-    for (name, path) in fields.names.iter().zip(&fields.paths) {
-        out.token(Token::Key(*name))?;
-        write_along(alloc, answers, path.as_slice(), out)?;
-    }
-    Ok(())
-}
-
-// Adds the record of an answer, null where there is none.
-fn write_record(
-    alloc: Global,
-    found: Option<&Found<'_>>,
-    out: &mut Writer,
-) -> Result<(), MaxMindDbError> {
-    match found {
-        Some(found) => {
-            write_found(alloc, found, &[], out)?;
+    layout: &Layout<'_>,
+    several: &Several<'_>,
+) -> Result<Vec<Vec<u8>>, AllocError> {
+    match layout {
+        Layout::Records => labels_of_records(alloc, several),
+        Layout::Values(fields) | Layout::Cells(fields) => {
+            labels_of_fields(alloc, layout, fields.names.as_slice())
         }
-        None => out.token(Token::Null)?,
     }
-    Ok(())
+}
+
+// Begins a line with a network.
+fn begin_line(
+    layout: &Layout<'_>,
+    network: IpNetwork,
+    line: &mut Vec<u8>,
+) -> Result<(), AllocError> {
+    line.clear();
+    if let Layout::Cells(_) = layout {
+        return network.push_text(line);
+    }
+    line.extend_from_slice(BEFORE_NETWORK)?;
+    network.push_text(line)?;
+    line.extend_from_slice(BEHIND_NETWORK)
+}
+
+// Adds a value to a line: where there is none, `null`, or an empty cell.
+fn put_text(
+    layout: &Layout<'_>,
+    label: &[u8],
+    text: Option<&[u8]>,
+    line: &mut Vec<u8>,
+) -> Result<(), AllocError> {
+    line.extend_from_slice(label)?;
+    match (text, layout) {
+        (Some(text), _) => line.extend_from_slice(text),
+        (None, Layout::Cells(_)) => Ok(()),
+        (None, _) => line.extend_from_slice(b"null"),
+    }
+}
+
+// Ends a line.
+fn end_line(layout: &Layout<'_>, line: &mut Vec<u8>) -> Result<(), AllocError> {
+    match layout {
+        Layout::Cells(_) => line.extend_from_slice(b"\n"),
+        _ => line.extend_from_slice(b"}\n"),
+    }
 }
 
 // The place of the first answer whose record can't be read.
@@ -122,22 +132,62 @@ fn fault_in_records(alloc: Global, answers: &Answers<'_>) -> Option<usize> {
     None
 }
 
-// Ends an object as a line.
-fn line_of_object(out: Writer) -> Result<Vec<u8>, AllocError> {
-    let mut row = out.into_inner();
-    row.push(b'\n')?;
-    Ok(row)
+// The text of the value of a number in a row, if it is kept.
+fn kept_text<'k>(
+    layout: &Layout<'_>,
+    several: &Several<'_>,
+    texts: &'k KeptTexts<'_, '_>,
+    number: usize,
+    offsets: &Offsets,
+) -> Option<Option<&'k [u8]>> {
+    if layout.has_records() {
+        texts.record(several.place_of(number), offsets)
+    } else {
+        texts.field(number, offsets)
+    }
+}
+
+// The text of the record of the database at a place among all, none where it is not asked or has none.
+fn read_record(
+    alloc: Global,
+    layout: &Layout<'_>,
+    several: &Several<'_>,
+    place: usize,
+    answers: &Answers<'_>,
+) -> Result<Option<Vec<u8>>, MaxMindDbError> {
+    let Some(place) = several.place_of(place) else {
+        return Ok(None);
+    };
+    match answers.get(place) {
+        Some(Some(found)) => text_along(alloc, layout, found, &[]),
+        _ => Ok(None),
+    }
+}
+
+// The text of the value of a number in a row of what answers have.
+fn read_text(
+    alloc: Global,
+    layout: &Layout<'_>,
+    several: &Several<'_>,
+    number: usize,
+    answers: &Answers<'_>,
+) -> Result<Option<Vec<u8>>, MaxMindDbError> {
+    match layout.paths().get(number) {
+        Some(path) => text_along(alloc, layout, answers, path.as_slice()),
+        None => read_record(alloc, layout, several, number, answers),
+    }
 }
 
 impl<'a, 's, 'd> StretchRows<'a, 's, 'd> {
-    /// Rows, none yet. A header is written where the layout has one.
+    /// The rows of databases, none yet. A header is written where the layout has one.
     pub(crate) fn begin<O: Write>(
         alloc: Global,
         layout: &'a Layout<'a>,
         several: &'s Several<'d>,
         out: &mut O,
     ) -> Result<StretchRows<'a, 's, 'd>, ProgramError> {
-        let keys = keys_of(alloc, several.databases(), NETWORK)?;
+        let labels = labels_of(alloc, layout, several)?;
+        let texts = KeptTexts::new(alloc, layout, several)?;
         let absent = AbsentFields::new(alloc, layout.paths().len())?;
         if let Some(header) = layout.header(alloc)? {
             put(header.as_slice(), out)?;
@@ -146,55 +196,70 @@ impl<'a, 's, 'd> StretchRows<'a, 's, 'd> {
             alloc,
             layout,
             several,
-            keys,
+            labels,
+            texts,
             absent,
+            line: Vec::new(alloc),
         })
     }
 
-    // The answer of the database at a place among all, if it is asked and has one.
-    fn answer_at<'n, 'r>(&self, place: usize, answers: &'n Answers<'r>) -> Option<&'n Found<'r>> {
-        match answers.get(self.several.place_of(place)?) {
-            Some(Some(found)) => Some(found),
-            _ => None,
-        }
-    }
-
-    // Adds the records of all databases to an object.
-    fn write_records(&self, answers: &Answers<'_>, out: &mut Writer) -> Result<(), MaxMindDbError> {
-        for (place, key) in self.keys.iter().enumerate() {
-            out.token(Token::Key(key.as_str()))?;
-            write_record(self.alloc, self.answer_at(place, answers), out)?;
-        }
-        Ok(())
-    }
-
-    // Writes a row as an object.
-    fn write_object(
-        &self,
-        network: &str,
-        answers: &Answers<'_>,
-        out: &mut Writer,
-    ) -> Result<(), MaxMindDbError> {
-        out.token(Token::BeginObject)?;
-        out.token(Token::Key(NETWORK))?;
-        out.token(Token::String(network))?;
-        match self.layout {
-            Layout::Records => self.write_records(answers, out)?,
-            Layout::Values(fields) | Layout::Cells(fields) => {
-                write_fields(self.alloc, fields, answers, out)?;
+    // Adds the values of a row that are kept to the line, and its end. Whether all are, and there was memory.
+    fn add_kept(&mut self, offsets: &Offsets) -> bool {
+        for (number, label) in self.labels.iter().enumerate() {
+            let kept = kept_text(self.layout, self.several, &self.texts, number, offsets);
+            let Some(text) = kept else {
+                return false;
+            };
+            if put_text(self.layout, label.as_slice(), text, &mut self.line).is_err() {
+                return false;
             }
         }
-        Ok(out.token(Token::EndObject)?)
+        end_line(self.layout, &mut self.line).is_ok()
     }
 
-    // The row of a network.
-    fn row(&self, network: &str, answers: &Answers<'_>) -> Result<Vec<u8>, MaxMindDbError> {
-        if let Layout::Cells(fields) = self.layout {
-            return line_of_cells(self.alloc, fields, network, answers);
+    // Notes the fields that kept records have.
+    fn note_kept(&mut self, offsets: &Offsets) {
+        if self.absent.are_all_met() {
+            return;
         }
-        let mut out = Writer::new(Vec::with_capacity(self.alloc, 256)?);
-        self.write_object(network, answers, &mut out)?;
-        Ok(line_of_object(out)?)
+        for number in 0..self.labels.len() {
+            let kept = kept_text(self.layout, self.several, &self.texts, number, offsets);
+            if let Some(Some(_)) = kept {
+                self.absent.meet(number);
+            }
+        }
+    }
+
+    // Puts a row together, if what it has is kept. Whether it is, and there was memory.
+    fn join_kept(&mut self, network: IpNetwork, offsets: &Offsets) -> bool {
+        if begin_line(self.layout, network, &mut self.line).is_err() || !self.add_kept(offsets) {
+            return false;
+        }
+        self.note_kept(offsets);
+        true
+    }
+
+    // Puts a row together of what answers have.
+    fn join_read(
+        &mut self,
+        network: IpNetwork,
+        answers: &Answers<'_>,
+    ) -> Result<(), MaxMindDbError> {
+        begin_line(self.layout, network, &mut self.line)?;
+        for (number, label) in self.labels.iter().enumerate() {
+            let text = read_text(self.alloc, self.layout, self.several, number, answers)?;
+            let put = put_text(
+                self.layout,
+                label.as_slice(),
+                text.as_deref(),
+                &mut self.line,
+            );
+            drop(text);
+            put?;
+        }
+        end_line(self.layout, &mut self.line)?;
+        self.absent.meet_values(answers, self.layout.paths());
+        Ok(())
     }
 
     /// Says of fields that no record had, after what was written. An `Err` is `Write`.
@@ -207,19 +272,35 @@ impl<'a, 's, 'd> StretchRows<'a, 's, 'd> {
 }
 
 impl StretchSink for StretchRows<'_, '_, '_> {
+    fn take<O: Write>(
+        &mut self,
+        stretch: TogetherStretch,
+        offsets: &Offsets,
+        out: &mut O,
+    ) -> Result<bool, ProgramError> {
+        if self.absent.wants_records() || !self.join_kept(network_of_stretch(stretch)?, offsets) {
+            return Ok(false);
+        }
+        match out.write_all(self.line.as_slice()) {
+            Ok(()) => Ok(true),
+            Err(error) => Err(ProgramError::Write(error)),
+        }
+    }
+
     fn put<O: Write>(
         &mut self,
-        stretch: &AnsweredStretch<'_>,
+        stretch: TogetherStretch,
+        offsets: &Offsets,
+        answers: &Answers<'_>,
         out: &mut O,
     ) -> Result<(), ProgramError> {
-        let network = stretch.network()?.to_string(self.alloc)?;
-        let row = self.row(network.as_str(), &stretch.answers)?;
-        let done = put(row.as_slice(), out);
-        drop(row);
-        done?;
-        self.absent
-            .look(self.several, &stretch.answers, self.layout.paths())?;
-        Ok(())
+        let network = network_of_stretch(stretch)?;
+        self.texts.learn(answers);
+        if !self.join_kept(network, offsets) {
+            self.join_read(network, answers)?;
+        }
+        self.absent.look(self.several, offsets)?;
+        put(self.line.as_slice(), out)
     }
 
     fn fault_in(&self, answers: &Answers<'_>) -> Option<usize> {
@@ -232,5 +313,13 @@ impl StretchSink for StretchRows<'_, '_, '_> {
             }
         }
         None
+    }
+
+    #[cold]
+    #[inline(never)]
+    fn let_go(&mut self) -> bool {
+        self.texts.clear();
+        self.line = Vec::new(self.alloc);
+        true
     }
 }

@@ -3,10 +3,11 @@ use crate::adjusted::write_adjusted;
 use crate::gathering::{Addresses, Adjustment};
 use crate::missing::are_values_met_in;
 use crate::networks::report_faults;
-use crate::several::{AnsweredStretch, Answers, Several, answered, fault_along, kind_of_stretch};
+use crate::several::{Answers, Offsets, Several, fault_along, kind_of_stretch, network_of_stretch};
+use crate::stretch_choice::StretchChoice;
 use crate::stretch_rows::StretchRows;
 use crate::task::{ExportTask, Shape};
-use mmdb_blocks::Syntax;
+use mmdb_blocks::{Kinds, Syntax};
 use mmdb_compare::{Together, TogetherPart, TogetherStretch, UnreadLeaf};
 use mmdb_console::{Console, FAILED, Pace, Passed, ProgramError, Where};
 use mmdb_layout::{BesideFiles, Condition, Layout, NamedDatabase, open_named};
@@ -21,43 +22,58 @@ const STEP: u64 = 1 << 16;
 
 /// What chosen stretches are put into.
 pub(crate) trait StretchSink: Drop {
-    /// Takes a stretch. Where something of it can't be read, nothing is written of it.
+    /// Takes a stretch where all that it needs of the records there is kept. Whether it was taken; else `put` takes it.
+    fn take<O: Write>(
+        &mut self,
+        stretch: TogetherStretch,
+        offsets: &Offsets,
+        out: &mut O,
+    ) -> Result<bool, ProgramError>;
+
+    /// Takes a stretch. Where something of it can't be read, or memory is out, nothing is written of it.
     fn put<O: Write>(
         &mut self,
-        stretch: &AnsweredStretch<'_>,
+        stretch: TogetherStretch,
+        offsets: &Offsets,
+        answers: &Answers<'_>,
         out: &mut O,
     ) -> Result<(), ProgramError>;
 
     /// The place of the answer that it could not read, if there is one.
     fn fault_in(&self, answers: &Answers<'_>) -> Option<usize>;
+
+    /// Lets go of what is kept to be faster. Whether there may be some.
+    fn let_go(&mut self) -> bool;
 }
 
 impl StretchSink for Addresses {
+    fn take<O: Write>(
+        &mut self,
+        stretch: TogetherStretch,
+        _offsets: &Offsets,
+        _out: &mut O,
+    ) -> Result<bool, ProgramError> {
+        self.add_block(kind_of_stretch(stretch), stretch.block)?;
+        Ok(true)
+    }
+
     fn put<O: Write>(
         &mut self,
-        stretch: &AnsweredStretch<'_>,
+        stretch: TogetherStretch,
+        _offsets: &Offsets,
+        _answers: &Answers<'_>,
         _out: &mut O,
     ) -> Result<(), ProgramError> {
-        self.add_block(stretch.kind, stretch.block)
+        self.add_block(kind_of_stretch(stretch), stretch.block)
     }
 
     fn fault_in(&self, _answers: &Answers<'_>) -> Option<usize> {
         None
     }
-}
 
-// Whether answers meet all conditions.
-fn meet_all(
-    alloc: Global,
-    conditions: &[Condition<'_>],
-    answers: &Answers<'_>,
-) -> Result<bool, MaxMindDbError> {
-    for condition in conditions {
-        if !condition.holds(alloc, answers)? {
-            return Ok(false);
-        }
+    fn let_go(&mut self) -> bool {
+        false
     }
-    Ok(true)
 }
 
 // The place of the answer that can't be read as conditions or a sink ask, if it is one.
@@ -79,10 +95,10 @@ fn fault_in<W: StretchSink>(
 fn name_of(
     alloc: Global,
     several: &Several<'_>,
-    stretch: &AnsweredStretch<'_>,
+    stretch: TogetherStretch,
     place: Option<usize>,
 ) -> Result<String, ProgramError> {
-    let network = stretch.network()?;
+    let network = network_of_stretch(stretch)?;
     Ok(match place {
         Some(place) => {
             let file = several.name_at(place);
@@ -106,8 +122,8 @@ fn name_of_leaf(alloc: Global, file: &str, leaf: &UnreadLeaf) -> Result<String, 
 #[derive(Drop)]
 struct StretchExport<'a, 's, 'd, W: StretchSink> {
     several: &'s Several<'d>,
-    conditions: &'a [Condition<'a>],
-    task: &'a ExportTask<'a>,
+    kinds: Kinds,
+    choice: StretchChoice<'a>,
     sink: W,
     faults: u64,
     /// How many stretches passed.
@@ -118,57 +134,142 @@ impl<'a, 's, 'd, W: StretchSink> StretchExport<'a, 's, 'd, W> {
     // Of no stretch yet.
     fn new(
         several: &'s Several<'d>,
-        task: &'a ExportTask<'a>,
+        kinds: Kinds,
+        choice: StretchChoice<'a>,
         sink: W,
     ) -> StretchExport<'a, 's, 'd, W> {
         StretchExport {
             several,
-            conditions: task.conditions.as_slice(),
-            task,
+            kinds,
+            choice,
             sink,
             faults: 0,
             passed: 0,
         }
     }
 
-    // Puts a stretch, if it is chosen.
-    fn put_chosen<O: Write, E: Write>(
+    // Lets go of all that is kept to be faster. Whether there may be some.
+    fn let_go(&mut self) -> bool {
+        let had_answers = self.choice.let_go();
+        self.sink.let_go() || had_answers
+    }
+
+    // Puts a stretch, if it is chosen, which is known of some.
+    fn put_chosen<O: Write>(
         &mut self,
-        stretch: &AnsweredStretch<'_>,
-        console: &mut Console<'_, O, E>,
+        stretch: TogetherStretch,
+        kept: Option<bool>,
+        offsets: &Offsets,
+        answers: &Answers<'_>,
+        out: &mut O,
     ) -> Result<(), ProgramError> {
-        if !meet_all(console.alloc, self.conditions, &stretch.answers)? {
+        if kept != Some(true) && !self.choice.chooses(answers)? {
             return Ok(());
         }
-        self.sink.put(stretch, console.out)
+        self.sink.put(stretch, offsets, answers, out)
+    }
+
+    // Puts a stretch, if it is chosen, which is known of some. Where there is no memory, all that is kept is let go, and it is
+    // tried once more: nothing was written.
+    fn try_chosen<O: Write>(
+        &mut self,
+        stretch: TogetherStretch,
+        kept: Option<bool>,
+        offsets: &Offsets,
+        answers: &Answers<'_>,
+        out: &mut O,
+    ) -> Result<(), ProgramError> {
+        match self.put_chosen(stretch, kept, offsets, answers, out) {
+            Err(error) if error.is_memory() && self.let_go() => {
+                drop(error);
+                self.put_chosen(stretch, kept, offsets, answers, out)
+            }
+            done => done,
+        }
     }
 
     // Reports why a stretch can't be written.
-    fn report<O: Write, E: Write>(
-        &mut self,
-        stretch: &AnsweredStretch<'_>,
+    fn report_fault<O: Write, E: Write>(
+        &self,
+        stretch: TogetherStretch,
+        answers: &Answers<'_>,
         error: &MaxMindDbError,
         console: &mut Console<'_, O, E>,
     ) -> Result<(), ProgramError> {
         let alloc = console.alloc;
-        self.faults = self.faults.saturating_add(1);
-        let place = fault_in(alloc, self.conditions, &self.sink, &stretch.answers);
+        let place = fault_in(alloc, self.choice.conditions(), &self.sink, answers);
         let name = name_of(alloc, self.several, stretch, place)?;
         console.report_behind(Ok(name), error)
+    }
+
+    // Reports why a stretch can't be written. Where there is no memory, all that is kept is let go, and it is tried once more:
+    // nothing was reported.
+    fn report<O: Write, E: Write>(
+        &mut self,
+        stretch: TogetherStretch,
+        answers: &Answers<'_>,
+        error: &MaxMindDbError,
+        console: &mut Console<'_, O, E>,
+    ) -> Result<(), ProgramError> {
+        self.faults = self.faults.saturating_add(1);
+        match self.report_fault(stretch, answers, error, console) {
+            Err(problem) if problem.is_memory() && self.let_go() => {
+                drop(problem);
+                self.report_fault(stretch, answers, error, console)
+            }
+            done => done,
+        }
     }
 
     // Writes a stretch, if it is chosen, or reports why it can't be.
     fn write_answered<O: Write, E: Write>(
         &mut self,
-        stretch: &AnsweredStretch<'_>,
+        stretch: TogetherStretch,
+        kept: Option<bool>,
+        offsets: &Offsets,
+        answers: &Answers<'_>,
         console: &mut Console<'_, O, E>,
     ) -> Result<(), ProgramError> {
-        match self.put_chosen(stretch, console) {
+        match self.try_chosen(stretch, kept, offsets, answers, console.out) {
             Err(ProgramError::Database(MaxMindDbError::Memory)) => Err(ProgramError::Memory),
             Err(ProgramError::Database(error)) => {
-                let reported = self.report(stretch, &error, console);
+                let reported = self.report(stretch, answers, &error, console);
                 drop(error);
                 reported
+            }
+            done => done,
+        }
+    }
+
+    // What databases have in a stretch. Where there is no memory, all that is kept is let go, and it is tried once more.
+    fn answers<'r>(
+        &mut self,
+        alloc: Global,
+        together: &Together<'r, Vec<u8>>,
+        stretch: TogetherStretch,
+    ) -> Result<Answers<'r>, AllocError> {
+        match together.answers(alloc, stretch) {
+            Err(_) if self.let_go() => together.answers(alloc, stretch),
+            answers => answers,
+        }
+    }
+
+    // Takes a stretch, where it is known whether it is chosen, and all that it needs is kept. Whether that was done. Where there
+    // is no memory, all that is kept is let go.
+    fn take_kept<O: Write>(
+        &mut self,
+        stretch: TogetherStretch,
+        kept: Option<bool>,
+        offsets: &Offsets,
+        out: &mut O,
+    ) -> Result<bool, ProgramError> {
+        if kept != Some(true) {
+            return Ok(kept.is_some());
+        }
+        match self.sink.take(stretch, offsets, out) {
+            Err(error) if error.is_memory() && self.let_go() => {
+                drop(error);
+                Ok(false)
             }
             done => done,
         }
@@ -179,15 +280,21 @@ impl<'a, 's, 'd, W: StretchSink> StretchExport<'a, 's, 'd, W> {
         &mut self,
         together: &Together<'d, Vec<u8>>,
         stretch: TogetherStretch,
+        offsets: &mut Offsets,
         console: &mut Console<'_, O, E>,
     ) -> Result<(), ProgramError> {
         self.show_passed(console);
-        if !self.task.kinds.has(kind_of_stretch(stretch)) {
+        if !self.kinds.has(kind_of_stretch(stretch)) {
             return Ok(());
         }
-        let answered = answered(console.alloc, together, stretch)?;
-        let written = self.write_answered(&answered, console);
-        drop(answered);
+        self.several.put_offsets(together, offsets)?;
+        let kept = self.choice.kept(offsets);
+        if self.take_kept(stretch, kept, offsets, console.out)? {
+            return Ok(());
+        }
+        let answers = self.answers(console.alloc, together, stretch)?;
+        let written = self.write_answered(stretch, kept, offsets, &answers, console);
+        drop(answers);
         written
     }
 
@@ -222,9 +329,12 @@ impl<'a, 's, 'd, W: StretchSink> StretchExport<'a, 's, 'd, W> {
         together: &mut Together<'d, Vec<u8>>,
         console: &mut Console<'_, O, E>,
     ) -> Result<(), ProgramError> {
+        let mut offsets = self.several.no_offsets(console.alloc)?;
         for _ in 0..u64::MAX {
             match together.next_part() {
-                Some(TogetherPart::Stretch(stretch)) => self.write(together, stretch, console)?,
+                Some(TogetherPart::Stretch(stretch)) => {
+                    self.write(together, stretch, &mut offsets, console)?;
+                }
                 Some(TogetherPart::Unread(place)) => {
                     let leaf = together.take_unread(place);
                     self.report_leaf(place, leaf, console)?;
@@ -236,6 +346,15 @@ impl<'a, 's, 'd, W: StretchSink> StretchExport<'a, 's, 'd, W> {
     }
 }
 
+// The choice by the conditions that are asked for.
+fn choice_of_stretches<'a>(
+    alloc: Global,
+    several: &Several<'_>,
+    task: &'a ExportTask<'a>,
+) -> StretchChoice<'a> {
+    StretchChoice::new(alloc, task.conditions.as_slice(), several.asked_count())
+}
+
 // Writes the rows of the chosen stretches, and answers the status.
 fn write_rows<'a, 's, 'd, O: Write, E: Pace>(
     several: &'s Several<'d>,
@@ -245,7 +364,8 @@ fn write_rows<'a, 's, 'd, O: Write, E: Pace>(
     console: &mut Console<'_, O, E>,
 ) -> Result<u8, ProgramError> {
     let rows = StretchRows::begin(console.alloc, layout, several, console.out)?;
-    let mut export = StretchExport::new(several, task, rows);
+    let choice = choice_of_stretches(console.alloc, several, task);
+    let mut export = StretchExport::new(several, task.kinds, choice, rows);
     let written = match export.write_all(together, console) {
         Ok(()) => export.sink.note_absent(console),
         Err(error) => Err(error),
@@ -266,8 +386,11 @@ fn write_list<'a, 's, 'd, O: Write, E: Pace>(
     console: &mut Console<'_, O, E>,
 ) -> Result<u8, ProgramError> {
     let alloc = console.alloc;
-    let mut export = StretchExport::new(several, task, Addresses::new(alloc));
-    let written = match export.write_all(together, console) {
+    let choice = choice_of_stretches(alloc, several, task);
+    let mut export = StretchExport::new(several, task.kinds, choice, Addresses::new(alloc));
+    let exported = export.write_all(together, console);
+    export.let_go();
+    let written = match exported {
         Ok(()) => write_adjusted(alloc, task, syntax, &export.sink, adjustment, console.out),
         Err(error) => Err(error),
     };
