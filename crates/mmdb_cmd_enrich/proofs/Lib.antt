@@ -1,6 +1,7 @@
 mod CellLaws
 mod CellRunLaws
 mod KeptLaws
+mod KeptReadLaws
 mod ColumnLaws
 mod AddedLaws
 mod NetworkLaws

@@ -11,6 +11,7 @@ pub mod LayeredMembers
 pub mod Wanted
 pub mod KeptCells
 pub mod Kept
+pub mod KeptReads
 pub mod Rows
 pub mod Longer
 pub mod LayeredLonger

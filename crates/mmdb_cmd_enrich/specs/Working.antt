@@ -1,5 +1,6 @@
 -- What contracts of private functions and proofs name.
 use Rattle.std.specs.Prelude.{◌≡◌, ◌⊎◌, ◌<◌, ◌+◌, ◌*◌, ℕ, List, [], ◌∷◌, ◌++◌, map, Option, Some, None, Bool, true, false, is_some, ⊤}
+use Rattle.std.specs.List.{slice_get}
 use Rattle.std.specs.declared.convert.AsSlice.{Ghosts}
 use Rattle.mmdb_format.specs.Unfolding.{Tree}
 use Rattle.mmdb_reader.specs.declared.path.PathElement.{PathElement}
@@ -29,6 +30,7 @@ use Rattle.mmdb_filter.specs.declared.counts.Outcome.TheVariants.{Absent, Occupi
 use Rattle.std.specs.Global.{Vec}
 use Rattle.mmdb_cmd_enrich.specs.Added.{AddsAt, AddsFor}
 use Rattle.mmdb_cmd_enrich.specs.Rows.{paths_of}
+use Rattle.mmdb_cmd_enrich.specs.declared.kept_reads.ReadKey.{ReadKey}
 
 -- bytes grow by the cell that shows a value
 abbrev pub PutsShown : Rows → Tree → List ℕ → List ℕ → Type 0
@@ -210,3 +212,13 @@ PutsToObjectAll dbs network nulls name fields line addition old new =
     (extra : List ℕ) × (new ≡ old ++ extra)
     × (((extra ≡ []) × (addition.outcome ≡ Occupied) × (line.is_taken ≡ true))
     ⊎ ((line.is_taken ≡ false) × AddsMemberForAll dbs network nulls name fields line.is_empty line.behind line.address extra addition.behind addition.outcome))
+
+-- a key is of a field, by its path, in the record that was found in one of these databases
+abbrev pub IsKeyOf : {S : Type 0} {G : Ghosts S ℕ} → List Database → List (List PathElement) → LookupResult S G → List PathElement → ReadKey → Type 0
+IsKeyOf dbs paths found path key =
+    (slice_get dbs key.database ≡ Some (database_asked found)) × (slice_get paths key.field ≡ Some path) × (offset_found found ≡ Some key.offset)
+
+-- these are the numbers of the database that gave an answer, and of the field of a path
+abbrev pub IsFieldOf : {S : Type 0} {G : Ghosts S ℕ} → List Database → List (List PathElement) → Option (LookupResult S G) → List PathElement → ℕ → ℕ → Type 0
+IsFieldOf dbs paths answer path database field =
+    ((db : Database) × (slice_get dbs database ≡ Some db) × IsAnswerOf db answer) × (slice_get paths field ≡ Some path)

@@ -1,9 +1,11 @@
 //! The cells of a record.
-ghost use Rattle.std.specs.Prelude.{◌≡◌, ◌++◌, Option, IfOk, OnOk, map};
+ghost use Rattle.std.specs.Prelude.{◌≡◌, ◌++◌, List, Option, Some, IfOk, OnOk, map};
+ghost use Rattle.std.specs.List.{slice_get};
 ghost use Rattle.mmdb_filter.specs.declared.rows.Rows.TheVariants.{Lines, Csv};
 ghost use Rattle.mmdb_format.specs.Contents.{text as text_content};
 ghost use Rattle.mmdb_format.specs.Unfolding.{Tree, scalar};
 ghost use Rattle.mmdb_net.specs.Network.{short_text_of};
+ghost use Rattle.mmdb_reader.specs.declared.path.PathElement.{PathElement as SpecPathElement};
 ghost use Rattle.mmdb_value.specs.Values.{value_tree};
 ghost use Rattle.mmdb_cmd_enrich.specs.Cells.{is_plain as spec_is_plain, blanks};
 ghost use Rattle.mmdb_cmd_enrich.specs.Networks.{all_blanks};
@@ -11,9 +13,9 @@ ghost use Rattle.mmdb_cmd_enrich.specs.Working.{PutsShown, PutsCell, PutsNextCel
 ghost use Rattle.mmdb_layout.specs.Reading.{IsReadAs};
 
 use crate::columns::delimiter_of;
+use crate::read_fields::ReadFields;
 use mmdb_filter::{Rows, put_csv_cell};
 use mmdb_json::compact;
-use mmdb_layout::ReadAlong;
 use mmdb_net::IpNetwork;
 use mmdb_reader::{MaxMindDbError, PathElement};
 use mmdb_value::Value;
@@ -155,36 +157,44 @@ fn put_read(
     }
 }
 
-// Adds a delimiter and the cell at the end of a path, and says whether nothing failed.
-fn put_cell<R: ReadAlong>(
+// Adds a delimiter and the cell of a field, by its number and its path, and says whether nothing failed.
+fn put_cell<'a, R: ReadFields<'a>>(
     alloc: Global,
     rows: Rows,
     found: &R,
+    kept: &mut R::Kept,
+    field: usize,
     path: &[PathElement<'_>],
     out: &mut Vec<u8>,
 ) -> Result<bool, AllocError>
-    ensures { IfOk result (λ read.
-        PutsNextCell rows (R.reads found.now path.now) read out.old.items out.new.items) }
+    ensures cell { IfOk result (λ read. (paths : List (List SpecPathElement))
+        → slice_get paths field ≡ Some path.now → R.keeps found.now paths kept.old
+        → PutsNextCell rows (R.reads found.now path.now) read out.old.items out.new.items) }
+    ensures kept { (paths : List (List SpecPathElement)) → slice_get paths field ≡ Some path.now
+        → R.keeps found.now paths kept.old → R.keeps found.now paths kept.new }
 {
     out.push(delimiter_of(rows))?;
-    let read = found.read_along(alloc, path);
+    let read = found.read_field(alloc, kept, field, path);
     put_read(alloc, rows, &read, out)
 }
 
 /// Adds a delimiter and a cell for each path, and says whether nothing failed.
-pub(crate) fn put_cells<R: ReadAlong>(
+pub(crate) fn put_cells<'a, R: ReadFields<'a>>(
     alloc: Global,
     rows: Rows,
     found: &R,
+    kept: &mut R::Kept,
     paths: &[Vec<PathElement<'_>>],
     out: &mut Vec<u8>,
 ) -> Result<bool, AllocError>
-    ensures { IfOk result (λ read. PutsCells rows (R.reads found.now)
+    requires { R.keeps found.now (map (λ path. path.items) paths.now) kept.old }
+    ensures cells { IfOk result (λ read. PutsCells rows (R.reads found.now)
         (map (λ path. path.items) paths.now) read out.old.items out.new.items) }
+    ensures kept { R.keeps found.now (map (λ path. path.items) paths.now) kept.new }
 {
     let mut are_read = true;
-    for path in paths {
-        let is_read = put_cell(alloc, rows, found, path.as_slice(), out)?;
+    for at in 0..paths.len() {
+        let is_read = put_cell(alloc, rows, found, kept, at, paths[at].as_slice(), out)?;
         are_read &= is_read;
     }
     Ok(are_read)

@@ -124,7 +124,8 @@ impl<'a, 'f, S: AsSlice<u8> + Drop> Enrichment<'a, 'f, S> {
         ensures kept { AreKeptFor self.now.reader.now self.now.rows self.now.paths cache.new }
     {
         let before = out.len();
-        let are_read = put_cells(self.alloc, self.rows, found, self.paths.as_slice(), out)?;
+        let paths = self.paths.as_slice();
+        let are_read = put_cells(self.alloc, self.rows, found, &mut (), paths, out)?;
         let outcome = outcome_of(are_read);
         cache.keep(offset, &out.as_slice()[before..], outcome);
         self.note(found, offset, are_read, notes);

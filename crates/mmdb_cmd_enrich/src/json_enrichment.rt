@@ -165,7 +165,8 @@ impl<'a, 'f, S: AsSlice<u8> + Drop> JsonEnrichment<'a, 'f, S> {
         ensures kept { AreKept
             (spec_member self.now.reader.now self.now.name.now self.now.fields.items) cache.new }
     {
-        let member = member_of(self.alloc, found, self.name, self.fields.as_slice())?;
+        let fields = self.fields.as_slice();
+        let member = member_of(self.alloc, found, &mut (), self.name, fields)?;
         let kept = kept_of(&member);
         cache.keep(offset, kept.cells, kept.outcome);
         self.note(found, offset, kept.outcome == Outcome::Found, notes);

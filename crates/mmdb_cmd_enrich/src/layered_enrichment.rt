@@ -1,6 +1,9 @@
 //! What is added to a row from several databases.
-ghost use Rattle.std.specs.Prelude.{◌≡◌, ◌++◌, IfOk, OnOk, IfSome, Some, map};
+ghost use Rattle.std.specs.Prelude.{◌≡◌, ◌++◌, List, IfOk, OnOk, IfSome, Some, map};
+ghost use Rattle.mmdb_reader.specs.File.{Database};
+ghost use Rattle.mmdb_reader.specs.declared.path.PathElement.{PathElement as SpecPathElement};
 ghost use Rattle.mmdb_cmd_enrich.specs.Kept.{AreKept};
+ghost use Rattle.mmdb_cmd_enrich.specs.KeptReads.{AreReadsKept};
 ghost use Rattle.mmdb_cmd_enrich.specs.Layers.{AddsToAll, IsKey, outcome_of as spec_outcome_of};
 ghost use Rattle.mmdb_cmd_enrich.specs.Networks.{all_blanks};
 ghost use Rattle.mmdb_cmd_enrich.specs.Rows.{paths_of, AreKeptForAll};
@@ -12,6 +15,7 @@ use crate::asked::row_address;
 use crate::cache::AddedCache;
 use crate::cells::{put_all_blanks, put_cells, put_network_cell};
 use crate::enrichment::{outcome_of, put_kept};
+use crate::kept_reads::KeptReads;
 use crate::layers::{Layers, can_ask_any};
 use crate::notes::{Notes, note_rejected_by};
 use mmdb_addresses::Reading;
@@ -42,10 +46,11 @@ pub struct LayeredEnrichment<'a, 'f, S: AsSlice<u8> + Drop> {
     pub paths: Vec<Vec<PathElement<'f>>>,
 }
 
-/// What is remembered from row to row: what was added for the last records, and what is noted of records.
+/// What is remembered from row to row: what was added for the last records, what was read in them, and what is noted.
 #[derive(Drop)]
 pub struct LayeredMemory<'a, S: AsSlice<u8> + Drop> {
     pub(crate) cache: AddedCache,
+    pub(crate) reads: KeptReads<'a>,
     pub(crate) layers: Layers<'a, S>,
     /// What is noted of the records that were read.
     pub notes: Notes,
@@ -57,10 +62,13 @@ impl<'a, S: AsSlice<u8> + Drop> LayeredMemory<'a, S> {
         alloc: Global,
         notes: Notes,
     ) -> Result<LayeredMemory<'a, S>, AllocError>
-        ensures { IfOk result (λ memory. (wanted : Wanted) → AreKept wanted memory.cache) }
+        ensures cache { IfOk result (λ memory. (wanted : Wanted) → AreKept wanted memory.cache) }
+        ensures reads { IfOk result (λ memory. (dbs : List Database)
+            (paths : List (List SpecPathElement)) → AreReadsKept dbs paths memory.reads) }
     {
         Ok(LayeredMemory {
             cache: AddedCache::new(alloc)?,
+            reads: KeptReads::new(alloc),
             layers: Layers::new(alloc),
             notes,
         })
@@ -95,20 +103,24 @@ impl<'a, 'f, S: AsSlice<u8> + Drop> LayeredEnrichment<'a, 'f, S> {
         &self,
         layers: &Layers<'a, S>,
         cache: &mut AddedCache,
+        reads: &mut KeptReads<'a>,
         notes: &mut Notes,
         out: &mut Vec<u8>,
     ) -> Result<Outcome, AllocError>
+        requires of { layers.now.readers.now ≡ self.now.readers.now }
         requires asked { AreAnswersOf self.now.readers.now layers.now.answers.items }
         requires key { IfSome layers.now.key
             (IsKey 0 self.now.readers.now (map offset_in layers.now.answers.items)) }
         requires kept { AreKeptForAll self.now.readers.now self.now.rows self.now.paths cache.old }
+        requires reads { AreReadsKept self.now.readers.now (paths_of self.now.paths) reads.old }
         ensures added { IfOk result (λ outcome. AddsAtAllTo self.now.readers.now self.now.rows
             self.now.paths (map offset_in layers.now.answers.items) outcome out.old out.new) }
         ensures kept { AreKeptForAll self.now.readers.now self.now.rows self.now.paths cache.new }
+        ensures reads { AreReadsKept self.now.readers.now (paths_of self.now.paths) reads.new }
     {
         let before = out.len();
         let paths = self.paths.as_slice();
-        let are_read = put_cells(self.alloc, self.rows, &layers.answers, paths, out)?;
+        let are_read = put_cells(self.alloc, self.rows, layers, reads, paths, out)?;
         let outcome = outcome_of_all(layers.has_record(), are_read);
         cache.keep_numbered(layers.key, &out.as_slice()[before..], outcome);
         self.note(layers, are_read, notes);
@@ -147,23 +159,27 @@ impl<'a, 'f, S: AsSlice<u8> + Drop> LayeredEnrichment<'a, 'f, S> {
         &self,
         layers: &Layers<'a, S>,
         cache: &mut AddedCache,
+        reads: &mut KeptReads<'a>,
         notes: &mut Notes,
         out: &mut Vec<u8>,
     ) -> Result<Outcome, AllocError>
+        requires of { layers.now.readers.now ≡ self.now.readers.now }
         requires asked { AreAnswersOf self.now.readers.now layers.now.answers.items }
         requires key { IfSome layers.now.key
             (IsKey 0 self.now.readers.now (map offset_in layers.now.answers.items)) }
         requires kept { AreKeptForAll self.now.readers.now self.now.rows self.now.paths cache.old }
+        requires reads { AreReadsKept self.now.readers.now (paths_of self.now.paths) reads.old }
         ensures added { IfOk result (λ outcome. AddsAtAllTo self.now.readers.now self.now.rows
             self.now.paths (map offset_in layers.now.answers.items) outcome out.old out.new) }
         ensures kept { AreKeptForAll self.now.readers.now self.now.rows self.now.paths cache.new }
+        ensures reads { AreReadsKept self.now.readers.now (paths_of self.now.paths) reads.new }
     {
         if let Some(key) = layers.key
             && let Some(kept) = cache.kept(key)
         {
             return put_kept(kept, out);
         }
-        self.put_records(layers, cache, notes, out)
+        self.put_records(layers, cache, reads, notes, out)
     }
 
     // Adds what comes before the fields: the network of the address, where it is wanted.
@@ -187,12 +203,16 @@ impl<'a, 'f, S: AsSlice<u8> + Drop> LayeredEnrichment<'a, 'f, S> {
         memory: &mut LayeredMemory<'a, S>,
         out: &mut Vec<u8>,
     ) -> Result<Outcome, AllocError>
-        requires { AreKeptForAll self.now.readers.now self.now.rows self.now.paths
+        requires kept { AreKeptForAll self.now.readers.now self.now.rows self.now.paths
             memory.old.cache }
+        requires reads { AreReadsKept self.now.readers.now (paths_of self.now.paths)
+            memory.old.reads }
         ensures added { IfOk result (λ outcome. AddsForAllTo self.now.readers.now self.now.network
             self.now.rows self.now.paths (Some address) outcome out.old out.new) }
         ensures kept { AreKeptForAll self.now.readers.now self.now.rows self.now.paths
             memory.new.cache }
+        ensures reads { AreReadsKept self.now.readers.now (paths_of self.now.paths)
+            memory.new.reads }
     {
         if !can_ask_any(self.readers, address) {
             return self.put_rejected(address, &mut memory.notes, out);
@@ -201,11 +221,18 @@ impl<'a, 'f, S: AsSlice<u8> + Drop> LayeredEnrichment<'a, 'f, S> {
             return self.put_rejected(address, &mut memory.notes, out);
         }
         self.put_front(&memory.layers, out)?;
-        self.put_found(&memory.layers, &mut memory.cache, &mut memory.notes, out)
+        self.put_found(
+            &memory.layers,
+            &mut memory.cache,
+            &mut memory.reads,
+            &mut memory.notes,
+            out,
+        )
     }
 }
 
 impl<'a, 'f, S: AsSlice<u8> + Drop> Additions for LayeredEnrichment<'a, 'f, S> {
+    ghost use Rattle.mmdb_cmd_enrich.specs.KeptReads.{AreReadsKept};
     ghost use Rattle.mmdb_cmd_enrich.specs.Layers.{AddsToAll};
     ghost use Rattle.mmdb_cmd_enrich.specs.Rows.{paths_of, AreKeptForAll};
 
@@ -215,7 +242,8 @@ impl<'a, 'f, S: AsSlice<u8> + Drop> Additions for LayeredEnrichment<'a, 'f, S> {
         × AddsToAll e.readers.now e.network e.rows e.reading e.column (paths_of e.paths) text
         goes_on extra outcome };
 
-    ghost fits = { λ e memory. AreKeptForAll e.readers.now e.rows e.paths memory.cache };
+    ghost fits = { λ e memory. AreKeptForAll e.readers.now e.rows e.paths memory.cache
+        × AreReadsKept e.readers.now (paths_of e.paths) memory.reads };
 
     fn add(
         &self,

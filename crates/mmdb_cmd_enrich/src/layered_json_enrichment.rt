@@ -1,7 +1,10 @@
 //! What is added to a line of JSON from several databases.
-ghost use Rattle.std.specs.Prelude.{◌≡◌, ◌≤◌, IfOk, IfSome, Some, true, map};
+ghost use Rattle.std.specs.Prelude.{◌≡◌, ◌≤◌, List, IfOk, IfSome, Some, true, map};
 ghost use Rattle.mmdb_cmd_enrich.specs.Fields.{IsNullMemberAfter};
+ghost use Rattle.mmdb_reader.specs.File.{Database};
+ghost use Rattle.mmdb_reader.specs.declared.path.PathElement.{PathElement as SpecPathElement};
 ghost use Rattle.mmdb_cmd_enrich.specs.Kept.{AreKept};
+ghost use Rattle.mmdb_cmd_enrich.specs.KeptReads.{AreReadsKept, paths_in};
 ghost use Rattle.mmdb_cmd_enrich.specs.LayeredMembers.{null_front};
 ghost use Rattle.mmdb_cmd_enrich.specs.Layers.{IsKey, first_read};
 ghost use Rattle.mmdb_cmd_enrich.specs.Wanted.{Wanted, layered_member};
@@ -10,6 +13,7 @@ ghost use Rattle.mmdb_filter.specs.declared.counts.Outcome.TheVariants.{Failed};
 
 use crate::cache::AddedCache;
 use crate::json_enrichment::{kept_of, nothing, put_member, put_text};
+use crate::kept_reads::KeptReads;
 use crate::layers::{Layers, can_ask_any};
 use crate::members::{NamedField, member_of, network_member_of, null_member, null_network_member};
 use crate::notes::{Notes, note_rejected_by};
@@ -50,6 +54,7 @@ pub struct LayeredJsonEnrichment<'a, 'f, S: AsSlice<u8> + Drop> {
 pub struct LayeredJsonMemory<'a, S: AsSlice<u8> + Drop> {
     scratch: Scratch,
     cache: AddedCache,
+    reads: KeptReads<'a>,
     layers: Layers<'a, S>,
     /// What is noted of the records that were read.
     pub notes: Notes,
@@ -61,10 +66,13 @@ impl<'a, S: AsSlice<u8> + Drop> LayeredJsonMemory<'a, S> {
         alloc: Global,
         notes: Notes,
     ) -> Result<LayeredJsonMemory<'a, S>, AllocError>
-        ensures { IfOk result (λ memory. (wanted : Wanted) → AreKept wanted memory.cache) }
+        ensures cache { IfOk result (λ memory. (wanted : Wanted) → AreKept wanted memory.cache) }
+        ensures reads { IfOk result (λ memory. (dbs : List Database)
+            (paths : List (List SpecPathElement)) → AreReadsKept dbs paths memory.reads) }
     {
         Ok(LayeredJsonMemory {
             cache: AddedCache::new(alloc)?,
+            reads: KeptReads::new(alloc),
             scratch: Scratch::new(alloc),
             layers: Layers::new(alloc),
             notes,
@@ -90,27 +98,29 @@ impl<'a, 'f, S: AsSlice<u8> + Drop> LayeredJsonEnrichment<'a, 'f, S> {
         line: &Line,
         layers: &Layers<'a, S>,
         cache: &mut AddedCache,
+        reads: &mut KeptReads<'a>,
         notes: &mut Notes,
         out: &mut Vec<u8>,
     ) -> Result<Added, AllocError>
+        requires of { layers.now.readers.now ≡ self.now.readers.now }
         requires asked { AreAnswersOf self.now.readers.now layers.now.answers.items }
         requires key { IfSome layers.now.key
             (IsKey 0 self.now.readers.now (map offset_in layers.now.answers.items)) }
         requires kept { AreKept (layered_member self.now.readers.now self.now.name.now
             self.now.fields.items) cache.old }
+        requires reads { AreReadsKept self.now.readers.now (paths_in self.now.fields.items)
+            reads.old }
         ensures added { IfOk result (λ addition. PutsMemberOf
             (first_read self.now.readers.now (map offset_in layers.now.answers.items))
             self.now.name.now self.now.fields.items line.now addition
             out.old.items out.new.items) }
         ensures kept { AreKept (layered_member self.now.readers.now self.now.name.now
             self.now.fields.items) cache.new }
+        ensures reads { AreReadsKept self.now.readers.now (paths_in self.now.fields.items)
+            reads.new }
     {
-        let member = member_of(
-            self.alloc,
-            &layers.answers,
-            self.name,
-            self.fields.as_slice(),
-        )?;
+        let fields = self.fields.as_slice();
+        let member = member_of(self.alloc, layers, reads, self.name, fields)?;
         let kept = kept_of(&member);
         cache.keep_numbered(layers.key, kept.cells, kept.outcome);
         self.note(layers, kept.outcome == Outcome::Found, notes);
@@ -166,27 +176,33 @@ impl<'a, 'f, S: AsSlice<u8> + Drop> LayeredJsonEnrichment<'a, 'f, S> {
         line: &Line,
         layers: &Layers<'a, S>,
         cache: &mut AddedCache,
+        reads: &mut KeptReads<'a>,
         notes: &mut Notes,
         out: &mut Vec<u8>,
     ) -> Result<Added, AllocError>
+        requires of { layers.now.readers.now ≡ self.now.readers.now }
         requires asked { AreAnswersOf self.now.readers.now layers.now.answers.items }
         requires key { IfSome layers.now.key
             (IsKey 0 self.now.readers.now (map offset_in layers.now.answers.items)) }
         requires kept { AreKept (layered_member self.now.readers.now self.now.name.now
             self.now.fields.items) cache.old }
+        requires reads { AreReadsKept self.now.readers.now (paths_in self.now.fields.items)
+            reads.old }
         ensures added { IfOk result (λ addition. PutsMemberOf
             (first_read self.now.readers.now (map offset_in layers.now.answers.items))
             self.now.name.now self.now.fields.items line.now addition
             out.old.items out.new.items) }
         ensures kept { AreKept (layered_member self.now.readers.now self.now.name.now
             self.now.fields.items) cache.new }
+        ensures reads { AreReadsKept self.now.readers.now (paths_in self.now.fields.items)
+            reads.new }
     {
         if let Some(key) = layers.key
             && let Some(kept) = cache.kept(key)
         {
             return put_member(line, kept, out);
         }
-        self.put_records(line, layers, cache, notes, out)
+        self.put_records(line, layers, cache, reads, notes, out)
     }
 
     // Adds the member of records with the network of the address. It is not kept: other addresses have these records in
@@ -196,17 +212,23 @@ impl<'a, 'f, S: AsSlice<u8> + Drop> LayeredJsonEnrichment<'a, 'f, S> {
         &self,
         line: &Line,
         layers: &Layers<'a, S>,
+        reads: &mut KeptReads<'a>,
         notes: &mut Notes,
         out: &mut Vec<u8>,
     ) -> Result<Added, AllocError>
+        requires of { layers.now.readers.now ≡ self.now.readers.now }
         requires asked { AreAnswersOf self.now.readers.now layers.now.answers.items }
-        ensures { IfOk result (λ addition. PutsRead self.now.readers.now true self.now.name.now
-            self.now.fields.items line.now layers.now.answers.items addition
+        requires reads { AreReadsKept self.now.readers.now (paths_in self.now.fields.items)
+            reads.old }
+        ensures added { IfOk result (λ addition. PutsRead self.now.readers.now true
+            self.now.name.now self.now.fields.items line.now layers.now.answers.items addition
             out.old.items out.new.items) }
+        ensures reads { AreReadsKept self.now.readers.now (paths_in self.now.fields.items)
+            reads.new }
     {
         let network = layers.shown_network();
         let fields = self.fields.as_slice();
-        let member = network_member_of(self.alloc, network, &layers.answers, self.name, fields)?;
+        let member = network_member_of(self.alloc, network, layers, reads, self.name, fields)?;
         let made = kept_of(&member);
         self.note(layers, made.outcome == Outcome::Found, notes);
         put_member(line, made, out)
@@ -219,24 +241,30 @@ impl<'a, 'f, S: AsSlice<u8> + Drop> LayeredJsonEnrichment<'a, 'f, S> {
         line: &Line,
         layers: &Layers<'a, S>,
         cache: &mut AddedCache,
+        reads: &mut KeptReads<'a>,
         notes: &mut Notes,
         out: &mut Vec<u8>,
     ) -> Result<Added, AllocError>
+        requires of { layers.now.readers.now ≡ self.now.readers.now }
         requires asked { AreAnswersOf self.now.readers.now layers.now.answers.items }
         requires key { IfSome layers.now.key
             (IsKey 0 self.now.readers.now (map offset_in layers.now.answers.items)) }
         requires kept { AreKept (layered_member self.now.readers.now self.now.name.now
             self.now.fields.items) cache.old }
+        requires reads { AreReadsKept self.now.readers.now (paths_in self.now.fields.items)
+            reads.old }
         ensures added { IfOk result (λ addition. PutsRead self.now.readers.now self.now.network
             self.now.name.now self.now.fields.items line.now layers.now.answers.items addition
             out.old.items out.new.items) }
         ensures kept { AreKept (layered_member self.now.readers.now self.now.name.now
             self.now.fields.items) cache.new }
+        ensures reads { AreReadsKept self.now.readers.now (paths_in self.now.fields.items)
+            reads.new }
     {
         if self.network {
-            self.put_networked(line, layers, notes, out)
+            self.put_networked(line, layers, reads, notes, out)
         } else {
-            self.put_kept(line, layers, cache, notes, out)
+            self.put_kept(line, layers, cache, reads, notes, out)
         }
     }
 
@@ -247,23 +275,29 @@ impl<'a, 'f, S: AsSlice<u8> + Drop> LayeredJsonEnrichment<'a, 'f, S> {
         line: &Line,
         layers: &Layers<'a, S>,
         cache: &mut AddedCache,
+        reads: &mut KeptReads<'a>,
         notes: &mut Notes,
         out: &mut Vec<u8>,
     ) -> Result<Added, AllocError>
+        requires of { layers.now.readers.now ≡ self.now.readers.now }
         requires asked { AreAnswersOf self.now.readers.now layers.now.answers.items }
         requires key { IfSome layers.now.key
             (IsKey 0 self.now.readers.now (map offset_in layers.now.answers.items)) }
         requires kept { AreKept (layered_member self.now.readers.now self.now.name.now
             self.now.fields.items) cache.old }
+        requires reads { AreReadsKept self.now.readers.now (paths_in self.now.fields.items)
+            reads.old }
         ensures added { IfOk result (λ addition. PutsFound self.now.readers.now self.now.network
             self.now.nulls self.now.name.now self.now.fields.items line.now
             layers.now.answers.items addition out.old.items out.new.items) }
         ensures behind { IfOk result (λ addition. addition.behind ≤ line.now.behind) }
         ensures kept { AreKept (layered_member self.now.readers.now self.now.name.now
             self.now.fields.items) cache.new }
+        ensures reads { AreReadsKept self.now.readers.now (paths_in self.now.fields.items)
+            reads.new }
     {
         if layers.has_record() {
-            self.put_read(line, layers, cache, notes, out)
+            self.put_read(line, layers, cache, reads, notes, out)
         } else {
             self.put_none(line, Outcome::Absent, out)
         }
@@ -278,14 +312,18 @@ impl<'a, 'f, S: AsSlice<u8> + Drop> LayeredJsonEnrichment<'a, 'f, S> {
         memory: &mut LayeredJsonMemory<'a, S>,
         out: &mut Vec<u8>,
     ) -> Result<Added, AllocError>
-        requires { AreKept (layered_member self.now.readers.now self.now.name.now
+        requires kept { AreKept (layered_member self.now.readers.now self.now.name.now
             self.now.fields.items) memory.old.cache }
+        requires reads { AreReadsKept self.now.readers.now (paths_in self.now.fields.items)
+            memory.old.reads }
         ensures added { IfOk result (λ addition. PutsMemberForAll self.now.readers.now
             self.now.network self.now.nulls self.now.name.now self.now.fields.items line.now
             (Some address) addition out.old.items out.new.items) }
         ensures behind { IfOk result (λ addition. addition.behind ≤ line.now.behind) }
         ensures kept { AreKept (layered_member self.now.readers.now self.now.name.now
             self.now.fields.items) memory.new.cache }
+        ensures reads { AreReadsKept self.now.readers.now (paths_in self.now.fields.items)
+            memory.new.reads }
     {
         if !can_ask_any(self.readers, address) {
             return Ok(self.put_rejected(address, &mut memory.notes));
@@ -297,6 +335,7 @@ impl<'a, 'f, S: AsSlice<u8> + Drop> LayeredJsonEnrichment<'a, 'f, S> {
             line,
             &memory.layers,
             &mut memory.cache,
+            &mut memory.reads,
             &mut memory.notes,
             out,
         )
@@ -310,14 +349,18 @@ impl<'a, 'f, S: AsSlice<u8> + Drop> LayeredJsonEnrichment<'a, 'f, S> {
         memory: &mut LayeredJsonMemory<'a, S>,
         out: &mut Vec<u8>,
     ) -> Result<Added, AllocError>
-        requires { AreKept (layered_member self.now.readers.now self.now.name.now
+        requires kept { AreKept (layered_member self.now.readers.now self.now.name.now
             self.now.fields.items) memory.old.cache }
+        requires reads { AreReadsKept self.now.readers.now (paths_in self.now.fields.items)
+            memory.old.reads }
         ensures added { IfOk result (λ addition. PutsToObjectAll self.now.readers.now
             self.now.network self.now.nulls self.now.name.now self.now.fields.items line.now
             addition out.old.items out.new.items) }
         ensures behind { IfOk result (λ addition. addition.behind ≤ line.now.behind) }
         ensures kept { AreKept (layered_member self.now.readers.now self.now.name.now
             self.now.fields.items) memory.new.cache }
+        ensures reads { AreReadsKept self.now.readers.now (paths_in self.now.fields.items)
+            memory.new.reads }
     {
         if line.is_taken {
             return Ok(nothing(Outcome::Occupied));
@@ -331,6 +374,7 @@ impl<'a, 'f, S: AsSlice<u8> + Drop> LayeredJsonEnrichment<'a, 'f, S> {
 
 impl<'a, 'f, S: AsSlice<u8> + Drop> Additions for LayeredJsonEnrichment<'a, 'f, S> {
     ghost use Rattle.mmdb_cmd_enrich.specs.Kept.{AreKept};
+    ghost use Rattle.mmdb_cmd_enrich.specs.KeptReads.{AreReadsKept, paths_in};
     ghost use Rattle.mmdb_cmd_enrich.specs.LayeredMembers.{AddsMemberAll};
     ghost use Rattle.mmdb_cmd_enrich.specs.Wanted.{layered_member};
 
@@ -340,7 +384,8 @@ impl<'a, 'f, S: AsSlice<u8> + Drop> Additions for LayeredJsonEnrichment<'a, 'f, 
         e.reading e.path.items e.nulls e.name.now e.fields.items text goes_on extra behind outcome };
 
     ghost fits = { λ e memory.
-        AreKept (layered_member e.readers.now e.name.now e.fields.items) memory.cache };
+        AreKept (layered_member e.readers.now e.name.now e.fields.items) memory.cache
+        × AreReadsKept e.readers.now (paths_in e.fields.items) memory.reads };
 
     fn add(
         &self,

@@ -19,6 +19,7 @@ const IPV6: u16 = 6;
 /// What databases have for an address, in their order: nothing where one can't be asked for it.
 #[derive(Drop)]
 pub struct Layers<'a, S: AsSlice<u8> + Drop> {
+    pub(crate) readers: &'a [Reader<S>],
     pub(crate) answers: Vec<Option<LookupResult<'a, S>>>,
     /// The number of where the records are, unless it is too large.
     pub(crate) key: Option<usize>,
@@ -131,6 +132,7 @@ impl<'a, S: AsSlice<u8> + Drop> Layers<'a, S> {
     /// Of no address.
     pub(crate) fn new(alloc: Global) -> Layers<'a, S> {
         Layers {
+            readers: &[],
             answers: Vec::new(alloc),
             key: None,
         }
@@ -174,11 +176,13 @@ impl<'a, S: AsSlice<u8> + Drop> Layers<'a, S> {
         readers: &'a [Reader<S>],
         address: IpAddr,
     ) -> Result<bool, AllocError>
-        ensures { IfOk result (λ is_done. MatchBool is_done
+        ensures readers { self.new.readers.now ≡ readers.now }
+        ensures found { IfOk result (λ is_done. MatchBool is_done
             (AreAnswers readers.now address self.new.answers.items
             × IfSome self.new.key (IsKey 0 readers.now (map offset_in self.new.answers.items)))
             (AnyRejects readers.now address)) }
     {
+        self.readers = readers;
         self.answers.clear();
         self.key = Some(0);
         for reader in readers {

@@ -1,13 +1,17 @@
 //! The member that is added to an object.
-ghost use Rattle.std.specs.Prelude.{◌≡◌, ◌++◌, None, false, OnOk, IfOk, IfErr, IfSome, IfNone};
+ghost use Rattle.std.specs.Prelude.{◌≡◌, ◌++◌, List, Some, None, false, OnOk, IfOk, IfErr, IfSome, IfNone};
+ghost use Rattle.std.specs.List.{slice_get};
 ghost use Rattle.mmdb_cmd_enrich.specs.Fields.{HasUnreadField, IsMember, IsMemberAfter, IsNullMember, IsNullMemberAfter, network_tokens, null_fields};
+ghost use Rattle.mmdb_cmd_enrich.specs.KeptReads.{paths_in};
 ghost use Rattle.mmdb_cmd_enrich.specs.Working.{PutsValue, PutsFields, PutsFieldsAfter, PutsFieldsOf};
 ghost use Rattle.mmdb_decode.specs.Errors.{Fails};
 ghost use Rattle.mmdb_format.specs.Error.{MemoryApart};
+ghost use Rattle.mmdb_reader.specs.declared.path.PathElement.{PathElement as SpecPathElement};
 
+use crate::read_fields::ReadFields;
 use json::{Token, Writer};
 use mmdb_json::write_value;
-use mmdb_layout::{NETWORK, ReadAlong};
+use mmdb_layout::NETWORK;
 use mmdb_net::IpNetwork;
 use mmdb_reader::{MaxMindDbError, PathElement};
 use std::alloc::{AllocError, Global};
@@ -20,19 +24,26 @@ pub struct NamedField<'f> {
     pub path: Vec<PathElement<'f>>,
 }
 
-// Writes the value along a path, or null where there is none.
-fn put_value<R: ReadAlong>(
+// Writes the value of a field, by its number and its path, or null where there is none.
+fn put_value<'a, R: ReadFields<'a>>(
     alloc: Global,
     found: &R,
+    kept: &mut R::Kept,
+    field: usize,
     path: &[PathElement<'_>],
     out: &mut Writer,
 ) -> Result<(), MaxMindDbError>
-    ensures value { OnOk result
-        (PutsValue (R.reads found.now path.now) out.old.tokens out.new.tokens) }
-    ensures rejected { IfErr result (λ e. Fails false e (R.reads found.now path.now)) }
+    ensures value { OnOk result ((paths : List (List SpecPathElement))
+        → slice_get paths field ≡ Some path.now → R.keeps found.now paths kept.old
+        → PutsValue (R.reads found.now path.now) out.old.tokens out.new.tokens) }
+    ensures rejected { IfErr result (λ e. (paths : List (List SpecPathElement))
+        → slice_get paths field ≡ Some path.now → R.keeps found.now paths kept.old
+        → Fails false e (R.reads found.now path.now)) }
+    ensures kept { (paths : List (List SpecPathElement)) → slice_get paths field ≡ Some path.now
+        → R.keeps found.now paths kept.old → R.keeps found.now paths kept.new }
     ensures before { out.new.before ≡ out.old.before }
 {
-    match &found.read_along(alloc, path)? {
+    match &found.read_field(alloc, kept, field, path)? {
         Some(value) => write_value(alloc, value, out)?,
         None => out.token(Token::Null)?,
     }
@@ -40,22 +51,25 @@ fn put_value<R: ReadAlong>(
 }
 
 // Writes for each field its name, and the value along its path or null.
-fn put_fields<R: ReadAlong>(
+fn put_fields<'a, R: ReadFields<'a>>(
     alloc: Global,
     found: &R,
+    kept: &mut R::Kept,
     fields: &[NamedField<'_>],
     out: &mut Writer,
 ) -> Result<(), MaxMindDbError>
+    requires { R.keeps found.now (paths_in fields.now) kept.old }
     ensures fields { OnOk result
         (PutsFields (R.reads found.now) fields.now out.old.tokens out.new.tokens) }
     ensures rejected { IfErr result (λ e.
         MemoryApart e (HasUnreadField (R.reads found.now) fields.now)) }
+    ensures kept { R.keeps found.now (paths_in fields.now) kept.new }
     ensures before { out.new.before ≡ out.old.before }
 {
     for at in 0..fields.len() {
         let field = &fields[at];
         out.token(Token::Key(field.name))?;
-        put_value(alloc, found, field.path.as_slice(), out)?;
+        put_value(alloc, found, kept, at, field.path.as_slice(), out)?;
     }
     Ok(())
 }
@@ -80,40 +94,46 @@ fn put_network(
 }
 
 // Writes a member with the fields.
-fn put_member<R: ReadAlong>(
+fn put_member<'a, R: ReadFields<'a>>(
     alloc: Global,
     found: &R,
+    kept: &mut R::Kept,
     name: &str,
     fields: &[NamedField<'_>],
     out: &mut Writer,
 ) -> Result<(), MaxMindDbError>
+    requires { R.keeps found.now (paths_in fields.now) kept.old }
     ensures member { OnOk result
         (PutsFieldsOf (R.reads found.now) name.now fields.now out.old.tokens out.new.tokens) }
     ensures rejected { IfErr result (λ e.
         MemoryApart e (HasUnreadField (R.reads found.now) fields.now)) }
+    ensures kept { R.keeps found.now (paths_in fields.now) kept.new }
     ensures before { out.new.before ≡ out.old.before }
 {
     out.token(Token::Key(name))?;
     out.token(Token::BeginObject)?;
-    put_fields(alloc, found, fields, out)?;
+    put_fields(alloc, found, kept, fields, out)?;
     out.token(Token::EndObject)?;
     Ok(())
 }
 
 /// The text of a member with fields, or none where one failed.
-pub(crate) fn member_of<R: ReadAlong>(
+pub(crate) fn member_of<'a, R: ReadFields<'a>>(
     alloc: Global,
     found: &R,
+    kept: &mut R::Kept,
     name: &str,
     fields: &[NamedField<'_>],
 ) -> Result<Option<Vec<u8>>, AllocError>
+    requires { R.keeps found.now (paths_in fields.now) kept.old }
     ensures some { IfOk result (λ member. IfSome member (λ text.
         IsMember (R.reads found.now) name.now fields.now text.items)) }
     ensures none { IfOk result (λ member.
         IfNone member (HasUnreadField (R.reads found.now) fields.now)) }
+    ensures kept { R.keeps found.now (paths_in fields.now) kept.new }
 {
     let mut out = Writer::new(Vec::with_capacity(alloc, 256)?);
-    match put_member(alloc, found, name, fields, &mut out) {
+    match put_member(alloc, found, kept, name, fields, &mut out) {
         Ok(()) => Ok(Some(out.into_inner())),
         Err(MaxMindDbError::Memory) => Err(AllocError),
         Err(_) => Ok(None),
@@ -121,43 +141,49 @@ pub(crate) fn member_of<R: ReadAlong>(
 }
 
 // Writes a member with a network and the fields.
-fn put_network_member<R: ReadAlong>(
+fn put_network_member<'a, R: ReadFields<'a>>(
     alloc: Global,
     network: Option<IpNetwork>,
     found: &R,
+    kept: &mut R::Kept,
     name: &str,
     fields: &[NamedField<'_>],
     out: &mut Writer,
 ) -> Result<(), MaxMindDbError>
+    requires { R.keeps found.now (paths_in fields.now) kept.old }
     ensures member { OnOk result (PutsFieldsAfter (network_tokens network) (R.reads found.now)
         name.now fields.now out.old.tokens out.new.tokens) }
     ensures rejected { IfErr result (λ e.
         MemoryApart e (HasUnreadField (R.reads found.now) fields.now)) }
+    ensures kept { R.keeps found.now (paths_in fields.now) kept.new }
     ensures before { out.new.before ≡ out.old.before }
 {
     out.token(Token::Key(name))?;
     out.token(Token::BeginObject)?;
     put_network(alloc, network, out)?;
-    put_fields(alloc, found, fields, out)?;
+    put_fields(alloc, found, kept, fields, out)?;
     out.token(Token::EndObject)?;
     Ok(())
 }
 
 /// The text of a member with a network and fields, or none where one of these failed.
-pub(crate) fn network_member_of<R: ReadAlong>(
+pub(crate) fn network_member_of<'a, R: ReadFields<'a>>(
     alloc: Global,
     network: Option<IpNetwork>,
     found: &R,
+    kept: &mut R::Kept,
     name: &str,
     fields: &[NamedField<'_>],
 ) -> Result<Option<Vec<u8>>, AllocError>
+    requires { R.keeps found.now (paths_in fields.now) kept.old }
     ensures some { IfOk result (λ member. IfSome member (λ text. IsMemberAfter
         (network_tokens network) (R.reads found.now) name.now fields.now text.items)) }
     ensures none { IfOk result (λ member.
         IfNone member (HasUnreadField (R.reads found.now) fields.now)) }
+    ensures kept { R.keeps found.now (paths_in fields.now) kept.new }
 {
     let mut out = Writer::new(Vec::with_capacity(alloc, 256)?);
-    match put_network_member(alloc, network, found, name, fields, &mut out) {
+    match put_network_member(alloc, network, found, kept, name, fields, &mut out) {
         Ok(()) => Ok(Some(out.into_inner())),
         Err(MaxMindDbError::Memory) => Err(AllocError),
         Err(_) => Ok(None),

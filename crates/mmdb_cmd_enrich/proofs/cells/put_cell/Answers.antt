@@ -4,11 +4,11 @@ use Rattle.mmdb_cmd_enrich.specs.Columns.{delimiter_of}
 use Rattle.mmdb_cmd_enrich.proofs.CellLaws.{behind_both}
 use Rattle.mmdb_cmd_enrich.proofs.cells.put_cell.Goals as goal
 
-pub returns : goal.returns
-returns g c = IfOk-weaker c.put_read.result _ _
-    (λ addition all.
+pub returns-clause-cell : goal.returns-clause-cell
+returns-clause-cell g c = IfOk-weaker c.put_read.result _ _
+    (λ addition all paths at keeps.
     let here = delimiter_of c.args.rows ∷ [] in
     let pushed : c.push.new.self.items ≡ c.args.out.now.items ++ here = search rules in
-    let (cell, is, put, one) = all (g.R.ReadAlong.reads c.args.found.now c.args.path.now) c.read_along-read.ensures in
+    let (cell, is, put, one) = all (g.R.ReadFields.reads c.args.found.now c.args.path.now) (c.read_field-read.ensures.read paths at keeps) in
     (cell, is, behind_both c.args.out.now.items here cell c.push.new.self.items c.put_read.new.out.items pushed put, one))
     c.put_read.ensures

@@ -17,8 +17,8 @@ returns-clause-added g c =
     let reads = reads_found c.args.found.now in
     let addition = c.in_ok-member.member in
     let kept = c.kept_of-kept.result in
-    let some = subst (λ (fs : List NamedField). IfSome addition (λ text. IsMember reads name fs text.items)) c.as_slice.ensures.value c.in_ok-member.ensures.some in
-    let none = subst (λ (fs : List NamedField). IfNone addition (HasUnreadField reads fs)) c.as_slice.ensures.value c.in_ok-member.ensures.none in
+    let some = subst (λ (fs : List NamedField). IfSome addition (λ text. IsMember reads name fs text.items)) c.as_slice-fields.ensures.value c.in_ok-member.ensures.some in
+    let none = subst (λ (fs : List NamedField). IfNone addition (HasUnreadField reads fs)) c.as_slice-fields.ensures.value c.in_ok-member.ensures.none in
     let same = reads_same db (database_asked c.args.found.now) (offset_found c.args.found.now) c.args.offset c.requires.asked c.requires.at in
     let is = member_kept [] reads (reads_in (data_section db) (Some c.args.offset)) name fields addition kept.cells.now kept.outcome same some none c.kept_of-kept.ensures in
     IfOk-weaker c.put_member.result _ _
@@ -33,7 +33,7 @@ returns-clause-kept g c =
     let reads = reads_found c.args.found.now in
     let addition = c.in_ok-member.member in
     let kept = c.kept_of-kept.result in
-    let some = subst (λ (fs : List NamedField). IfSome addition (λ text. IsMember reads name fs text.items)) c.as_slice.ensures.value c.in_ok-member.ensures.some in
-    let none = subst (λ (fs : List NamedField). IfNone addition (HasUnreadField reads fs)) c.as_slice.ensures.value c.in_ok-member.ensures.none in
+    let some = subst (λ (fs : List NamedField). IfSome addition (λ text. IsMember reads name fs text.items)) c.as_slice-fields.ensures.value c.in_ok-member.ensures.some in
+    let none = subst (λ (fs : List NamedField). IfNone addition (HasUnreadField reads fs)) c.as_slice-fields.ensures.value c.in_ok-member.ensures.none in
     let same = reads_same db (database_asked c.args.found.now) (offset_found c.args.found.now) c.args.offset c.requires.asked c.requires.at in
     c.keep.ensures (member db name fields) c.requires.kept (member_kept [] reads (reads_in (data_section db) (Some c.args.offset)) name fields addition kept.cells.now kept.outcome same some none c.kept_of-kept.ensures)

@@ -13,7 +13,7 @@ returns-clause-added g c =
     let address = c.args.address in
     let answers = c.look_up.new.self.answers.items in
     let key = c.look_up.new.self.key in
-    let found = subst (λ b. MatchBool b (AreAnswers dbs address answers × IfSome key (IsKey 0 dbs (map offset_in answers))) (AnyRejects dbs address)) c.if-not-branch.false c.in_ok-look_up.ensures in
+    let found = subst (λ b. MatchBool b (AreAnswers dbs address answers × IfSome key (IsKey 0 dbs (map offset_in answers))) (AnyRejects dbs address)) c.if-not-branch.false c.in_ok-look_up.ensures.found in
     IfOk-weaker c.put_found.result _ _
     (λ outcome added. found_added dbs enrichment.network enrichment.rows enrichment.paths address answers outcome c.args.out.now c.put_front.new.out c.put_found.new.out c.if-not-can_ask_any.ensures found.0 c.in_ok-put_front.ensures added)
     c.put_found.ensures.added

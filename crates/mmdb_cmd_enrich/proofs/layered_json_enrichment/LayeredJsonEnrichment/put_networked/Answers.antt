@@ -1,16 +1,23 @@
-use Rattle.std.proofs.Common.{List, IfSome, IfNone, map, subst}
+use Rattle.std.proofs.Common.{List, IfSome, IfNone, map, refl, ap, subst}
 use Rattle.std.proofs.lemmas.Result.{IfOk-weaker}
 use Rattle.mmdb_layout.specs.Reading.{first_read_of}
 use Rattle.mmdb_cmd_enrich.specs.Fields.{IsMemberAfter, HasUnreadField, network_tokens}
+use Rattle.mmdb_cmd_enrich.specs.KeptReads.{paths_in}
 use Rattle.mmdb_cmd_enrich.specs.Layers.{first_read}
 use Rattle.mmdb_cmd_enrich.specs.Working.{offset_in}
 use Rattle.mmdb_cmd_enrich.specs.declared.members.NamedField.{NamedField}
+use Rattle.mmdb_cmd_enrich.proofs.KeptReadLaws.{records_fit, same_kept}
 use Rattle.mmdb_cmd_enrich.proofs.LayeredMemberLaws.{answers_same}
 use Rattle.mmdb_cmd_enrich.proofs.MemberLaws.{member_kept}
 use Rattle.mmdb_cmd_enrich.proofs.layered_json_enrichment.LayeredJsonEnrichment.put_networked.Goals as goal
 
-pub returns : goal.returns
-returns g c =
+pub network_member_of-requires : goal.network_member_of-requires
+network_member_of-requires g c = λ lives.
+    let layers = c.args.layers.now in
+    ((refl, tt), records_fit c.args.self.now.readers.now layers.readers.now layers.answers.items (paths_in c.args.self.now.fields.items) (paths_in c.as_slice-fields.result.now) c.args.reads.now c.requires.of (ap paths_in c.as_slice-fields.ensures.value) c.requires.asked c.requires.reads)
+
+pub returns-clause-added : goal.returns-clause-added
+returns-clause-added g c =
     let dbs = c.args.self.now.readers.now in
     let name = c.args.self.now.name.now in
     let fields = c.args.self.now.fields.items in
@@ -26,3 +33,7 @@ returns g c =
     IfOk-weaker c.put_member.result _ _
     (λ addition puts. (network, c.shown_network-network.ensures, (made.cells.now, made.outcome, is, puts)))
     c.put_member.ensures
+
+pub returns-clause-reads : goal.returns-clause-reads
+returns-clause-reads g c =
+    same_kept c.args.self.now.readers.now c.args.layers.now.readers.now (paths_in c.args.self.now.fields.items) (paths_in c.as_slice-fields.result.now) c.network_member_of.new.kept c.requires.of (ap paths_in c.as_slice-fields.ensures.value) c.network_member_of.ensures.kept.1

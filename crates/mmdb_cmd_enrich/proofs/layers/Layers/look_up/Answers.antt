@@ -11,15 +11,18 @@ loop-reader-preserved g c =
     let here : drop i readers ≡ c.reader-item.result ∷ drop (i + 1) readers = drop_more readers i c.reader-item.result (omega arith) ∙ ap (λ y. y ∷ drop (i + 1) readers) (sym c.reader-item.is) in
     let answers = c.loop-reader.self.answers.items in
     let key = c.loop-reader.self.key in
-    let way = subst (λ left. LayersWay readers left c.args.address answers key) here c.loop-reader.invariant in
+    let way = subst (λ left. LayersWay readers left c.args.address answers key) here c.loop-reader.invariant.way in
     let put : c.push.new.self.items ≡ answers ++ (c.in-Ok.answer ∷ []) = search rules in
-    one_answer readers (drop (i + 1) readers) c.reader-item.result c.args.address answers c.push.new.self.items c.in-Ok.answer key c.longer_key-self.result way put c.in-Ok.ensures.answered
-    (subst (λ o. IfSome c.longer_key-self.result (IsKeyAfter key c.reader-item.result o)) c.offset_of.ensures c.longer_key-self.ensures)
+    record {
+      way = one_answer readers (drop (i + 1) readers) c.reader-item.result c.args.address answers c.push.new.self.items c.in-Ok.answer key c.longer_key-self.result way put c.in-Ok.ensures.answered
+          (subst (λ o. IfSome c.longer_key-self.result (IsKeyAfter key c.reader-item.result o)) c.offset_of.ensures c.longer_key-self.ensures);
+      of = c.loop-reader.invariant.of;
+    }
 
-pub returns : goal.returns
-returns g c =
+pub returns-clause-found : goal.returns-clause-found
+returns-clause-found g c =
     let readers = c.args.readers.now in
     let answers = c.loop-reader.self.answers.items in
     let key = c.loop-reader.self.key in
     let none = drop_all c.loop-reader.reader-index readers (omega arith) in
-    answers_done readers c.args.address answers key (subst (λ left. LayersWay readers left c.args.address answers key) none c.loop-reader.invariant)
+    answers_done readers c.args.address answers key (subst (λ left. LayersWay readers left c.args.address answers key) none c.loop-reader.invariant.way)

@@ -1,6 +1,9 @@
-use Rattle.std.proofs.Common.{drop}
+use Rattle.std.proofs.Common.{◌≡◌, drop}
 use Rattle.mmdb_cmd_enrich.proofs.LayerLaws.{LayersWay}
 use Rattle.mmdb_cmd_enrich.proofs.layers.Layers.look_up.Given as goal
 
 abbrev pub invariant-loop-reader : goal.invariant-loop-reader
-invariant-loop-reader g l = LayersWay l.fn.readers (drop l.reader-index l.fn.readers) l.address l.self.answers.items l.self.key
+invariant-loop-reader g l = record {
+  way : LayersWay l.fn.readers (drop l.reader-index l.fn.readers) l.address l.self.answers.items l.self.key;
+  of : l.self.readers.now ≡ l.fn.readers;
+}
