@@ -46,7 +46,7 @@ pub struct LayeredEnrichment<'a, 'f, S: AsSlice<u8> + Drop> {
     pub paths: Vec<Vec<PathElement<'f>>>,
 }
 
-/// What is remembered from row to row: what was added for the last records, what was read in each, and what is noted of them.
+/// What is remembered from row to row: what was added for the last records, what was read in them, and what is noted.
 #[derive(Drop)]
 pub struct LayeredMemory<'a, S: AsSlice<u8> + Drop> {
     pub(crate) cache: AddedCache,
