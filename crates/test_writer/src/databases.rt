@@ -300,6 +300,30 @@ fn bytes_of_files(rt: HostRuntime) {
     }
 }
 
+/// The bytes of a map with a key, under which is an array of a text and a number, none of which occurs elsewhere.
+const IN_LINE: &[u8] = b"\xE1\x41k\x02\x04\x42in\xA1\x05";
+
+// Whether the data section of a file of that map alone is just the map.
+fn is_in_line(alloc: Global) -> Result<bool, WriteError> {
+    let parts = vec![in alloc; Value::String("in"), Value::U16(5)]?;
+    let pairs = vec![in alloc; ("k", Value::Array(parts))]?;
+    let values = vec![in alloc; Value::Map(pairs)]?;
+    let rows = rows_of(alloc, &[("128.0.0.0/1", Some(0))])?;
+    let options = options(alloc, IpVersion::V4, Some(RecordSize::Bits24))?;
+    let file = write_database(alloc, &values, &rows, options)?;
+    let section = file.get(6 + 16..).unwrap_or(&[]);
+    let Some(behind) = section.strip_prefix(IN_LINE) else {
+        return Ok(false);
+    };
+    Ok(behind.starts_with(b"\xAB\xCD\xEFMaxMind.com"))
+}
+
+#[test]
+fn values_used_once_are_in_line(rt: HostRuntime) {
+    let holds = is_in_line(rt.alloc());
+    assert!(rt; holds == Ok(true), "{holds:?}");
+}
+
 /// Networks that are not written, and why.
 const REJECTED: &[(IpVersion, &[(&str, Option<usize>)], WriteError)] = &[
     (

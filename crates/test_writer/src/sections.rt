@@ -2,7 +2,9 @@
 //! "Output Data Section" of the MaxMind DB File Format Specification 2.0. Each public call runs once.
 use mmdb_format::content::{Double, Float};
 use mmdb_section::laws::{at_most_twice_as_deep, equal_values_stand_once, sections_are_good};
-use mmdb_section::{Number, Section, SectionError, SectionPart, WrittenValue};
+use mmdb_section::{
+    MovedSection, Number, Section, SectionError, SectionPart, WrittenValue, in_line,
+};
 use mmdb_vectors::hoard::{Outcome, fail_in_turn};
 use std::alloc::{AllocError, Global};
 
@@ -301,6 +303,118 @@ fn pointers_of_sizes(rt: HostRuntime) {
     for (len, header, pointer) in POINTERS {
         let holds = has_pointer(rt.alloc(), *len, *header, pointer);
         assert!(rt; holds == Ok(true), "{pointer:?}: {holds:?}");
+    }
+}
+
+/// Values that are added one after the other, and which of them are to stand by themselves, by their offsets; and, where some
+/// are put in line, where each value is then, if it stands by itself, and the bytes.
+#[derive(Clone, Copy)]
+struct Lines {
+    name: &'static str,
+    values: &'static [WrittenValue<'static>],
+    whole: &'static [u32],
+    now: Option<(&'static [(u32, Option<u32>)], &'static [u8])>,
+}
+
+const LINES: &[Lines] = &[
+    Lines {
+        name: "nothing",
+        values: &[],
+        whole: &[],
+        now: None,
+    },
+    Lines {
+        name: "a key that is used once",
+        values: &[
+            WrittenValue::Text("x"),
+            WrittenValue::Map(&[(SectionPart::At(0), SectionPart::Number(Number::U16(5)))]),
+        ],
+        whole: &[2],
+        now: Some((
+            &[(0, None), (2, Some(0)), (3, None)],
+            &[0xE1, 0x41, b'x', 0xA1, 5],
+        )),
+    },
+    Lines {
+        name: "a text that is used twice by one array",
+        values: &[
+            WrittenValue::Text("x"),
+            WrittenValue::Array(&[SectionPart::At(0), SectionPart::At(0)]),
+        ],
+        whole: &[2],
+        now: None,
+    },
+    Lines {
+        name: "a text that is to stand by itself",
+        values: &[
+            WrittenValue::Text("x"),
+            WrittenValue::Array(&[SectionPart::At(0)]),
+        ],
+        whole: &[0, 2],
+        now: None,
+    },
+    Lines {
+        name: "an array in an array",
+        values: &[
+            WrittenValue::Bytes(&[7]),
+            WrittenValue::Array(&[SectionPart::At(0)]),
+            WrittenValue::Array(&[SectionPart::At(2)]),
+        ],
+        whole: &[6],
+        now: Some((
+            &[(0, None), (2, None), (6, Some(0))],
+            &[0x01, 0x04, 0x01, 0x04, 0x81, 7],
+        )),
+    },
+    Lines {
+        name: "one text that is used once, and one that is used twice",
+        values: &[
+            WrittenValue::Text("x"),
+            WrittenValue::Text("y"),
+            WrittenValue::Array(&[SectionPart::At(0), SectionPart::At(2)]),
+            WrittenValue::Array(&[SectionPart::At(2)]),
+        ],
+        whole: &[4, 10],
+        now: Some((
+            &[(0, None), (2, Some(0)), (4, Some(2)), (10, Some(8))],
+            &[
+                0x41, b'y', 0x02, 0x04, 0x41, b'x', 0x20, 0, 0x01, 0x04, 0x20, 0,
+            ],
+        )),
+    },
+];
+
+// Whether each value is where it should be now, or does not stand by itself.
+fn are_moved(moved: &MovedSection, offsets: &[(u32, Option<u32>)]) -> bool {
+    for (from, to) in offsets {
+        if moved.offset(*from) != *to {
+            return false;
+        }
+    }
+    true
+}
+
+// Whether values of the section are put in line, and are where they should be then.
+fn is_in_line(alloc: Global, lines: &Lines) -> Result<bool, SectionError> {
+    let mut section = Section::new(alloc);
+    for value in lines.values {
+        section.add(alloc, *value)?;
+    }
+    let bytes = section.into_bytes();
+    let Some(moved) = in_line(alloc, &bytes, lines.whole)? else {
+        return Ok(lines.now.is_none());
+    };
+    let Some((offsets, wanted)) = lines.now else {
+        return Ok(false);
+    };
+    Ok(are_moved(&moved, offsets) && moved.into_bytes().as_slice() == wanted)
+}
+
+#[test]
+fn values_in_line(rt: HostRuntime) {
+    for lines in LINES {
+        let holds = is_in_line(rt.alloc(), lines);
+        assert!(rt; holds == Ok(true), "{}: {holds:?}", lines.name);
     }
 }
 
