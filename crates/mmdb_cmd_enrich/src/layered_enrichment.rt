@@ -91,6 +91,9 @@ impl<'a, 'f, S: AsSlice<u8> + Drop> LayeredEnrichment<'a, 'f, S> {
     #[inline(never)]
     fn note(&self, layers: &Layers<'a, S>, are_read: bool, notes: &mut Notes) {
         notes.note_records(layers);
+        if are_read && notes.has_met_all(self.paths.len()) {
+            return;
+        }
         for at in 0..self.paths.len() {
             let path = self.paths[at].as_slice();
             notes.note_layered(self.alloc, self.names, layers, at, path, are_read);

@@ -85,6 +85,9 @@ impl<'a, 'f, S: AsSlice<u8> + Drop> LayeredJsonEnrichment<'a, 'f, S> {
     #[inline(never)]
     fn note(&self, layers: &Layers<'a, S>, are_read: bool, notes: &mut Notes) {
         notes.note_records(layers);
+        if are_read && notes.has_met_all(self.fields.len()) {
+            return;
+        }
         for at in 0..self.fields.len() {
             let path = self.fields[at].path.as_slice();
             notes.note_layered(self.alloc, self.names, layers, at, path, are_read);

@@ -112,6 +112,9 @@ impl Notes {
 
     /// Notes the records of several databases.
     pub(crate) fn note_records<S: AsSlice<u8> + Drop>(&mut self, layers: &Layers<'_, S>) {
+        if self.records.len() >= MOST_RECORDS {
+            return;
+        }
         for (at, answer) in layers.answers.iter().enumerate() {
             if let Some(offset) = offset_of(answer) {
                 self.note_record(at, offset);
@@ -122,6 +125,16 @@ impl Notes {
     // Whether a record had a value at a field.
     fn has_met(&self, field: usize) -> bool {
         field < self.met.len() && self.met[field]
+    }
+
+    /// Whether records had a value at each of so many fields.
+    pub(crate) fn has_met_all(&self, fields: usize) -> bool {
+        for field in 0..fields {
+            if !self.has_met(field) {
+                return false;
+            }
+        }
+        true
     }
 
     // Notes that a record had a value at a field.

@@ -168,6 +168,10 @@ impl AddressAnswer<'_, '_, '_> {
         path: &[PathElement<'_>],
         out: &mut W,
     ) -> Result<bool, MaxMindDbError> {
+        if let [only] = databases {
+            let found = only.database.lookup(self.address)?;
+            return write_found(self.alloc, &found, path, out);
+        }
         let value = first_value(self.alloc, databases, self.address, path)?;
         Ok(write_or_null(self.alloc, value.as_ref(), out)?)
     }

@@ -53,7 +53,6 @@ fn is_passed(database: &Database, others: &[ShownDatabase<'_>], address: IpAddr)
 }
 
 // The value at a path in a database.
-#[inline(always)]
 fn value_in<'d>(
     alloc: Global,
     database: &'d Database,
@@ -65,7 +64,6 @@ fn value_in<'d>(
 }
 
 /// The value at a path in the first of the databases that has one there. Fails where one that is asked before can't be read so.
-#[inline(always)]
 pub(crate) fn first_value<'d>(
     alloc: Global,
     databases: &[ShownDatabase<'d>],
