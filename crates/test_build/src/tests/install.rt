@@ -262,8 +262,8 @@ fn a_record_that_cannot_be_read_is_a_reason(rt: HostRuntime) {
         b"{\"network\":\"3.0.0.0/8\",\"record\":{\"a\":7}}\n",
     );
     let mut file = disk.get("new.mmdb").expect(&rt, "a file");
-    // the key, which stands before its map, becomes bytes, where only a text may be
-    patch(&rt, &mut file, b"\x41a\xE1", b"\x81a\xE1");
+    // the key, which stands in its map, becomes bytes, where only a text may be
+    patch(&rt, &mut file, b"\xE1\x41a", b"\xE1\x81a");
     let _ = disk.put("new.mmdb", &file);
     let run = install_on(alloc, &disk, &arguments("out.mmdb", None, false));
     assert!(rt;
