@@ -1,4 +1,4 @@
-//! Tests of the program `mmdb`.
+//! Tests of the program `mmdb` and of the JSON that it writes.
 #![tactic(auto)]
 
 #[cfg(test)]

@@ -1,4 +1,4 @@
-//! Tests of the rows that a filter passes, of what it adds to them, and of records as JSON.
+//! Tests of the rows that a filter passes, and of what it adds behind them.
 #![tactic(auto)]
 
 #[cfg(test)]

@@ -1,5 +1,4 @@
-//! What no clause says of rows and of records as JSON: rows around a piece, faults of the input, the output and memory, CSV,
-//! and texts of records, also without memory.
+//! What no clause says of rows: rows around a piece, faults of the input, the output and memory, and CSV.
 mod ahead;
 mod behind;
 mod cells;
@@ -7,6 +6,4 @@ mod ends;
 mod faults;
 mod pieces;
 mod quotes;
-mod record_texts;
 mod streams;
-mod texts;
