@@ -55,7 +55,7 @@ complete -c mmdb -n '__mmdb_is info' -s h -l help -d 'Print help'
 complete -c mmdb -n '__mmdb_wants_file info 9 ' -F
 complete -c mmdb -n '__mmdb_is enrich' -l column -x -d 'The column of the address: its number, from 1, or with --header its name'
 complete -c mmdb -n '__mmdb_is enrich' -l delimiter -x -d 'What stands between columns, a tab if not given; any other means CSV'
-complete -c mmdb -n '__mmdb_is enrich' -l field -x -d 'A field to add, or NAME=PATH; needed unless with --json'
+complete -c mmdb -n '__mmdb_is enrich' -l field -x -d 'A field to add, or NAME=PATH; needed in rows unless with --network'
 complete -c mmdb -n '__mmdb_is enrich' -l network -d 'Also the network of the address, before the fields'
 complete -c mmdb -n '__mmdb_is enrich' -l header -d 'The first line names the columns; the fields\' names are added to it'
 complete -c mmdb -n '__mmdb_is enrich' -l json -x -d 'Lines are JSON: the path of the address in an object, as client.ip'
