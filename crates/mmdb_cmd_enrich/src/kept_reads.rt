@@ -149,12 +149,15 @@ impl<'a> KeptReads<'a> {
         self.table.get(key)?.read()
     }
 
-    /// Keeps by a key what was read.
+    /// Keeps by a key what was read, if that is known.
     pub(crate) fn keep(&mut self, key: ReadKey, read: KeptRead<'a>)
         ensures { (dbs : List Database) (paths : List (List SpecPathElement))
             → IfSome (said read.entry) (IsReadBy dbs paths key) → AreReadsKept dbs paths self.old
             → AreReadsKept dbs paths self.new }
     {
+        if let KeptRead::Unknown = read {
+            return;
+        }
         self.table.put(key, read);
     }
 }

@@ -1,5 +1,6 @@
 //! What conditions say of the records of several databases, kept.
 use crate::several::{Answers, Offsets};
+use crate::worth::Worth;
 use mmdb_cache::{CacheKey, CacheTable, Memo};
 use mmdb_layout::{Condition, Found, ReadAlong};
 use mmdb_reader::MaxMindDbError;
@@ -46,6 +47,7 @@ pub(crate) struct KeptChecks {
     /// How many databases are asked.
     count: usize,
     kept: Option<Answered>,
+    worth: Worth,
 }
 
 // No answers.
@@ -81,7 +83,22 @@ impl KeptChecks {
         } else {
             no_answers(alloc).ok()
         };
-        KeptChecks { alloc, count, kept }
+        KeptChecks {
+            alloc,
+            count,
+            kept,
+            worth: Worth::new(),
+        }
+    }
+
+    /// Notes that what is kept answered for a stretch.
+    pub(crate) fn find(&mut self) {
+        self.worth.find();
+    }
+
+    /// Whether what conditions say of the records of the next stretch is worth to be kept.
+    pub(crate) fn are_worth(&mut self) -> bool {
+        self.worth.keeps()
     }
 
     /// Lets go of all that is kept. Whether there was some.

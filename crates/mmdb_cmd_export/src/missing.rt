@@ -213,11 +213,14 @@ impl<'t, 'a> Search<'t, 'a> {
         checks: &mut KeptChecks,
     ) -> Result<(), ProgramError> {
         if self.are_seen(checks, offsets) {
+            checks.find();
             return Ok(());
         }
         let answers = together.answers(self.alloc, stretch)?;
         self.meet(&answers)?;
-        self.see(checks, &answers);
+        if checks.are_worth() {
+            self.see(checks, &answers);
+        }
         Ok(())
     }
 

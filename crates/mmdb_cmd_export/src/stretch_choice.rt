@@ -38,7 +38,16 @@ impl<'a> StretchChoice<'a> {
     }
 
     /// Whether a stretch with these records is chosen, where what the conditions say of them is kept.
-    pub(crate) fn kept(&self, offsets: &Offsets) -> Option<bool> {
+    pub(crate) fn kept(&mut self, offsets: &Offsets) -> Option<bool> {
+        let kept = self.kept_of(offsets);
+        if kept.is_some() {
+            self.checks.find();
+        }
+        kept
+    }
+
+    // The same, which is not noted.
+    fn kept_of(&self, offsets: &Offsets) -> Option<bool> {
         for (number, condition) in self.conditions.iter().enumerate() {
             if !self.checks.says(number, condition, offsets)? {
                 return Some(false);
@@ -49,9 +58,12 @@ impl<'a> StretchChoice<'a> {
 
     /// Whether answers meet all conditions, which are asked in turn up to the first that is not met.
     pub(crate) fn chooses(&mut self, answers: &Answers<'_>) -> Result<bool, MaxMindDbError> {
+        let are_worth = self.checks.are_worth();
         for (number, condition) in self.conditions.iter().enumerate() {
             let is_met = condition.holds(self.alloc, answers)?;
-            self.checks.learn(number, condition, answers);
+            if are_worth {
+                self.checks.learn(number, condition, answers);
+            }
             if !is_met {
                 return Ok(false);
             }

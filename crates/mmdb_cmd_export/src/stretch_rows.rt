@@ -3,6 +3,7 @@ use crate::absent_fields::AbsentFields;
 use crate::kept_texts::{KeptTexts, text_along};
 use crate::several::{Answers, Offsets, Several, fault_along, network_of_stretch};
 use crate::stretches::StretchSink;
+use crate::worth::Worth;
 use mmdb_compare::TogetherStretch;
 use mmdb_console::{Console, ProgramError, put};
 use mmdb_json::compact;
@@ -26,6 +27,7 @@ pub(crate) struct StretchRows<'a, 's, 'd> {
     /// What comes before each value of a row: of each field, or of the record of each database.
     labels: Vec<Vec<u8>>,
     texts: KeptTexts<'a, 'd>,
+    worth: Worth,
     absent: AbsentFields<'d>,
     /// What a row is put together in.
     line: Vec<u8>,
@@ -198,6 +200,7 @@ impl<'a, 's, 'd> StretchRows<'a, 's, 'd> {
             several,
             labels,
             texts,
+            worth: Worth::new(),
             absent,
             line: Vec::new(alloc),
         })
@@ -237,6 +240,20 @@ impl<'a, 's, 'd> StretchRows<'a, 's, 'd> {
         }
         self.note_kept(offsets);
         true
+    }
+
+    // Keeps what answers have, if that is worth it, and puts a row together of that. Whether it could be.
+    fn join_learned(
+        &mut self,
+        network: IpNetwork,
+        offsets: &Offsets,
+        answers: &Answers<'_>,
+    ) -> bool {
+        if !self.worth.keeps() {
+            return false;
+        }
+        self.texts.learn(answers);
+        self.join_kept(network, offsets)
     }
 
     // Puts a row together of what answers have.
@@ -281,6 +298,7 @@ impl StretchSink for StretchRows<'_, '_, '_> {
         if self.absent.wants_records() || !self.join_kept(network_of_stretch(stretch)?, offsets) {
             return Ok(false);
         }
+        self.worth.find();
         match out.write_all(self.line.as_slice()) {
             Ok(()) => Ok(true),
             Err(error) => Err(ProgramError::Write(error)),
@@ -295,8 +313,7 @@ impl StretchSink for StretchRows<'_, '_, '_> {
         out: &mut O,
     ) -> Result<(), ProgramError> {
         let network = network_of_stretch(stretch)?;
-        self.texts.learn(answers);
-        if !self.join_kept(network, offsets) {
+        if !self.join_learned(network, offsets, answers) {
             self.join_read(network, answers)?;
         }
         self.absent.look(self.several, offsets)?;

@@ -46,11 +46,12 @@ pub(crate) fn lay_out(
     ensures { IfOk result (λ bytes.
         IsLaidOut section.bytes offsets.now entries.old.items bytes.items entries.new.items) }
 {
-    if let Some(moved) = in_line(alloc, section.bytes(), offsets)? {
+    let bytes = section.into_bytes();
+    if let Some(moved) = in_line(alloc, &bytes, offsets)? {
         if have_moved(&moved, offsets) {
             move_entries(&moved, entries);
             return Ok(moved.into_bytes());
         }
     }
-    Ok(section.into_bytes())
+    Ok(bytes)
 }

@@ -1,4 +1,4 @@
-use Rattle.std.proofs.Common.{rules, ◌≡◌, ◌<◌, inl, List, length, sym, ap, subst, arith}
+use Rattle.std.proofs.Common.{◌≡◌, ◌<◌, inl, List, length, sym, ap, ◌∙◌, subst, arith}
 use Rattle.mmdb_check.proofs.Inlines.{if_is}
 use Rattle.mmdb_section.specs.declared.moved.MovedSection.{MovedSection}
 use Rattle.mmdb_section.specs.Moved.{IsMoved}
@@ -7,9 +7,9 @@ use Rattle.mmdb_writer.proofs.layout.lay_out.Goals as goal
 
 pub returns-then-have_moved : goal.returns-then-have_moved
 returns-then-have_moved c =
-    let given = c.bytes.result.now in
+    let given = c.deref.result.now in
     let moved = c.in-Some.moved in
-    let bytes : c.bytes.result.now ≡ c.args.section.bytes = search rules in
+    let bytes : given ≡ c.args.section.bytes = c.deref.ensures.value ∙ c.into_bytes-bytes.ensures in
     let is = if_is c.in_ok-moved.field-0 (λ (m : MovedSection). (tiles : List Tile) → AreTiles tiles given → IsMoved tiles m) moved c.in_ok-moved.ensures.moved c.in-Some.is in
     let shorter : length moved.bytes.items < length given = if_is c.in_ok-moved.field-0 (λ (m : MovedSection). length m.bytes.items < length given) moved c.in_ok-moved.ensures.shorter c.in-Some.is in
     let long : length given ≡ length c.args.section.bytes = ap length bytes in
