@@ -410,17 +410,18 @@ fn compare<'a, 'r, O: Write, E: Pace>(
     done
 }
 
-// Looks at the records of a database for the fields that are shown, each once. An `Err` is of memory.
+// Looks at the records of a database for the fields that are shown, each once, until all are met, and answers whether there
+// are any. An `Err` is of memory.
 fn look_at(
     alloc: Global,
     networks: Networks<'_>,
     layout: &Layout<'_>,
     met: &mut FieldsMet,
-) -> Result<(), AllocError> {
+) -> Result<bool, AllocError> {
     let mut offsets = HashSet::new(alloc);
     for item in networks {
         if met.are_all_met() {
-            return Ok(());
+            break;
         }
         if let Ok(found) = item {
             if offsets.insert(found.offset().unwrap_or(0))? {
@@ -428,10 +429,25 @@ fn look_at(
             }
         }
     }
-    Ok(())
+    Ok(!offsets.is_empty())
 }
 
-// Says of fields that no record of either database has in a range.
+// Looks at the records of a database in a range, if its networks can be walked.
+fn look_in(
+    alloc: Global,
+    database: &Database,
+    range: IpNetwork,
+    layout: &Layout<'_>,
+    met: &mut FieldsMet,
+) -> Result<bool, AllocError> {
+    match networks_in(alloc, database, Some(range)) {
+        Ok(networks) => look_at(alloc, networks, layout, met),
+        Err(_) => Ok(false),
+    }
+}
+
+// Says of fields that no record of either database has in a range. What may be meant is looked for in the newer one, and in the
+// old one where that has no record.
 fn note_absent<O: Write, E: Pace>(
     task: &DiffTask<'_>,
     databases: &TwoDatabases,
@@ -439,14 +455,19 @@ fn note_absent<O: Write, E: Pace>(
     console: &mut Console<'_, O, E>,
 ) -> Result<(), ProgramError> {
     let alloc = console.alloc;
-    let mut met = FieldsMet::new(alloc, task.layout.paths().len())?;
-    for database in [databases.newer(), databases.old()] {
-        if let Ok(networks) = networks_in(alloc, database, Some(range)) {
-            look_at(alloc, networks, &task.layout, &mut met)?;
-        }
+    let layout = &task.layout;
+    let mut met = FieldsMet::new(alloc, layout.paths().len())?;
+    let has_newer = look_in(alloc, databases.newer(), range, layout, &mut met)?;
+    let mut met_before = FieldsMet::new(alloc, layout.paths().len())?;
+    met_before.join(&met);
+    look_in(alloc, databases.old(), range, layout, &mut met_before)?;
+    if !has_newer {
+        let section = databases.old().data_section();
+        return met_before.note_absent(layout.path_texts(), section, console);
     }
+    met.join(&met_before);
     met.note_absent(
-        task.layout.path_texts(),
+        layout.path_texts(),
         databases.newer().data_section(),
         console,
     )

@@ -1,5 +1,5 @@
 -- What is kept of what was read of fields in the records of several databases.
-use Rattle.std.specs.Prelude.{◌≡◌, List, map, Option, Some, None, IfSome}
+use Rattle.std.specs.Prelude.{◌≡◌, ℕ, List, map, Option, Some, None, IfSome}
 use Rattle.std.specs.List.{All, slice_get}
 use Rattle.mmdb_cache.specs.declared.table.Memo.{Memo}
 use Rattle.mmdb_format.specs.Contents.{text, boolean, signed32, number16, number32, number64, double_bits}
@@ -12,6 +12,8 @@ use Rattle.mmdb_cmd_enrich.specs.declared.kept_reads.KeptRead.TheVariants.{Unkno
 use Rattle.mmdb_cmd_enrich.specs.declared.kept_reads.KeptReads.{KeptReads}
 use Rattle.mmdb_cmd_enrich.specs.declared.kept_reads.ReadKey.{ReadKey}
 use Rattle.mmdb_cmd_enrich.specs.declared.members.NamedField.{NamedField}
+use Rattle.mmdb_cmd_enrich.specs.declared.read_fields.FieldPlace.{FieldPlace}
+use Rattle.mmdb_cmd_enrich.specs.declared.read_fields.FieldPlace.TheVariants.{Kept, Nowhere, From}
 
 -- what was read: a value, or that a path leads nowhere; nothing is said of what is unknown
 abbrev pub said : KeptRead → Option (Option Tree)
@@ -24,6 +26,12 @@ said (U16 n) = Some (Some (scalar (number16 n)))
 said (U32 n) = Some (Some (scalar (number32 n)))
 said (U64 n) = Some (Some (scalar (number64 n)))
 said (Double x) = Some (Some (scalar (double_bits x.bits)))
+
+-- Where what is read along a path is found, of what is read in the records from each number on.
+abbrev pub IsPlaceOf : (ℕ → List PathElement → Option (Option Tree)) → List PathElement → FieldPlace → Type 0
+IsPlaceOf reads path (Kept read) = (answer : Option Tree) × (said read ≡ Some answer) × (reads 0 path ≡ Some answer)
+IsPlaceOf reads path Nowhere = reads 0 path ≡ Some None
+IsPlaceOf reads path (From number) = reads 0 path ≡ reads number path
 
 -- this is read of the field of a key in the record of its database
 abbrev pub IsReadBy : List Database → List (List PathElement) → ReadKey → Option Tree → Type 0

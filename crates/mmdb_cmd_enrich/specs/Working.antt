@@ -5,6 +5,7 @@ use Rattle.std.specs.declared.convert.AsSlice.{Ghosts}
 use Rattle.mmdb_format.specs.Unfolding.{Tree}
 use Rattle.mmdb_reader.specs.declared.path.PathElement.{PathElement}
 use Rattle.mmdb_filter.specs.declared.rows.Rows.{Rows}
+use Rattle.mmdb_json.specs.Texts.{IsCompact}
 use Rattle.mmdb_cmd_enrich.specs.Columns.{delimiter_of}
 use Rattle.mmdb_net.specs.declared.network.IpNetwork.{IpNetwork}
 use Rattle.mmdb_reader.specs.Found.{database_asked, leaf_of, offset_found, shown_as_ipv4}
@@ -35,6 +36,10 @@ use Rattle.mmdb_cmd_enrich.specs.declared.kept_reads.ReadKey.{ReadKey}
 -- bytes grow by the cell that shows a value
 abbrev pub PutsShown : Rows → Tree → List ℕ → List ℕ → Type 0
 PutsShown rows v old new = (cell : List ℕ) × ShowsCell rows v cell × (new ≡ old ++ cell)
+
+-- bytes grow by JSON that shows a value
+abbrev pub PutsCompact : Tree → List ℕ → List ℕ → Type 0
+PutsCompact v old new = (text : List ℕ) × IsCompact v text × (new ≡ old ++ text)
 
 -- bytes grow by the cell of an answer, and it is said whether there is one
 abbrev pub PutsCell : Rows → Option (Option Tree) → Bool → List ℕ → List ℕ → Type 0

@@ -5,6 +5,7 @@ ghost use Rattle.mmdb_cmd_enrich.specs.KeptCells.{bytes_of, heap_of};
 ghost use Rattle.mmdb_cmd_enrich.specs.Wanted.{Wanted, AddsOf};
 
 use crate::kept_cells::KeptCells;
+use mmdb_cache::Worth;
 use mmdb_filter::Outcome;
 use std::alloc::{AllocError, Global};
 use std::marker::Model;
@@ -15,6 +16,9 @@ const BUCKETS: usize = 65_536;
 
 /// The most bytes of the cells of a record that is kept.
 const MOST_BYTES: usize = 512;
+
+/// How many records that have a number are kept before any of them has to be found again.
+const FIRST: u64 = 32_768;
 
 /// The most bytes of the heap for cells.
 const MOST_HEAP: usize = 8 << 20;
@@ -44,13 +48,15 @@ pub(crate) struct KeptRecord<'c> {
 
 /// What was added for the last records, each at the bucket that its offset gives. At most 512 bytes of a record are
 /// kept, and those that are not in their bucket take at most 8 MiB. Of the records of several databases one number takes the
-/// place of the offset.
+/// place of the offset; of those that are made soon again few are kept where few are found.
 #[derive(Drop)]
 pub struct AddedCache {
     alloc: Global,
     buckets: Vec<Bucket>,
     /// How many bytes of the heap are left for cells.
     heap_left: usize,
+    /// Whether it is worth to keep the cells of records that have a number.
+    worth: Worth,
 }
 
 impl Model for AddedCache {
@@ -138,6 +144,11 @@ impl AddedCache {
             alloc,
             buckets,
             heap_left: MOST_HEAP,
+            worth: Worth {
+                asked: 0,
+                kept: 0,
+                found: FIRST,
+            },
         })
     }
 
@@ -182,12 +193,37 @@ impl AddedCache {
         });
     }
 
-    /// Keeps the cells of records that have a number.
-    pub(crate) fn keep_numbered(&mut self, number: Option<usize>, cells: &[u8], outcome: Outcome)
+    /// Notes that the cells of records that have a number were found.
+    #[inline(always)]
+    pub(crate) fn note_found(&mut self)
+        ensures { self.new ≡ self.old }
+    {
+        self.worth.find();
+    }
+
+    // Whether it is worth to keep cells, which it is where they are dear.
+    #[inline(always)]
+    fn is_worth(&mut self, are_dear: bool) -> bool
+        ensures { self.new ≡ self.old }
+    {
+        are_dear || self.worth.keeps()
+    }
+
+    /// Keeps the cells of records that have a number, if it takes long to make them or it is worth it.
+    pub(crate) fn keep_numbered(
+        &mut self,
+        number: Option<usize>,
+        cells: &[u8],
+        outcome: Outcome,
+        are_dear: bool,
+    )
         ensures { (wanted : Wanted) → AreKept wanted self.old
             → IfSome number (λ n. AddsOf wanted n cells.now outcome) → AreKept wanted self.new }
     {
-        if let Some(number) = number {
+        let Some(number) = number else {
+            return;
+        };
+        if self.is_worth(are_dear) {
             self.keep(number, cells, outcome);
         }
     }

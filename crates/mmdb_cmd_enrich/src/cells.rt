@@ -1,5 +1,5 @@
 //! The cells of a record.
-ghost use Rattle.std.specs.Prelude.{◌≡◌, ◌++◌, List, Option, Some, IfOk, OnOk, map};
+ghost use Rattle.std.specs.Prelude.{◌≡◌, ◌++◌, List, Option, Some, true, IfOk, OnOk, map};
 ghost use Rattle.std.specs.List.{slice_get};
 ghost use Rattle.mmdb_filter.specs.declared.rows.Rows.TheVariants.{Lines, Csv};
 ghost use Rattle.mmdb_format.specs.Contents.{text as text_content};
@@ -8,68 +8,63 @@ ghost use Rattle.mmdb_net.specs.Network.{short_text_of};
 ghost use Rattle.mmdb_reader.specs.declared.path.PathElement.{PathElement as SpecPathElement};
 ghost use Rattle.mmdb_value.specs.Values.{value_tree};
 ghost use Rattle.mmdb_cmd_enrich.specs.Cells.{is_plain as spec_is_plain, blanks};
+ghost use Rattle.mmdb_cmd_enrich.specs.KeptReads.{said};
 ghost use Rattle.mmdb_cmd_enrich.specs.Networks.{all_blanks};
-ghost use Rattle.mmdb_cmd_enrich.specs.Working.{PutsShown, PutsCell, PutsNextCell, PutsCells, PutsFront};
+ghost use Rattle.mmdb_cmd_enrich.specs.Working.{PutsShown, PutsCompact, PutsCell, PutsNextCell, PutsCells, PutsFront};
 ghost use Rattle.mmdb_layout.specs.Reading.{IsReadAs};
 
 use crate::columns::delimiter_of;
-use crate::read_fields::ReadFields;
+use crate::kept_reads::KeptRead;
+use crate::read_fields::{FieldPlace, ReadFields};
+use json::Writer;
 use mmdb_filter::{Rows, put_csv_cell};
-use mmdb_json::compact;
+use mmdb_json::{compact, write_value};
 use mmdb_net::IpNetwork;
 use mmdb_reader::{MaxMindDbError, PathElement};
 use mmdb_value::Value;
 use std::alloc::{AllocError, Global};
+use std::mem;
 
-// Whether no byte is a control character or the delimiter.
+// Whether no byte is a control character or the delimiter. All are looked at, many at a time.
 fn is_plain(delimiter: u8, text: &[u8]) -> bool
     ensures { result ≡ spec_is_plain delimiter text.now }
 {
+    let mut plain = true;
     for at in 0..text.len() {
-        if text[at] < 32 || text[at] == delimiter {
-            return false;
+        plain &= (text[at] > 31) & (text[at] != delimiter);
+    }
+    plain
+}
+
+// Adds the JSON that shows a value.
+#[inline(never)]
+fn put_compact(alloc: Global, value: &Value<'_>, out: &mut Vec<u8>) -> Result<(), AllocError>
+    ensures { OnOk result (PutsCompact (value_tree value.now) out.old.items out.new.items) }
+{
+    let mut writer = Writer::new(mem::replace(out, Vec::new(alloc)));
+    let done = write_value(alloc, value, &mut writer);
+    *out = writer.into_inner();
+    done
+}
+
+// Adds the cell of a text: in a line itself, without control characters and delimiters, or else as JSON; in CSV itself, in quotes
+// where it needs them.
+#[inline(always)]
+fn put_text(alloc: Global, rows: Rows, text: &str, out: &mut Vec<u8>) -> Result<(), AllocError>
+    ensures { OnOk result
+        (PutsShown rows (scalar (text_content text.now)) out.old.items out.new.items) }
+{
+    match rows {
+        Rows::Csv { delimiter } => put_csv_cell(delimiter, text.as_bytes(), out),
+        Rows::Lines { delimiter } if is_plain(delimiter, text.as_bytes()) => {
+            out.extend_from_slice(text.as_bytes())
         }
+        Rows::Lines { .. } => put_compact(alloc, &Value::String(text), out),
     }
-    true
 }
 
-// Adds the cell of a value in a line: a text without control characters and delimiters itself, any other value as JSON.
-fn put_line_value(
-    alloc: Global,
-    delimiter: u8,
-    value: &Value<'_>,
-    out: &mut Vec<u8>,
-) -> Result<(), AllocError>
-    ensures { OnOk result
-        (PutsShown (Lines delimiter) (value_tree value.now) out.old.items out.new.items) }
-{
-    if let Value::String(text) = value
-        && is_plain(delimiter, text.as_bytes())
-    {
-        return out.extend_from_slice(text.as_bytes());
-    }
-    let text = compact(alloc, value)?;
-    out.extend_from_slice(text.as_slice())
-}
-
-// Adds the cell of a value in CSV: a text itself, any other value as JSON, in quotes where it needs them.
-fn put_csv_value(
-    alloc: Global,
-    delimiter: u8,
-    value: &Value<'_>,
-    out: &mut Vec<u8>,
-) -> Result<(), AllocError>
-    ensures { OnOk result
-        (PutsShown (Csv delimiter) (value_tree value.now) out.old.items out.new.items) }
-{
-    if let Value::String(text) = value {
-        return put_csv_cell(delimiter, text.as_bytes(), out);
-    }
-    let text = compact(alloc, value)?;
-    put_csv_cell(delimiter, text.as_slice(), out)
-}
-
-// Adds the cell of a value.
+// Adds the cell of a value: that of a text, or JSON.
+#[inline(always)]
 fn put_value(
     alloc: Global,
     rows: Rows,
@@ -78,9 +73,15 @@ fn put_value(
 ) -> Result<(), AllocError>
     ensures { OnOk result (PutsShown rows (value_tree value.now) out.old.items out.new.items) }
 {
+    if let Value::String(text) = value {
+        return put_text(alloc, rows, text, out);
+    }
     match rows {
-        Rows::Lines { delimiter } => put_line_value(alloc, delimiter, value, out),
-        Rows::Csv { delimiter } => put_csv_value(alloc, delimiter, value, out),
+        Rows::Lines { .. } => put_compact(alloc, value, out),
+        Rows::Csv { delimiter } => {
+            let text = compact(alloc, value)?;
+            put_csv_cell(delimiter, text.as_slice(), out)
+        }
     }
 }
 
@@ -96,7 +97,7 @@ fn put_quoted_network(
         (scalar (text_content (short_text_of network))) out.old.items out.new.items) }
 {
     let text: String = format!(in alloc; "{network}")?;
-    put_line_value(alloc, delimiter, &Value::String(text.as_str()), out)
+    put_text(alloc, Rows::Lines { delimiter }, text.as_str(), out)
 }
 
 // Adds the cell of a network.
@@ -157,6 +158,62 @@ fn put_read(
     }
 }
 
+// Adds the cell of what is kept and no text.
+#[inline(never)]
+fn put_kept_value(
+    alloc: Global,
+    rows: Rows,
+    read: KeptRead<'_>,
+    out: &mut Vec<u8>,
+) -> Result<(), AllocError>
+    ensures { OnOk result ((answer : Option Tree) → said read.entry ≡ Some answer
+        → PutsCell rows (Some answer) true out.old.items out.new.items) }
+{
+    match &read.read() {
+        Some(Some(value)) => put_value(alloc, rows, value, out),
+        _ => Ok(()),
+    }
+}
+
+// Adds the cell of what is kept.
+#[inline(always)]
+fn put_kept(
+    alloc: Global,
+    rows: Rows,
+    read: KeptRead<'_>,
+    out: &mut Vec<u8>,
+) -> Result<(), AllocError>
+    ensures { OnOk result ((answer : Option Tree) → said read.entry ≡ Some answer
+        → PutsCell rows (Some answer) true out.old.items out.new.items) }
+{
+    match read {
+        KeptRead::Text(text) => put_text(alloc, rows, text, out),
+        other => put_kept_value(alloc, rows, other, out),
+    }
+}
+
+// Reads a field, by its number and its path, in the records from a number on, adds its cell, and says whether nothing failed.
+#[inline(never)]
+fn put_from<'a, R: ReadFields<'a>>(
+    alloc: Global,
+    rows: Rows,
+    found: &R,
+    kept: &mut R::Kept,
+    from: usize,
+    field: usize,
+    path: &[PathElement<'_>],
+    out: &mut Vec<u8>,
+) -> Result<bool, AllocError>
+    ensures cell { IfOk result (λ read. (paths : List (List SpecPathElement))
+        → slice_get paths field ≡ Some path.now → R.keeps found.now paths kept.old
+        → PutsCell rows (R.reads found.now from path.now) read out.old.items out.new.items) }
+    ensures kept { (paths : List (List SpecPathElement)) → slice_get paths field ≡ Some path.now
+        → R.keeps found.now paths kept.old → R.keeps found.now paths kept.new }
+{
+    let read = found.read_field(alloc, kept, from, field, path);
+    put_read(alloc, rows, &read, out)
+}
+
 // Adds a delimiter and the cell of a field, by its number and its path, and says whether nothing failed.
 fn put_cell<'a, R: ReadFields<'a>>(
     alloc: Global,
@@ -169,13 +226,19 @@ fn put_cell<'a, R: ReadFields<'a>>(
 ) -> Result<bool, AllocError>
     ensures cell { IfOk result (λ read. (paths : List (List SpecPathElement))
         → slice_get paths field ≡ Some path.now → R.keeps found.now paths kept.old
-        → PutsNextCell rows (R.reads found.now path.now) read out.old.items out.new.items) }
+        → PutsNextCell rows (R.reads found.now 0 path.now) read out.old.items out.new.items) }
     ensures kept { (paths : List (List SpecPathElement)) → slice_get paths field ≡ Some path.now
         → R.keeps found.now paths kept.old → R.keeps found.now paths kept.new }
 {
     out.push(delimiter_of(rows))?;
-    let read = found.read_field(alloc, kept, field, path);
-    put_read(alloc, rows, &read, out)
+    match found.place_of(kept, field) {
+        FieldPlace::Kept(read) => {
+            put_kept(alloc, rows, read, out)?;
+            Ok(true)
+        }
+        FieldPlace::Nowhere => Ok(true),
+        FieldPlace::From(from) => put_from(alloc, rows, found, kept, from, field, path, out),
+    }
 }
 
 /// Adds a delimiter and a cell for each path, and says whether nothing failed.
@@ -188,7 +251,7 @@ pub(crate) fn put_cells<'a, R: ReadFields<'a>>(
     out: &mut Vec<u8>,
 ) -> Result<bool, AllocError>
     requires { R.keeps found.now (map (λ path. path.items) paths.now) kept.old }
-    ensures cells { IfOk result (λ read. PutsCells rows (R.reads found.now)
+    ensures cells { IfOk result (λ read. PutsCells rows (R.reads found.now 0)
         (map (λ path. path.items) paths.now) read out.old.items out.new.items) }
     ensures kept { R.keeps found.now (map (λ path. path.items) paths.now) kept.new }
 {

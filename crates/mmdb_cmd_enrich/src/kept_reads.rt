@@ -1,5 +1,5 @@
 //! What is kept of what was read of fields.
-ghost use Rattle.std.specs.Prelude.{◌≡◌, List, IfSome, option_map};
+ghost use Rattle.std.specs.Prelude.{◌≡◌, ◌+◌, ◌*◌, List, IfSome, option_map};
 ghost use Rattle.mmdb_reader.specs.File.{Database};
 ghost use Rattle.mmdb_reader.specs.declared.path.PathElement.{PathElement as SpecPathElement};
 ghost use Rattle.mmdb_value.specs.Values.{value_tree};
@@ -47,6 +47,8 @@ pub enum KeptRead<'a> {
 #[derive(Drop)]
 pub struct KeptReads<'a> {
     table: CacheTable<ReadKey, KeptRead<'a>, SETS>,
+    /// How many reads were not kept, since what was read is an array, a map or one of the rarer values.
+    pub(crate) unkept: u64,
 }
 
 impl ReadKey {
@@ -65,6 +67,16 @@ impl ReadKey {
             offset: offset as u32,
         })
     }
+
+    // Its parts in one number, in the order of their bytes, so that they are compared at once.
+    #[inline(always)]
+    fn whole(self) -> u64
+        ensures { result ≡ self.database + self.field * 65536 + self.offset * 4294967296 }
+    {
+        u64::from(self.database)
+            + u64::from(self.field) * 65_536
+            + u64::from(self.offset) * 4_294_967_296
+    }
 }
 
 impl CacheKey for ReadKey {
@@ -77,9 +89,7 @@ impl CacheKey for ReadKey {
 
     #[inline(always)]
     fn is(self, other: ReadKey) -> bool {
-        (self.offset == other.offset)
-            & (self.field == other.field)
-            & (self.database == other.database)
+        self.whole() == other.whole()
     }
 }
 
@@ -101,9 +111,9 @@ impl<'a> KeptRead<'a> {
         }
     }
 
-    // What was read, if it is known.
+    /// What was read, if it is known.
     #[inline(always)]
-    fn read(self) -> Option<Option<Value<'a>>>
+    pub(crate) fn read(self) -> Option<Option<Value<'a>>>
         ensures { option_map (option_map value_tree) result ≡ said self.entry }
     {
         match self {
@@ -136,17 +146,20 @@ impl<'a> KeptReads<'a> {
             Ok(table) => table,
             Err(_) => CacheTable::without_memory(alloc),
         };
-        KeptReads { table }
+        KeptReads { table, unkept: 0 }
     }
 
-    /// What was read by a key, if it is kept.
+    /// What is kept by a key.
     #[inline(always)]
-    pub(crate) fn get(&self, key: ReadKey) -> Option<Option<Value<'a>>>
-        ensures { IfSome result (λ read. (dbs : List Database) (paths : List (List SpecPathElement))
-            → AreReadsKept dbs paths self.now
-            → IsReadBy dbs paths key (option_map value_tree read)) }
+    pub(crate) fn get(&self, key: ReadKey) -> KeptRead<'a>
+        ensures { IfSome (said result) (λ read. (dbs : List Database)
+            (paths : List (List SpecPathElement)) → AreReadsKept dbs paths self.now
+            → IsReadBy dbs paths key read) }
     {
-        self.table.get(key)?.read()
+        match self.table.get(key) {
+            Some(read) => read,
+            None => KeptRead::Unknown,
+        }
     }
 
     /// Keeps by a key what was read, if that is known.
@@ -156,6 +169,7 @@ impl<'a> KeptReads<'a> {
             → AreReadsKept dbs paths self.new }
     {
         if let KeptRead::Unknown = read {
+            self.unkept = self.unkept.wrapping_add(1);
             return;
         }
         self.table.put(key, read);

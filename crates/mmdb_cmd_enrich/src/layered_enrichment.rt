@@ -87,9 +87,17 @@ fn outcome_of_all(has_record: bool, are_read: bool) -> Outcome
 }
 
 impl<'a, 'f, S: AsSlice<u8> + Drop> LayeredEnrichment<'a, 'f, S> {
+    // Notes the records that were read, or were not, until all is noted.
+    #[inline(always)]
+    fn note(&self, layers: &Layers<'a, S>, are_read: bool, notes: &mut Notes) {
+        if !are_read || !notes.are_full(self.paths.len()) {
+            self.note_more(layers, are_read, notes);
+        }
+    }
+
     // Notes the records that were read, or were not.
     #[inline(never)]
-    fn note(&self, layers: &Layers<'a, S>, are_read: bool, notes: &mut Notes) {
+    fn note_more(&self, layers: &Layers<'a, S>, are_read: bool, notes: &mut Notes) {
         notes.note_records(layers);
         if are_read && notes.has_met_all(self.paths.len()) {
             return;
@@ -122,10 +130,12 @@ impl<'a, 'f, S: AsSlice<u8> + Drop> LayeredEnrichment<'a, 'f, S> {
         ensures reads { AreReadsKept self.now.readers.now (paths_of self.now.paths) reads.new }
     {
         let before = out.len();
+        let unkept = reads.unkept;
         let paths = self.paths.as_slice();
         let are_read = put_cells(self.alloc, self.rows, layers, reads, paths, out)?;
         let outcome = outcome_of_all(layers.has_record(), are_read);
-        cache.keep_numbered(layers.key, &out.as_slice()[before..], outcome);
+        let are_dear = notes.are_dear(paths.len(), are_read, reads.unkept == unkept);
+        cache.keep_numbered(layers.key, &out.as_slice()[before..], outcome, are_dear);
         self.note(layers, are_read, notes);
         Ok(outcome)
     }
@@ -180,7 +190,9 @@ impl<'a, 'f, S: AsSlice<u8> + Drop> LayeredEnrichment<'a, 'f, S> {
         if let Some(key) = layers.key
             && let Some(kept) = cache.kept(key)
         {
-            return put_kept(kept, out);
+            let outcome = put_kept(kept, out)?;
+            cache.note_found();
+            return Ok(outcome);
         }
         self.put_records(layers, cache, reads, notes, out)
     }

@@ -122,11 +122,14 @@ impl<'a, 'f, S: AsSlice<u8> + Drop> LayeredJsonEnrichment<'a, 'f, S> {
         ensures reads { AreReadsKept self.now.readers.now (paths_in self.now.fields.items)
             reads.new }
     {
+        let unkept = reads.unkept;
         let fields = self.fields.as_slice();
         let member = member_of(self.alloc, layers, reads, self.name, fields)?;
         let kept = kept_of(&member);
-        cache.keep_numbered(layers.key, kept.cells, kept.outcome);
-        self.note(layers, kept.outcome == Outcome::Found, notes);
+        let are_read = kept.outcome == Outcome::Found;
+        let are_dear = notes.are_dear(fields.len(), are_read, reads.unkept == unkept);
+        cache.keep_numbered(layers.key, kept.cells, kept.outcome, are_dear);
+        self.note(layers, are_read, notes);
         put_member(line, kept, out)
     }
 
@@ -203,7 +206,9 @@ impl<'a, 'f, S: AsSlice<u8> + Drop> LayeredJsonEnrichment<'a, 'f, S> {
         if let Some(key) = layers.key
             && let Some(kept) = cache.kept(key)
         {
-            return put_member(line, kept, out);
+            let addition = put_member(line, kept, out)?;
+            cache.note_found();
+            return Ok(addition);
         }
         self.put_records(line, layers, cache, reads, notes, out)
     }

@@ -1,14 +1,16 @@
 //! The member that is added to an object.
-ghost use Rattle.std.specs.Prelude.{◌≡◌, ◌++◌, List, Some, None, false, OnOk, IfOk, IfErr, IfSome, IfNone};
+ghost use Rattle.std.specs.Prelude.{◌≡◌, ◌++◌, List, Option, Some, None, false, OnOk, IfOk, IfErr, IfSome, IfNone};
 ghost use Rattle.std.specs.List.{slice_get};
 ghost use Rattle.mmdb_cmd_enrich.specs.Fields.{HasUnreadField, IsMember, IsMemberAfter, IsNullMember, IsNullMemberAfter, network_tokens, null_fields};
-ghost use Rattle.mmdb_cmd_enrich.specs.KeptReads.{paths_in};
+ghost use Rattle.mmdb_cmd_enrich.specs.KeptReads.{paths_in, said};
 ghost use Rattle.mmdb_cmd_enrich.specs.Working.{PutsValue, PutsFields, PutsFieldsAfter, PutsFieldsOf};
 ghost use Rattle.mmdb_decode.specs.Errors.{Fails};
 ghost use Rattle.mmdb_format.specs.Error.{MemoryApart};
+ghost use Rattle.mmdb_format.specs.Unfolding.{Tree};
 ghost use Rattle.mmdb_reader.specs.declared.path.PathElement.{PathElement as SpecPathElement};
 
-use crate::read_fields::ReadFields;
+use crate::kept_reads::KeptRead;
+use crate::read_fields::{FieldPlace, ReadFields};
 use json::{Token, Writer};
 use mmdb_json::write_value;
 use mmdb_layout::NETWORK;
@@ -24,6 +26,46 @@ pub struct NamedField<'f> {
     pub path: Vec<PathElement<'f>>,
 }
 
+// Writes a value that is kept, or null where nothing is there.
+fn put_kept(alloc: Global, read: KeptRead<'_>, out: &mut Writer) -> Result<(), AllocError>
+    ensures value { OnOk result ((answer : Option Tree) → said read.entry ≡ Some answer
+        → PutsValue (Some answer) out.old.tokens out.new.tokens) }
+    ensures before { out.new.before ≡ out.old.before }
+{
+    match &read.read() {
+        Some(Some(value)) => write_value(alloc, value, out),
+        _ => out.token(Token::Null),
+    }
+}
+
+// Reads the value of a field, by its number and its path, in the records from a number on, and writes it, or null where there
+// is none.
+fn put_from<'a, R: ReadFields<'a>>(
+    alloc: Global,
+    found: &R,
+    kept: &mut R::Kept,
+    from: usize,
+    field: usize,
+    path: &[PathElement<'_>],
+    out: &mut Writer,
+) -> Result<(), MaxMindDbError>
+    ensures value { OnOk result ((paths : List (List SpecPathElement))
+        → slice_get paths field ≡ Some path.now → R.keeps found.now paths kept.old
+        → PutsValue (R.reads found.now from path.now) out.old.tokens out.new.tokens) }
+    ensures rejected { IfErr result (λ e. (paths : List (List SpecPathElement))
+        → slice_get paths field ≡ Some path.now → R.keeps found.now paths kept.old
+        → Fails false e (R.reads found.now from path.now)) }
+    ensures kept { (paths : List (List SpecPathElement)) → slice_get paths field ≡ Some path.now
+        → R.keeps found.now paths kept.old → R.keeps found.now paths kept.new }
+    ensures before { out.new.before ≡ out.old.before }
+{
+    match &found.read_field(alloc, kept, from, field, path)? {
+        Some(value) => write_value(alloc, value, out)?,
+        None => out.token(Token::Null)?,
+    }
+    Ok(())
+}
+
 // Writes the value of a field, by its number and its path, or null where there is none.
 fn put_value<'a, R: ReadFields<'a>>(
     alloc: Global,
@@ -35,19 +77,19 @@ fn put_value<'a, R: ReadFields<'a>>(
 ) -> Result<(), MaxMindDbError>
     ensures value { OnOk result ((paths : List (List SpecPathElement))
         → slice_get paths field ≡ Some path.now → R.keeps found.now paths kept.old
-        → PutsValue (R.reads found.now path.now) out.old.tokens out.new.tokens) }
+        → PutsValue (R.reads found.now 0 path.now) out.old.tokens out.new.tokens) }
     ensures rejected { IfErr result (λ e. (paths : List (List SpecPathElement))
         → slice_get paths field ≡ Some path.now → R.keeps found.now paths kept.old
-        → Fails false e (R.reads found.now path.now)) }
+        → Fails false e (R.reads found.now 0 path.now)) }
     ensures kept { (paths : List (List SpecPathElement)) → slice_get paths field ≡ Some path.now
         → R.keeps found.now paths kept.old → R.keeps found.now paths kept.new }
     ensures before { out.new.before ≡ out.old.before }
 {
-    match &found.read_field(alloc, kept, field, path)? {
-        Some(value) => write_value(alloc, value, out)?,
-        None => out.token(Token::Null)?,
+    match found.place_of(kept, field) {
+        FieldPlace::Kept(read) => Ok(put_kept(alloc, read, out)?),
+        FieldPlace::Nowhere => Ok(out.token(Token::Null)?),
+        FieldPlace::From(from) => put_from(alloc, found, kept, from, field, path, out),
     }
-    Ok(())
 }
 
 // Writes for each field its name, and the value along its path or null.
@@ -60,9 +102,9 @@ fn put_fields<'a, R: ReadFields<'a>>(
 ) -> Result<(), MaxMindDbError>
     requires { R.keeps found.now (paths_in fields.now) kept.old }
     ensures fields { OnOk result
-        (PutsFields (R.reads found.now) fields.now out.old.tokens out.new.tokens) }
+        (PutsFields (R.reads found.now 0) fields.now out.old.tokens out.new.tokens) }
     ensures rejected { IfErr result (λ e.
-        MemoryApart e (HasUnreadField (R.reads found.now) fields.now)) }
+        MemoryApart e (HasUnreadField (R.reads found.now 0) fields.now)) }
     ensures kept { R.keeps found.now (paths_in fields.now) kept.new }
     ensures before { out.new.before ≡ out.old.before }
 {
@@ -104,9 +146,9 @@ fn put_member<'a, R: ReadFields<'a>>(
 ) -> Result<(), MaxMindDbError>
     requires { R.keeps found.now (paths_in fields.now) kept.old }
     ensures member { OnOk result
-        (PutsFieldsOf (R.reads found.now) name.now fields.now out.old.tokens out.new.tokens) }
+        (PutsFieldsOf (R.reads found.now 0) name.now fields.now out.old.tokens out.new.tokens) }
     ensures rejected { IfErr result (λ e.
-        MemoryApart e (HasUnreadField (R.reads found.now) fields.now)) }
+        MemoryApart e (HasUnreadField (R.reads found.now 0) fields.now)) }
     ensures kept { R.keeps found.now (paths_in fields.now) kept.new }
     ensures before { out.new.before ≡ out.old.before }
 {
@@ -127,9 +169,9 @@ pub(crate) fn member_of<'a, R: ReadFields<'a>>(
 ) -> Result<Option<Vec<u8>>, AllocError>
     requires { R.keeps found.now (paths_in fields.now) kept.old }
     ensures some { IfOk result (λ member. IfSome member (λ text.
-        IsMember (R.reads found.now) name.now fields.now text.items)) }
+        IsMember (R.reads found.now 0) name.now fields.now text.items)) }
     ensures none { IfOk result (λ member.
-        IfNone member (HasUnreadField (R.reads found.now) fields.now)) }
+        IfNone member (HasUnreadField (R.reads found.now 0) fields.now)) }
     ensures kept { R.keeps found.now (paths_in fields.now) kept.new }
 {
     let mut out = Writer::new(Vec::with_capacity(alloc, 256)?);
@@ -151,10 +193,10 @@ fn put_network_member<'a, R: ReadFields<'a>>(
     out: &mut Writer,
 ) -> Result<(), MaxMindDbError>
     requires { R.keeps found.now (paths_in fields.now) kept.old }
-    ensures member { OnOk result (PutsFieldsAfter (network_tokens network) (R.reads found.now)
+    ensures member { OnOk result (PutsFieldsAfter (network_tokens network) (R.reads found.now 0)
         name.now fields.now out.old.tokens out.new.tokens) }
     ensures rejected { IfErr result (λ e.
-        MemoryApart e (HasUnreadField (R.reads found.now) fields.now)) }
+        MemoryApart e (HasUnreadField (R.reads found.now 0) fields.now)) }
     ensures kept { R.keeps found.now (paths_in fields.now) kept.new }
     ensures before { out.new.before ≡ out.old.before }
 {
@@ -177,9 +219,9 @@ pub(crate) fn network_member_of<'a, R: ReadFields<'a>>(
 ) -> Result<Option<Vec<u8>>, AllocError>
     requires { R.keeps found.now (paths_in fields.now) kept.old }
     ensures some { IfOk result (λ member. IfSome member (λ text. IsMemberAfter
-        (network_tokens network) (R.reads found.now) name.now fields.now text.items)) }
+        (network_tokens network) (R.reads found.now 0) name.now fields.now text.items)) }
     ensures none { IfOk result (λ member.
-        IfNone member (HasUnreadField (R.reads found.now) fields.now)) }
+        IfNone member (HasUnreadField (R.reads found.now 0) fields.now)) }
     ensures kept { R.keeps found.now (paths_in fields.now) kept.new }
 {
     let mut out = Writer::new(Vec::with_capacity(alloc, 256)?);

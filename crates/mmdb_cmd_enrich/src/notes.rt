@@ -11,6 +11,9 @@ use std::net::IpAddr;
 /// Of how many rows it is noted why their record can't be read.
 const MOST_FAILURES: usize = 10;
 
+/// How many fields are few.
+const FEW: usize = 2;
+
 /// How many records are noted.
 const MOST_RECORDS: usize = 64;
 
@@ -123,11 +126,13 @@ impl Notes {
     }
 
     // Whether a record had a value at a field.
+    #[inline(always)]
     fn has_met(&self, field: usize) -> bool {
         field < self.met.len() && self.met[field]
     }
 
     /// Whether records had a value at each of so many fields.
+    #[inline(always)]
     pub(crate) fn has_met_all(&self, fields: usize) -> bool {
         for field in 0..fields {
             if !self.has_met(field) {
@@ -135,6 +140,19 @@ impl Notes {
             }
         }
         true
+    }
+
+    /// Whether nothing more is noted of records that are read, of so many fields.
+    #[inline(always)]
+    pub(crate) fn are_full(&self, fields: usize) -> bool {
+        self.records.len() >= MOST_RECORDS && self.has_met_all(fields)
+    }
+
+    /// Whether cells of so many fields take long to make: where they are many, one of them was not read or a value not kept, or
+    /// the next records are noted too.
+    #[inline(always)]
+    pub(crate) fn are_dear(&self, fields: usize, are_read: bool, are_kept: bool) -> bool {
+        fields > FEW || !are_read || !are_kept || !self.are_full(fields)
     }
 
     // Notes that a record had a value at a field.

@@ -1,11 +1,11 @@
 //! Values of fields in records.
-ghost use Rattle.std.specs.Prelude.{◌≡◌, Option, List, Some};
+ghost use Rattle.std.specs.Prelude.{◌≡◌, ℕ, Option, List, Some, IfSome};
 ghost use Rattle.std.specs.List.{slice_get};
 ghost use Rattle.mmdb_format.specs.Unfolding.{Tree};
 ghost use Rattle.mmdb_layout.specs.Reading.{IsReadAs, reads_found, reads_of};
 ghost use Rattle.mmdb_reader.specs.File.{Database};
 ghost use Rattle.mmdb_reader.specs.declared.path.PathElement.{PathElement as SpecPathElement};
-ghost use Rattle.mmdb_cmd_enrich.specs.KeptReads.{AreReadsKept};
+ghost use Rattle.mmdb_cmd_enrich.specs.KeptReads.{AreReadsKept, IsPlaceOf, said};
 ghost use Rattle.mmdb_cmd_enrich.specs.Working.{IsFieldOf, IsKeyOf};
 
 use crate::kept_reads::{KeptRead, KeptReads, ReadKey};
@@ -15,28 +15,46 @@ use mmdb_value::Value;
 use std::alloc::Global;
 use std::convert::AsSlice;
 
+/// Where what is read of a field is.
+#[derive(Clone, Copy)]
+pub(crate) enum FieldPlace<'a> {
+    /// It was read before.
+    Kept(KeptRead<'a>),
+    /// Nothing is there.
+    Nowhere,
+    /// The records from this number on have to be read, from 0; those before it have nothing there.
+    From(usize),
+}
+
 /// What has values of fields: a record, or several that are asked one after another.
 pub(crate) trait ReadFields<'a> {
     /// What is kept of what was read.
     type Kept;
 
-    /// What is read along a path.
-    ghost reads: { Self → List SpecPathElement → Option (Option Tree) };
+    /// What is read along a path in the records from a number on.
+    ghost reads: { Self → ℕ → List SpecPathElement → Option (Option Tree) };
 
     /// What is kept was read along these paths of fields.
     ghost keeps: { Self → List (List SpecPathElement) → Self.Kept → Type 0 };
 
-    /// The value of a field, by its number and its path, or none where the path leads nowhere. Fails, unless out of memory,
-    /// where the way or the value can't be read.
+    /// Where what is read of a field is, by its number.
+    fn place_of(&self, kept: &Self::Kept, field: usize) -> FieldPlace<'a>
+        ensures { (paths : List (List SpecPathElement)) (path : List SpecPathElement)
+            → slice_get paths field ≡ Some path → keeps self.now paths kept.now
+            → IsPlaceOf (reads self.now) path result };
+
+    /// The value of a field, by its number and its path, in the records from a number on, or none where the path leads nowhere.
+    /// Fails, unless out of memory, where the way or the value can't be read.
     fn read_field(
         &self,
         alloc: Global,
         kept: &mut Self::Kept,
+        from: usize,
         field: usize,
         path: &[PathElement<'_>],
     ) -> Result<Option<Value<'a>>, MaxMindDbError>
         ensures read { (paths : List (List SpecPathElement)) → slice_get paths field ≡ Some path.now
-            → keeps self.now paths kept.old → IsReadAs (reads self.now path.now) result }
+            → keeps self.now paths kept.old → IsReadAs (reads self.now from path.now) result }
         ensures kept { (paths : List (List SpecPathElement)) → slice_get paths field ≡ Some path.now
             → keeps self.now paths kept.old → keeps self.now paths kept.new };
 }
@@ -48,15 +66,21 @@ impl<'a, S: AsSlice<u8> + Drop> ReadFields<'a> for LookupResult<'a, S> {
 
     type Kept = ();
 
-    ghost reads = { λ found. reads_found found };
+    ghost reads = { λ found from. reads_found found };
 
     ghost keeps = { λ found paths kept. ⊤ };
+
+    #[inline(always)]
+    fn place_of(&self, _kept: &(), _field: usize) -> FieldPlace<'a> {
+        FieldPlace::From(0)
+    }
 
     #[inline(always)]
     fn read_field(
         &self,
         alloc: Global,
         _kept: &mut (),
+        _from: usize,
         _field: usize,
         path: &[PathElement<'_>],
     ) -> Result<Option<Value<'a>>, MaxMindDbError> {
@@ -77,7 +101,7 @@ fn read_whole<'a, S: AsSlice<u8> + Drop>(
 }
 
 // The value of a field in a record, read anew and kept.
-#[inline(never)]
+#[inline(always)]
 fn read_anew<'a, S: AsSlice<u8> + Drop>(
     alloc: Global,
     found: &LookupResult<'a, S>,
@@ -121,34 +145,74 @@ fn read_in<'a, S: AsSlice<u8> + Drop>(
     let Some(key) = ReadKey::of(database, field, offset) else {
         return read_whole(alloc, found, path);
     };
-    match kept.get(key) {
+    match kept.get(key).read() {
         Some(read) => Ok(read),
         None => read_anew(alloc, found, kept, key, path),
+    }
+}
+
+// What is kept of a field in the record of an answer. Without a record nothing is there.
+#[inline(always)]
+fn kept_in<'a, S: AsSlice<u8> + Drop>(
+    answer: &Option<LookupResult<'a, S>>,
+    kept: &KeptReads<'a>,
+    database: usize,
+    field: usize,
+) -> KeptRead<'a>
+    ensures { IfSome (said result) (λ read. (dbs : List Database)
+        (paths : List (List SpecPathElement)) (path : List SpecPathElement)
+        → IsFieldOf dbs paths answer.now path database field → AreReadsKept dbs paths kept.now
+        → reads_of answer.now path ≡ Some read) }
+{
+    let Some(found) = answer else {
+        return KeptRead::Absent;
+    };
+    let Some(offset) = found.offset() else {
+        return KeptRead::Absent;
+    };
+    match ReadKey::of(database, field, offset) {
+        Some(key) => kept.get(key),
+        None => KeptRead::Unknown,
     }
 }
 
 /// Of several databases: a value is that of the first record that has one, and one that can't be read is no reason to ask the
 /// next.
 impl<'a, S: AsSlice<u8> + Drop> ReadFields<'a> for Layers<'a, S> {
+    ghost use Rattle.std.specs.Prelude.{drop};
     ghost use Rattle.mmdb_layout.specs.Reading.{first_read_of};
     ghost use Rattle.mmdb_cmd_enrich.specs.KeptReads.{AreReadsKept};
     ghost use Rattle.mmdb_cmd_enrich.specs.Working.{AreAnswersOf};
 
     type Kept = KeptReads<'a>;
 
-    ghost reads = { λ layers. first_read_of layers.answers.items };
+    ghost reads = { λ layers from. first_read_of (drop from layers.answers.items) };
 
     ghost keeps = { λ layers paths kept. AreAnswersOf layers.readers.now layers.answers.items
         × AreReadsKept layers.readers.now paths kept };
 
+    #[inline(always)]
+    fn place_of(&self, kept: &KeptReads<'a>, field: usize) -> FieldPlace<'a> {
+        for at in 0..self.answers.len() {
+            match kept_in(&self.answers[at], kept, at, field) {
+                KeptRead::Absent => {}
+                KeptRead::Unknown => return FieldPlace::From(at),
+                read => return FieldPlace::Kept(read),
+            }
+        }
+        FieldPlace::Nowhere
+    }
+
+    #[inline(never)]
     fn read_field(
         &self,
         alloc: Global,
         kept: &mut KeptReads<'a>,
+        from: usize,
         field: usize,
         path: &[PathElement<'_>],
     ) -> Result<Option<Value<'a>>, MaxMindDbError> {
-        for at in 0..self.answers.len() {
+        for at in from..self.answers.len() {
             match read_in(alloc, &self.answers[at], kept, at, field, path) {
                 Ok(None) => {}
                 Ok(Some(value)) => return Ok(Some(value)),

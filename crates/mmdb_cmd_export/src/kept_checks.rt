@@ -1,7 +1,6 @@
 //! What conditions say of the records of several databases, kept.
 use crate::several::{Answers, Offsets};
-use crate::worth::Worth;
-use mmdb_cache::{CacheKey, CacheTable, Memo};
+use mmdb_cache::{CacheKey, CacheTable, Memo, Worth};
 use mmdb_layout::{Condition, Found, ReadAlong};
 use mmdb_reader::MaxMindDbError;
 use mmdb_value::Value;

@@ -25,7 +25,6 @@ mod stretch_choice;
 mod stretch_rows;
 mod stretches;
 mod task;
-mod worth;
 
 pub use delta::list_diff;
 pub use networks::export;

@@ -3,7 +3,7 @@ use crate::absent_fields::AbsentFields;
 use crate::kept_texts::{KeptTexts, text_along};
 use crate::several::{Answers, Offsets, Several, fault_along, network_of_stretch};
 use crate::stretches::StretchSink;
-use crate::worth::Worth;
+use mmdb_cache::Worth;
 use mmdb_compare::TogetherStretch;
 use mmdb_console::{Console, ProgramError, put};
 use mmdb_json::compact;

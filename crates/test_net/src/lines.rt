@@ -1,8 +1,8 @@
-//! Addresses that texts spell, beside std's parser of them; lines of JSON; and what is kept of short answers.
+//! Addresses that texts spell, beside std's parser of them; lines of JSON; what is kept of short answers, and what is worth to be kept.
 use json::Scratch;
 use mmdb_addresses::{AddressText, Reading, address_of, read_address};
 use mmdb_blocks::{Block, BlockKind, Kinds};
-use mmdb_cache::{CacheTable, Memo};
+use mmdb_cache::{CacheTable, Memo, Worth};
 use mmdb_objects::{Line, PathStep, ReadLine, read_line};
 use std::alloc::{AllocError, Global};
 use std::net::{IpAddr, Ipv4Addr, Ipv6Addr};
@@ -193,6 +193,45 @@ fn tables_keep_the_last(rt: HostRuntime) {
     assert!(rt; matches!(kept, Ok(Some(1..=8))), "{kept:?}");
     let empty: CacheTable<u32, bool, 2> = CacheTable::without_memory(rt.alloc());
     assert!(rt; empty.get(1).is_none() && !empty.has(1));
+}
+
+// Of so many things, of which every so many is found again, how many are worth to be kept.
+fn worth_of(things: u64, found_each: u64) -> u64 {
+    let mut worth = Worth::new();
+    let mut kept = 0u64;
+    for thing in 0..things {
+        if thing.checked_rem(found_each) == Some(0) {
+            worth.find();
+        }
+        if worth.keeps() {
+            kept = kept.saturating_add(1);
+        }
+    }
+    kept
+}
+
+/// How many things there are, every how many of them is found again, and how many of them are kept at least and at most.
+#[rattlefmt::skip]
+const WORTH: &[(u64, u64, u64, u64)] = &[
+    // the first of them are, and where none was found one of 64 behind them
+    (1024, 1 << 40, 1024, 1024),
+    (1025, 1 << 40, 1024, 1025),
+    (1024 + 64_000, 1 << 40, 2000, 2025),
+    // where each is found again, all are
+    (100_000, 1, 100_000, 100_000),
+    (2048, 2, 2048, 2048),
+    (200_000, 2, 100_000, 104_000),
+];
+
+#[test]
+fn few_are_kept_where_none_are_found(rt: HostRuntime) {
+    for (things, found_each, least, most) in WORTH {
+        let kept = worth_of(*things, *found_each);
+        assert!(rt;
+            *least <= kept && kept <= *most,
+            "{things} {found_each}: {kept}"
+        );
+    }
 }
 
 #[test]

@@ -404,9 +404,9 @@ const VALUES: &[Values<'static>] = &[
     (b"\xE1\x41a", b"\xE1\x41a", 1),
 ];
 
-// A database with data, whose first value all addresses of 0.0.0.0/1 have.
-fn bytes_with(rt: &impl Abort, alloc: Global, data: &[u8]) -> Vec<u8> {
-    let tree = nodes_24(alloc, HALF).expect(rt, "nodes");
+// A database of one node with data.
+fn bytes_with(rt: &impl Abort, alloc: Global, nodes: &[(u32, u32)], data: &[u8]) -> Vec<u8> {
+    let tree = nodes_24(alloc, nodes).expect(rt, "nodes");
     let changes = [
         (Field::NodeCount, b"\xC1\x01" as &[u8]),
         (Field::IpVersion, IPV4),
@@ -416,8 +416,8 @@ fn bytes_with(rt: &impl Abort, alloc: Global, data: &[u8]) -> Vec<u8> {
 
 fn assert_values(rt: &impl Abort, alloc: Global, values: Values<'_>) {
     let (old, new, status) = values;
-    let old_bytes = bytes_with(rt, alloc, old);
-    let new_bytes = bytes_with(rt, alloc, new);
+    let old_bytes = bytes_with(rt, alloc, HALF, old);
+    let new_bytes = bytes_with(rt, alloc, HALF, new);
     let run = diff_of(
         alloc,
         old_bytes.as_slice(),
@@ -591,5 +591,52 @@ fn files_that_are_not_there(rt: HostRuntime) {
             &run,
             is_reported && run.status == 1 && run.out().is_empty(),
         );
+    }
+}
+
+/// The nodes and the data of an old database and of a newer one, a field, and all that is said of it before the counts.
+type Misspelt<'a> = (
+    &'a [(u32, u32)],
+    &'a [u8],
+    &'a [(u32, u32)],
+    &'a [u8],
+    &'a str,
+    &'a str,
+);
+
+/// {"a": []} in 0.0.0.0/1, and {"city": 1}, which is 5 bytes behind it, in 128.0.0.0/1.
+const CITIES: &[u8] = b"\xE1\x41a\x00\x04\xE1\x44city\xA1\x01";
+
+const IN_BOTH_HALVES: &[(u32, u32)] = &[(17, 22)];
+
+/// {"abc": {"citta": 1}}, whose map within is 5 bytes behind its beginning.
+const TOWNS: &[u8] = b"\xE1\x43abc\xE1\x45citta\xA1\x01";
+
+/// No address has a record.
+const NOWHERE: &[(u32, u32)] = &[(1, 1)];
+
+/// What may be meant is in a record of the newer database, or of the old one where the newer one has none.
+#[rattlefmt::skip]
+const MISSPELT: &[Misspelt<'static>] = &[
+    (IN_BOTH_HALVES, CITIES, HALF, TOWNS, "citty", "mmdb: no record has citty\n"),
+    (HALF, TOWNS, IN_BOTH_HALVES, CITIES, "citty", "mmdb: no record has citty; did you mean city?\n"),
+    (IN_BOTH_HALVES, CITIES, HALF, TOWNS, "abc.city", "mmdb: no record has abc.city; did you mean abc.citta?\n"),
+    (IN_BOTH_HALVES, CITIES, NOWHERE, TOWNS, "citty", "mmdb: no record has citty; did you mean city?\n"),
+    // what one of them has is no mistake
+    (IN_BOTH_HALVES, CITIES, HALF, TOWNS, "city", ""),
+    (HALF, TOWNS, IN_BOTH_HALVES, CITIES, "abc.citta", ""),
+];
+
+#[test]
+fn fields_that_neither_file_has(rt: HostRuntime) {
+    let alloc = rt.alloc();
+    for (old_nodes, old, new_nodes, new, field, said) in MISSPELT {
+        let old = bytes_with(&rt, alloc, old_nodes, old);
+        let new = bytes_with(&rt, alloc, new_nodes, new);
+        let texts = &["--field", *field];
+        let run = diff_of(alloc, old.as_slice(), new.as_slice(), texts);
+        let rest = run.err().strip_prefix(said).unwrap_or("no record has");
+        let holds = !rest.contains("no record has") && rest.ends_with(" changed\n");
+        assert_of(&rt, texts, &run, holds);
     }
 }

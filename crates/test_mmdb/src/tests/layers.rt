@@ -381,3 +381,75 @@ fn many_pairs_of_records(rt: HostRuntime) {
     let are_written = are_many_written(rt.alloc()).unwrap_or(false);
     assert!(rt; are_written, "rows of all pairs");
 }
+
+/// Data of {"a": TEXT}, and the cell of the text in a line and in CSV.
+type Text<'a> = (&'a [u8], &'a str, &'a str);
+
+#[rattlefmt::skip]
+const TEXTS: &[Text<'static>] = &[
+    (b"\xE1\x41a\x42DE", "DE", "DE"),
+    (b"\xE1\x41a\x40", "", ""),
+    (b"\xE1\x41a\x43a\tb", "\"a\\tb\"", "a\tb"),
+    (b"\xE1\x41a\x46x,\"y\"z", "x,\"y\"z", "\"x,\"\"y\"\"z\""),
+    // on both sides of a control character and of what is looked at at once
+    (b"\xE1\x41a\x41\x1F", "\"\\u001f\"", "\x1F"),
+    (b"\xE1\x41a\x42 ~", " ~", " ~"),
+    (b"\xE1\x41a\x4F0123456789abcde", "0123456789abcde", "0123456789abcde"),
+    (b"\xE1\x41a\x500123456789abcdef", "0123456789abcdef", "0123456789abcdef"),
+    (b"\xE1\x41a\x500123456789abcde\t", "\"0123456789abcde\\t\"", "0123456789abcde\t"),
+    (b"\xE1\x41a\x51\t123456789abcdefg", "\"\\t123456789abcdefg\"", "\t123456789abcdefg"),
+    (b"\xE1\x41a\x51123456789abcdef\xC3\xA9", "123456789abcdef\u{E9}", "123456789abcdef\u{E9}"),
+];
+
+// Rows of one record with a text, and of another one of numbers in each row, as they are read or written.
+fn text_rows(alloc: Global, delimiter: char, cell: Option<&str>) -> Result<String, AllocError> {
+    let mut text = String::new(alloc);
+    for second in 0..MANY {
+        let low = second.saturating_mul(4);
+        let row: String = match cell {
+            Some(cell) => {
+                format!(in alloc; "0.{low}.0.1{delimiter}{cell}{delimiter}{second}\n")?
+            }
+            None => format!(in alloc; "0.{low}.0.1\n")?,
+        };
+        text.push_str(row.as_str())?;
+    }
+    Ok(text)
+}
+
+// Whether the text of a record is written in each row so.
+fn is_text_written(alloc: Global, text: Text<'_>) -> Result<bool, AllocError> {
+    let (data, in_line, in_csv) = text;
+    let old = file_with(alloc, &(&[(17, 17)], b"\xC1\x01", IPV4, data));
+    let newer = many_file(alloc, 8, b"\xC1\x47", b'b')?;
+    for (delimiter, cell, words) in [
+        ('\t', in_line, &["--field", "a", "--field", "b"] as &[&str]),
+        (
+            ',',
+            in_csv,
+            &["--delimiter", ",", "--field", "a", "--field", "b"],
+        ),
+    ] {
+        let lines = text_rows(alloc, delimiter, None)?;
+        let want = text_rows(alloc, delimiter, Some(cell))?;
+        let run = run_both(
+            alloc,
+            old.as_slice(),
+            newer.as_slice(),
+            words,
+            lines.as_str(),
+        );
+        if run.status != 0 || run.out() != want.as_str() {
+            return Ok(false);
+        }
+    }
+    Ok(true)
+}
+
+#[test]
+fn texts_that_were_read_before(rt: HostRuntime) {
+    for text in TEXTS {
+        let is_written = is_text_written(rt.alloc(), *text).unwrap_or(false);
+        assert!(rt; is_written, "{:?}", text.1);
+    }
+}

@@ -10,7 +10,7 @@ loop-at-preserved g c =
     let paths = c.args.paths.now in
     let i = c.loop-at.at in
     let field = c.index-paths-at.result in
-    let reads = g.R.ReadFields.reads c.args.found.now in
+    let reads = g.R.ReadFields.reads c.args.found.now 0 in
     let all = map (λ path. path.items) paths in
     let left = map (λ path. path.items) (drop (i + 1) paths) in
     let here : drop i paths ≡ field ∷ drop (i + 1) paths = drop_more paths i field (omega arith) ∙ ap (λ y. y ∷ drop (i + 1) paths) (sym c.index-paths-at.is) in
@@ -27,7 +27,7 @@ loop-at-preserved g c =
 pub returns-clause-cells : goal.returns-clause-cells
 returns-clause-cells g c =
     let paths = c.args.paths.now in
-    let reads = g.R.ReadFields.reads c.args.found.now in
+    let reads = g.R.ReadFields.reads c.args.found.now 0 in
     let all = map (λ path. path.items) paths in
     let none = drop_all c.loop-at.at paths (omega arith) in
     cells_done c.args.rows reads all c.args.out.now.items c.loop-at.out.items c.loop-at.are_read (subst (λ l. CellsWay c.args.rows reads all (map (λ path. path.items) l) c.args.out.now.items c.loop-at.out.items c.loop-at.are_read) none c.loop-at.invariant.way)

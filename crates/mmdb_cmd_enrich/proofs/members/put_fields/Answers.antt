@@ -14,7 +14,7 @@ loop-at-preserved g c = record {
       let fields = c.args.fields.now in
       let at = c.loop-at.at in
       let field = c.index-fields-at.result in
-      let reads = g.R.ReadFields.reads c.args.found.now in
+      let reads = g.R.ReadFields.reads c.args.found.now 0 in
       let here : drop at fields ≡ field ∷ drop (at + 1) fields = drop_more fields at field (omega arith) ∙ ap (λ y. y ∷ drop (at + 1) fields) (sym c.index-fields-at.is) in
       let named : c.token.new.self.tokens ≡ c.loop-at.out.tokens ++ key field.name.now ∷ [] = search rules in
       let there = path_at (λ field. field.path.items) fields at field c.as_slice.result.now (omega arith) c.index-fields-at.is c.as_slice.ensures.value in
@@ -32,7 +32,7 @@ loop-at-preserved g c = record {
 pub returns-clause-fields : goal.returns-clause-fields
 returns-clause-fields g c =
     let fields = c.args.fields.now in
-    let reads = g.R.ReadFields.reads c.args.found.now in
+    let reads = g.R.ReadFields.reads c.args.found.now 0 in
     let none : drop c.loop-at.at fields ≡ [] = drop_all c.loop-at.at fields (omega arith) in
     fields_done reads fields c.args.out.now.tokens c.loop-at.out.tokens (subst (λ l. FieldsWay reads fields l c.args.out.now.tokens c.loop-at.out.tokens) none c.loop-at.invariant.way)
 
@@ -41,7 +41,7 @@ returns-in_err-put_value-clause-rejected g c =
     let fields = c.args.fields.now in
     let at = c.loop-at.at in
     let field = c.index-fields-at.result in
-    let reads = g.R.ReadFields.reads c.args.found.now in
+    let reads = g.R.ReadFields.reads c.args.found.now 0 in
     let here : drop at fields ≡ field ∷ drop (at + 1) fields = drop_more fields at field (omega arith) ∙ ap (λ y. y ∷ drop (at + 1) fields) (sym c.index-fields-at.is) in
     let p = err_from_is_err_and c.from_residual-in_err-put_value.result c.from_residual-in_err-put_value.ensures.1 in
     let there = path_at (λ field. field.path.items) fields at field c.as_slice.result.now (omega arith) c.index-fields-at.is c.as_slice.ensures.value in

@@ -11,4 +11,4 @@ invariant-loop-at g l =
     let dbs = l.fn.self.readers.now in
     let answers = l.fn.self.answers.items in
     (paths : List (List SpecPathElement)) → slice_get paths l.field ≡ Some l.path → AreAnswersOf dbs answers × AreReadsKept dbs paths l.fn.kept
-    → (first_read_of answers l.path ≡ first_read_of (drop l.at answers) l.path) × AreReadsKept dbs paths l.kept
+    → (first_read_of (drop l.from answers) l.path ≡ first_read_of (drop l.at answers) l.path) × AreReadsKept dbs paths l.kept
