@@ -18,7 +18,7 @@ const BUCKETS: usize = 65_536;
 const MOST_BYTES: usize = 512;
 
 /// How many records that have a number are kept before any of them has to be found again.
-const FIRST: u64 = 32_768;
+const FIRST: u64 = 16_384;
 
 /// The most bytes of the heap for cells.
 const MOST_HEAP: usize = 8 << 20;

@@ -40,6 +40,7 @@ fn put_kept(alloc: Global, read: KeptRead<'_>, out: &mut Writer) -> Result<(), A
 
 // Reads the value of a field, by its number and its path, in the records from a number on, and writes it, or null where there
 // is none.
+#[inline(never)]
 fn put_from<'a, R: ReadFields<'a>>(
     alloc: Global,
     found: &R,

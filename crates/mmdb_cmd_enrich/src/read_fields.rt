@@ -203,7 +203,7 @@ impl<'a, S: AsSlice<u8> + Drop> ReadFields<'a> for Layers<'a, S> {
         FieldPlace::Nowhere
     }
 
-    #[inline(never)]
+    #[inline(always)]
     fn read_field(
         &self,
         alloc: Global,
